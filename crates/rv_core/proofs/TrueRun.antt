@@ -1,21 +1,10 @@
 -- The promise is kept by the run of the described hardware, and the reason why it stops is true.
-use Rattle.rv_core.proofs.Words.{ℕ, List, sym, subst, Arrival, Stop, OnlyLastStops, IsTrueStop, Report, IsStop, Reachable, layout_of, seen, Err, IfOk, MatchResult, Ok, Result, GuidedHardware, StallCounts, Step, IsCutShort, IsOutcome, IsRun, KeepsPromise, reported, reported_so_far, OutOfMemory, Outcome}
+use Rattle.rv_core.proofs.Words.{ℕ, List, sym, subst, Arrival, Stop, OnlyLastStops, IsTrueStop, Report, IsStop, Reachable, layout_of, seen, IfOk, MatchResult, Result, GuidedHardware, StallCounts, Step, IsCutShort, IsOutcome, IsRun, KeepsPromise, reported, reported_so_far, OutOfMemory, Outcome}
+use Rattle.std.proofs.lemmas.Result.{MatchResult-weaker}
 use Rattle.rv_hardware.proofs.AnyPrediction.{cycles_of}
 use Rattle.rv_hardware.proofs.Gap.Run.{none_stops-only_last, is_stop-only_last}
 use Rattle.rv_hardware.proofs.Headline.Stops.{headline_of_stop}
 use Rattle.rv_hardware.proofs.Promise.{promise_of_run}
-
--- of a run that ended, and of one for which memory was wanting
-both_ends : {A P : Outcome → Type 0} {B Q : OutOfMemory → Type 0} (ended : Result Outcome OutOfMemory) →
-    ((outcome : Outcome) → A outcome → P outcome) → ((done : OutOfMemory) → B done → Q done) →
-    MatchResult ended A B → MatchResult ended P Q
-both_ends (Ok outcome) gives gives' is = gives outcome is
-both_ends (Err done) gives gives' is = gives' done is
-
-if_ok : {A P : Outcome → Type 0} (B : OutOfMemory → Type 0) (ended : Result Outcome OutOfMemory) →
-    ((outcome : Outcome) → A outcome → P outcome) → MatchResult ended A B → IfOk ended P
-if_ok other (Ok outcome) gives is = gives outcome is
-if_ok other (Err done) gives is = tt
 
 module _ (arrivals : List Arrival) (limit : ℕ) (old new : GuidedHardware) (reached : Reachable old.hardware) where
   module _ {reports : List Report} {steps : List Step} {stalls : StallCounts} {busy cycles gap : ℕ}
@@ -41,11 +30,12 @@ module _ (arrivals : List Arrival) (limit : ℕ) (old new : GuidedHardware) (rea
     pub promise_is_kept : MatchResult ended (λ outcome. KeepsPromise arrivals old.hardware new.hardware (reported outcome))
         (λ done. KeepsPromise arrivals old.hardware new.hardware (reported_so_far done))
     promise_is_kept =
-        both_ends ended (λ outcome run. promise_of run.1 (is_stop-only_last limit run.0 new.hardware outcome.stop run.2))
-        (λ done run. promise_of run.1 (none_stops-only_last run.0 run.2)) is
+        MatchResult-weaker ended is
+        (λ outcome run. promise_of run.1 (is_stop-only_last limit run.0 new.hardware outcome.stop run.2))
+        (λ done run. promise_of run.1 (none_stops-only_last run.0 run.2))
 
     -- and the reason why it stops is true
     pub stop_is_true : IfOk ended
         (λ outcome. IsTrueStop (layout_of old.hardware.values) arrivals limit old.hardware.cycle new.hardware.cycle
         outcome.steps.items (seen new.hardware) outcome.stop)
-    stop_is_true = if_ok _ ended (λ outcome run. stop_of run.1 outcome.stop run.2) is
+    stop_is_true = MatchResult-weaker ended is (λ outcome run. stop_of run.1 outcome.stop run.2) (λ done run. tt)

@@ -1,5 +1,5 @@
 -- A byte after stores is that of the youngest store which covers it, else the one below.
-use Rattle.rv_core.proofs.Words.{◌≡◌, ℕ, ◌+◌, ◌-◌, ◌<◌, ◌≤◌, List, [], ◌∷◌, length, slice_get, slice_index_or as get_or, Some, None, Option, unwrap_or, sym, refl, ap, ◌∙◌, inl, inr, arith, le-leb, cases_lt, cond-false, cond-true, lt-leb, All-head, All-tail, option_or, StoreAccess, overwritten, get_or-overwritten_above, get_or-overwritten_below, get_or-overwritten_in, length-overwritten, youngest_byte, byte_of_state, written_at, Store, StoreState, memory_behind, slice_get-get_or, slice_get_past, LieIn, LiesIn}
+use Rattle.rv_core.proofs.Words.{◌≡◌, ℕ, ◌+◌, ◌-◌, ◌<◌, ◌≤◌, List, [], ◌∷◌, length, slice_get, slice_index_or as get_or, Some, None, Option, unwrap_or, sym, refl, ap, ◌∙◌, arith, le-leb, cond-false, cond-true, lt-leb, All-head, All-tail, option_or, StoreAccess, overwritten, get_or-overwritten_above, get_or-overwritten_below, get_or-overwritten_in, length-overwritten, youngest_byte, byte_of_state, written_at, Store, StoreState, memory_behind, slice_get-get_or, slice_get_past, LieIn, LiesIn}
 use Rattle.rv_hardware.specs.InFlight.{with_store}
 
 unwrap_or-option_or : (a b : Option ℕ) (d : ℕ) → unwrap_or (option_or a b) d ≡ unwrap_or a (unwrap_or b d)
@@ -22,24 +22,16 @@ module _ (base : ℕ) where
       get_or (overwritten bytes (access.address - base) access.bytes) (address - base) 0
       ≡ unwrap_or (written_at address access) (get_or bytes (address - base) 0)
   get_or-with_access size address access bytes sized low high at =
-      let place = access.address - base in
-      let fits : place + length access.bytes ≤ length bytes = omega arith in
-      elim (cases_lt address access.address) [
-        | inl before ↦
-            get_or-overwritten_below bytes access.bytes place fits (address - base) (omega arith)
-            ∙ sym (ap (λ o. unwrap_or o (get_or bytes (address - base) 0)) (written_before address access before))
-        | inr from ↦ elim (cases_lt (address - access.address) (length access.bytes)) [
-          | inl within ↦
-              get_or-overwritten_in bytes access.bytes place fits (address - base) (omega arith) (omega arith)
-              ∙ ap (λ k. get_or access.bytes k 0) (omega arith)
-              ∙ sym (ap (λ o. unwrap_or o (get_or bytes (address - base) 0))
-              (written_from address access from ∙ slice_get-get_or access.bytes (address - access.address) 0 within))
-          | inr past ↦
-              get_or-overwritten_above bytes access.bytes place fits (address - base) (omega arith)
-              ∙ sym (ap (λ o. unwrap_or o (get_or bytes (address - base) 0))
-              (written_from address access from ∙ slice_get_past access.bytes (address - access.address) past))
-        ]
-      ]
+      grind (
+        arith,
+        get_or-overwritten_below,
+        get_or-overwritten_in,
+        get_or-overwritten_above,
+        written_before,
+        written_from,
+        slice_get-get_or,
+        slice_get_past,
+      )
 
   get_or-with_store : (size address : ℕ) (state : StoreState) (bytes : List ℕ) → length bytes ≡ size → LiesIn base size state →
       base ≤ address → get_or (with_store base state bytes) (address - base) 0

@@ -44,9 +44,7 @@ forwarded_some : (o : Option ℕ) (a b : ℕ) → is_some o ≡ true → unwrap_
 forwarded_some o a b some = grind arith
 
 fourth : (a b c d : Bool) → (a && (b && (c && (d && true)))) ≡ true → d ≡ true
-fourth a b c d all =
-    (and_parts d true (and_parts c (d && true)
-    (and_parts b (c && (d && true)) (and_parts a (b && (c && (d && true))) all).1).1).1).0
+fourth a b c d all = grind arith
 
 pub forwarded_all : (width : Width) (ss : List Store) (address : ℕ) →
     is_forwarded (forwarded ss address (bytes_of width)) (bytes_of width) ≡ true → (k : ℕ) → k < bytes_of width →

@@ -1,6 +1,6 @@
 -- A load or a store with a fault gives that fault, and one without lies in RAM and gives what it reads or writes.
 use Rattle.std.proofs.Common.{arith}
-use Rattle.rv_core.proofs.Words.{◌≡◌, ℕ, ◌+◌, ◌%◌, ◌≤◌, Bool, true, cond, not, List, nat_le, Some, None, Option, eqb-true, leb-true, and_parts, bytes_of, is_sign_extended, width_of, pc_plus_4, StoreAccess, Cause, LoadForm, Width, Layout, is_aligned, is_in_ram, is_writable, number_at, Effect, Faults, extended, loads, stores, State, IsAligned, effect_message, fault_message, writes, is_forwarded, load_fault, path_unless, store_fault}
+use Rattle.rv_core.proofs.Words.{◌≡◌, ℕ, ◌+◌, ◌%◌, ◌≤◌, Bool, true, cond, not, List, Some, None, Option, and_parts, bytes_of, is_sign_extended, width_of, pc_plus_4, StoreAccess, Cause, LoadForm, Width, Layout, is_aligned, is_in_ram, is_writable, number_at, Effect, Faults, extended, loads, stores, State, IsAligned, effect_message, fault_message, writes, is_forwarded, load_fault, path_unless, store_fault}
 use Rattle.rv_core.specs.declared.load.Path.TheVariants.{Without, FromStores, FromCache}
 use Rattle.rv_core.specs.declared.load.Path.{Path}
 
@@ -22,10 +22,6 @@ gives_by : (aligned within : Bool) (misaligned outside : Cause) (access : Option
     fault_by aligned within misaligned outside ≡ None →
     effect_message access (effect_by aligned within misaligned outside address effect) ≡ effect_message access effect
 gives_by aligned within misaligned outside access address effect is = grind arith
-
-passes_by : (aligned within : Bool) (misaligned outside : Cause) → fault_by aligned within misaligned outside ≡ None →
-    (aligned ≡ true) × (within ≡ true)
-passes_by aligned within misaligned outside is = grind arith
 
 module _ (layout : Layout) (address : ℕ) where
   -- a load with a fault gives that fault
@@ -49,13 +45,7 @@ module _ (layout : Layout) (address : ℕ) where
   -- and lies in RAM, at a multiple of its width
   pub load_within : (count : ℕ) → load_fault layout address count ≡ None →
       (address % count ≡ 0) × (layout.base ≤ address) × (address + count ≤ layout.base + layout.size)
-  load_within count is =
-      let tests = passes_by (is_aligned address count) (is_in_ram layout address count) _ _ is in
-      let bounds = and_parts (nat_le layout.base address) (nat_le (address + count) (layout.base + layout.size)) tests.1 in (
-        eqb-true (address % count) 0 tests.0,
-        leb-true layout.base address bounds.0,
-        leb-true (address + count) (layout.base + layout.size) bounds.1,
-      )
+  load_within count is = grind (arith, and_parts)
 
   -- a store with a fault gives that fault
   pub store_faults : (s : State) (width : Width) (word : ℕ) (access : Option StoreAccess) (cause : Cause) →
@@ -75,14 +65,7 @@ module _ (layout : Layout) (address : ℕ) where
   -- and lies in writable RAM, at a multiple of its width
   pub store_within : (count : ℕ) → store_fault layout address count ≡ None →
       (address % count ≡ 0) × (layout.base + layout.rom_bytes ≤ address) × (address + count ≤ layout.base + layout.size)
-  store_within count is =
-      let tests = passes_by (is_aligned address count) (is_writable layout address count) _ _ is in
-      let bounds = and_parts (nat_le (layout.base + layout.rom_bytes) address)
-      (nat_le (address + count) (layout.base + layout.size)) tests.1 in (
-        eqb-true (address % count) 0 tests.0,
-        leb-true (layout.base + layout.rom_bytes) address bounds.0,
-        leb-true (address + count) (layout.base + layout.size) bounds.1,
-      )
+  store_within count is = grind (arith, and_parts)
 
 -- an address that is a multiple of a width is aligned for as many bytes
 pub aligned_width : (width : Width) (address : ℕ) → address % bytes_of width ≡ 0 → IsAligned address (bytes_of width)

@@ -2,6 +2,7 @@
 use Rattle.rv_core.proofs.Words.{◌≡◌, ℕ, ◌+◌, ◌-◌, ◌≤◌, List, ◌++◌, length, take, slice_range, None, Option, sym, refl, ap, ◌∙◌, subst, arith, number_of, bytes_of, is_sign_extended, width_of, pc_plus_4, LoadForm, Memory, number_at, extended, loads, State, Contents, forwarded, Store, memory_behind, effect_message, writes, IsBehind, IsOverRam, bytes_over, load_fault, path_of}
 use Rattle.rv_core.proofs.Loads.Bytes.{bytes_from_cache, bytes_from_stores}
 use Rattle.rv_core.proofs.Loads.Effect.{PathFacts, load_gives, load_within, path_facts}
+use Rattle.rv_core.specs.declared.load.Path.{Path}
 use Rattle.rv_core.specs.declared.load.Path.TheVariants.{FromStores, FromCache}
 
 module _ (cache : Contents Memory) (ss : List Store) (over : IsOverRam cache) (s : State) (behind : IsBehind cache ss s)
@@ -41,19 +42,22 @@ module _ (cache : Contents Memory) (ss : List Store) (over : IsOverRam cache) (s
         ap (λ v. effect_message None (writes s rd v (pc_plus_4 s.pc))) (sym value)
         ∙ sym (load_gives cache.backing.layout address s form rd fault)
 
+  facts : (path : Path) → path_of cache.backing.layout ss address count ≡ path →
+      PathFacts (load_fault cache.backing.layout address count) (forwarded ss address count) count path
+  facts path is =
+      subst (λ p. PathFacts (load_fault cache.backing.layout address count) (forwarded ss address count) count p) is
+      (path_facts (load_fault cache.backing.layout address count) (forwarded ss address count) count)
+
   -- a load whose bytes all come from the stores gives its effect
   pub from_stores : (overlay : List (Option ℕ)) (below : List ℕ) →
       path_of cache.backing.layout ss address count ≡ FromStores overlay →
       effect_message None (writes s rd (value_over overlay below) (pc_plus_4 s.pc))
       ≡ effect_message None (loads cache.backing.layout s form rd address)
   from_stores overlay below is =
-      let facts : PathFacts (load_fault cache.backing.layout address count) (forwarded ss address count) count
-      (FromStores overlay) =
-      subst (λ p. PathFacts (load_fault cache.backing.layout address count) (forwarded ss address count) count p) is
-      (path_facts (load_fault cache.backing.layout address count) (forwarded ss address count) count) in
-      gives facts.0 overlay below facts.1
-      (bytes_from_stores cache.base (length cache.bytes) ss cache.bytes refl behind.inside address (width_of form) (from facts.0)
-      (to facts.0) below facts.2)
+      let known = facts (FromStores overlay) is in
+      gives known.0 overlay below known.1
+      (bytes_from_stores cache.base (length cache.bytes) ss cache.bytes refl behind.inside address (width_of form) (from known.0)
+      (to known.0) below known.2)
 
   -- and so does one with bytes from the cache
   pub from_cache : (overlay : List (Option ℕ)) (padding : List ℕ) →
@@ -61,10 +65,7 @@ module _ (cache : Contents Memory) (ss : List Store) (over : IsOverRam cache) (s
       effect_message None (writes s rd (value_over overlay (slice_range cache.bytes place (place + count) ++ padding))
       (pc_plus_4 s.pc)) ≡ effect_message None (loads cache.backing.layout s form rd address)
   from_cache overlay padding is =
-      let facts : PathFacts (load_fault cache.backing.layout address count) (forwarded ss address count) count
-      (FromCache overlay) =
-      subst (λ p. PathFacts (load_fault cache.backing.layout address count) (forwarded ss address count) count p) is
-      (path_facts (load_fault cache.backing.layout address count) (forwarded ss address count) count) in
-      gives facts.0 overlay (slice_range cache.bytes place (place + count) ++ padding) facts.1
-      (bytes_from_cache cache.base (length cache.bytes) ss cache.bytes refl behind.inside address (width_of form) (from facts.0)
-      (to facts.0) padding)
+      let known = facts (FromCache overlay) is in
+      gives known.0 overlay (slice_range cache.bytes place (place + count) ++ padding) known.1
+      (bytes_from_cache cache.base (length cache.bytes) ss cache.bytes refl behind.inside address (width_of form) (from known.0)
+      (to known.0) padding)

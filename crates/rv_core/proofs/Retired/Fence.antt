@@ -31,45 +31,30 @@ queue_beside_fence h e es sound entries is =
     ∙ ap (λ l. h.committed ++ l) (no_store h.rob.retired e is)
     ∙ append-nil h.committed
 
-drained_with : Hardware → List QueuedStore → Bool
+abbrev drained_with : Hardware → List QueuedStore → Bool
 drained_with h ss = is_drained (record h { committed = ss })
 
 not_with_stores : (h : Hardware) (ss : List QueuedStore) → (ss ≡ [] → ⊥) → drained_with h ss ≡ false
-unfolding drained_with
-not_with_stores h [] some = absurd (some refl)
-not_with_stores h (s ∷ ss) some = refl
+not_with_stores h ss some = grind arith
 
 not_while_busy : (h : Hardware) (ss : List QueuedStore) → nat_le h.port_free h.cycle ≡ false → drained_with h ss ≡ false
-unfolding drained_with
-not_while_busy h [] busy = busy
-not_while_busy h (s ∷ ss) busy = refl
+not_while_busy h ss busy = grind arith
 
 when_empty : (h : Hardware) (ss : List QueuedStore) → ss ≡ [] → nat_le h.port_free h.cycle ≡ true → drained_with h ss ≡ true
-unfolding drained_with
-when_empty h [] none idle = idle
-when_empty h (s ∷ ss) none idle = absurd (cc)
+when_empty h ss none idle = grind arith
 
 -- FENCE.I waits while a retired store does
 pub fence_waits_for_stores : (h : Hardware) (e : Entry) (steps : List Step) → (h.committed ≡ [] → ⊥) →
     fence_instructions e (committing h steps) ≡ committing h steps
-unfolding drained_with
 fence_waits_for_stores h e steps some = rw (not_with_stores h h.committed some) refl
 
 -- FENCE.I waits while the port is busy
 pub fence_waits_for_port : (h : Hardware) (e : Entry) (steps : List Step) → nat_le h.port_free h.cycle ≡ false →
     fence_instructions e (committing h steps) ≡ committing h steps
-unfolding drained_with
 fence_waits_for_port h e steps busy = rw (not_while_busy h h.committed busy) refl
-
--- FENCE.I begins the write-back of the dirty lines, where there are some
-pub fence_writes_back : (h : Hardware) (e : Entry) (steps : List Step) → h.committed ≡ [] → nat_le h.port_free h.cycle ≡ true →
-    (write_back_time h == 0) ≡ false → fence_instructions e (committing h steps) ≡ committing (with_write_back h) steps
-unfolding drained_with
-fence_writes_back h e steps none idle lasts = rw (when_empty h h.committed none idle, lasts) refl
 
 -- FENCE.I retires where there are none
 pub fence_retires : (h : Hardware) (e : Entry) (steps : List Step) → h.committed ≡ [] → nat_le h.port_free h.cycle ≡ true →
     (write_back_time h == 0) ≡ true →
     fence_instructions e (committing h steps) ≡ execute_head e FenceI (committing (with_write_back h) steps)
-unfolding drained_with
 fence_retires h e steps none idle lasts = rw (when_empty h h.committed none idle, lasts) refl

@@ -1,14 +1,14 @@
 -- Everything in flight is squashed: what is left is empty, but for the retired stores.
-use Rattle.rv_core.proofs.Words.{◌≡◌, ℕ, List, [], ◌∷◌, filter, sym, refl, ap, ◌∙◌, append-nil, arith, le-ltb, at_kind, for_each, PerKind, Values, is_committed, ReorderBuffer, entries_below, Entry, mends_early, Hardware, flushed, redirected, below, below-goes, by_kind-same, Queue, Pool, squashed_pool, Pending, squashed_bus, Renaming, cleared, cut_from, IsSoundHardware, AreTied, bus_of, pool_of_kind, stations_of}
+use Rattle.rv_core.proofs.Words.{◌≡◌, ℕ, List, [], filter, sym, ap, ◌∙◌, append-nil, arith, at_kind, for_each, PerKind, Values, is_committed, ReorderBuffer, mends_early, Hardware, flushed, redirected, below, below-none, by_kind-same, Queue, Pool, squashed_pool, Pending, squashed_bus, Renaming, cleared, cut_from, IsSoundHardware, AreTied, bus_of, pool_of_kind, stations_of}
 use Rattle.rv_core.proofs.Retired.Stores.{AreRetired}
 use Rattle.rv_core.proofs.Phases.InFlight.{sound_in_flight}
+use Rattle.rv_core.proofs.Ties.Entries.{entries_below-none}
 use Rattle.rv_core.proofs.Ties.Queue.{retired_of_queue}
 use Rattle.rv_core.proofs.Ties.Renaming.{no_checkpoints}
 
 -- no number is below 0
-pub none_below_0 : {X : Type 0} (seq : X → ℕ) (xs : List X) → below seq 0 xs ≡ []
-none_below_0 seq [] = refl
-none_below_0 seq (x ∷ xs) = below-goes seq 0 x xs (omega arith) ∙ none_below_0 seq xs
+none_below_0 : {X : Type 0} (seq : X → ℕ) (xs : List X) → below seq 0 xs ≡ []
+none_below_0 seq xs = below-none seq 0 xs (λ k d lt. omega arith)
 
 empty_pool : (pool : Pool) → squashed_pool 0 pool ≡ record { waiting = []; capacity = pool.capacity }
 empty_pool pool = ap (λ l. record { waiting = l; capacity = pool.capacity }) (none_below_0 (λ w. w.seq) pool.waiting)
@@ -50,11 +50,8 @@ sound_when_flushed h sound =
     (λ i j d lt within. absurd (omega (arith, within)))
     (λ k d lt. absurd (omega (arith, lt)))
 
--- a reorder buffer of which nothing is kept
-none_kept : (seq : ℕ) (es : List Entry) → entries_below 0 seq es ≡ []
-none_kept seq [] = refl
-none_kept seq (e ∷ es) = rw (le-ltb seq 0 (omega arith)) refl
-
 -- a cut from the first number on leaves an empty reorder buffer
 pub emptied : (rob : ReorderBuffer) → cut_from 0 rob ≡ record rob { entries = [] }
-emptied rob = ap (λ l. record { capacity = rob.capacity; retired = rob.retired; entries = l }) (none_kept rob.retired rob.entries)
+emptied rob =
+    ap (λ l. record { capacity = rob.capacity; retired = rob.retired; entries = l })
+    (entries_below-none 0 rob.retired rob.entries (omega arith))

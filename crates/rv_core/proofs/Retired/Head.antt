@@ -1,5 +1,6 @@
 -- The head retires: rename map, stations, bus and queue are those of the instructions after it.
-use Rattle.rv_core.proofs.Words.{◌≡◌, ℕ, ◌+◌, ◌<◌, Bool, true, false, not, ◌≢◌, List, [], ◌∷◌, ◌++◌, map, length, IfSome, if◌then◌else◌, ◌==◌, Some, None, filter, Option, sym, refl, ap, ◌∙◌, inl, inr, arith, get_or-set_other, get_or-set_same, eq-eqb, ne_eqb, cases_eq, is_branch_or_jump, is_store, is_target, target_of_word, at_kind, Message, Instr, Kind, PerKind, Values, with_register, ReorderBuffer, after_head, head_retired, Entry, Stage, Finished, Running, Waiting, mends_early, Hardware, broadcast_of, is_waiting, stores_of, with_value, committed_store, with_result, by_kind-same, Queue, Pool, Pending, Checkpoint, Renaming, checkpoint_without_oldest, retired, without_checkpoint, without_oldest, Producer, with_commit, without_target, IsLegalWrite, AreTied, RegisterStatus, bus_of, checkpoints_of, operand_by, pending_of, pool_of_kind, producer_of, producers_of, producers_with, renaming_of, stations_of, status_with, values_in, waiting_at, waiting_from}
+use Rattle.rv_core.proofs.Words.{◌≡◌, ℕ, ◌+◌, ◌<◌, Bool, true, false, not, ◌≢◌, List, [], ◌∷◌, ◌++◌, map, length, IfSome, if◌then◌else◌, ◌==◌, Some, None, filter, Option, sym, refl, ap, ◌∙◌, arith, get_or-set_other, get_or-set_same, eq-eqb, ne_eqb, is_branch_or_jump, is_store, is_target, target_of_word, at_kind, Message, Kind, PerKind, Values, with_register, ReorderBuffer, after_head, head_retired, Entry, Stage, mends_early, Hardware, broadcast_of, is_waiting, stores_of, with_value, committed_store, with_result, by_kind-same, Queue, Pool, Pending, Checkpoint, Renaming, checkpoint_without_oldest, retired, without_checkpoint, without_oldest, Producer, with_commit, without_target, IsLegalWrite, AreTied, bus_of, checkpoints_of, operand_by, pending_of, pool_of_kind, producer_of, producers_of, producers_with, renaming_of, stations_of, status_with, values_in, waiting_from}
+use Rattle.rv_core.proofs.Ties.Stations.{busy-at}
 use Rattle.rv_core.proofs.Retired.Stores.{AreRetired, queued_behind_head}
 
 -- the registers
@@ -12,10 +13,7 @@ written_status : (registers : List ℕ) (seq r : ℕ) (m : Message) → r ≢ 0 
     (if r == register then operand_by seq (Some m) else values_in registers register)
     ≡ values_in (with_register registers r m.value) register
 written_status registers seq r m positive within register =
-    rw (ne_eqb r 0 positive) (elim (cases_eq r register) [
-      | inl same ↦ rw (eq-eqb r register same, sym same, get_or-set_same registers r m.value 0 within) refl
-      | inr other ↦ rw (ne_eqb r register other, get_or-set_other registers r register m.value 0 (λ e. other (sym e))) refl
-    ])
+    grind (arith, ne_eqb, eq-eqb, get_or-set_same, get_or-set_other)
 
 head_status : (registers : List ℕ) (seq : ℕ) (target : Option ℕ) (m : Message) → IsTarget registers target → (register : ℕ) →
     (if is_target register target then operand_by seq (Some m) else values_in registers register)
@@ -35,15 +33,7 @@ status_behind_head registers seq e m known ok =
 -- the stations
 
 not_waiting : (stage : Stage) (m : Message) → broadcast_of stage ≡ Some m → is_waiting stage ≡ false
-not_waiting Waiting m known = absurd (cc)
-not_waiting (Running issue message) m known = absurd (cc)
-not_waiting (Finished issue cycle message) m known = refl
-
-head_in_no_station : (kind : Kind) (status : RegisterStatus) (seq : ℕ) (e : Entry) (instruction : Option Instr) →
-    is_waiting e.stage ≡ false →
-    waiting_at kind status seq e instruction ≡ []
-head_in_no_station kind status seq e None idle = refl
-head_in_no_station kind status seq e (Some instruction) idle = rw idle refl
+not_waiting stage m known = grind arith
 
 stations_behind_head : (kind : Kind) (registers : List ℕ) (seq : ℕ) (e : Entry) (es : List Entry) (m : Message) →
     broadcast_of e.stage ≡ Some m → IsTarget registers (target_of_word e.instruction) →
@@ -51,15 +41,13 @@ stations_behind_head : (kind : Kind) (registers : List ℕ) (seq : ℕ) (e : Ent
     ≡ waiting_from kind (values_in (with_value registers (target_of_word e.instruction) (Some m))) (seq + 1) es
 stations_behind_head kind registers seq e es m known ok =
     ap (λ ws. ws ++ waiting_from kind (status_with (values_in registers) seq e) (seq + 1) es)
-    (head_in_no_station kind (values_in registers) seq e e.instruction (not_waiting e.stage m known))
+    (busy-at kind (values_in registers) seq e e.instruction (not_waiting e.stage m known))
     ∙ ap (λ status. waiting_from kind status (seq + 1) es) (status_behind_head registers seq e m known ok)
 
 -- the bus
 
 head_not_pending : (seq : ℕ) (stage : Stage) (m : Message) → broadcast_of stage ≡ Some m → pending_of seq stage ≡ []
-head_not_pending seq Waiting m known = absurd (cc)
-head_not_pending seq (Running issue message) m known = absurd (cc)
-head_not_pending seq (Finished issue cycle message) m known = refl
+head_not_pending seq stage m known = grind arith
 
 -- the checkpoints
 
@@ -73,8 +61,7 @@ noted is_jump n ps cs = if is_jump then record { seq = n; producers = ps } ∷ c
 noted_without : (r seq n : ℕ) (ps : List Producer) (cs kept : List Checkpoint) → map (checkpoint_without_oldest r seq) cs ≡ kept →
     (is_jump : Bool) →
     map (checkpoint_without_oldest r seq) (noted is_jump n (record { register = r; seq = seq } ∷ ps) cs) ≡ noted is_jump n ps kept
-noted_without r seq n ps cs kept e true = rw (oldest_goes r seq ps, e) refl
-noted_without r seq n ps cs kept e false = e
+noted_without r seq n ps cs kept e is_jump = grind (arith, oldest_goes)
 
 -- the checkpoints after a producer that retires no longer hold it
 without_retired : (r seq : ℕ) (older : List Producer) (n : ℕ) (es : List Entry) →
@@ -90,8 +77,7 @@ without_retired r seq older n (e ∷ es) =
 noted_stays : (seq n : ℕ) (ps : List Producer) (cs : List Checkpoint) → seq < n → filter (λ c. not (seq == c.seq)) cs ≡ cs →
     (is_jump : Bool) →
     filter (λ c. not (seq == c.seq)) (noted is_jump n ps cs) ≡ noted is_jump n ps cs
-noted_stays seq n ps cs lt e true = rw (ne_eqb seq n (λ same. omega (arith, same, lt)), e) refl
-noted_stays seq n ps cs lt e false = e
+noted_stays seq n ps cs lt e is_jump = grind (arith, ne_eqb)
 
 -- the checkpoints of younger instructions stay
 younger_stay : (seq : ℕ) (older : List Producer) (n : ℕ) (es : List Entry) → seq < n →
@@ -103,8 +89,7 @@ younger_stay seq older n (e ∷ es) lt =
 
 noted_goes : (seq : ℕ) (ps : List Producer) (cs : List Checkpoint) → filter (λ c. not (seq == c.seq)) cs ≡ cs → (is_jump : Bool) →
     filter (λ c. not (seq == c.seq)) (noted is_jump seq ps cs) ≡ cs
-noted_goes seq ps cs e true = rw (eq-eqb seq seq refl) e
-noted_goes seq ps cs e false = e
+noted_goes seq ps cs e is_jump = grind (arith, eq-eqb)
 
 -- the rename map
 

@@ -55,8 +55,7 @@ steps_with old before new so_far (Some step) appended more =
 
 -- a turn takes one step at most
 pub few_with : (steps : List Step) (told : Option Step) (done : ℕ) → length steps ≤ done → length (and_step steps told) ≤ done + 1
-few_with steps None done few = omega (arith, few)
-few_with steps (Some step) done few = omega (arith, length-append steps (step ∷ []), few)
+few_with steps told done few = grind (arith, length-append)
 
 -- a turn after which the phase goes on
 unfoldable pub committed_more : (start h : Hardware) (old new more : List Step) (done left rest : ℕ)

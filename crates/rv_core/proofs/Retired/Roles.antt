@@ -1,5 +1,5 @@
 -- The turn that a head has by its role is the definition's.
-use Rattle.rv_core.proofs.Words.{◌≡◌, false, true, Stale, Message, stop_after, turn_ended, turn_left, flushed, with_result, eq-eqb, ne_eqb, ◌≢◌, row_of, List, [], ◌∷◌, slice_get, Some, None, Option, nat_cmp, sym, refl, ap, ◌∙◌, is_serialising, Instr, Csr, FenceI, Mret, word_of, Entry, Committing, commit_turn, commit_turn_of, execute_head, finish_broadcast, head_turn, Hardware, broadcast_of, Ends, Step, IsHead, committing, instruction_of_access, role_of, CsrAccess as Access, WaitsForResult}
+use Rattle.rv_core.proofs.Words.{◌≡◌, arith, false, true, Stale, Message, stop_after, turn_ended, turn_left, flushed, with_result, eq-eqb, ne_eqb, ◌≢◌, row_of, List, [], ◌∷◌, slice_get, Some, None, Option, nat_cmp, sym, refl, ap, ◌∙◌, is_serialising, Instr, Csr, word_of, Entry, Committing, commit_turn, commit_turn_of, execute_head, finish_broadcast, head_turn, Hardware, broadcast_of, Ends, Step, IsHead, committing, instruction_of_access, role_of, CsrAccess as Access, WaitsForResult}
 use Rattle.std.specs.FinSet as set
 use Rattle.rv_isa.specs.declared.causes.Fault.{Fault}
 use Rattle.rv_hardware.specs.Commit.{finish_head, with_fault}
@@ -29,15 +29,6 @@ heads_agree h a b first second =
     let same : a ∷ first.0 ≡ b ∷ second.0 = sym first.1 ∙ second.1 in
     cc
 
--- where nothing is in flight, the phase ends
-none_left : (entries : List Entry) (c : Committing) → slice_get entries 0 ≡ None → commit_turn_of set.contains entries c ≡ Ends c
-none_left [] c is = refl
-none_left (x ∷ xs) c is = absurd (cc)
-
-pub turn_of_none : (h : Hardware) (steps : List Step) → slice_get h.rob.entries 0 ≡ None →
-    commit_turn set.contains (committing h steps) ≡ Ends (committing h steps)
-turn_of_none h steps is = none_left h.rob.entries (committing h steps) is
-
 -- where the head is stale, the run stops
 pub turn_of_stale : (h : Hardware) (e : Entry) (steps : List Step) → IsHead h e →
     set.contains {R = nat_cmp} h.stale (word_of e.pc) ≡ true →
@@ -50,10 +41,7 @@ turn_of_stale h e steps head stale =
 -- a head that does not serialise finishes by its result
 pub turn_plain : (e : Entry) (instruction : Option Instr) (c : Committing) → is_serialising instruction ≡ false →
     head_turn e instruction c ≡ finish_broadcast e (broadcast_of e.stage) c
-turn_plain e (Some FenceI) c is = absurd (cc)
-turn_plain e (Some (Csr op rd csr source)) c is = absurd (cc)
-turn_plain e (Some Mret) c is = absurd (cc)
-turn_plain e _ c is = refl
+turn_plain e instruction c is = grind arith
 
 -- a fresh head that does not serialise finishes by its result
 pub turn_finishes : (h : Hardware) (e : Entry) (steps : List Step) (result : Option Message) → IsHead h e →
@@ -92,10 +80,7 @@ ended_as h steps (Some step) = refl
 
 -- a serialising head waits for no result
 pub waits_not : (instruction : Option Instr) → role_of instruction ≡ WaitsForResult → is_serialising instruction ≡ true → ⊥
-waits_not (Some FenceI) is serial = absurd (cc)
-waits_not (Some (Csr op rd csr source)) is serial = absurd (cc)
-waits_not (Some Mret) is serial = absurd (cc)
-waits_not _ is serial = absurd (cc)
+waits_not instruction is serial = grind arith
 
 -- a head that accesses a CSR executes, which ends the phase
 pub turn_accesses : (e : Entry) (instruction : Option Instr) (access : Access) (c : Committing) →

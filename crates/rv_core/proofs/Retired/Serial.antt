@@ -1,11 +1,10 @@
 -- The hardware of which a serialising head has left is sound.
-use Rattle.rv_core.proofs.Words.{◌≡◌, ℕ, ◌+◌, ◌*◌, ◌<◌, List, ◌∷◌, length, Some, None, Option, refl, ap, ◌∙◌, arith, length-set, Store as QueuedStore, ReorderBuffer, head_retired, Entry, Hardware, AreBelow-weaken, registers_with, IsSoundHardware}
+use Rattle.rv_core.proofs.Words.{◌≡◌, ℕ, ◌+◌, ◌*◌, ◌<◌, List, ◌∷◌, length, Option, ap, ◌∙◌, arith, length-set, Store as QueuedStore, ReorderBuffer, head_retired, Entry, Hardware, AreBelow-weaken, registers_with, IsSoundHardware}
 use Rattle.rv_core.proofs.Retired.Head.{buffer_behind}
 use Rattle.rv_core.proofs.Retired.Sound.{entries_behind_head}
 
 pub written_count : (written : Option (ℕ × ℕ)) (registers : List ℕ) → length (registers_with written registers) ≡ length registers
-written_count None registers = refl
-written_count (Some written) registers = length-set registers written.0 written.1
+written_count written registers = grind (arith, length-set)
 
 -- the hardware of which a serialising head has left is sound
 pub sound_behind_serial : (h : Hardware) (e : Entry) (es : List Entry) (pc : ℕ) (written : Option (ℕ × ℕ)) → IsSoundHardware h →

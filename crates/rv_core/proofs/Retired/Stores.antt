@@ -9,11 +9,9 @@ AreRetired values ss = All (λ (s : QueuedStore). IsRetiredStore values s.state)
 -- a retired store is committed
 pub retired_is_committed : (values : Values) (seq : ℕ) (state : StoreState) → IsRetiredStore values state →
     is_committed (record { seq = seq; state = state }) ≡ true
-retired_is_committed values seq store.Waiting are = absurd are
-retired_is_committed values seq store.Faulted are = absurd are
-retired_is_committed values seq (store.Filled access Speculative) are = absurd are
 retired_is_committed values seq (store.Filled access Committed) are = refl
 retired_is_committed values seq (store.Filled access Draining) are = refl
+retired_is_committed values seq _ are = absurd are
 
 oldest_retires : (values : Values) (ss : List QueuedStore) (seq : ℕ) (access : StoreAccess) (younger : List QueuedStore) →
     AreRetired values ss →
@@ -27,7 +25,8 @@ oldest_retires values (s ∷ ss) seq access younger are =
 
 -- the queue, by whether the head is a store and what it writes
 committed_from : (values : Values) (ss : List QueuedStore) (seq : ℕ) (younger : List QueuedStore) → AreRetired values ss →
-    (is_store : Bool) (m : Message) → IsLegalWrite values is_store None m.store →
+    (is_store : Bool) (m : Message) (written : Option StoreAccess) → m.store ≡ written →
+    IsLegalWrite values is_store None written →
     (with_commit m.store (record {
       stores = ss ++
           (if is_store then record { seq = seq; state = store_of_broadcast (Some m) } ∷ younger else younger);
@@ -35,24 +34,12 @@ committed_from : (values : Values) (ss : List QueuedStore) (seq : ℕ) (younger 
           values.store_queue;
     }))
     ≡ record { stores = (ss ++ committed_store seq m.store) ++ younger; capacity = values.store_queue }
-committed_from values ss seq younger are is_store m legal = go values ss seq younger are is_store m m.store refl legal where
-  go : (values : Values) (ss : List QueuedStore) (seq : ℕ) (younger : List QueuedStore) → AreRetired values ss →
-      (is_store : Bool) (m : Message) (written : Option StoreAccess) → m.store ≡ written →
-      IsLegalWrite values is_store None written →
-      (with_commit m.store (record {
-        stores = ss ++
-            (if is_store then record { seq = seq; state = store_of_broadcast (Some m) } ∷ younger else younger);
-        capacity =
-            values.store_queue;
-      }))
-      ≡ record { stores = (ss ++ committed_store seq m.store) ++ younger; capacity = values.store_queue }
-  go values ss seq younger are false m None is legal = rw (is, append-nil ss) refl
-  go values ss seq younger are false m (Some access) is legal = absurd legal
-  go values ss seq younger are true m None is legal = absurd legal
-  go values ss seq younger are true m (Some access) is legal =
-      rw (is, oldest_retires values ss seq access younger are)
-      (ap (λ l. record { stores = l; capacity = values.store_queue })
-      (sym (append_assoc ss (record { seq = seq; state = store.Filled access Committed } ∷ []) younger)))
+committed_from values ss seq younger are false m None is legal = rw (is, append-nil ss) refl
+committed_from values ss seq younger are true m (Some access) is legal =
+    rw (is, oldest_retires values ss seq access younger are)
+    (ap (λ l. record { stores = l; capacity = values.store_queue })
+    (sym (append_assoc ss (record { seq = seq; state = store.Filled access Committed } ∷ []) younger)))
+committed_from values ss seq younger are _ m _ is legal = absurd legal
 
 -- the oldest store that has not retired is that of the head
 pub queued_behind_head : (values : Values) (ss : List QueuedStore) (seq : ℕ) (e : Entry) (es : List Entry) (m : Message) →
@@ -61,4 +48,4 @@ pub queued_behind_head : (values : Values) (ss : List QueuedStore) (seq : ℕ) (
     with_commit m.store (record { stores = ss ++ stores_of seq (e ∷ es); capacity = values.store_queue })
     ≡ record { stores = (ss ++ committed_store seq m.store) ++ stores_of (seq + 1) es; capacity = values.store_queue }
 queued_behind_head values ss seq e es m are known legal =
-    rw known (committed_from values ss seq (stores_of (seq + 1) es) are (is_store e.instruction) m legal)
+    rw known (committed_from values ss seq (stores_of (seq + 1) es) are (is_store e.instruction) m m.store refl legal)

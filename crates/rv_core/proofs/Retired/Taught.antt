@@ -1,6 +1,7 @@
 -- What the commit phase teaches the predictor, turn by turn, is what its steps' lessons teach.
-use Rattle.rv_core.proofs.Words.{◌≡◌, ℕ, List, [], ◌∷◌, ◌++◌, None, Option, sym, refl, ap, ◌∙◌, subst, append_assoc, append-nil, Lines, due, State, Committing, commit_turn, commit_with, execute, with_lines, Hardware, GoesOn, Turn, Reachable, seen, pc_of, Leads as LeavesEither, fold, Lesson, AreTaught, after_lesson, DescribedPredictor, first_pc, lesson_of, lessons_of, Step, and_step, committing, lessons_left, turn_left, IsBegun, HeadTurn, Some}
+use Rattle.rv_core.proofs.Words.{◌≡◌, ℕ, List, [], ◌∷◌, ◌++◌, None, Option, sym, refl, ap, ◌∙◌, subst, append_assoc, append-nil, Lines, due, State, Committing, commit_turn, commit_with, execute, with_lines, Hardware, GoesOn, Turn, Reachable, seen, pc_of, Leads as LeavesEither, fold, AreTaught, after_lesson, DescribedPredictor, first_pc, lesson_of, lessons_of, Step, and_step, committing, lessons_left, turn_left, IsBegun, HeadTurn, Some}
 use Rattle.std.specs.FinSet as set
+use Rattle.std.proofs.lemmas.List.Sums.{fold-append}
 use Rattle.rv_hardware.proofs.Headline.Commit.{IsDone, IsGoing, begins_going, commit_done, turn_done}
 use Rattle.rv_hardware.proofs.Headline.Cycle.{always_sound, execute_kept, lines_sound}
 use Rattle.rv_hardware.proofs.Headline.Invariant.{IsSound}
@@ -25,20 +26,15 @@ lessons_push (x ∷ steps) s next =
 pub none_taught : (old : Option DescribedPredictor) → AreTaught old [] old
 none_taught old = refl
 
--- lessons after others
-fold_of_both : (old : Option DescribedPredictor) (first more : List Lesson) →
-    fold after_lesson (fold after_lesson old first) more ≡ fold after_lesson old (first ++ more)
-fold_of_both old [] more = refl
-fold_of_both old (lesson ∷ first) more = fold_of_both (after_lesson old lesson) first more
-
+-- the lessons of one step more, after those before it
 taught_more : (old now new : Option DescribedPredictor) (steps : List Step) (s : Step) (pc next : ℕ) →
     AreTaught old (lessons_of steps pc) now → pc_of s ≡ pc →
     AreTaught now (lesson_of s next) new → AreTaught old (lessons_of (steps ++ s ∷ []) next) new
 taught_more old now new steps s pc next so_far here more =
     let more_lessons : lessons_of steps pc ++ lesson_of s next ≡ lessons_of (steps ++ s ∷ []) next =
     ap (λ at. lessons_of steps at ++ lesson_of s next) (sym here) ∙ sym (lessons_push steps s next) in
-    more ∙ ap (λ p. fold after_lesson p (lesson_of s next)) so_far ∙ fold_of_both old (lessons_of steps pc) (lesson_of s next)
-    ∙ ap (fold after_lesson old) more_lessons
+    more ∙ ap (λ p. fold after_lesson p (lesson_of s next)) so_far
+    ∙ sym (fold-append after_lesson old (lessons_of steps pc) (lesson_of s next)) ∙ ap (fold after_lesson old) more_lessons
 
 -- the phase while it goes on, and what the predictor has been taught of its steps
 pub record AreTeaching (start h : Hardware) (steps : List Step) (old now : Option DescribedPredictor) : Type 0 where

@@ -1,5 +1,5 @@
 -- The common data bus is what the instructions in flight tell, through a dispatch, a broadcast and a squash.
-use Rattle.rv_core.proofs.Words.{◌≡◌, ℕ, ◌+◌, Bool, false, cond, List, [], ◌∷◌, ◌++◌, length, nat_le, ◌==◌, Some, None, All, Option, sym, refl, ap, ◌∙◌, inl, inr, append-nil, arith, length-append, eq-eqb, ne_eqb, cases_Bool, All-cons, Message, Issue, Kind, Values, finished, predicting, ReorderBuffer, changed, entries_below, pushed, with_entry, Entry, Stage, Finished, Running, Waiting, has_result, result_at, stage_by, oldest_from, find, below, is_ready_result, seq_of, squashed_bus, without_first_ready, PendingResult, cut_from, entry_of, next_number, bus_of, pending_from, pending_of}
+use Rattle.rv_core.proofs.Words.{◌≡◌, ℕ, ◌+◌, Bool, false, cond, List, [], ◌∷◌, ◌++◌, length, nat_le, ◌==◌, Some, None, All, Option, sym, refl, ap, ◌∙◌, inl, inr, append-nil, arith, length-append, eq-eqb, ne_eqb, cases_Bool, All-cons, Message, Issue, Kind, Values, finished, predicting, ReorderBuffer, changed, entries_below, pushed, with_entry, Entry, Stage, Finished, Running, has_result, result_at, stage_by, oldest_from, find, below, is_ready_result, seq_of, squashed_bus, without_first_ready, PendingResult, cut_from, entry_of, next_number, bus_of, pending_from, pending_of}
 use Rattle.rv_core.proofs.Ties.Gathered.{nothing, gathered, gathered-cut, gathered-push, gathered-same}
 use Rattle.rv_core.proofs.Ties.Entries.{entry_of-from}
 
@@ -102,10 +102,6 @@ module _ (cycle : ℕ) where
       → (find (is_ready_result cycle) (pending_from (n + 1) es) ≡ Some r →
       IsGranted cycle (n + 1) (older ++ record e { stage = stage } ∷ []) es r)
       → IsGranted cycle n older (record e { stage = stage } ∷ es) r
-  granted-at n older e Waiting es r found later =
-      granted-later n older (record e { stage = Waiting }) es r refl refl (later found)
-  granted-at n older e (Finished issue at message) es r found later =
-      granted-later n older (record e { stage = Finished issue at message }) es r refl refl (later found)
   granted-at n older e (Running issue message) es r found later = elim (cases_Bool (nat_le (issue.cycle + issue.cost) cycle)) [
     | inl ready ↦
         let own : PendingResult = record { seq = n; ready = issue.cycle + issue.cost } in
@@ -130,6 +126,8 @@ module _ (cycle : ℕ) where
         sym (ap (λ b. cond b (Some own) (find (is_ready_result cycle) (pending_from (n + 1) es))) late) ∙ found in
         granted-later n older (record e { stage = Running issue message }) es r (rw late refl) (rw late refl) (later found_later)
   ]
+  granted-at n older e stage es r found later =
+      granted-later n older (record e { stage = stage }) es r refl refl (later found)
 
   -- the first result that is ready is that of an instruction in flight, the oldest with a result
   pub granted : (n : ℕ) (older es : List Entry) (r : PendingResult) → find (is_ready_result cycle) (pending_from n es) ≡ Some r →
@@ -155,10 +153,4 @@ module _ (cycle : ℕ) where
   -- and nothing leaves the bus
   pub without-none : (ps : List PendingResult) → find (is_ready_result cycle) ps ≡ None → without_first_ready cycle ps ≡ ps
   without-none [] none = refl
-  without-none (p ∷ ps) none = elim (cases_Bool (is_ready_result cycle p)) [
-    | inl ready ↦
-        let is : Some p ≡ None = sym (ap (λ b. cond b (Some p) (find (is_ready_result cycle) ps)) ready) ∙ none in absurd (cc)
-    | inr late ↦
-        rw late (ap (λ l. p ∷ l)
-        (without-none ps (sym (ap (λ b. cond b (Some p) (find (is_ready_result cycle) ps)) late) ∙ none)))
-  ]
+  without-none (p ∷ ps) none = grind (arith, without-none ps)

@@ -1,9 +1,10 @@
 -- A dispatch keeps the ties of the parts and the soundness of the hardware.
-use Rattle.rv_core.proofs.Words.{◌≡◌, ℕ, zero, suc, ◌+◌, ◌-◌, ◌<◌, Bool, false, cond, ◌&&◌, List, [], ◌∷◌, ◌++◌, length, IfSome, nat_le, slice_get, Some, None, All, Option, AllPairs, sym, refl, ap, ◌∙◌, arith, length-append, leb-false, or_parts, All-cons, list_any, is_branch_or_jump, is_serialising, is_store, kind_of_word, target_of_word, Message, Instr, Lines, Kind, PerKind, Values, Layout, Effect, State, pushed, Entry, Finished, Fetched, mends_early, entry_of_fetched, has_full_stations, reason_of, stage_by, Hardware, effect_message, result_of_word, layout_of, seen_behind, stores_behind, or-false, All-push, all_pairs_push, at_kind-by_kind, Queue, Pool, Pending, Renaming, next_number, Stall, are_full_for, with_instruction, with_jump, with_store, with_target, IsDecoded, IsLegalWrite, IsSoundEntry, IsSoundHardware, message_of, AreTied, stations_of, status_behind, values_in}
+use Rattle.rv_core.proofs.Words.{◌≡◌, ℕ, zero, suc, ◌+◌, ◌-◌, ◌<◌, Bool, false, cond, ◌&&◌, List, [], ◌∷◌, ◌++◌, length, IfSome, nat_le, slice_get, Some, None, All, Option, AllPairs, sym, refl, ap, ◌∙◌, arith, length-append, leb-false, or_parts, All-cons, list_any, is_branch_or_jump, is_serialising, is_store, kind_of_word, target_of_word, Instr, Lines, Kind, PerKind, Values, Layout, State, pushed, Entry, Finished, Fetched, mends_early, entry_of_fetched, has_full_stations, reason_of, stage_by, Hardware, result_of_word, layout_of, seen_behind, stores_behind, or-false, All-push, all_pairs_push, at_kind-by_kind, Queue, Pool, Pending, Renaming, next_number, Stall, are_full_for, with_instruction, with_jump, with_store, with_target, IsDecoded, IsLegalWrite, IsSoundEntry, IsSoundHardware, message_of, AreTied, stations_of, status_behind, values_in}
 use Rattle.rv_hardware.specs.declared.report.Stall.TheVariants as stall
 use Rattle.rv_rob.specs.ReorderBuffer.{youngest}
 use Rattle.rv_core.proofs.Phases.InFlight.{sound_in_flight}
 use Rattle.rv_core.proofs.Ties.Bus.{bus-push}
+use Rattle.rv_core.proofs.Ties.Entries.{pairs-tail}
 use Rattle.rv_core.proofs.Ties.Queue.{stores-push}
 use Rattle.rv_core.proofs.Ties.Renaming.{renaming-push}
 use Rattle.rv_core.proofs.Ties.Stations.{stations-push, waiting-count}
@@ -38,9 +39,6 @@ serial_in (Some e) = is_serialising e.instruction
 abbrev IsLast : List Entry → Type 0
 IsLast es = AllPairs (λ older younger. is_serialising older.instruction ≡ false) es
 
-pub IsLast-tail : (e : Entry) (es : List Entry) → IsLast (e ∷ es) → IsLast es
-IsLast-tail e es last i j d lt within = last (suc i) (suc j) d (omega arith) (omega arith)
-
 serial-last : (es : List Entry) (i : ℕ) → length es ≡ i + 1 → IsLast es →
     list_any (λ e. is_serialising e.instruction) es ≡ serial_in (slice_get es i)
 serial-last [] i is last = absurd (omega arith)
@@ -49,7 +47,8 @@ serial-last (e ∷ []) i is last =
 serial-last (e ∷ d ∷ es) zero is last = absurd (omega arith)
 serial-last (e ∷ d ∷ es) (suc i) is last =
     let before : is_serialising e.instruction ≡ false = last 0 1 e (omega arith) (omega arith) in
-    rw before (serial-last (d ∷ es) i (omega arith) (IsLast-tail e (d ∷ es) last))
+    let others = pairs-tail (λ older younger. is_serialising older.instruction ≡ false) e (d ∷ es) last in
+    rw before (serial-last (d ∷ es) i (omega arith) others)
 
 -- one of them serialises where the youngest does
 pub serial-youngest : (es : List Entry) → IsLast es → list_any (λ e. is_serialising e.instruction) es ≡ serial_in (youngest es)
@@ -72,12 +71,6 @@ reason-is h fetched serial room station queue serial_is room_is station_is queue
     (cond (room_is i) (Some stall.Rob) (cond (station_is i) (Some stall.Station) (cond (queue_is i) (Some stall.Store) None)))
 
 -- ---- the entry
-no_store : (fault : Effect) → (effect_message None fault).store ≡ None
-no_store fault = grind arith
-
-unwritten : (values : Values) (message : Message) → message.store ≡ None → IsLegalWrite values false message.fault message.store
-unwritten values message none = rw none tt
-
 first-legal : (values : Values) (layout : Layout) (s : State) (lines : Lines) (cycle : ℕ) (word : Option ℕ) (o : Option Instr)
     → IfSome (message_of (stage_by (kind_of_word o) (is_serialising o)
     (Finished None cycle (result_of_word layout s lines word o))))

@@ -1,66 +1,58 @@
 -- A change of the entry of a number, and a cut at one, keep what holds of the entries.
 use Rattle.rv_core.proofs.Words.{◌≡◌, ℕ, suc, ◌+◌, ◌<◌, ◌≤◌, true, false, cond, List, [], ◌∷◌, length, nat_lt, ◌==◌, slice_index_or as get_or, Some, All, AllPairs, sym, refl, ap, ◌∙◌, inl, inr, arith, le-ltb, eqb-true, cases_Bool, All-cons, All-head, All-tail, AllPairs-cons, entries_below, with_entry, Entry, entry_of}
 
+-- the entry of a number is the first one, or stands behind it
+pub data IsHeld (n s : ℕ) (d : Entry) (es : List Entry) (e : Entry) : Type 0 where
+  at_head : (n == s) ≡ true → n ≡ s → d ≡ e → IsHeld n s d es e
+  in_tail : (n == s) ≡ false → entry_of n (s + 1) es ≡ Some e → IsHeld n s d es e
+
+pub held_at : (n s : ℕ) (d : Entry) (es : List Entry) (e : Entry) → entry_of n s (d ∷ es) ≡ Some e → IsHeld n s d es e
+held_at n s d es e held = elim (cases_Bool (n == s)) [
+  | inl equal ↦
+      let is : Some d ≡ Some e = sym (ap (λ b. cond b (Some d) (entry_of n (s + 1) es)) equal) ∙ held in
+      at_head equal (eqb-true n s equal) cc
+  | inr other ↦ in_tail other (sym (ap (λ b. cond b (Some d) (entry_of n (s + 1) es)) other) ∙ held)
+]
+
 -- the number of an entry that is held lies among those of the list
 pub entry_of-from : (n s : ℕ) (es : List Entry) (e : Entry) → entry_of n s es ≡ Some e → (s ≤ n) × (n < s + length es)
 entry_of-from n s [] e held = absurd (cc)
-entry_of-from n s (d ∷ es) e held = elim (cases_Bool (n == s)) [
-  | inl equal ↦ let same : n ≡ s = eqb-true n s equal in (omega (arith, same), omega (arith, same))
-  | inr other ↦
-      let is : entry_of n (s + 1) es ≡ Some e = sym (ap (λ b. cond b (Some d) (entry_of n (s + 1) es)) other) ∙ held in
-      let later = entry_of-from n (s + 1) es e is in
-      (omega (arith, later.0), omega (arith, later.1))
+entry_of-from n s (d ∷ es) e held = elim (held_at n s d es e held) [
+  | at_head equal same one ↦ (omega (arith, same), omega (arith, same))
+  | in_tail other is ↦ let later = entry_of-from n (s + 1) es e is in (omega (arith, later.0), omega (arith, later.1))
 ]
 
--- from the first number on nothing is older
-pub entries_below-first : (s : ℕ) (es : List Entry) → entries_below s s es ≡ []
-entries_below-first s [] = refl
-entries_below-first s (e ∷ es) = rw (le-ltb s s (omega arith)) refl
+-- nothing is older than the first
+pub entries_below-none : (n s : ℕ) (es : List Entry) → n ≤ s → entries_below n s es ≡ []
+entries_below-none n s [] le = refl
+entries_below-none n s (e ∷ es) le = rw (le-ltb s n le) refl
 
 -- a change of an entry leaves as many
 pub length-with_entry : (f : Entry → Entry) (n s : ℕ) (es : List Entry) → length (with_entry f n s es) ≡ length es
 length-with_entry f n s [] = refl
-length-with_entry f n s (e ∷ es) =
-    elim (n == s) as (λ b. length (cond b (f e ∷ es) (e ∷ with_entry f n (s + 1) es)) ≡ length (e ∷ es)) [
-      | true ↦ refl
-      | false ↦ omega (arith, length-with_entry f n (s + 1) es)
-    ]
+length-with_entry f n s (e ∷ es) = grind (arith, length-with_entry f n (s + 1) es)
 
 -- a cut leaves no more
 pub length-entries_below : (n s : ℕ) (es : List Entry) → length (entries_below n s es) ≤ length es
 length-entries_below n s [] = omega arith
-length-entries_below n s (e ∷ es) =
-    elim (nat_lt s n) as (λ b. length (cond b (e ∷ entries_below n (s + 1) es) []) ≤ length (e ∷ es)) [
-      | true ↦ omega (arith, length-entries_below n (s + 1) es)
-      | false ↦ omega arith
-    ]
+length-entries_below n s (e ∷ es) = grind (arith, length-entries_below n (s + 1) es)
 
 -- what a change leaves at its number
 pub entry_of-changed : (f : Entry → Entry) (n s : ℕ) (es : List Entry) (e : Entry) → entry_of n s es ≡ Some e →
     entry_of n s (with_entry f n s es) ≡ Some (f e)
 entry_of-changed f n s [] e held = absurd (cc)
-entry_of-changed f n s (d ∷ es) e held = elim (cases_Bool (n == s)) [
-  | inl equal ↦
-      let is : Some d ≡ Some e = sym (ap (λ b. cond b (Some d) (entry_of n (s + 1) es)) equal) ∙ held in
-      let one : d ≡ e = cc in
-      rw (equal, equal) (ap (λ x. Some (f x)) one)
-  | inr other ↦
-      let is : entry_of n (s + 1) es ≡ Some e = sym (ap (λ b. cond b (Some d) (entry_of n (s + 1) es)) other) ∙ held in
-      rw (other, other) (entry_of-changed f n (s + 1) es e is)
+entry_of-changed f n s (d ∷ es) e held = elim (held_at n s d es e held) [
+  | at_head equal same one ↦ rw (equal, equal) (ap (λ x. Some (f x)) one)
+  | in_tail other is ↦ rw (other, other) (entry_of-changed f n (s + 1) es e is)
 ]
 
 -- changes that leave the same at its number
 pub with_entry-alike : (f g : Entry → Entry) (n s : ℕ) (es : List Entry) (e : Entry) → entry_of n s es ≡ Some e → f e ≡ g e →
     with_entry f n s es ≡ with_entry g n s es
 with_entry-alike f g n s [] e held alike = refl
-with_entry-alike f g n s (d ∷ es) e held alike = elim (cases_Bool (n == s)) [
-  | inl equal ↦
-      let is : Some d ≡ Some e = sym (ap (λ b. cond b (Some d) (entry_of n (s + 1) es)) equal) ∙ held in
-      let one : d ≡ e = cc in
-      rw equal (ap (λ x. x ∷ es) (ap f one ∙ alike ∙ sym (ap g one)))
-  | inr other ↦
-      let is : entry_of n (s + 1) es ≡ Some e = sym (ap (λ b. cond b (Some d) (entry_of n (s + 1) es)) other) ∙ held in
-      rw other (ap (λ xs. d ∷ xs) (with_entry-alike f g n (s + 1) es e is alike))
+with_entry-alike f g n s (d ∷ es) e held alike = elim (held_at n s d es e held) [
+  | at_head equal same one ↦ rw equal (ap (λ x. x ∷ es) (ap f one ∙ alike ∙ sym (ap g one)))
+  | in_tail other is ↦ rw other (ap (λ xs. d ∷ xs) (with_entry-alike f g n (s + 1) es e is alike))
 ]
 
 -- ---- what holds of each entry
@@ -88,25 +80,12 @@ module _ (P : Entry → Type 0) where
         | false ↦ λ k d lt. absurd (omega arith)
       ]
 
-  -- the entry of a number is one of them
-  pub All-entry_of : (n s : ℕ) (es : List Entry) (e : Entry) → entry_of n s es ≡ Some e → All P es → P e
-  All-entry_of n s [] e held each = absurd (cc)
-  All-entry_of n s (d ∷ es) e held each = elim (cases_Bool (n == s)) [
-    | inl equal ↦
-        let is : Some d ≡ Some e = sym (ap (λ b. cond b (Some d) (entry_of n (s + 1) es)) equal) ∙ held in
-        let one : d ≡ e = cc in
-        rw (← one) (All-head P d es each)
-    | inr other ↦
-        let is : entry_of n (s + 1) es ≡ Some e = sym (ap (λ b. cond b (Some d) (entry_of n (s + 1) es)) other) ∙ held in
-        All-entry_of n (s + 1) es e is (All-tail P d es each)
-  ]
-
 -- ---- what holds of each entry and all later ones
 module _ (R : Entry → Entry → Type 0) where
   pairs-head : (e : Entry) (es : List Entry) → AllPairs R (e ∷ es) → All (R e) es
   pairs-head e es pairs k d lt = pairs 0 (suc k) d (omega arith) (omega arith)
 
-  pairs-tail : (e : Entry) (es : List Entry) → AllPairs R (e ∷ es) → AllPairs R es
+  pub pairs-tail : (e : Entry) (es : List Entry) → AllPairs R (e ∷ es) → AllPairs R es
   pairs-tail e es pairs i j d lt within = pairs (suc i) (suc j) d (omega arith) (omega arith)
 
   -- what holds of each pair holds of those that a cut leaves

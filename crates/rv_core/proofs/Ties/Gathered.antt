@@ -1,5 +1,5 @@
 -- What instructions in flight give, one after another, keeps its numbers, and a cut or a push of them is one of it.
-use Rattle.rv_core.proofs.Words.{◌≡◌, ℕ, ◌+◌, ◌≤◌, true, false, cond, List, [], ◌∷◌, ◌++◌, length, ◌==◌, All, sym, refl, ap, ◌∙◌, inl, inr, append_assoc, append-nil, arith, length-append, le-ltb, lt-ltb, cases_lt, All-append, entries_below, with_entry, Entry, AreBelow, below, AreBelow-append, below-all, below-append, below-none}
+use Rattle.rv_core.proofs.Words.{◌≡◌, ℕ, ◌+◌, ◌≤◌, List, [], ◌∷◌, ◌++◌, length, All, sym, refl, ap, ◌∙◌, inl, inr, append_assoc, append-nil, arith, length-append, le-ltb, lt-ltb, cases_lt, All-append, entries_below, with_entry, Entry, AreBelow, below, AreBelow-append, below-all, below-append, below-none}
 
 -- the state of what needs none
 abbrev pub nothing : Unit {0} → ℕ → Entry → Unit {0}
@@ -31,10 +31,7 @@ module _ {S : Type 0} (next : S → ℕ → Entry → S) where
         → (n : ℕ) (st : S) (s : ℕ) (es : List Entry) → gathered st s (with_entry f n s es) ≡ gathered st s es
     gathered-same f own_is next_is n st s [] = refl
     gathered-same f own_is next_is n st s (e ∷ es) =
-        elim (n == s) as (λ b. gathered st s (cond b (f e ∷ es) (e ∷ with_entry f n (s + 1) es)) ≡ gathered st s (e ∷ es)) [
-          | true ↦ λ i. own_is st s e i ++ gathered (next_is st s e i) (s + 1) es
-          | false ↦ ap (λ xs. own st s e ++ xs) (gathered-same f own_is next_is n (next st s e) (s + 1) es)
-        ]
+        grind (arith, own_is, next_is, gathered-same f own_is next_is n (next st s e) (s + 1) es)
 
     -- an instruction gives one at most
     pub gathered-length : ((st : S) (s : ℕ) (e : Entry) → length (own st s e) ≤ 1) → (st : S) (s : ℕ) (es : List Entry) →

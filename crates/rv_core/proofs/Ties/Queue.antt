@@ -1,9 +1,9 @@
 -- The store queue is what the retired stores and the instructions in flight tell, through a dispatch, a broadcast and a squash.
-use Rattle.rv_core.proofs.Words.{◌≡◌, ℕ, ◌+◌, ◌<◌, ◌≤◌, Bool, true, false, cond, List, [], ◌∷◌, ◌++◌, map, length, ◌==◌, Some, None, All, filter, Option, sym, refl, ap, ◌∙◌, inl, inr, true≢false, append_assoc, append-nil, arith, eq-eqb, ne_eqb, eqb-true, cases_Bool, eqb-false, map-append, All-cons, All-head, All-tail, filter-append, is_store, kind_of_word, Message, Instr, Values, is_committed, is_committed_state, Store, StoreState, finished, predicting, ReorderBuffer, entries_below, with_entry, Entry, Stage, Finished, stage_by, Hardware, broadcast_of, store_of_broadcast, store_of_message, stores_of, AreBelow, AreBelow-append, AreBelow-weaken, below-all, below-append, CanEnter, Queue, older_than, answered, entry_of, next_number, with_store, IsRetiredStore, queue_of}
+use Rattle.rv_core.proofs.Words.{◌≡◌, ℕ, ◌+◌, ◌<◌, ◌≤◌, Bool, true, false, cond, List, [], ◌∷◌, ◌++◌, map, length, ◌==◌, Some, None, All, filter, Option, sym, refl, ap, ◌∙◌, true≢false, append_assoc, append-nil, arith, eq-eqb, ne_eqb, eqb-false, map-append, All-cons, All-head, All-tail, filter-append, is_store, kind_of_word, Message, Instr, Values, is_committed, is_committed_state, Store, StoreState, finished, predicting, ReorderBuffer, entries_below, with_entry, Entry, Stage, Finished, stage_by, Hardware, broadcast_of, store_of_broadcast, store_of_message, stores_of, AreBelow, AreBelow-append, AreBelow-weaken, below-all, below-append, CanEnter, Queue, older_than, answered, entry_of, next_number, with_store, IsRetiredStore, queue_of}
 use Rattle.rv_stores.specs.declared.store.StoreState.TheVariants as store
 use Rattle.rv_core.proofs.Ties.Gathered.{nothing, gathered, gathered-below, gathered-cut, gathered-from, gathered-push, gathered-same}
 use Rattle.rv_core.proofs.Retired.Stores.{AreRetired, retired_is_committed}
-use Rattle.rv_core.proofs.Ties.Entries.{entry_of-from}
+use Rattle.rv_core.proofs.Ties.Entries.{at_head, entry_of-from, held_at, in_tail}
 
 -- ---- the stores in flight, one after another
 abbrev store_at : ℕ → Entry → Store
@@ -14,13 +14,7 @@ own_store st s e = cond (is_store e.instruction) (store_at s e ∷ []) []
 
 stores-gathered : (s : ℕ) (es : List Entry) → stores_of s es ≡ gathered nothing own_store tt s es
 stores-gathered s [] = refl
-stores-gathered s (e ∷ es) =
-    elim (is_store e.instruction) as
-    (λ b. cond b (store_at s e ∷ stores_of (s + 1) es) (stores_of (s + 1) es)
-    ≡ cond b (store_at s e ∷ []) [] ++ gathered nothing own_store tt (s + 1) es) [
-      | true ↦ ap (λ ss. store_at s e ∷ ss) (stores-gathered (s + 1) es)
-      | false ↦ stores-gathered (s + 1) es
-    ]
+stores-gathered s (e ∷ es) = grind (arith, stores-gathered (s + 1) es)
 
 store-at_if : (b : Bool) (s : ℕ) (x : Store) → x.seq ≡ s → All (λ (x : Store). x.seq ≡ s) (cond b (x ∷ []) [])
 store-at_if b s x is = grind (arith, All-cons)
@@ -57,12 +51,7 @@ silent_state b = grind arith
 
 stores-uncommitted : (s : ℕ) (es : List Entry) → filter is_committed (stores_of s es) ≡ []
 stores-uncommitted s [] = refl
-stores-uncommitted s (e ∷ es) =
-    elim (is_store e.instruction) as
-    (λ b. filter is_committed (cond b (store_at s e ∷ stores_of (s + 1) es) (stores_of (s + 1) es)) ≡ []) [
-      | true ↦ rw (silent_state (broadcast_of e.stage)) (stores-uncommitted (s + 1) es)
-      | false ↦ stores-uncommitted (s + 1) es
-    ]
+stores-uncommitted s (e ∷ es) = grind (arith, silent_state, stores-uncommitted (s + 1) es)
 
 pub all_of_retired : (values : Values) (ss : List Store) → AreRetired values ss → filter is_committed ss ≡ ss
 all_of_retired values [] are = refl
@@ -147,36 +136,25 @@ module _ (n cycle : ℕ) (message : Message) where
   answered-at : (s : ℕ) (e : Entry) → (s == n) ≡ false → answered n news (store_at s e) ≡ store_at s e
   answered-at s e other = rw other refl
 
+  -- with a store, or with none
+  answered-with : (b : Bool) (x y : Store) (xs ys : List Store) → answered n news x ≡ y → map (answered n news) xs ≡ ys →
+      map (answered n news) (cond b (x ∷ xs) xs) ≡ cond b (y ∷ ys) ys
+  answered-with b x y xs ys one others = grind arith
+
   pub stores-answered : (s : ℕ) (es : List Entry) (e : Entry) → entry_of n s es ≡ Some e → broadcast_of e.stage ≡ None
       → map (answered n news) (stores_of s es) ≡ stores_of s (with_entry (finished message cycle) n s es)
   stores-answered s [] e held silent = absurd (cc)
-  stores-answered s (d ∷ es) e held silent = elim (cases_Bool (n == s)) [
-    | inl equal ↦
-        let number : n ≡ s = eqb-true n s equal in
-        let is : Some d ≡ Some e = sym (ap (λ b. cond b (Some d) (entry_of n (s + 1) es)) equal) ∙ held in
-        let one : d ≡ e = cc in
+  stores-answered s (d ∷ es) e held silent = elim (held_at n s d es e held) [
+    | at_head equal number one ↦
         let quiet : broadcast_of d.stage ≡ None = rw one silent in
-        let later = answered-later n news (s + 1) es (omega (arith, number)) in
-        rw equal (
-        elim (is_store d.instruction) as
-        (λ b. map (answered n news) (cond b (store_at s d ∷ stores_of (s + 1) es) (stores_of (s + 1) es))
-        ≡ cond b (record { seq = s; state = news } ∷ stores_of (s + 1) es) (stores_of (s + 1) es)) [
-          | true ↦ λ i. answered-own s d (broadcast_of d.stage) (eq-eqb s n (sym number)) quiet i ∷ later i
-          | false ↦ later
-        ]
-        )
-    | inr other ↦
-        let is : entry_of n (s + 1) es ≡ Some e = sym (ap (λ b. cond b (Some d) (entry_of n (s + 1) es)) other) ∙ held in
-        let later = stores-answered (s + 1) es e is silent in
-        rw other (
-        elim (is_store d.instruction) as
-        (λ b. map (answered n news) (cond b (store_at s d ∷ stores_of (s + 1) es) (stores_of (s + 1) es))
-        ≡ cond b (store_at s d ∷ stores_of (s + 1) (with_entry (finished message cycle) n (s + 1) es))
-        (stores_of (s + 1) (with_entry (finished message cycle) n (s + 1) es))) [
-          | true ↦ λ i. answered-at s d (ne_eqb s n (λ back. eqb-false n s other (sym back))) i ∷ later i
-          | false ↦ later
-        ]
-        )
+        rw equal
+        (answered-with (is_store d.instruction) (store_at s d) _ (stores_of (s + 1) es) _
+        (answered-own s d (broadcast_of d.stage) (eq-eqb s n (sym number)) quiet)
+        (answered-later n news (s + 1) es (omega (arith, number))))
+    | in_tail other is ↦
+        rw other
+        (answered-with (is_store d.instruction) (store_at s d) _ (stores_of (s + 1) es) _
+        (answered-at s d (ne_eqb s n (λ back. eqb-false n s other (sym back)))) (stores-answered (s + 1) es e is silent))
   ]
 
 -- the queue with a broadcast told to it

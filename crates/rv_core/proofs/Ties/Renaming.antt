@@ -1,7 +1,7 @@
 -- The rename map is what the instructions in flight tell, through a dispatch and a squash.
-use Rattle.rv_core.proofs.Words.{◌≡◌, ℕ, ◌+◌, ◌<◌, ◌≤◌, Bool, true, false, cond, ◌&&◌, List, [], ◌∷◌, ◌++◌, length, ◌==◌, Some, All, Option, sym, refl, ap, ◌∙◌, inl, inr, append_assoc, append-nil, arith, lt-ltb, eqb-true, cases_Bool, All-cons, is_branch_or_jump, target_of_word, Values, ReorderBuffer, changed, entries_below, pushed, with_entry, Entry, mends_early, AreBelow, below, AreBelow-append, CanCheckpoint, CanDefine, Checkpoint, Renaming, producers_at, restored, Producer, cut_from, entry_of, next_number, with_jump, with_target, checkpoints_of, producer_of, producers_of, producers_with, renaming_of}
+use Rattle.rv_core.proofs.Words.{◌≡◌, ℕ, ◌+◌, ◌<◌, ◌≤◌, Bool, true, false, cond, ◌&&◌, List, [], ◌∷◌, ◌++◌, length, ◌==◌, Some, All, Option, sym, refl, ap, ◌∙◌, append_assoc, append-nil, arith, lt-ltb, All-cons, is_branch_or_jump, target_of_word, Values, ReorderBuffer, changed, entries_below, pushed, with_entry, Entry, mends_early, AreBelow, below, AreBelow-append, CanCheckpoint, CanDefine, Checkpoint, Renaming, producers_at, restored, Producer, cut_from, entry_of, next_number, with_jump, with_target, checkpoints_of, producer_of, producers_of, producers_with, renaming_of}
 use Rattle.rv_core.proofs.Ties.Gathered.{nothing, behind, gathered, gathered-below, gathered-cut, gathered-from, gathered-length, gathered-push, gathered-same}
-use Rattle.rv_core.proofs.Ties.Entries.{entries_below-first, entry_of-from}
+use Rattle.rv_core.proofs.Ties.Entries.{at_head, entries_below-none, entry_of-from, held_at, in_tail}
 
 -- ---- producers, one after another
 abbrev own_producer : Unit {0} → ℕ → Entry → List Producer
@@ -58,16 +58,7 @@ own_checkpoint older s e =
 checkpoints-gathered : (older : List Producer) (s : ℕ) (es : List Entry) →
     checkpoints_of older s es ≡ gathered producers_with own_checkpoint older s es
 checkpoints-gathered older s [] = refl
-checkpoints-gathered older s (e ∷ es) =
-    let later = checkpoints-gathered (producers_with older s e) (s + 1) es in
-    let own : Checkpoint = record { seq = s; producers = producers_with older s e } in
-    elim (is_branch_or_jump e.instruction) as
-    (λ b. cond b (own ∷ checkpoints_of (producers_with older s e) (s + 1) es)
-    (checkpoints_of (producers_with older s e) (s + 1) es)
-    ≡ cond b (own ∷ []) [] ++ gathered producers_with own_checkpoint (producers_with older s e) (s + 1) es) [
-      | true ↦ ap (λ cs. own ∷ cs) later
-      | false ↦ later
-    ]
+checkpoints-gathered older s (e ∷ es) = grind (arith, checkpoints-gathered (producers_with older s e) (s + 1) es)
 
 checkpoint-at : (b : Bool) (c : Checkpoint) (s : ℕ) → c.seq ≡ s → All (λ (c : Checkpoint). c.seq ≡ s) (cond b (c ∷ []) [])
 checkpoint-at b c s is = grind (arith, All-cons)
@@ -204,37 +195,30 @@ can_checkpoint values rob target room =
     )
 
 -- ---- early recovery
+-- the checkpoint of another instruction is passed by
+producers_at-other : (n s : ℕ) (b : Bool) (ps now found : List Producer) (cs : List Checkpoint) → (n == s) ≡ false →
+    producers_at n cs now ≡ found → producers_at n (cond b (record { seq = s; producers = ps } ∷ cs) cs) now ≡ found
+producers_at-other n s b ps now found cs other later = grind arith
+
 -- the checkpoint of a branch or a jump has the producers up to it
 producers_at-jump : (n : ℕ) (now older : List Producer) (s : ℕ) (es : List Entry) (e : Entry) → entry_of n s es ≡ Some e →
     is_branch_or_jump e.instruction ≡ true
     → producers_at n (checkpoints_of older s es) now ≡ older ++ producers_of s (entries_below (n + 1) s es)
 producers_at-jump n now older s [] e held jump = absurd (cc)
-producers_at-jump n now older s (d ∷ es) e held jump = elim (cases_Bool (n == s)) [
-  | inl equal ↦
-      let same : n ≡ s = eqb-true n s equal in
-      let is : Some d ≡ Some e = sym (ap (λ b. cond b (Some d) (entry_of n (s + 1) es)) equal) ∙ held in
-      let own : is_branch_or_jump d.instruction ≡ true = let one : d ≡ e = cc in rw one jump in
-      let none : entries_below (n + 1) (s + 1) es ≡ [] = rw same (entries_below-first (s + 1) es) in
+producers_at-jump n now older s (d ∷ es) e held jump = elim (held_at n s d es e held) [
+  | at_head equal same one ↦
+      let own : is_branch_or_jump d.instruction ≡ true = rw one jump in
+      let none : entries_below (n + 1) (s + 1) es ≡ [] = rw same (entries_below-none (s + 1) (s + 1) es (omega arith)) in
       rw (own, equal, lt-ltb s (n + 1) (omega (arith, same)))
       (ap (λ ps. older ++ ps) (sym
       (ap (λ l. producer_of s (target_of_word d.instruction) ++ producers_of (s + 1) l) none
       ∙ append-nil (producer_of s (target_of_word d.instruction)))))
-  | inr other ↦
-      let is : entry_of n (s + 1) es ≡ Some e = sym (ap (λ b. cond b (Some d) (entry_of n (s + 1) es)) other) ∙ held in
-      let later =
-      producers_at-jump n now (producers_with older s d) (s + 1) es e is jump ∙
+  | in_tail other is ↦
+      rw (lt-ltb s (n + 1) (omega (arith, (entry_of-from n (s + 1) es e is).0)))
+      (producers_at-other n s (is_branch_or_jump d.instruction) _ now _ _ other
+      (producers_at-jump n now (producers_with older s d) (s + 1) es e is jump ∙
       append_assoc older (producer_of s (target_of_word d.instruction))
-      (producers_of (s + 1) (entries_below (n + 1) (s + 1) es)) in
-      rw (lt-ltb s (n + 1) (omega (arith, (entry_of-from n (s + 1) es e is).0))) (
-      elim (is_branch_or_jump d.instruction) as
-      (λ b. producers_at n (cond b
-      (record { seq = s; producers = producers_with older s d } ∷ checkpoints_of (producers_with older s d) (s + 1) es)
-      (checkpoints_of (producers_with older s d) (s + 1) es)) now
-      ≡ older ++ producers_of s (d ∷ entries_below (n + 1) (s + 1) es)) [
-        | true ↦ rw other later
-        | false ↦ later
-      ]
-      )
+      (producers_of (s + 1) (entries_below (n + 1) (s + 1) es))))
 ]
 
 -- a squash after a branch or a jump

@@ -1,8 +1,8 @@
 -- The reservation stations are what the instructions in flight tell, through a dispatch, a broadcast and a squash.
-use Rattle.rv_core.proofs.Words.{◌≡◌, ℕ, ◌+◌, ◌<◌, ◌≤◌, Bool, true, false, cond, ◌&&◌, List, [], ◌∷◌, ◌++◌, map, length, ◌==◌, slice_index_or, Some, None, All, filter, Option, sym, refl, ap, ◌∙◌, subst, inl, inr, append-nil, arith, eq-eqb, ne_eqb, eqb-true, and_right, cases_Bool, eqb-false, map-append, All-cons, is_same-own, is_of_kind, kind_of_word, sources_of, at_kind, for_each, Message, Instr, Kind, PerKind, Values, finished, predicting, ReorderBuffer, changed, entries_below, pushed, with_entry, Entry, Stage, is_stationed, stage_by, broadcast_of, is_waiting, AreBelow, below, by_kind, at_kind-by_kind, by_kind-same, with_kind-by_kind, Pool, squashed_pool, woken_pool, woken, woken_operand, Value, Station, cut_from, entry_of, next_number, with_instruction, with_station, RegisterStatus, operand_by, operand_of, pool_of_kind, stations_of, status_behind, status_with, values_in, waiting_at, waiting_from, waiting_of}
+use Rattle.rv_core.proofs.Words.{◌≡◌, ℕ, ◌+◌, ◌<◌, ◌≤◌, Bool, true, false, cond, ◌&&◌, List, [], ◌∷◌, ◌++◌, map, length, ◌==◌, slice_index_or, Some, None, All, filter, Option, sym, refl, ap, ◌∙◌, subst, append-nil, arith, eq-eqb, ne_eqb, and_right, eqb-false, map-append, All-cons, is_same-own, is_of_kind, kind_of_word, sources_of, at_kind, for_each, Message, Instr, Kind, PerKind, Values, finished, predicting, ReorderBuffer, changed, entries_below, pushed, with_entry, Entry, Stage, is_stationed, stage_by, broadcast_of, is_waiting, AreBelow, below, by_kind, at_kind-by_kind, by_kind-same, with_kind-by_kind, Pool, squashed_pool, woken_pool, woken, woken_operand, Station, cut_from, entry_of, next_number, with_instruction, with_station, RegisterStatus, operand_by, operand_of, pool_of_kind, stations_of, status_behind, status_with, values_in, waiting_at, waiting_from, waiting_of}
 use Rattle.rv_rob.specs.declared.entry.Stage.TheVariants as stage
 use Rattle.rv_stations.specs.Waiting.{seq_of}
-use Rattle.rv_hardware.specs.InFlight.{writes}
+use Rattle.rv_core.proofs.Ties.Entries.{at_head, held_at, in_tail}
 use Rattle.rv_core.proofs.Ties.Gathered.{behind, gathered, gathered-below, gathered-cut, gathered-push, gathered-same}
 
 -- ---- the waiting instructions, one after another
@@ -68,7 +68,7 @@ module _ (unit : Kind) where
 
   -- ---- a broadcast
   -- an instruction that does not wait is in no station
-  busy-at : (status : RegisterStatus) (s : ℕ) (e : Entry) (o : Option Instr) → is_waiting e.stage ≡ false →
+  pub busy-at : (status : RegisterStatus) (s : ℕ) (e : Entry) (o : Option Instr) → is_waiting e.stage ≡ false →
       waiting_at unit status s e o ≡ []
   busy-at status s e o busy = grind arith
 
@@ -88,10 +88,7 @@ module _ (unit : Kind) where
         elim (is_stationed unit e) as
         (λ b. map (woken n value) (cond b (waiting_of status s e.pc instruction ∷ []) [])
         ≡ cond b (waiting_of (woken_status status) s e.pc instruction ∷ []) []) [
-          | true ↦ λ i. record {
-            seq = s;
-            pc = e.pc;
-            instruction = instruction;
+          | true ↦ λ i. record (waiting_of status s e.pc instruction) {
             first = woken-operand_of status (slice_index_or (sources_of instruction) 0 None) i;
             second = woken-operand_of status (slice_index_or (sources_of instruction) 1 None) i;
           } ∷ []
@@ -104,13 +101,10 @@ module _ (unit : Kind) where
     -- after an instruction with another number
     woken-with : (status : RegisterStatus) (s : ℕ) (e : Entry) → (s == n) ≡ false →
         woken_status (status_with status s e) ≡ status_with (woken_status status) s e
-    woken-with status s e other = λ i register.
-        (elim (writes e register) as
-        (λ b. woken_operand n value (cond b (operand_by s (broadcast_of e.stage)) (status register))
-        ≡ cond b (operand_by s (broadcast_of e.stage)) (woken_operand n value (status register))) [
-          | true ↦ woken-by s (broadcast_of e.stage) other
-          | false ↦ refl
-        ]) i
+    woken-with status s e other = λ i register. woken-one status s e register other i where
+      woken-one : (status : RegisterStatus) (s : ℕ) (e : Entry) (register : ℕ) → (s == n) ≡ false →
+          woken_operand n value (status_with status s e register) ≡ status_with (woken_status status) s e register
+      woken-one status s e register other = grind (arith, woken-by)
 
     -- instructions that are all younger
     woken-later : (status : RegisterStatus) (s : ℕ) (es : List Entry) → n < s →
@@ -127,24 +121,19 @@ module _ (unit : Kind) where
       -- after the instruction itself
       woken-own : (status : RegisterStatus) (s : ℕ) (e : Entry) → (s == n) ≡ true → broadcast_of e.stage ≡ None →
           woken_status (status_with status s e) ≡ status_with (woken_status status) s (finished message cycle e)
-      woken-own status s e equal silent = λ i register.
-          (elim (writes e register) as
-          (λ b. woken_operand n value (cond b (operand_by s (broadcast_of e.stage)) (status register))
-          ≡ cond b (Value message.value) (woken_operand n value (status register))) [
-            | true ↦ rw (silent, equal, same) refl
-            | false ↦ refl
-          ]) i
+      woken-own status s e equal silent = λ i register. woken-one status s e register equal silent i where
+        woken-one : (status : RegisterStatus) (s : ℕ) (e : Entry) (register : ℕ) → (s == n) ≡ true → broadcast_of e.stage ≡ None →
+            woken_operand n value (status_with status s e register)
+            ≡ status_with (woken_status status) s (finished message cycle e) register
+        woken-one status s e register equal silent = grind arith
 
       pub waiting-woken : (status : RegisterStatus) (s : ℕ) (es : List Entry) (e : Entry) → entry_of n s es ≡ Some e →
           is_waiting e.stage ≡ false → broadcast_of e.stage ≡ None
           → map (woken n value) (waiting_from unit status s es)
           ≡ waiting_from unit (woken_status status) s (with_entry (finished message cycle) n s es)
       waiting-woken status s [] e held busy silent = absurd (cc)
-      waiting-woken status s (d ∷ es) e held busy silent = elim (cases_Bool (n == s)) [
-        | inl equal ↦
-            let number : n ≡ s = eqb-true n s equal in
-            let is : Some d ≡ Some e = sym (ap (λ b. cond b (Some d) (entry_of n (s + 1) es)) equal) ∙ held in
-            let one : d ≡ e = cc in
+      waiting-woken status s (d ∷ es) e held busy silent = elim (held_at n s d es e held) [
+        | at_head equal number one ↦
             let out : is_waiting d.stage ≡ false = rw one busy in
             let quiet : broadcast_of d.stage ≡ None = rw one silent in
             rw equal (
@@ -155,8 +144,7 @@ module _ (unit : Kind) where
             sym (ap (λ ws. ws ++ waiting_from unit (status_with (woken_status status) s (finished message cycle d)) (s + 1) es)
             (busy-at (woken_status status) s (finished message cycle d) d.instruction refl))
             )
-        | inr other ↦
-            let is : entry_of n (s + 1) es ≡ Some e = sym (ap (λ b. cond b (Some d) (entry_of n (s + 1) es)) other) ∙ held in
+        | in_tail other is ↦
             rw other (
             map-append (woken n value) (waiting_at unit status s d d.instruction)
             (waiting_from unit (status_with status s d) (s + 1) es) ∙
