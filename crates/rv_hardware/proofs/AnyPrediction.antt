@@ -1,16 +1,7 @@
 -- A cycle by what a predictor answers is one by any of the predictions that there may be.
-use Rattle.std.proofs.Common.{arith, ◌≡◌, ℕ, zero, suc, ◌-◌, Bool, List, [], ◌∷◌, ◌++◌, length, Option, MatchBool, MatchOption}
-use Rattle.rv_isa.specs.declared.{lines.Arrival.Arrival, lines.Lines.Lines}
-use Rattle.rv_memory.specs.Memory.{Memory}
+use Rattle.rv_hardware.proofs.Words.{arith, ◌≡◌, ℕ, zero, suc, ◌-◌, Bool, List, [], ◌∷◌, ◌++◌, length, Option, MatchBool, MatchOption, Memory, Fetched, FetchStop, Halted, IsCycle, any_prediction, Hardware, Report, Cycles, ended, cycled, Arrival, Lines}
 use Rattle.rv_front.specs.FetchBuffer.{Answers, FetchBuffer, Fetches, FetchesInto, IsFetchedAt, IsGuess, is_halted, stop_behind}
-use Rattle.rv_front.specs.declared.fetched.Fetched.{Fetched}
-use Rattle.rv_front.specs.declared.fetched.FetchStop.{FetchStop}
-use Rattle.rv_front.specs.declared.fetched.FetchStop.TheVariants.{Halted}
-use Rattle.rv_hardware.specs.Cycle.{IsCycle, any_prediction}
 use Rattle.rv_hardware.specs.Guided.{GuidedCycles, GuidedHardware, ended as guided_ended, cycled as guided_cycled}
-use Rattle.rv_hardware.specs.Hardware.{Hardware}
-use Rattle.rv_hardware.specs.Report.{Report}
-use Rattle.rv_hardware.specs.Run.{Cycles, ended, cycled}
 
 module _ (answers : Answers) (ram : Memory) (cycle : ℕ) where
   any-guess : (pc : ℕ) (word : Option ℕ) (next : ℕ) → IsGuess answers pc word next → IsGuess any_prediction pc word next

@@ -1,26 +1,14 @@
 -- What a described predictor guides is determined: from the same hardware and predictor, two runs are the same run.
-use Rattle.std.proofs.Common.{◌≡◌, ◌∙◌, ℕ, zero, suc, ◌+◌, ◌-◌, ◌^◌, ◌≤◌, Bool, true, false, List, [], ◌∷◌, ◌++◌, length, Option, Some, None, MatchBool, MatchOption, is_some, refl, sym, ap, subst, arith, length-append}
-use Rattle.std.specs.Prelude.{unwrap_or}
+use Rattle.rv_hardware.proofs.Words.{◌≡◌, ◌∙◌, ℕ, zero, suc, ◌+◌, ◌-◌, ◌^◌, ◌≤◌, Bool, true, false, List, [], ◌∷◌, ◌++◌, length, Option, Some, None, MatchBool, MatchOption, is_some, refl, sym, ap, subst, arith, length-append, unwrap_or, Memory, Stop, Halted, Committing, Dispatching, Hardware, Report, IsStop, NoneStops, true≢false, Arrival, Lines, Fetched, FetchStop}
 use Rattle.std.specs.List.{fold}
-use Rattle.std.proofs.lemmas.Bool.{true≢false}
-use Rattle.rv_isa.specs.declared.{lines.Arrival.Arrival, lines.Lines.Lines}
-use Rattle.rv_memory.specs.Memory.{Memory}
-use Rattle.rv_arch.specs.declared.outcome.Stop.{Stop}
 use Rattle.rv_arch.specs.declared.outcome.Stop.TheVariants as stop
 use Rattle.rv_front.specs.FetchBuffer.{EndsFor, FetchBuffer, Fetches, FetchesInto, IsFetchedAt, IsGuess, is_halted, stop_behind}
 use Rattle.rv_front.specs.Lesson.{Lesson}
 use Rattle.rv_front.specs.Predictors.{after_lesson, answers_of, taught}
-use Rattle.rv_front.specs.declared.fetched.{Fetched.Fetched, FetchStop.FetchStop}
-use Rattle.rv_front.specs.declared.fetched.FetchStop.TheVariants.{Halted}
 use Rattle.rv_front.specs.declared.predictors.DescribedPredictor.{DescribedPredictor}
-use Rattle.rv_hardware.specs.Commit.{Committing}
 use Rattle.rv_hardware.specs.Cycle.{execute, report_of}
-use Rattle.rv_hardware.specs.Dispatch.{Dispatching}
 use Rattle.rv_hardware.specs.Guided.{GuidedCycles, GuidedHardware, IsGuidedCycle, cycled, ended}
-use Rattle.rv_hardware.specs.Hardware.{Hardware}
 use Rattle.rv_hardware.specs.Lessons.{lessons_of}
-use Rattle.rv_hardware.specs.Report.{Report}
-use Rattle.rv_hardware.specs.Run.{IsStop, NoneStops}
 
 -- ---- the fetch phase
 

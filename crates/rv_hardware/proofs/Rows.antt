@@ -1,27 +1,11 @@
 -- Short programs, computed from the definition: each gives the steps that were worked out by hand.
-use Rattle.std.specs.Prelude.{◌≡◌, ℕ, zero, suc, ◌+◌, nat_lt, false, if◌then◌else◌, List, [], ◌∷◌, ◌++◌, length, Option, Some, None, is_none, option_and_then, refl}
-use Rattle.rv_isa.specs.Bytes.{bytes_of_number}
+use Rattle.rv_hardware.proofs.Words.{◌≡◌, ℕ, zero, suc, ◌+◌, nat_lt, false, if◌then◌else◌, List, [], ◌∷◌, ◌++◌, length, Option, Some, None, is_none, option_and_then, refl, bytes_of_number, pc_plus_4, Early, Values, no_lines, Memory, fetched_word, FetchBuffer, Fetched, Committing, commit_with, execute, Dispatching, stall_of, Hardware, reset_hardware, Stall, Step, Retired, Trap, Execution}
 use Rattle.rv_isa.specs.Csr as csr
 use Rattle.rv_isa.specs.Standard.{standard_values}
-use Rattle.rv_isa.specs.Word.{pc_plus_4}
 use Rattle.rv_isa.specs.declared.causes.Cause.TheVariants.{InstructionAccessFault, IllegalInstruction, Breakpoint, LoadAccessFault, StoreAddressMisaligned}
-use Rattle.rv_isa.specs.declared.values.Recovery.TheVariants.{Early}
-use Rattle.rv_isa.specs.declared.values.Values.{Values}
-use Rattle.rv_isa.specs.Arrivals.{no_lines}
 use Rattle.rv_decode.specs.Decodes.{instruction_of}
 use Rattle.rv_decode.specs.InstructionTable.{table}
-use Rattle.rv_memory.specs.Memory.{Memory, fetched_word}
-use Rattle.rv_front.specs.FetchBuffer.{FetchBuffer}
-use Rattle.rv_front.specs.declared.fetched.Fetched.{Fetched}
-use Rattle.rv_hardware.specs.Commit.{Committing}
-use Rattle.rv_hardware.specs.Cycle.{commit_with, execute}
-use Rattle.rv_hardware.specs.Dispatch.{Dispatching, stall_of}
-use Rattle.rv_hardware.specs.Hardware.{Hardware}
-use Rattle.rv_hardware.specs.Reset.{reset_hardware}
-use Rattle.rv_hardware.specs.declared.report.Stall.{Stall}
 use Rattle.rv_hardware.specs.declared.report.Stall.TheVariants as stall
-use Rattle.rv_hardware.specs.declared.step.Step.{Step}
-use Rattle.rv_hardware.specs.declared.step.Step.TheVariants.{Retired, Trap}
 
 -- a fetched word that is predicted to go on at the next address
 abbrev fetched_at : ℕ → ℕ → Option ℕ → Fetched
@@ -75,52 +59,47 @@ reasons_of values words cycles = reasons_from cycles (reset_hardware values (in_
 abbrev machine : Values
 machine = record standard_values { ram_size = 8192 }
 
--- an instruction that was executed at once: fetched, dispatched, issued, at a cost, broadcast and retired
-abbrev executed : ℕ → ℕ → Option (ℕ × ℕ) → ℕ → ℕ → ℕ → ℕ → ℕ → ℕ → Step
-executed pc word written fetched dispatched issued cost broadcast retired = Retired (record {
+-- a row of a run
+abbrev row : ℕ → ℕ → Option (ℕ × ℕ) → ℕ → ℕ → Option Execution → ℕ → Step
+row pc word written fetched dispatched execution retired = Retired (record {
   pc = pc;
   word = word;
   written = written;
   fetched = fetched;
   dispatched = dispatched;
-  execution = Some (record { issued = issued; cost = cost; broadcast = broadcast });
+  execution = execution;
   retired = retired;
 })
 
--- a trap at a breakpoint
-abbrev breakpoint : ℕ → ℕ → Step
-breakpoint pc cycle = Trap pc Breakpoint 0 cycle
+-- an instruction that was executed at once: fetched, dispatched, issued, at a cost, broadcast and retired
+abbrev executed : ℕ → ℕ → Option (ℕ × ℕ) → ℕ → ℕ → ℕ → ℕ → ℕ → ℕ → Step
+executed pc word written fetched dispatched issued cost broadcast =
+    row pc word written fetched dispatched (Some (record { issued = issued; cost = cost; broadcast = broadcast }))
+
+-- a serialising instruction, which uses no unit
+abbrev serialised : ℕ → ℕ → Option (ℕ × ℕ) → ℕ → ℕ → ℕ → Step
+serialised pc word written fetched dispatched = row pc word written fetched dispatched None
+
+-- the last step: a trap at a breakpoint
+abbrev breakpoint : ℕ → ℕ → List Step
+breakpoint pc cycle = Trap pc Breakpoint 0 cycle ∷ []
 
 -- `ebreak`, and instructions that the programs share
 abbrev ebreak : ℕ
 ebreak = 0x00100073
 
--- a serialising instruction, which uses no unit
-abbrev serialised : ℕ → ℕ → Option (ℕ × ℕ) → ℕ → ℕ → ℕ → Step
-serialised pc word written fetched dispatched retired = Retired (record {
-  pc = pc;
-  word = word;
-  written = written;
-  fetched = fetched;
-  dispatched = dispatched;
-  execution = None;
-  retired = retired;
-})
-
 -- addi x1,x0,5 on a machine of width 1
 one_instruction_on_a_narrow_machine : steps_of (record machine { fetch_width = 1; dispatch_width = 1; commit_width = 1; bus_width = 1; kinds = record machine.kinds { alu = record machine.kinds.alu { units = 1 } } }) (0x00500093 ∷ ebreak ∷ []) 6 ≡
     executed 0x80000000 0x00500093 (Some (1, 5)) 0 1 2 1 3 4 ∷
-    breakpoint 0x80000004 5 ∷
-    []
+    breakpoint 0x80000004 5
 unfolding instruction_of table
 one_instruction_on_a_narrow_machine = refl
 
 -- a dependent instruction issues in the cycle after its operand's broadcast
-dependent_instruction_waits : steps_of (machine) (0x00100093 ∷ 0x00108113 ∷ ebreak ∷ []) 7 ≡
+dependent_instruction_waits : steps_of machine (0x00100093 ∷ 0x00108113 ∷ ebreak ∷ []) 7 ≡
     executed 0x80000000 0x00100093 (Some (1, 1)) 0 1 2 1 3 4 ∷
     executed 0x80000004 0x00108113 (Some (2, 2)) 0 1 4 1 5 6 ∷
-    breakpoint 0x80000008 6 ∷
-    []
+    breakpoint 0x80000008 6
 unfolding instruction_of table
 dependent_instruction_waits = refl
 
@@ -128,8 +107,7 @@ dependent_instruction_waits = refl
 younger_result_comes_first : steps_of (record machine { kinds = record machine.kinds { div = record machine.kinds.div { latency = 8 } } }) (0x020042b3 ∷ 0x00100313 ∷ ebreak ∷ []) 13 ≡
     executed 0x80000000 0x020042b3 (Some (5, 4294967295)) 0 1 2 8 10 11 ∷
     executed 0x80000004 0x00100313 (Some (6, 1)) 0 1 2 1 3 11 ∷
-    breakpoint 0x80000008 12 ∷
-    []
+    breakpoint 0x80000008 12
 unfolding instruction_of table
 younger_result_comes_first = refl
 
@@ -137,18 +115,16 @@ younger_result_comes_first = refl
 narrow_bus_sends_the_older_result_first : steps_of (record machine { bus_width = 1 }) (0x00100093 ∷ 0x00200113 ∷ ebreak ∷ []) 6 ≡
     executed 0x80000000 0x00100093 (Some (1, 1)) 0 1 2 1 3 4 ∷
     executed 0x80000004 0x00200113 (Some (2, 2)) 0 1 2 1 4 5 ∷
-    breakpoint 0x80000008 5 ∷
-    []
+    breakpoint 0x80000008 5
 unfolding instruction_of table
 narrow_bus_sends_the_older_result_first = refl
 
 -- a load that misses the cache keeps the port; the next one hits
-load_misses_and_the_next_one_hits : steps_of (machine) (0x800012b7 ∷ 0x0002a383 ∷ 0x0042a403 ∷ ebreak ∷ []) 18 ≡
+load_misses_and_the_next_one_hits : steps_of machine (0x800012b7 ∷ 0x0002a383 ∷ 0x0042a403 ∷ ebreak ∷ []) 18 ≡
     executed 0x80000000 0x800012b7 (Some (5, 2147487744)) 0 1 2 1 3 4 ∷
     executed 0x80000004 0x0002a383 (Some (7, 0)) 0 1 4 11 15 16 ∷
     executed 0x80000008 0x0042a403 (Some (8, 0)) 1 2 15 1 16 17 ∷
-    breakpoint 0x8000000c 17 ∷
-    []
+    breakpoint 0x8000000c 17
 unfolding instruction_of table
 load_misses_and_the_next_one_hits = refl
 
@@ -157,8 +133,7 @@ load_drops_a_clean_line : steps_of (record machine { cache = record machine.cach
     executed 0x80000000 0x800012b7 (Some (5, 2147487744)) 0 1 2 1 3 4 ∷
     executed 0x80000004 0x0002a383 (Some (7, 0)) 0 1 4 11 15 16 ∷
     executed 0x80000008 0x0402a403 (Some (8, 0)) 1 2 15 11 26 27 ∷
-    breakpoint 0x8000000c 27 ∷
-    []
+    breakpoint 0x8000000c 27
 unfolding instruction_of table
 load_drops_a_clean_line = refl
 
@@ -171,29 +146,26 @@ unfolding instruction_of table
 load_outside_memory_costs_the_latency = refl
 
 -- a load takes its bytes from the store before it
-store_is_forwarded_to_a_load : steps_of (machine) (0x800012b7 ∷ 0x00700313 ∷ 0x0062a023 ∷ 0x0002a383 ∷ ebreak ∷ []) 9 ≡
+store_is_forwarded_to_a_load : steps_of machine (0x800012b7 ∷ 0x00700313 ∷ 0x0062a023 ∷ 0x0002a383 ∷ ebreak ∷ []) 9 ≡
     executed 0x80000000 0x800012b7 (Some (5, 2147487744)) 0 1 2 1 3 4 ∷
     executed 0x80000004 0x00700313 (Some (6, 7)) 0 1 2 1 3 4 ∷
     executed 0x80000008 0x0062a023 None 1 2 4 1 5 6 ∷
     executed 0x8000000c 0x0002a383 (Some (7, 7)) 1 2 6 1 7 8 ∷
-    breakpoint 0x80000010 8 ∷
-    []
+    breakpoint 0x80000010 8
 unfolding instruction_of table
 store_is_forwarded_to_a_load = refl
 
 -- beq x0,x0 by 8 is predicted not to be taken
-wrong_prediction_is_mended_at_retirement : steps_of (machine) (0x00000463 ∷ 0 ∷ ebreak ∷ []) 7 ≡
+wrong_prediction_is_mended_at_retirement : steps_of machine (0x00000463 ∷ 0 ∷ ebreak ∷ []) 7 ≡
     executed 0x80000000 0x00000463 None 0 1 2 1 3 4 ∷
-    breakpoint 0x80000008 6 ∷
-    []
+    breakpoint 0x80000008 6
 unfolding instruction_of table
 wrong_prediction_is_mended_at_retirement = refl
 
 -- the same with early recovery
 wrong_prediction_is_mended_at_broadcast : steps_of (record machine { recovery = Early }) (0x00000463 ∷ 0 ∷ ebreak ∷ []) 6 ≡
     executed 0x80000000 0x00000463 None 0 1 2 1 3 4 ∷
-    breakpoint 0x80000008 5 ∷
-    []
+    breakpoint 0x80000008 5
 unfolding instruction_of table
 wrong_prediction_is_mended_at_broadcast = refl
 
@@ -201,13 +173,12 @@ wrong_prediction_is_mended_at_broadcast = refl
 jump_to_a_register_is_mended_at_broadcast : steps_of (record machine { recovery = Early }) (0x800002b7 ∷ 0x00c28067 ∷ 0 ∷ ebreak ∷ []) 8 ≡
     executed 0x80000000 0x800002b7 (Some (5, 0x80000000)) 0 1 2 1 3 4 ∷
     executed 0x80000004 0x00c28067 None 0 1 4 1 5 6 ∷
-    breakpoint 0x8000000c 7 ∷
-    []
+    breakpoint 0x8000000c 7
 unfolding instruction_of table
 jump_to_a_register_is_mended_at_broadcast = refl
 
 -- no program: an illegal word, and then access faults at 0
-empty_memory_traps_again_and_again : steps_of (machine) ([]) 10 ≡
+empty_memory_traps_again_and_again : steps_of machine [] 10 ≡
     Trap 0x80000000 IllegalInstruction 0 2 ∷
     Trap 0 InstructionAccessFault 0 4 ∷
     Trap 0 InstructionAccessFault 0 6 ∷
@@ -219,26 +190,23 @@ empty_memory_traps_again_and_again = refl
 -- a reorder buffer with one entry
 reorder_buffer_of_one : steps_of (record machine { rob = 1 }) (0x00100093 ∷ ebreak ∷ []) 6 ≡
     executed 0x80000000 0x00100093 (Some (1, 1)) 0 1 2 1 3 4 ∷
-    breakpoint 0x80000004 5 ∷
-    []
+    breakpoint 0x80000004 5
 unfolding instruction_of table
 reorder_buffer_of_one = refl
 
 -- csrrs x5,mip,x0 after a division
-serialising_instruction_waits_for_the_head : steps_of (machine) (0x02004333 ∷ 0x344022f3 ∷ ebreak ∷ []) 22 ≡
+serialising_instruction_waits_for_the_head : steps_of machine (0x02004333 ∷ 0x344022f3 ∷ ebreak ∷ []) 22 ≡
     executed 0x80000000 0x02004333 (Some (6, 4294967295)) 0 1 2 16 18 19 ∷
     serialised 0x80000004 0x344022f3 (Some (5, 0)) 0 1 19 ∷
-    breakpoint 0x80000008 21 ∷
-    []
+    breakpoint 0x80000008 21
 unfolding instruction_of table csr.order
 serialising_instruction_waits_for_the_head = refl
 
 -- a wrong prediction after a division is mended when the branch retires
-branch_beside_a_division : steps_of (machine) (0x020042b3 ∷ 0x00000463 ∷ 0 ∷ ebreak ∷ []) 22 ≡
+branch_beside_a_division : steps_of machine (0x020042b3 ∷ 0x00000463 ∷ 0 ∷ ebreak ∷ []) 22 ≡
     executed 0x80000000 0x020042b3 (Some (5, 4294967295)) 0 1 2 16 18 19 ∷
     executed 0x80000004 0x00000463 None 0 1 2 1 3 19 ∷
-    breakpoint 0x8000000c 21 ∷
-    []
+    breakpoint 0x8000000c 21
 unfolding instruction_of table
 branch_beside_a_division = refl
 
@@ -246,8 +214,7 @@ branch_beside_a_division = refl
 branch_beside_a_division_mended_early : steps_of (record machine { recovery = Early }) (0x020042b3 ∷ 0x00000463 ∷ 0 ∷ ebreak ∷ []) 21 ≡
     executed 0x80000000 0x020042b3 (Some (5, 4294967295)) 0 1 2 16 18 19 ∷
     executed 0x80000004 0x00000463 None 0 1 2 1 3 19 ∷
-    breakpoint 0x8000000c 20 ∷
-    []
+    breakpoint 0x8000000c 20
 unfolding instruction_of table
 branch_beside_a_division_mended_early = refl
 
@@ -259,8 +226,7 @@ fence_waits_for_stores_and_write_back : steps_of machine (0x80000437 ∷ 0x02040
     executed 0x8000000c 0x04842023 None 1 2 7 1 8 9 ∷
     serialised 0x80000010 0x0000100f None 2 3 51 ∷
     executed 0x80000014 0x00042483 (Some (9, 0x80000020)) 51 52 53 1 54 55 ∷
-    breakpoint 0x80000018 55 ∷
-    []
+    breakpoint 0x80000018 55
 unfolding instruction_of table
 fence_waits_for_stores_and_write_back = refl
 
@@ -271,8 +237,7 @@ store_queue_of_one : steps_of (record machine { store_queue = 1 }) (0x80000437 �
     executed 0x80000008 0x00842023 None 1 2 6 1 7 8 ∷
     executed 0x8000000c 0x00842223 None 1 19 20 1 21 22 ∷
     executed 0x80000010 0x00842423 None 2 23 24 1 25 26 ∷
-    breakpoint 0x80000014 26 ∷
-    []
+    breakpoint 0x80000014 26
 unfolding instruction_of table
 store_queue_of_one = refl
 
@@ -291,8 +256,7 @@ load_holds_its_unit_for_its_cost : steps_of (record machine { kinds = record mac
     executed 0x8000000c 0x00542023 None 1 2 6 8 14 20 ∷
     executed 0x80000010 0x00042303 (Some (6, 0)) 2 3 15 1 16 21 ∷
     executed 0x80000014 0x00042383 (Some (7, 0)) 2 3 16 1 17 21 ∷
-    breakpoint 0x80000018 22 ∷
-    []
+    breakpoint 0x80000018 22
 unfolding instruction_of table
 load_holds_its_unit_for_its_cost = refl
 

@@ -1,5 +1,5 @@
 -- A byte after stores is that of the youngest which covers it, else memory's.
-use Rattle.rv_hardware.proofs.Words.{◌≡◌, ℕ, ◌+◌, ◌-◌, ◌<◌, ◌≤◌, List, [], ◌∷◌, length, nat_le, slice_get, slice_index_or as get_or, Some, None, Option, unwrap_or, sym, refl, ap, ◌∙◌, inl, inr, arith, lt-ltb, le-leb, cases_lt, cond-false, cond-true, option_or, StoreAccess, overwritten, Layout, get_or-overwritten_above, get_or-overwritten_below, get_or-overwritten_in, Each, forwarded_byte, youngest_byte, byte_of_state, written_at, Store as QueuedStore, StoreState, Filled, memory_behind, with_store}
+use Rattle.rv_hardware.proofs.Words.{◌≡◌, ℕ, ◌+◌, ◌<◌, ◌-◌, ◌≤◌, List, [], ◌∷◌, length, nat_le, slice_get, slice_index_or as get_or, Some, None, Option, unwrap_or, sym, refl, ap, ◌∙◌, inl, inr, arith, le-leb, cases_lt, cond-false, cond-true, option_or, StoreAccess, overwritten, Layout, get_or-overwritten_above, get_or-overwritten_below, get_or-overwritten_in, Each, youngest_byte, byte_of_state, written_at, Store as QueuedStore, StoreState, Filled, memory_behind, with_store}
 use Rattle.std.proofs.lemmas.Option.{slice_get-get_or, slice_get_past}
 use Rattle.rv_hardware.proofs.Headline.Retires.{IsStoreAccess}
 use Rattle.rv_hardware.proofs.Headline.Words.{length-stored}
@@ -67,8 +67,3 @@ module _ (layout : Layout) where
       get_or (memory_behind layout.base ss xs) i 0 ≡ unwrap_or (youngest_byte (layout.base + i) ss) (get_or xs i 0)
   byte_behind [] xs i inside size = refl
   byte_behind (s ∷ ss) xs i inside size = grind (arith, length-behind_one, byte_behind_one, unwrap_or-or, byte_behind ss (with_store layout.base s.state xs) i inside.1 (length-behind_one s.state xs inside.0 size))
-
-  -- a byte of an access is the one that stores forward to it, else memory's
-  pub byte_forwarded : (ss : List QueuedStore) (xs : List ℕ) (address count offset : ℕ) → Each (IsInside layout) ss → length xs ≡ layout.size → layout.base ≤ address → offset < count →
-      get_or (memory_behind layout.base ss xs) (address - layout.base + offset) 0 ≡ unwrap_or (forwarded_byte ss address count offset) (get_or xs (address - layout.base + offset) 0)
-  byte_forwarded ss xs address count offset inside size above within = grind (arith, byte_behind, cond-true, lt-ltb)
