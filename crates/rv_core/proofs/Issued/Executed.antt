@@ -1,6 +1,7 @@
 -- What the execution of an instruction leaves is what the definition's start of it leaves.
-use Rattle.rv_core.proofs.Words.{◌≡◌, ℕ, ◌+◌, ◌^◌, ◌≤◌, Bool, true, false, cond, List, [], ◌∷◌, map, length, is_some, Some, None, All, Option, option_and_then, sym, refl, ap, ◌∙◌, subst, arith, All-head, is_store, kind_of_word, sources_of, bytes_of, width_of, at_kind, with_kind, modulo_word, sum, Message, Instr, Load, Issue, Lines, Kind, PerKind, CacheValues, instruction_of, Memory, State, register_of, Contents, access_cost, cost_of_access, CacheLine, Store, UnitPool, started, changed, Entry, Hardware, memory_behind, FromCache, FromStores, Path, Without, cost_of, issued, path, path_of_word, with_start, result_in, result_of_word, layout_of, seen_behind, stores_behind, All-right, IsLegalCost, kind_of, Queue, older_than, Pool, taken_from, Ready, Pending, started_unit, Renaming, path_of_load, IsBehind, LieIn, cache_after, load_path, path_cost, port_after, Reads, operand_value, IsDescribedCache, IsLegalWrite, IsSoundEntry, IsSoundHardware, AreTied}
+use Rattle.rv_core.proofs.Words.{◌≡◌, ℕ, ◌+◌, ◌^◌, ◌≤◌, Bool, true, List, [], ◌∷◌, ◌++◌, map, length, is_some, Some, None, All, Option, option_and_then, sym, refl, ap, ◌∙◌, subst, arith, All-head, is_store, kind_of_word, sources_of, bytes_of, width_of, at_kind, with_kind, modulo_word, sum, Message, Instr, Load, Issue, Kind, PerKind, CacheValues, instruction_of, Memory, State, register_of, Contents, access_cost, cost_of_access, CacheLine, UnitPool, started, changed, Entry, Hardware, memory_behind, FromCache, Path, cost_of, issued, path, path_of_word, with_start, result_in, result_of_word, layout_of, seen_behind, stores_behind, All-right, IsLegalCost, kind_of, Queue, older_than, Pool, taken_from, Ready, Pending, started_unit, Renaming, path_of_load, IsBehind, LieIn, cache_after, load_path, path_cost, port_after, operand_value, IsDescribedCache, IsLegalWrite, IsSoundEntry, IsSoundHardware, AreTied}
 use Rattle.rv_units.specs.Bus.{with_result}
+use Rattle.rv_core.specs.Access.{IsExecuted, path_of_ready}
 use Rattle.rv_core.proofs.Issued.Found.{Leaving, test_of}
 use Rattle.rv_core.proofs.Issued.Ready.{All-left, kind_there}
 use Rattle.rv_core.proofs.Issued.Stores.{older_than-behind}
@@ -26,33 +27,40 @@ word_decoded (Some w) i is = (w, refl)
 -- an access costs no more than the description allows
 cost_bound : (values : CacheValues) → IsLegalCost values → (is_hit : Bool) (dropped : Option CacheLine) →
     cost_of_access values is_hit dropped ≤ 2016
-cost_bound values legal true dropped = omega (arith, legal.hit.1)
-cost_bound values legal false None = omega (arith, legal.hit.1, legal.miss)
-cost_bound values legal false (Some line) = evicts line.dirty where
-  evicts : (dirty : Bool) → values.hit + values.miss + cond dirty values.write_back 0 ≤ 2016
-  evicts true = omega (arith, legal.hit.1, legal.miss, legal.write_back)
-  evicts false = omega (arith, legal.hit.1, legal.miss)
+cost_bound values legal is_hit dropped = grind (arith, legal.hit.1, legal.miss, legal.write_back)
 
-module _ (h : Hardware) (sound : IsSoundHardware h) where
+-- what the execution of an instruction gives: its message, its cost, and the port and the cache behind it
+pub record Execution (h : Hardware) (kind : Kind) (queue : Queue) (ready : Ready) : Type 0 where
+  pub message : Message
+  pub cost : ℕ
+  pub port_free : ℕ
+  pub cache : Contents Memory
+  pub costs : cost
+      ≡ path_cost (at_kind kind h.values.kinds).latency h.values.forward h.cache (path_of_ready h.cache queue ready)
+  pub ports : port_free ≡ port_after h.cycle h.port_free h.cache (path_of_ready h.cache queue ready)
+  pub caches : cache ≡ cache_after h.cache (path_of_ready h.cache queue ready)
+  pub gives : IsExecuted h.cache queue ready message
+
+module _ {h : Hardware} (sound : IsSoundHardware h) where
   port_bound : (p : Path) → port_after h.cycle h.port_free h.cache p ≤ 2 ^ 43
-  port_bound Without = sound.port
-  port_bound FromStores = sound.port
   port_bound (FromCache address) =
       let legal : IsLegalCost h.cache.values = subst IsLegalCost (sym sound.cache.values) sound.legal.cache.1 in
       let cost : access_cost h.cache address ≤ 2016 = cost_bound h.cache.values legal _ _ in
       omega (arith, cost, sound.cycles)
+  port_bound _ = sound.port
 
   -- what an access keeps of the cache
-  abbrev Keeps : Contents Memory → Type 0
-  Keeps c = (c.base ≡ h.cache.base) × (c.values ≡ h.cache.values) × (c.bytes ≡ h.cache.bytes) ×
-      (c.backing.layout ≡ h.cache.backing.layout)
+  keeps : (p : Path) → IsDescribedCache h.values (cache_after h.cache p)
+  keeps (FromCache address) = record {
+    base = sound.cache.base;
+    values = sound.cache.values;
+    bytes = sound.cache.bytes;
+    layout = sound.cache.layout;
+  }
+  keeps _ = sound.cache
 
-  keeps : (p : Path) → Keeps (cache_after h.cache p)
-  keeps Without = (refl, refl, refl, refl)
-  keeps FromStores = (refl, refl, refl, refl)
-  keeps (FromCache address) = (refl, refl, refl, refl)
-
-  module _ (kind : Kind) (ready : Ready) (leaving : Leaving h kind ready) where
+  module _ {kind : Kind} {ready : Ready} (leaving : Leaving h kind ready) {queue : Queue} (x : Execution h kind queue ready)
+      (told : queue.stores ≡ stores_behind h h.rob.entries) where
     abbrev before : List Entry
     before = leaving.before
 
@@ -66,123 +74,98 @@ module _ (h : Hardware) (sound : IsSoundHardware h) where
     abbrev place : ℕ
     place = h.rob.retired + length before
 
-    older : (queued : List Store) → queued ≡ stores_behind h h.rob.entries → older_than ready.seq queued ≡ stores_behind h before
-    older queued told =
+    older : older_than ready.seq queue.stores ≡ stores_behind h before
+    older =
         (λ j. older_than (leaving.number j) (told j))
         ∙ ap (λ es. older_than place (stores_behind h es)) leaving.split
         ∙ older_than-behind h sound.stores.older before (entry ∷ leaving.rest)
 
-    module _ (queued : List Store) (told : queued ≡ stores_behind h h.rob.entries) where
-      -- the path in the code's words
-      abbrev pub code_path : Path
-      code_path = load_path h.cache.backing.layout (older_than ready.seq queued) ready.first ready.instruction
+    -- the path in the code's words
+    path_taken : path_of_ready h.cache queue ready ≡ path h before entry
+    path_taken =
+        (λ j. load_path (sound.cache.layout j) (older j) ready.first ready.instruction)
+        ∙ load_path_defined h before s ready.instruction ready.first ready.second leaving.operands.values
+        ∙ ap (path_of_word h before s) (sym leaving.decoded)
 
-      path_taken : code_path ≡ path h before entry
-      path_taken =
-          (λ j. load_path (sound.cache.layout j) (older queued told j) ready.first ready.instruction)
-          ∙ load_path_defined h before s ready.instruction ready.first ready.second leaving.operands.values
-          ∙ ap (path_of_word h before s) (sym leaving.decoded)
+    each : All (IsSoundEntry h.values) (before ++ entry ∷ leaving.rest)
+    each = subst (All (IsSoundEntry h.values)) leaving.split sound.entries.each
 
-      behind : IsBehind h.cache (older_than ready.seq queued) s
-      behind = record {
-        inside =
-            subst (LieIn h.cache.base (length h.cache.bytes)) (sym (older queued told))
-            (subst (λ b. LieIn b (length h.cache.bytes) (stores_behind h before)) (sym sound.cache.base)
-            (subst (λ n. LieIn h.values.ram_base n (stores_behind h before)) (sym sound.cache.bytes)
-            (inside_behind h before sound.stores.each
-            (All-left (IsSoundEntry h.values) before (entry ∷ leaving.rest)
-            (subst (All (IsSoundEntry h.values)) leaving.split sound.entries.each)))));
-        ram = λ j. memory_behind (sym sound.cache.base j) (sym (older queued told) j) h.cache.bytes;
-      }
+    behind : IsBehind h.cache (older_than ready.seq queue.stores) s
+    behind = record {
+      inside =
+          subst (LieIn h.cache.base (length h.cache.bytes)) (sym older)
+          (subst (λ b. LieIn b (length h.cache.bytes) (stores_behind h before)) (sym sound.cache.base)
+          (subst (λ n. LieIn h.values.ram_base n (stores_behind h before)) (sym sound.cache.bytes)
+          (inside_behind h before sound.stores.each (All-left (IsSoundEntry h.values) before (entry ∷ leaving.rest) each))));
+      ram = λ j. memory_behind (sym sound.cache.base j) (sym older j) h.cache.bytes;
+    }
 
-      module _ (message : Message) (cost port_free : ℕ) (cache : Contents Memory)
-          (costs : cost ≡ path_cost (at_kind kind h.values.kinds).latency h.values.forward h.cache code_path)
-          (ports : port_free ≡ port_after h.cycle h.port_free h.cache code_path)
-          (caches : cache ≡ cache_after h.cache code_path)
-          (gives : is_some (kind_of ready.instruction) ≡ true → (t : State) (lines : Lines) (word : ℕ) →
-          Reads t ready.pc ready.first ready.second ready.instruction → IsBehind h.cache (older_than ready.seq queued) t →
-          message ≡ result_in h.cache.backing.layout t lines word ready.instruction) where
-        own : IsSoundEntry h.values entry
-        own =
-            All-head (IsSoundEntry h.values) entry leaving.rest
-            (All-right (IsSoundEntry h.values) before (entry ∷ leaving.rest)
-            (subst (All (IsSoundEntry h.values)) leaving.split sound.entries.each))
+    own : IsSoundEntry h.values entry
+    own =
+        All-head (IsSoundEntry h.values) entry leaving.rest
+        (All-right (IsSoundEntry h.values) before (entry ∷ leaving.rest) each)
 
-        word : (w : ℕ) × (entry.word ≡ Some w)
-        word = word_decoded entry.word ready.instruction (sym own.decoded ∙ leaving.decoded)
+    word : (w : ℕ) × (entry.word ≡ Some w)
+    word = word_decoded entry.word ready.instruction (sym own.decoded ∙ leaving.decoded)
 
-        has_kind : is_some (kind_of ready.instruction) ≡ true
-        has_kind = ap is_some (sym (ap kind_of_word leaving.decoded) ∙ kind_there kind entry leaving.there)
+    has_kind : is_some (kind_of ready.instruction) ≡ true
+    has_kind = ap is_some (sym (ap kind_of_word leaving.decoded) ∙ kind_there kind entry leaving.there)
 
-        gave : message ≡ result_in (layout_of h.values) s h.lines word.0 ready.instruction
-        gave = gives has_kind s h.lines word.0 leaving.operands behind
-            ∙ ap (λ l. result_in l s h.lines word.0 ready.instruction) sound.cache.layout
+    gave : x.message ≡ result_in (layout_of h.values) s h.lines word.0 ready.instruction
+    gave = x.gives has_kind s h.lines word.0 leaving.operands behind
+        ∙ ap (λ l. result_in l s h.lines word.0 ready.instruction) sound.cache.layout
 
-        result : message ≡ result_of_word (layout_of h.values) s h.lines entry.word entry.instruction
-        result = gave ∙ (λ j. result_of_word (layout_of h.values) s h.lines (sym word.1 j) (sym leaving.decoded j))
+    result : x.message ≡ result_of_word (layout_of h.values) s h.lines entry.word entry.instruction
+    result = gave ∙ (λ j. result_of_word (layout_of h.values) s h.lines (sym word.1 j) (sym leaving.decoded j))
 
-        legal_write : IsLegalWrite h.values (is_store entry.instruction) message.fault message.store
-        legal_write =
-            subst (λ i. IsLegalWrite h.values (is_store i) message.fault message.store) (sym leaving.decoded)
-            (subst (λ (m : Message). IsLegalWrite h.values (is_store (Some ready.instruction)) m.fault m.store) (sym gave)
-            (result_writes h.values s h.lines word.0 ready.instruction))
+    legal_write : IsLegalWrite h.values (is_store entry.instruction) x.message.fault x.message.store
+    legal_write =
+        subst (λ i. IsLegalWrite h.values (is_store i) x.message.fault x.message.store) (sym leaving.decoded)
+        (subst (λ (m : Message). IsLegalWrite h.values (is_store (Some ready.instruction)) m.fault m.store) (sym gave)
+        (result_writes h.values s h.lines word.0 ready.instruction))
 
-        abbrev issue : Issue
-        issue = record { cycle = h.cycle; cost = cost }
+    abbrev issue : Issue
+    issue = record { cycle = h.cycle; cost = x.cost }
 
-        abbrev units : PerKind UnitPool
-        units = with_kind kind (started_unit cost h.cycle (at_kind kind h.units)) h.units
+    abbrev units : PerKind UnitPool
+    units = with_kind kind (started_unit x.cost h.cycle (at_kind kind h.units)) h.units
 
-        -- the hardware once the instruction has started
-        abbrev pub started_hardware : Hardware
-        started_hardware = record h {
-          cache = cache;
-          port_free = port_free;
-          units = units;
-          rob = changed (started issue message) ready.seq h.rob;
-        }
+    -- the hardware once the instruction has started
+    abbrev pub started_hardware : Hardware
+    started_hardware = record h {
+      cache = x.cache;
+      port_free = x.port_free;
+      units = units;
+      rob = changed (started issue x.message) ready.seq h.rob;
+    }
 
-        -- the parts that have started it stand for the hardware that has issued it
-        pub is_issued : started_hardware ≡ issued kind h before entry
-        is_issued =
-            let p = path h before entry in
-            let same_cost : cost ≡ cost_of h kind p =
-            costs ∙ ap (path_cost (at_kind kind h.values.kinds).latency h.values.forward h.cache) path_taken
-            ∙ cost_is_defined h kind p in
-            let same_port = ports ∙ ap (port_after h.cycle h.port_free h.cache) path_taken in
-            let same_cache = caches ∙ ap (cache_after h.cache) path_taken in
-            (λ j. record h {
-              cache = same_cache j;
-              port_free = same_port j;
-              units = with_kind kind (started_unit (same_cost j) h.cycle (at_kind kind h.units)) h.units;
-              rob = changed (started (record { cycle = h.cycle; cost = same_cost j }) (result j)) (leaving.number j) h.rob;
-            })
-            ∙ ap (with_start kind place (cost_of h kind p)
-            (result_of_word (layout_of h.values) s h.lines entry.word entry.instruction)) (access_is_defined h p)
+    -- the parts that have started it stand for the hardware that has issued it
+    pub is_issued : started_hardware ≡ issued kind h before entry
+    is_issued =
+        let p = path h before entry in
+        let same_cost : x.cost ≡ cost_of h kind p =
+        x.costs ∙ ap (path_cost (at_kind kind h.values.kinds).latency h.values.forward h.cache) path_taken
+        ∙ cost_is_defined h kind p in
+        let same_port = x.ports ∙ ap (port_after h.cycle h.port_free h.cache) path_taken in
+        let same_cache = x.caches ∙ ap (cache_after h.cache) path_taken in
+        (λ j. record h {
+          cache = same_cache j;
+          port_free = same_port j;
+          units = with_kind kind (started_unit (same_cost j) h.cycle (at_kind kind h.units)) h.units;
+          rob = changed (started (record { cycle = h.cycle; cost = same_cost j }) (result j)) (leaving.number j) h.rob;
+        })
+        ∙ ap (with_start kind place (cost_of h kind p)
+        (result_of_word (layout_of h.values) s h.lines entry.word entry.instruction)) (access_is_defined h p)
 
-        described : IsDescribedCache h.values cache
-        described =
-            let kept : Keeps cache = subst Keeps (sym caches) (keeps code_path) in
-            record {
-              base = kept.0 ∙ sound.cache.base;
-              values = kept.1 ∙ sound.cache.values;
-              bytes = ap length kept.2 ∙ sound.cache.bytes;
-              layout = kept.3 ∙ sound.cache.layout;
-            }
+    -- which is sound
+    pub is_sound : IsSoundHardware started_hardware
+    is_sound =
+        sound_started leaving issue x.message x.cache x.port_free units sound
+        (subst (IsDescribedCache h.values) (sym x.caches) (keeps (path_of_ready h.cache queue ready)))
+        (subst (λ n. n ≤ 2 ^ 43) (sym x.ports) (port_bound (path_of_ready h.cache queue ready))) legal_write
 
-        -- which is sound
-        pub is_sound : IsSoundHardware started_hardware
-        is_sound =
-            sound_started h kind before entry leaving.rest leaving.split leaving.there ready.seq leaving.number issue message
-            cache port_free units
-            sound described (subst (λ n. n ≤ 2 ^ 43) (sym ports) (port_bound code_path)) legal_write
-
-        -- and what the parts left of rename map, stations, bus and queue is tied to it
-        pub is_tied : (rename : Renaming) (stations : PerKind Pool) (bus : Pending) (queue : Queue) →
-            AreTied h rename stations bus queue →
-            AreTied started_hardware rename (with_kind kind (taken_from (test_of h kind) (at_kind kind stations)) stations)
-            (with_result ready.seq (h.cycle + cost) bus) queue
-        is_tied rename stations bus queue tied =
-            tied_started h kind before entry leaving.rest leaving.split leaving.there ready.seq leaving.number issue message cache
-            port_free units
-            rename stations bus queue (test_of h kind) tied (leaving.left issue message)
+    -- and what the parts left of rename map, stations, bus and queue is tied to it
+    pub is_tied : {rename : Renaming} {stations : PerKind Pool} {bus : Pending} → AreTied h rename stations bus queue →
+        AreTied started_hardware rename (with_kind kind (taken_from (test_of h kind) (at_kind kind stations)) stations)
+        (with_result ready.seq (h.cycle + x.cost) bus) queue
+    is_tied tied = tied_started leaving issue x.message x.cache x.port_free units tied

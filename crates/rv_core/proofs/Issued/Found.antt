@@ -1,5 +1,5 @@
 -- The instruction that leaves its station is the definition's, with what it reads.
-use Rattle.rv_core.proofs.Words.{◌≡◌, ◌+◌, Bool, true, ◌&&◌, ◌⊎◌, List, [], ◌∷◌, ◌++◌, length, nat_le, Some, None, All, Option, option_and_then, sym, refl, ap, ◌∙◌, subst, inl, inr, arith, and_parts, cases_Bool, cond-false, cond-true, Message, Issue, Kind, Values, started, Entry, is_stationed, Hardware, is_ready_entry, oldest, layout_of, seen_behind, stores_behind, Alu, Div, Mem, Mul, has_value, is_ready_station, oldest_ready, ready_of, ready_with, without_oldest_ready, Operand, Tag, Value, Ready, Station, Reads, goes, IsSoundEntry, IsSoundHardware, status_behind, values_in, waiting_from, waiting_of}
+use Rattle.rv_core.proofs.Words.{◌≡◌, ◌+◌, Bool, true, ◌&&◌, ◌⊎◌, List, [], ◌∷◌, ◌++◌, length, nat_le, Some, None, All, Option, option_and_then, sym, refl, ap, ◌∙◌, subst, inl, inr, arith, and_parts, Message, Issue, Kind, Values, started, Entry, is_stationed, Hardware, is_ready_entry, oldest, layout_of, seen_behind, stores_behind, Alu, Div, Mem, Mul, has_value, is_ready_station, oldest_ready, ready_of, ready_with, without_oldest_ready, Operand, Ready, Station, Reads, goes, IsSoundEntry, IsSoundHardware, status_behind, values_in, waiting_from, waiting_of}
 use Rattle.rv_core.proofs.Issued.Operands.{reads, ready_parts, tells_at}
 use Rattle.rv_core.proofs.Issued.Ready.{All-left, HasTarget, accesses_agree, operations_agree, passes_by}
 use Rattle.rv_core.proofs.Issued.Search.{Agree, Found, NoneFound, search_from, station_behind}
@@ -9,18 +9,10 @@ use Rattle.rv_core.proofs.Issued.Search.{Agree, Found, NoneFound, search_from, s
 found_ready : (test : Station → Bool) (ws : List Station) (w : Station) → oldest_ready test ws ≡ Some w →
     is_ready_station w ≡ true
 found_ready test [] w is = absurd (cc)
-found_ready test (v ∷ ws) w is = elim (cases_Bool (is_ready_station v && test v)) [
-  | inl passes ↦
-      let found = cond-true (is_ready_station v && test v) (Some v) (oldest_ready test ws) passes in
-      let same : v ≡ w = cc in
-      subst (λ u. is_ready_station u ≡ true) same (and_parts (is_ready_station v) (test v) passes).0
-  | inr fails ↦ found_ready test ws w (sym (cond-false (is_ready_station v && test v) (Some v) (oldest_ready test ws) fails) ∙ is)
-]
+found_ready test (v ∷ ws) w is = grind (arith, and_parts, found_ready test ws w)
 
 ready_is_some : (w : Station) (a b : Operand) → (has_value a && has_value b) ≡ true → ready_with w a b ≡ None → ⊥
-ready_is_some w (Value x) (Value y) ready none = absurd (cc)
-ready_is_some w (Value x) (Tag t) ready none = absurd (cc)
-ready_is_some w (Tag t) b ready none = absurd (cc)
+ready_is_some w a b ready none = grind arith
 
 sound_targets : (values : Values) (es : List Entry) → All (IsSoundEntry values) es → All HasTarget es
 sound_targets values es sound k d within = (sound k d within).target
@@ -60,8 +52,8 @@ module _ (h : Hardware) (kind : Kind) where
     agree_of Div = operations_agree h Div refl
     agree_of Mem = accesses_agree h sound.registers targets sound.stores.older
 
-    searched : NoneFound kind (values_in h.registers) h.rob.retired h.rob.entries test_of
-        (is_ready_entry h kind) [] h.rob.entries ⊎
+    searched :
+        NoneFound kind (values_in h.registers) h.rob.retired h.rob.entries test_of (is_ready_entry h kind) [] h.rob.entries ⊎
         Found kind (values_in h.registers) h.rob.retired h.rob.entries test_of (is_ready_entry h kind) [] h.rob.entries
     searched = search_from kind (values_in h.registers) h.rob.retired h.rob.entries test_of
         (is_ready_entry h kind) [] h.rob.entries refl (agree_of kind) (passes_by h kind)
@@ -75,23 +67,21 @@ module _ (h : Hardware) (kind : Kind) where
     abbrev Answer : Option Ready → Type 0
     Answer result = result ≡ option_and_then ready_of (oldest_ready test_of stationed_now)
 
-    nothing_by : (result : Option Ready) → Answer result → result ≡ None →
-        NoneFound kind (values_in h.registers) h.rob.retired h.rob.entries test_of (is_ready_entry h kind) [] h.rob.entries ⊎
-        Found kind (values_in h.registers) h.rob.retired h.rob.entries test_of (is_ready_entry h kind) [] h.rob.entries →
-        (oldest (is_ready_entry h kind) h.rob.entries ≡ None) × (without_oldest_ready test_of stationed_now ≡ stationed_now)
-    nothing_by result answer is (inl n) =
-        (n.defined, ap (without_oldest_ready test_of) (from_first h.rob.entries) ∙ n.stays ∙ sym (from_first h.rob.entries))
-    nothing_by result answer is (inr f) =
-        let w = station_behind kind (values_in h.registers) h.rob.retired f.prior f.entry f.instruction in
-        let some : oldest_ready test_of stationed_now ≡ Some w =
-        ap (oldest_ready test_of) (from_first h.rob.entries) ∙ f.searched in
-        absurd (ready_is_some w w.first w.second (found_ready test_of stationed_now w some)
-        (sym (ap (option_and_then ready_of) some) ∙ sym answer ∙ is))
-
     -- nothing leaves where the definition finds nothing
-    pub nothing_leaves : (result : Option Ready) → Answer result → result ≡ None →
+    pub nothing_leaves : {result : Option Ready} → Answer result → result ≡ None →
         (oldest (is_ready_entry h kind) h.rob.entries ≡ None) × (without_oldest_ready test_of stationed_now ≡ stationed_now)
-    nothing_leaves result answer is = nothing_by result answer is searched
+    nothing_leaves answer is = elim searched [
+      | inl n ↦ (
+        n.defined,
+        ap (without_oldest_ready test_of) (from_first h.rob.entries) ∙ n.stays ∙ sym (from_first h.rob.entries),
+      )
+      | inr f ↦
+          let w = station_behind kind (values_in h.registers) h.rob.retired f.prior f.entry f.instruction in
+          let some : oldest_ready test_of stationed_now ≡ Some w =
+          ap (oldest_ready test_of) (from_first h.rob.entries) ∙ f.searched in
+          absurd (ready_is_some w w.first w.second (found_ready test_of stationed_now w some)
+          (sym (ap (option_and_then ready_of) some) ∙ sym answer ∙ is))
+    ]
 
     leaves_by : (result : Option Ready) (ready : Ready) → Answer result → result ≡ Some ready →
         NoneFound kind (values_in h.registers) h.rob.retired h.rob.entries test_of (is_ready_entry h kind) [] h.rob.entries ⊎
@@ -134,5 +124,5 @@ module _ (h : Hardware) (kind : Kind) where
         }
 
     -- what leaves is what the definition finds
-    pub leaves : (result : Option Ready) (ready : Ready) → Answer result → result ≡ Some ready → Leaving ready
-    leaves result ready answer is = leaves_by result ready answer is searched
+    pub leaves : {result : Option Ready} {ready : Ready} → Answer result → result ≡ Some ready → Leaving ready
+    leaves {result = result} {ready = ready} answer is = leaves_by result ready answer is searched

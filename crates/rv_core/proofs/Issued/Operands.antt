@@ -1,5 +1,5 @@
 -- The operands in a station are what the definition reads after the older instructions.
-use Rattle.rv_core.proofs.Words.{◌≡◌, ℕ, ◌+◌, ◌<◌, Bool, true, false, cond, ◌&&◌, ◌≢◌, List, [], ◌∷◌, map, length, is_some, IfSome, nat_eq, slice_index, slice_index_or, Some, None, All, Option, sym, refl, ap, ◌∙◌, inl, inr, get_or-set_other, get_or-set_same, eqb-true, cases_Bool, cond-false, cond-true, eqb-false, All-head, All-tail, is_target, target_of_word, sources_of, target_of, written, Message, Instr, Auipc, Csr, Jal, Jalr, Load, Lui, Op, OpImmediate, Shift, State, with_register, Entry, broadcast_of, is_known_from, registers_behind, with_value, has_operands, and-true, has_value, is_ready_station, ready_of, ready_with, Operand, Tag, Value, Ready, Station, is_known, Reads, operand_value, RegisterStatus, operand_by, operand_of, status_behind, status_with, values_in, waiting_of}
+use Rattle.rv_core.proofs.Words.{◌≡◌, ℕ, ◌+◌, ◌<◌, Bool, cond, ◌&&◌, ◌≢◌, List, [], ◌∷◌, map, length, is_some, IfSome, slice_index, slice_index_or, Some, None, All, Option, sym, refl, ap, ◌∙◌, arith, get_or-set_other, get_or-set_same, eqb-true, ne_eqb, eqb-false, All-head, All-tail, is_target, target_of_word, sources_of, target_of, written, Message, Instr, Csr, Lui, State, with_register, Entry, broadcast_of, is_known_from, registers_behind, with_value, has_operands, has_value, is_ready_station, ready_of, ready_with, Operand, Value, Ready, Station, is_known, Reads, operand_value, RegisterStatus, operand_by, operand_of, status_behind, status_with, values_in, waiting_of}
 use Rattle.rv_hardware.proofs.Headline.Known.{length-with_value}
 use Rattle.rv_isa.specs.declared.instructions.CsrSource.TheVariants as source
 use Rattle.rv_hardware.specs.InFlight.{writes}
@@ -7,30 +7,15 @@ use Rattle.rv_hardware.specs.InFlight.{writes}
 -- an instruction has two sources
 pub two_sources : (i : Instr) → sources_of i ≡ slice_index_or (sources_of i) 0 None ∷ slice_index_or (sources_of i) 1 None ∷ []
 two_sources (Csr op rd csr (source.Register rs1)) = refl
-two_sources (Csr op rd csr (source.Immediate immediate)) = refl
 two_sources _ = refl
 
 written_nonzero : (rd r : ℕ) → written rd ≡ Some r → r ≢ 0
-written_nonzero rd r is nought = elim (cases_Bool (nat_eq rd 0)) [
-  | inl none ↦ let nothing = cond-true (nat_eq rd 0) None (Some rd) none in absurd (cc)
-  | inr some ↦
-      let found = cond-false (nat_eq rd 0) None (Some rd) some in
-      let same : rd ≡ r = cc in
-      eqb-false rd 0 some (same ∙ nought)
-]
+written_nonzero rd r is nought = grind (arith, eqb-false)
 
 -- x0 is no target
 pub target_nonzero : (i : Instr) (r : ℕ) → target_of i ≡ Some r → r ≢ 0
 target_nonzero (Lui rd immediate) r is = written_nonzero rd r is
-target_nonzero (Auipc rd immediate) r is = written_nonzero rd r is
-target_nonzero (Jal rd offset) r is = written_nonzero rd r is
-target_nonzero (Jalr rd rs1 offset) r is = written_nonzero rd r is
-target_nonzero (Load form rd rs1 offset) r is = written_nonzero rd r is
-target_nonzero (OpImmediate op rd rs1 immediate) r is = written_nonzero rd r is
-target_nonzero (Shift op rd rs1 amount) r is = written_nonzero rd r is
-target_nonzero (Op op rd rs1 rs2) r is = written_nonzero rd r is
-target_nonzero (Csr op rd csr source) r is = written_nonzero rd r is
-target_nonzero _ r is = absurd (cc)
+target_nonzero _ r is = grind (arith, written_nonzero)
 
 target_of_word_nonzero : (word : Option Instr) (r : ℕ) → target_of_word word ≡ Some r → r ≢ 0
 target_of_word_nonzero None r is = absurd (cc)
@@ -38,14 +23,9 @@ target_of_word_nonzero (Some i) r is = target_nonzero i r is
 
 -- whether the value is there
 
-has_value-operand_by : (seq : ℕ) (o : Option Message) → has_value (operand_by seq o) ≡ is_some o
-has_value-operand_by seq None = refl
-has_value-operand_by seq (Some message) = refl
-
 has_value-one : (b : Bool) (seq : ℕ) (o : Option Message) (under : Operand) →
     has_value (cond b (operand_by seq o) under) ≡ cond b (is_some o) (has_value under)
-has_value-one true seq o under = has_value-operand_by seq o
-has_value-one false seq o under = refl
+has_value-one b seq o under = grind arith
 
 known_behind : (es : List Entry) (status : RegisterStatus) (seq r : ℕ) →
     has_value (status_behind status seq es r) ≡ is_known_from (has_value (status r)) es r
@@ -67,40 +47,19 @@ Tells status registers = (r v : ℕ) → status r ≡ Value v → slice_index re
 
 with_register-other : (registers : List ℕ) (t r v : ℕ) → t ≢ 0 → r ≢ t →
     slice_index (with_register registers t v) r ≡ slice_index registers r
-with_register-other registers t r v positive other =
-    elim (cases_Bool (nat_eq t 0)) [
-      | inl none ↦ absurd (positive (eqb-true t 0 none))
-      | inr some ↦ rw some (get_or-set_other registers t r v 0 other)
-    ]
+with_register-other registers t r v positive other = rw (ne_eqb t 0 positive) (get_or-set_other registers t r v 0 other)
 
 with_register-same : (registers : List ℕ) (t v : ℕ) → t ≢ 0 → t < length registers →
     slice_index (with_register registers t v) t ≡ v
-with_register-same registers t v positive within =
-    elim (cases_Bool (nat_eq t 0)) [
-      | inl none ↦ absurd (positive (eqb-true t 0 none))
-      | inr some ↦ rw some (get_or-set_same registers t v 0 within)
-    ]
+with_register-same registers t v positive within = rw (ne_eqb t 0 positive) (get_or-set_same registers t v 0 within)
 
 tells_by : (status : RegisterStatus) (registers : List ℕ) (seq : ℕ) (target : Option ℕ) (o : Option Message) →
     IfSome target (λ t. t < length registers) → ((t : ℕ) → target ≡ Some t → t ≢ 0) → Tells status registers → (r v : ℕ) →
     cond (is_target r target) (operand_by seq o) (status r) ≡ Value v → slice_index (with_value registers target o) r ≡ v
 tells_by status registers seq None o within positive tells r v is = tells r v is
-tells_by status registers seq (Some t) None within positive tells r v is =
-    elim (cases_Bool (nat_eq t r)) [
-      | inl same ↦ let waits = cond-true (nat_eq t r) (operand_by seq None) (status r) same in absurd (cc)
-      | inr other ↦ tells r v (sym (cond-false (nat_eq t r) (operand_by seq None) (status r) other) ∙ is)
-    ]
+tells_by status registers seq (Some t) None within positive tells r v is = grind (arith, tells)
 tells_by status registers seq (Some t) (Some message) within positive tells r v is =
-    elim (cases_Bool (nat_eq t r)) [
-      | inl same ↦
-          let known = cond-true (nat_eq t r) (operand_by seq (Some message)) (status r) same in
-          let value : message.value ≡ v = cc in
-          let here : t ≡ r = eqb-true t r same in
-          rw (← here) (with_register-same registers t message.value (positive t refl) within ∙ value)
-      | inr other ↦
-          with_register-other registers t r message.value (positive t refl) (λ here. eqb-false t r other (sym here))
-          ∙ tells r v (sym (cond-false (nat_eq t r) (operand_by seq (Some message)) (status r) other) ∙ is)
-    ]
+    grind (arith, tells, positive t refl, within, eqb-true, eqb-false, with_register-same, with_register-other)
 
 pub tells_behind : (es : List Entry) (status : RegisterStatus) (registers : List ℕ) (seq : ℕ) → length registers ≡ 32 →
     All (λ e. IfSome (target_of_word e.instruction) (λ t. t < 32)) es → Tells status registers →
@@ -143,8 +102,7 @@ ready_parts w (Value x) (Value y) ready is =
       ap (λ (r : Ready). r.pc) (sym same),
       ap (λ (r : Ready). r.instruction) (sym same),
     )
-ready_parts w (Value x) (Tag t) ready is = absurd (cc)
-ready_parts w (Tag t) b ready is = absurd (cc)
+ready_parts w _ _ ready is = absurd (cc)
 
 -- what leaves a station has what the instruction reads
 pub reads : (status : RegisterStatus) (seq pc : ℕ) (i : Instr) (s : State) (ready : Ready) →
@@ -166,11 +124,7 @@ reads status seq pc i s ready is tells at =
 
 both_known : (status : RegisterStatus) (older : List Entry) → ((r : ℕ) → has_value (status r) ≡ is_known older r) →
     (a b : Option ℕ) → (has_value (operand_of status a) && has_value (operand_of status b)) ≡ has_operands older (a ∷ b ∷ [])
-both_known status older known None None = refl
-both_known status older known None (Some r) = known r ∙ sym (and-true (is_known older r))
-both_known status older known (Some r) None = ap (λ k. k && true) (known r)
-both_known status older known (Some r) (Some q) =
-    (λ k. known r k && known q k) ∙ ap (λ z. is_known older r && z) (sym (and-true (is_known older q)))
+both_known status older known a b = grind (arith, known)
 
 -- a station is ready where the definition has the operands of its instruction
 pub is_ready-known : (status : RegisterStatus) (older : List Entry) (seq pc : ℕ) (i : Instr) →

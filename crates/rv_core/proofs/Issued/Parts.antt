@@ -1,184 +1,162 @@
 -- What the parts answer to a search in the stations is what the definition's turn finds and starts.
-use Rattle.rv_core.proofs.Words.{◌≡◌, ℕ, ◌+◌, ◌<◌, Bool, true, false, List, [], length, is_some, nat_le, take, Some, None, Option, option_and_then, sym, refl, ap, ◌∙◌, subst, inl, inr, cases_Bool, cond-false, cond-true, at_kind, with_kind, Message, Lines, Kind, PerKind, Memory, State, Contents, UnitPool, is_free, started, ReorderBuffer, changed, Hardware, Path, is_ready_entry, issue_oldest, issue_turn, oldest, Ends, GoesOn, result_in, stores_behind, kind_of, at_kind-by_kind, with_kind-back, Queue, older_than, Pool, taken_from, oldest_ready, ready_of, without_oldest_ready, Ready, Station, Pending, holds, started_unit, IsBehind, cache_after, load_path, path_cost, port_after, Reads, goes, IsSound, hardware_of, IsLegalCost, IsSoundHardware, AreTied, pool_of_kind, Inside}
+use Rattle.rv_core.proofs.Words.{◌≡◌, ℕ, ◌+◌, ◌<◌, Bool, true, false, List, [], length, nat_le, take, Some, None, Option, option_and_then, sym, refl, ap, ◌∙◌, subst, inl, inr, cases_Bool, cond-false, cond-true, at_kind, with_kind, Kind, PerKind, UnitPool, is_free, started, ReorderBuffer, changed, Entry, Hardware, is_ready_entry, issue_oldest, issue_turn, oldest, Ends, GoesOn, stores_behind, at_kind-by_kind, with_kind-back, Queue, Pool, taken_from, oldest_ready, ready_of, without_oldest_ready, Ready, Station, Pending, holds, started_unit, goes, IsSound, hardware_of, IsLegalCost, IsSoundHardware, AreTied, pool_of_kind, Inside}
 use Rattle.rv_units.specs.Bus.{with_result}
-use Rattle.rv_core.proofs.Issued.Executed.{is_issued, is_sound, is_tied, started_hardware}
+use Rattle.rv_core.proofs.Issued.Executed.{Execution, is_issued, is_sound, is_tied, started_hardware}
 use Rattle.rv_core.proofs.Issued.Found.{Leaving, leaves, nothing_leaves, stationed_now, test_of}
 use Rattle.rv_stations.specs.Waiting.{ArePassedBy}
+use Rattle.rv_core.specs.Access.{path_of_ready}
 use Rattle.rv_core.specs.Passed.{NoneIssues}
 use Rattle.rv_core.proofs.Issued.Passed.{passed_later, port_later}
 use Rattle.rv_core.proofs.Issued.Tied.{absent_from_bus, room_on_bus}
 
 -- the test that the code asks is the definition's
-test_in_code : (parts : Inside) → IsSound parts → (kind : Kind) (idle : Bool) → idle ≡ nat_le parts.port_free parts.cycle →
+test_in_code : {parts : Inside} → IsSound parts → (kind : Kind) {idle : Bool} → idle ≡ nat_le parts.port_free parts.cycle →
     goes kind parts.cache.backing.layout parts.stores.stores idle ≡ test_of (hardware_of parts) kind
-test_in_code parts sound kind idle port = λ j. goes kind (sound.sound.cache.layout j) (sound.tied.queued j).stores (port j)
+test_in_code sound kind port = λ j. goes kind (sound.sound.cache.layout j) (sound.tied.queued j).stores (port j)
 
 -- the stations hold what the instructions in flight tell
-waiting_in_stations : (parts : Inside) → IsSound parts → (kind : Kind) →
+waiting_in_stations : {parts : Inside} → IsSound parts → (kind : Kind) →
     (at_kind kind parts.stations).waiting ≡ stationed_now (hardware_of parts) kind
-waiting_in_stations parts sound kind =
+waiting_in_stations {parts = parts} sound kind =
     ap (λ (s : PerKind Pool). (at_kind kind s).waiting) sound.tied.stationed
     ∙ ap (λ p. p.waiting) (at_kind-by_kind (pool_of_kind parts.values parts.registers parts.rob) kind)
 
-module _ (parts : Inside) (sound : IsSound parts) (kind : Kind) (idle : Bool)
-    (port : idle ≡ nat_le parts.port_free parts.cycle) where
+module _ {parts : Inside} (sound : IsSound parts) {old : Hardware} (view : hardware_of parts ≡ old) (kind : Kind) {idle : Bool}
+    (port : idle ≡ nat_le old.port_free old.cycle) where
   abbrev h : Hardware
   h = hardware_of parts
 
   -- the test that the code asks
-  abbrev pub code_test : Station → Bool
+  abbrev code_test : Station → Bool
   code_test = goes kind parts.cache.backing.layout parts.stores.stores idle
 
-  pub same_test : code_test ≡ test_of h kind
-  same_test = test_in_code parts sound kind idle port
+  is_idle : idle ≡ nat_le parts.port_free parts.cycle
+  is_idle = port ∙ ap (λ (x : Hardware). nat_le x.port_free x.cycle) (sym view)
+
+  same_test : code_test ≡ test_of h kind
+  same_test = test_in_code sound kind is_idle
 
   same_waiting : (at_kind kind parts.stations).waiting ≡ stationed_now h kind
-  same_waiting = waiting_in_stations parts sound kind
+  same_waiting = waiting_in_stations sound kind
 
   -- what the definition's stations pass by, those of the parts do
-  pub passed_in_code : (n : ℕ) → NoneIssues kind n h → ArePassedBy code_test n (at_kind kind parts.stations).waiting
-  passed_in_code n passed = (λ j. oldest_ready (same_test j) (take n (same_waiting j))) ∙ passed
+  pub passed_in_code : (n : ℕ) → NoneIssues kind n old → ArePassedBy code_test n (at_kind kind parts.stations).waiting
+  passed_in_code n passed =
+      (λ j. oldest_ready (same_test j) (take n (same_waiting j))) ∙ subst (NoneIssues kind n) (sym view) passed
 
-  module _ (result : Option Ready)
+  -- where a unit is free, a turn goes by what the definition finds
+  turn_of_found : {found : Option (List Entry × Entry)} → is_free parts.cycle (at_kind kind parts.units) ≡ true →
+      oldest (is_ready_entry h kind) h.rob.entries ≡ found → issue_oldest kind h found ≡ issue_turn kind old
+  turn_of_found free is =
+      sym (cond-true (is_free parts.cycle (at_kind kind parts.units))
+      (issue_oldest kind h (oldest (is_ready_entry h kind) h.rob.entries)) (Ends h) free ∙ ap (issue_oldest kind h) is)
+      ∙ ap (issue_turn kind) view
+
+  module _ {result : Option Ready}
       (answer : result ≡ option_and_then ready_of (oldest_ready code_test (at_kind kind parts.stations).waiting)) where
     answered : result ≡ option_and_then ready_of (oldest_ready (test_of h kind) (stationed_now h kind))
     answered = answer ∙ (λ j. option_and_then ready_of (oldest_ready (same_test j) (same_waiting j)))
 
-    pub found : (ready : Ready) → result ≡ Some ready → Leaving h kind ready
-    found ready is = leaves h kind sound.sound result ready answered is
+    -- where nothing leaves
+    pub turn_ends : is_free parts.cycle (at_kind kind parts.units) ≡ true → result ≡ None → Ends h ≡ issue_turn kind old
+    turn_ends free is = turn_of_found free (nothing_leaves h kind sound.sound answered is).0
 
-    pub none_ready : result ≡ None → oldest (is_ready_entry h kind) h.rob.entries ≡ None
-    none_ready is = (nothing_leaves h kind sound.sound result answered is).0
-
-    pub stations_stay : result ≡ None →
-        with_kind kind (taken_from code_test (at_kind kind parts.stations)) parts.stations ≡ parts.stations
-    stations_stay is =
+    -- the parts, of which the stations stay, are sound
+    pub sound_still : result ≡ None → {stations : PerKind Pool} →
+        stations ≡ with_kind kind (taken_from code_test (at_kind kind parts.stations)) parts.stations →
+        IsSound (record parts { stations = stations })
+    sound_still is left =
         let pool = at_kind kind parts.stations in
         let same : without_oldest_ready code_test pool.waiting ≡ pool.waiting =
-        (λ j. without_oldest_ready (same_test j) (same_waiting j)) ∙ (nothing_leaves h kind sound.sound result answered is).1
+        (λ j. without_oldest_ready (same_test j) (same_waiting j)) ∙ (nothing_leaves h kind sound.sound answered is).1
         ∙ sym same_waiting in
-        ap (λ (ws : List Station). with_kind kind (record pool { waiting = ws }) parts.stations) same
-        ∙ with_kind-back kind parts.stations
+        let stay = left ∙ ap (λ (ws : List Station). with_kind kind (record pool { waiting = ws }) parts.stations) same
+        ∙ with_kind-back kind parts.stations in
+        subst (λ (ps : PerKind Pool). IsSound (record parts { stations = ps })) (sym stay) sound
 
     -- the parts once an instruction has started
-    module _ (ready : Ready) (is : result ≡ Some ready) where
+    module _ {ready : Ready} (is : result ≡ Some ready) where
       leaving : Leaving h kind ready
-      leaving = found ready is
-
-      told : parts.stores.stores ≡ stores_behind h h.rob.entries
-      told = ap (λ (q : Queue). q.stores) sound.tied.queued
+      leaving = leaves h kind sound.sound answered is
 
       -- the bus has room for its result
       pub room : length parts.bus.results < parts.bus.capacity
-      room =
-          room_on_bus h kind leaving.before leaving.entry leaving.rest leaving.split leaving.there ready.seq leaving.number
-          parts.bus sound.tied.pending sound.sound.entries.within
+      room = room_on_bus leaving sound.tied.pending sound.sound.entries.within
 
       -- which is not there yet
       pub absent : holds ready.seq parts.bus.results ≡ false
-      absent =
-          absent_from_bus h kind leaving.before leaving.entry leaving.rest leaving.split leaving.there ready.seq leaving.number
-          parts.bus sound.tied.pending
+      absent = absent_from_bus leaving sound.tied.pending
 
-      -- the path of what leaves
-      abbrev pub path_now : Path
-      path_now = load_path parts.cache.backing.layout (older_than ready.seq parts.stores.stores) ready.first ready.instruction
-
-      -- what an execution is to give
-      abbrev pub Gives : Message → Type 0
-      Gives message =
-          is_some (kind_of ready.instruction) ≡ true → (t : State) (lines : Lines) (word : ℕ) →
-          Reads t ready.pc ready.first ready.second ready.instruction →
-          IsBehind parts.cache (older_than ready.seq parts.stores.stores) t →
-          message ≡ result_in parts.cache.backing.layout t lines word ready.instruction
-
-      module _ (message : Message) (cost port_free : ℕ) (cache : Contents Memory)
-          (costs : cost ≡ path_cost (at_kind kind parts.values.kinds).latency parts.values.forward parts.cache path_now)
-          (ports : port_free ≡ port_after parts.cycle parts.port_free parts.cache path_now)
-          (caches : cache ≡ cache_after parts.cache path_now)
-          (gives : Gives message)
-          (units : PerKind UnitPool) (rob : ReorderBuffer) (stations : PerKind Pool) (bus : Pending)
-          (held : units ≡ with_kind kind (started_unit cost parts.cycle (at_kind kind parts.units)) parts.units)
-          (changes : rob ≡ changed (started (record { cycle = parts.cycle; cost = cost }) message) ready.seq parts.rob)
+      module _ (x : Execution h kind parts.stores ready)
+          {units : PerKind UnitPool} {rob : ReorderBuffer} {stations : PerKind Pool} {bus : Pending}
+          (held : units ≡ with_kind kind (started_unit x.cost parts.cycle (at_kind kind parts.units)) parts.units)
+          (changes : rob ≡ changed (started (record { cycle = parts.cycle; cost = x.cost }) x.message) ready.seq parts.rob)
           (left : stations ≡ with_kind kind (taken_from code_test (at_kind kind parts.stations)) parts.stations)
-          (accepted : bus ≡ with_result ready.seq (parts.cycle + cost) parts.bus) where
-        abbrev pub after : Inside
-        after = record parts { cache = cache; port_free = port_free; units = units; stations = stations; bus = bus; rob = rob }
+          (accepted : bus ≡ with_result ready.seq (parts.cycle + x.cost) parts.bus) where
+        abbrev after : Inside
+        after = record parts {
+          cache = x.cache;
+          port_free = x.port_free;
+          units = units;
+          stations = stations;
+          bus = bus;
+          rob = rob;
+        }
+
+        told : parts.stores.stores ≡ stores_behind h h.rob.entries
+        told = ap (λ (q : Queue). q.stores) sound.tied.queued
 
         abbrev started_now : Hardware
-        started_now = started_hardware h sound.sound kind ready leaving parts.stores.stores told message cost port_free cache
-            costs ports caches gives
+        started_now = started_hardware sound.sound leaving x told
 
-        view : started_now ≡ hardware_of after
-        view = λ j. record h { cache = cache; port_free = port_free; units = sym held j; rob = sym changes j }
+        seen : started_now ≡ hardware_of after
+        seen = λ j. record h { cache = x.cache; port_free = x.port_free; units = sym held j; rob = sym changes j }
 
         tied : AreTied started_now parts.rename stations bus parts.stores
         tied =
             subst (λ (b : Pending). AreTied started_now parts.rename stations b parts.stores) (sym accepted)
             (subst (λ (ps : PerKind Pool). AreTied started_now parts.rename ps
-            (with_result ready.seq (parts.cycle + cost) parts.bus) parts.stores)
+            (with_result ready.seq (parts.cycle + x.cost) parts.bus) parts.stores)
             (sym (left ∙ ap (λ test. with_kind kind (taken_from test (at_kind kind parts.stations)) parts.stations) same_test))
-            (is_tied h sound.sound kind ready leaving parts.stores.stores told message cost port_free cache costs ports caches
-            gives parts.rename parts.stations parts.bus parts.stores sound.tied))
+            (is_tied sound.sound leaving x told sound.tied))
 
         -- the parts that have started it are sound
         pub sound_after : IsSound after
         sound_after = record {
-          sound = subst IsSoundHardware view
-              (is_sound h sound.sound kind ready leaving parts.stores.stores told message cost port_free cache costs ports caches
-              gives);
-          tied = subst (λ (x : Hardware). AreTied x parts.rename stations bus parts.stores) view tied;
+          sound = subst IsSoundHardware seen (is_sound sound.sound leaving x told);
+          tied = subst (λ (y : Hardware). AreTied y parts.rename stations bus parts.stores) seen tied;
           stale_base = sound.stale_base;
           stale_size = sound.stale_size;
         }
 
-        still_idle : nat_le port_free parts.cycle ≡ true → idle ≡ true
+        still_idle : nat_le x.port_free parts.cycle ≡ true → idle ≡ true
         still_idle is =
             let legal : IsLegalCost parts.cache.values = subst IsLegalCost (sym sound.sound.cache.values) sound.sound.legal.cache.1 in
-            port ∙ port_later parts.cycle parts.port_free parts.cache path_now legal.hit.0
-            (ap (λ n. nat_le n parts.cycle) (sym ports) ∙ is)
+            is_idle
+            ∙ port_later parts.cycle parts.port_free parts.cache (path_of_ready parts.cache parts.stores ready) legal.hit.0
+            (ap (λ n. nat_le n parts.cycle) (sym x.ports) ∙ is)
 
         -- those that this search passed by, the next one may pass by
         pub passed_after : (n : ℕ) → ArePassedBy code_test n (at_kind kind stations).waiting → NoneIssues kind n (hardware_of after)
         passed_after n passed =
-            let idle_after = nat_le port_free parts.cycle in
             let layout = sound.sound.cache.layout ∙ sym sound_after.sound.cache.layout in
-            (λ j. oldest_ready (sym (test_in_code after sound_after kind idle_after refl) j)
-            (take n (sym (waiting_in_stations after sound_after kind) j)))
-            ∙ passed_later kind cache.backing.layout parts.stores.stores idle idle_after still_idle n (at_kind kind stations).waiting
+            (λ j. oldest_ready (sym (test_in_code sound_after kind refl) j)
+            (take n (sym (waiting_in_stations sound_after kind) j)))
+            ∙ passed_later kind x.cache.backing.layout parts.stores.stores idle (nat_le x.port_free parts.cycle) still_idle n
+            (at_kind kind stations).waiting
             (subst (λ l. ArePassedBy (goes kind l parts.stores.stores idle) n (at_kind kind stations).waiting) layout passed)
 
         -- the hardware that they stand for is what the definition's turn goes on with
-        pub turn_after : is_free parts.cycle (at_kind kind parts.units) ≡ true → GoesOn (hardware_of after) ≡ issue_turn kind h
+        pub turn_after : is_free parts.cycle (at_kind kind parts.units) ≡ true → GoesOn (hardware_of after) ≡ issue_turn kind old
         turn_after free =
-            ap (λ (x : Hardware). GoesOn x)
-            (sym view ∙ is_issued h sound.sound kind ready leaving parts.stores.stores told message cost port_free cache costs
-            ports caches gives)
-            ∙ sym (cond-true (is_free parts.cycle (at_kind kind parts.units))
-            (issue_oldest kind h (oldest (is_ready_entry h kind) h.rob.entries)) (Ends h) free
-            ∙ ap (issue_oldest kind h) leaving.found)
-
-    -- where nothing leaves
-    pub turn_ends : is_free parts.cycle (at_kind kind parts.units) ≡ true → result ≡ None → Ends h ≡ issue_turn kind h
-    turn_ends free is =
-        sym (cond-true (is_free parts.cycle (at_kind kind parts.units))
-        (issue_oldest kind h (oldest (is_ready_entry h kind) h.rob.entries)) (Ends h) free
-        ∙ ap (issue_oldest kind h) (none_ready is))
-
-    -- and the parts, of which the stations stay, are sound
-    pub sound_still : result ≡ None → (stations : PerKind Pool) →
-        stations ≡ with_kind kind (taken_from code_test (at_kind kind parts.stations)) parts.stations →
-        IsSound (record parts { stations = stations })
-    sound_still is stations left =
-        subst (λ (ps : PerKind Pool). IsSound (record parts { stations = ps })) (sym (left ∙ stations_stay is)) sound
+            ap (λ (y : Hardware). GoesOn y) (sym seen ∙ is_issued sound.sound leaving x told)
+            ∙ turn_of_found free leaving.found
 
   -- where no instruction of the kind waits, a turn ends the phase and changes nothing
-  pub turn_empty : (at_kind kind parts.stations).waiting ≡ [] → Ends h ≡ issue_turn kind h
+  pub turn_empty : (at_kind kind parts.stations).waiting ≡ [] → Ends h ≡ issue_turn kind old
   turn_empty empty = elim (cases_Bool (is_free parts.cycle (at_kind kind parts.units))) [
-    | inl free ↦
-        let answer : None ≡ option_and_then ready_of (oldest_ready code_test (at_kind kind parts.stations).waiting) =
-        sym (ap (λ ws. option_and_then ready_of (oldest_ready code_test ws)) empty) in
-        turn_ends None answer free refl
+    | inl free ↦ turn_ends (sym (ap (λ ws. option_and_then ready_of (oldest_ready code_test ws)) empty)) free refl
     | inr held ↦ sym (cond-false (is_free parts.cycle (at_kind kind parts.units))
         (issue_oldest kind h (oldest (is_ready_entry h kind) h.rob.entries)) (Ends h) held)
+        ∙ ap (issue_turn kind) view
   ]

@@ -1,37 +1,22 @@
 -- What a search passed by, the next one of the phase may pass by: the port is no sooner idle after a start.
-use Rattle.rv_core.proofs.Words.{◌≡◌, ℕ, ◌+◌, ◌≤◌, Bool, true, false, ◌&&◌, ◌||◌, List, [], ◌∷◌, nat_le, take, Some, None, Option, refl, inl, inr, arith, and_parts, and_from, leb-true, cases_Bool, CacheLine, CacheValues, Kind, Memory, Contents, access_cost, cost_of_access, FromCache, FromStores, Path, Without, Alu, Div, Mem, Mul, Store, Layout, is_ready_station, oldest_ready, Station, port_after, goes}
+use Rattle.rv_core.proofs.Words.{◌≡◌, ℕ, ◌+◌, ◌≤◌, Bool, true, ◌&&◌, ◌||◌, List, [], ◌∷◌, nat_le, take, None, Option, refl, arith, leb-true, CacheLine, CacheValues, Kind, Memory, Contents, access_cost, cost_of_access, FromCache, Path, Mem, Store, Layout, oldest_ready, Station, port_after, goes}
 use Rattle.rv_stations.specs.Waiting.{ArePassedBy}
 
 -- a test that passes no more than another finds nothing where the other does not
 none_by : (test less : Station → Bool) → ((w : Station) → less w ≡ true → test w ≡ true) → (ws : List Station) →
     oldest_ready test ws ≡ None → oldest_ready less ws ≡ None
 none_by test less fewer [] none = refl
-none_by test less fewer (w ∷ ws) none = elim (cases_Bool (is_ready_station w && test w)) [
-  | inl passes ↦ let found : Some w ≡ None = rw passes at none in absurd (cc)
-  | inr fails ↦ elim (cases_Bool (is_ready_station w && less w)) [
-    | inl passes ↦
-        let parts = and_parts (is_ready_station w) (less w) passes in
-        let more : (is_ready_station w && test w) ≡ true = and_from _ _ parts.0 (fewer w parts.1) in
-        absurd (cc)
-    | inr fails_too ↦ rw fails_too (none_by test less fewer ws (rw fails at none))
-  ]
-]
+none_by test less fewer (w ∷ ws) none = grind (arith, fewer, none_by test less fewer ws)
 
 -- with the port idle no less goes
 wider : (a b c idle still : Bool) → (still ≡ true → idle ≡ true) → (a || (b && (still || c))) ≡ true →
     (a || (b && (idle || c))) ≡ true
-wider true b c idle still later is = refl
-wider false false c idle still later is = is
-wider false true c true still later is = refl
-wider false true c false true later is = absurd (let no = later refl in cc)
-wider false true c false false later is = is
+wider a b c idle still later is = grind arith
 
 goes_later : (kind : Kind) (layout : Layout) (stores : List Store) (idle still : Bool) → (still ≡ true → idle ≡ true) →
     (w : Station) → goes kind layout stores still w ≡ true → goes kind layout stores idle w ≡ true
-goes_later Alu layout stores idle still later w is = refl
-goes_later Mul layout stores idle still later w is = refl
-goes_later Div layout stores idle still later w is = refl
 goes_later Mem layout stores idle still later w is = wider _ _ _ idle still later is
+goes_later _ layout stores idle still later w is = refl
 
 -- what may not go in a cycle may not go later in it, when the port is idle only if it was
 pub passed_later : (kind : Kind) (layout : Layout) (stores : List Store) (idle still : Bool) → (still ≡ true → idle ≡ true) →
@@ -41,15 +26,12 @@ passed_later kind layout stores idle still later n ws passed =
 
 -- an access takes a cycle at least
 cost_least : (values : CacheValues) → 1 ≤ values.hit → (is_hit : Bool) (dropped : Option CacheLine) → 1 ≤ cost_of_access values is_hit dropped
-cost_least values hit true dropped = hit
-cost_least values hit false None = omega (arith, hit)
-cost_least values hit false (Some line) = omega (arith, hit)
+cost_least values hit is_hit dropped = grind (arith, hit)
 
 -- the port is idle after a start only if it was before
 pub port_later : (cycle port_free : ℕ) (cache : Contents Memory) (path : Path) → 1 ≤ cache.values.hit →
     nat_le (port_after cycle port_free cache path) cycle ≡ true → nat_le port_free cycle ≡ true
-port_later cycle port_free cache Without hit is = is
-port_later cycle port_free cache FromStores hit is = is
 port_later cycle port_free cache (FromCache address) hit is =
     let cost : 1 ≤ access_cost cache address = cost_least cache.values hit _ _ in
     absurd (omega (arith, cost, leb-true (cycle + access_cost cache address) cycle is))
+port_later cycle port_free cache _ hit is = is

@@ -1,5 +1,7 @@
 -- A station is ready, and passes the code's test, where the definition finds its instruction ready.
-use Rattle.rv_core.proofs.Words.{◌≡◌, ℕ, ◌+◌, ◌<◌, Bool, true, false, not, ◌&&◌, ◌||◌, List, ◌∷◌, ◌++◌, length, ℤ, IfSome, nat_le, slice_index, Some, All, Option, sym, refl, ap, ◌∙◌, arith, length-append, and_parts, list_all, is_load, is_of_kind, kind_of_word, sources_of_word, target_of_word, bytes_of, width_of, modulo_word, sum, Instr, Load, Kind, LoadForm, is_known_store, Store, Entry, is_stationed, Hardware, is_waiting, registers_behind, has_operands, has_port, is_ready_entry, may_load, path_of_word, layout_of, seen_behind, stores_behind, get_or_append_left, AreBelow, kind_of, Alu, Div, Mem, Mul, first_unknown, older_than, has_value, is_ready_station, Operand, Tag, Value, Station, path_of_load, is_operation, is_known_before, may_go, needs_port, path_of, RegisterStatus, status_behind, values_in, waiting_of}
+use Rattle.rv_core.proofs.Words.{◌≡◌, ℕ, ◌+◌, ◌<◌, Bool, true, false, not, ◌&&◌, ◌||◌, List, ◌∷◌, ◌++◌, length, ℤ, IfSome, nat_le, slice_index, Some, All, Option, sym, refl, ap, ◌∙◌, subst, arith, and_parts, list_all, is_load, is_of_kind, kind_of_word, sources_of_word, target_of_word, bytes_of, width_of, modulo_word, sum, Instr, Load, Kind, LoadForm, is_known_store, Store, Entry, is_stationed, Hardware, is_waiting, registers_behind, has_operands, has_port, is_ready_entry, may_load, path_of_word, layout_of, seen_behind, stores_behind, AreBelow, kind_of, Mem, first_unknown, older_than, has_value, is_ready_station, Operand, Tag, Value, Station, path_of_load, is_operation, is_known_before, may_go, needs_port, path_of, RegisterStatus, status_behind, values_in, waiting_of}
+use Rattle.std.proofs.Math.Seq.{take-append_seam}
+use Rattle.std.proofs.lemmas.List.Elements.{All-take}
 use Rattle.rv_hardware.proofs.Marks.Sound.{is_of_kind_is}
 use Rattle.rv_core.proofs.Issued.Operands.{Tells, is_known-status, is_ready-known, tells_at}
 use Rattle.rv_core.proofs.Issued.Search.{Agree, PassBy}
@@ -8,21 +10,14 @@ use Rattle.rv_core.proofs.Loads.Path.{path_is_defined, port_is_defined}
 
 -- what holds of all holds of a beginning
 pub All-left : (P : Entry → Type 0) (xs ys : List Entry) → All P (xs ++ ys) → All P xs
-All-left P xs ys all k d lt =
-    let at = get_or_append_left xs ys d k lt in
-    rw (← at) (all k d (omega (arith, length-append xs ys, lt)))
+All-left P xs ys all = subst (All P) (take-append_seam xs ys) (All-take P (length xs) (xs ++ ys) all)
 
 agree_by : (ready goes operands may stationed : Bool) → ready ≡ operands → stationed ≡ true → (ready ≡ true → goes ≡ may) →
     (ready && goes) ≡ ((stationed && operands) && may)
-agree_by true goes true may true r s g = g refl
-agree_by false goes false may true r s g = refl
-agree_by true goes false may true r s g = absurd (cc)
-agree_by false goes true may true r s g = absurd (cc)
-agree_by ready goes operands may false r s g = absurd (cc)
+agree_by ready goes operands may stationed r s g = grind arith
 
 away_by : (stationed operands may : Bool) → stationed ≡ false → ((stationed && operands) && may) ≡ false
-away_by false operands may s = refl
-away_by true operands may s = absurd (cc)
+away_by stationed operands may s = rw s refl
 
 -- an instruction that has a station of a kind is of that kind
 pub kind_there : (kind : Kind) (e : Entry) → is_stationed kind e ≡ true → kind_of_word e.instruction ≡ Some kind
@@ -31,10 +26,8 @@ kind_there kind e is =
 
 -- loads are of the memory's kind
 not_load : (kind : Kind) (i : Instr) → is_operation (Some kind) ≡ true → kind_of i ≡ Some kind → is_load (Some i) ≡ false
-not_load Alu (Load form rd rs1 offset) operation is = absurd (cc)
-not_load Mul (Load form rd rs1 offset) operation is = absurd (cc)
-not_load Div (Load form rd rs1 offset) operation is = absurd (cc)
 not_load Mem (Load form rd rs1 offset) operation is = absurd (cc)
+not_load _ (Load form rd rs1 offset) operation is = absurd (cc)
 not_load kind _ operation is = refl
 
 -- an entry's target is a register

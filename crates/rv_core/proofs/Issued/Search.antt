@@ -1,18 +1,10 @@
 -- A search in the stations of a kind finds the oldest instruction that the definition finds.
-use Rattle.rv_core.proofs.Words.{◌≡◌, ℕ, ◌+◌, Bool, true, false, ◌&&◌, ◌⊎◌, List, [], ◌∷◌, ◌++◌, length, Some, None, Option, sym, refl, ap, ◌∙◌, inl, inr, append_assoc, append-nil, arith, length-append, and_parts, and_right, cases_Bool, cond-false, cond-true, is_of_kind, kind_of_word, Message, Instr, Issue, Kind, started, Entry, Stage, Finished, Running, Waiting, is_stationed, is_waiting, oldest_from, is_ready_station, oldest_ready, without_oldest_ready, Station, RegisterStatus, status_behind, status_with, waiting_at, waiting_from, waiting_of}
-
--- an instruction that starts gives no value yet, as one that waits
-status_staged : (status : RegisterStatus) (seq : ℕ) (e : Entry) (issue : Issue) (message : Message) (stage : Stage) →
-    is_waiting stage ≡ true →
-    status_with status seq (started issue message e) ≡ status_with status seq (record e { stage = stage })
-status_staged status seq e issue message Waiting waits = refl
-status_staged status seq e issue message (Running at result) waits = absurd (cc)
-status_staged status seq e issue message (Finished at cycle result) waits = absurd (cc)
+use Rattle.rv_core.proofs.Words.{◌≡◌, ℕ, ◌+◌, Bool, true, false, ◌&&◌, ◌⊎◌, List, [], ◌∷◌, ◌++◌, length, Some, None, Option, sym, refl, ap, ◌∙◌, inl, inr, append_assoc, append-nil, arith, length-append, and_parts, cases_Bool, cond-false, is_of_kind, kind_of_word, Message, Instr, Issue, Kind, started, Entry, is_stationed, is_waiting, oldest_from, is_ready_station, oldest_ready, without_oldest_ready, Station, RegisterStatus, status_behind, status_with, waiting_at, waiting_from, waiting_of}
 
 -- an instruction gives no value to the status before it has a result, started or not
 pub status_started : (status : RegisterStatus) (seq : ℕ) (e : Entry) (issue : Issue) (message : Message) →
     is_waiting e.stage ≡ true → status_with status seq (started issue message e) ≡ status_with status seq e
-status_started status seq e issue message waits = status_staged status seq e issue message e.stage waits
+status_started status seq e issue message waits = grind arith
 
 status_push : (status : RegisterStatus) (seq : ℕ) (older : List Entry) (e : Entry) →
     status_behind status seq (older ++ e ∷ []) ≡ status_with (status_behind status seq older) (seq + length older) e
@@ -35,24 +27,10 @@ module _ (kind : Kind) (status : RegisterStatus) (seq : ℕ) (e : Entry) where
       (waiting_at kind status seq e e.instruction ≡ waiting_of status seq e.pc i ∷ []) × (is_stationed kind e ≡ true)
 
   by_word : (word : Option Instr) → e.instruction ≡ word → IsAway ⊎ IsThere
-  by_word None is = inl (
-    ap (waiting_at kind status seq e) is,
-    ap (λ w. is_waiting e.stage && is_of_kind kind (kind_of_word w)) is
-        ∙ and_right (is_waiting e.stage) false refl,
-  )
+  by_word None is = inl (grind arith, grind arith)
   by_word (Some i) is = elim (cases_Bool (is_stationed kind e)) [
-    | inl there ↦ inr (
-      i,
-      is,
-      ap (waiting_at kind status seq e) is
-          ∙ cond-true (is_stationed kind e) (waiting_of status seq e.pc i ∷ []) [] there,
-      there,
-    )
-    | inr away ↦ inl (
-      ap (waiting_at kind status seq e) is
-          ∙ cond-false (is_stationed kind e) (waiting_of status seq e.pc i ∷ []) [] away,
-      away,
-    )
+    | inl there ↦ inr (i, is, grind arith, there)
+    | inr away ↦ inl (grind arith, away)
   ]
 
   pub at_cases : IsAway ⊎ IsThere
@@ -130,11 +108,7 @@ module _ (kind : Kind) (status0 : RegisterStatus) (n0 : ℕ) where
 
     search_ready_none : (ws : List Station) → oldest_ready test ws ≡ None → without_oldest_ready test ws ≡ ws
     search_ready_none [] none = refl
-    search_ready_none (w ∷ ws) none = elim (cases_Bool (is_ready_station w && test w)) [
-      | inl found ↦ let some = cond-true (is_ready_station w && test w) (Some w) (oldest_ready test ws) found in absurd (cc)
-      | inr not ↦ rw not (ap (λ l. w ∷ l)
-          (search_ready_none ws (sym (cond-false (is_ready_station w && test w) (Some w) (oldest_ready test ws) not) ∙ none)))
-    ]
+    search_ready_none (w ∷ ws) none = grind (arith, search_ready_none ws)
 
     -- past an instruction whose stations' part is a list in which nothing is found
     module _ (older : List Entry) (e : Entry) (es : List Entry) (here : List Station)
@@ -208,14 +182,10 @@ module _ (kind : Kind) (status0 : RegisterStatus) (n0 : ℕ) where
                       behind = sym (append-nil older);
                       decoded = there.1;
                       there = there.3;
-                      defined = cond-true (ready older e) (Some (older, e)) (oldest_from ready (older ++ e ∷ []) es)
-                          (sym same ∙ passes);
-                      searched = ap (oldest_ready test) joined
-                          ∙ cond-true (is_ready_station w && test w) (Some w) (oldest_ready test ws) passes;
+                      defined = rw (sym same ∙ passes) refl;
+                      searched = rw (joined, passes) refl;
                       left = λ issue message.
-                          ap (without_oldest_ready test) joined
-                          ∙ cond-true (is_ready_station w && test w) ws (w ∷ without_oldest_ready test ws) passes
-                          ∙ sym (stations_started older e i es issue message there.1 (waits kind e there.3));
+                          rw (joined, passes) (sym (stations_started older e i es issue message there.1 (waits kind e there.3)));
                     })
               ]
         ]

@@ -1,5 +1,5 @@
 -- The start of an instruction changes one of a list of entries, and what that list tells by this one alone.
-use Rattle.rv_core.proofs.Words.{◌≡◌, ℕ, suc, ◌+◌, ◌<◌, ◌≤◌, true, false, cond, ◌≢◌, List, [], ◌∷◌, ◌++◌, length, nat_lt, Some, None, All, Option, sym, refl, ap, ◌∙◌, append_assoc, arith, le-ltb, lt-ltb, ne_eqb, cond-false, cond-true, All-cons, All-head, All-tail, is_store, Message, Instr, Issue, Kind, Store, started, Entry, Stage, Finished, Running, Waiting, is_stationed, broadcast_of, is_waiting, store_of_broadcast, stores_of, holds, placed, PendingResult, RegisterStatus, pending_from, pending_of, status_with, waiting_at, waiting_from, waiting_of}
+use Rattle.rv_core.proofs.Words.{◌≡◌, ℕ, suc, ◌+◌, ◌<◌, ◌≤◌, true, false, cond, ◌≢◌, List, [], ◌∷◌, ◌++◌, length, nat_lt, None, All, Option, sym, refl, ap, ◌∙◌, append_assoc, arith, le-ltb, lt-ltb, ne_eqb, cond-false, cond-true, All-append, All-cons, All-head, All-tail, is_store, Message, Instr, Issue, Kind, Store, started, Entry, Stage, Running, is_stationed, broadcast_of, is_waiting, store_of_broadcast, stores_of, holds, placed, PendingResult, RegisterStatus, pending_from, pending_of, status_with, waiting_at, waiting_from}
 use Rattle.rv_core.proofs.Issued.Search.{status_started}
 
 module _ (issue : Issue) (message : Message) (e : Entry) (rest : List Entry) where
@@ -16,9 +16,7 @@ module _ (issue : Issue) (message : Message) (e : Entry) (rest : List Entry) whe
   store_staged : (n : ℕ) (stage : Stage) (ys : List Store) → is_waiting stage ≡ true →
       cond (is_store e.instruction) (record { seq = n; state = store_of_broadcast None } ∷ ys) ys
       ≡ cond (is_store e.instruction) (record { seq = n; state = store_of_broadcast (broadcast_of stage) } ∷ ys) ys
-  store_staged n Waiting ys waits = refl
-  store_staged n (Running at result) ys waits = absurd (cc)
-  store_staged n (Finished at cycle result) ys waits = absurd (cc)
+  store_staged n stage ys waits = grind arith
 
   -- the start of an instruction changes no store
   pub stores_started : is_waiting e.stage ≡ true → (n : ℕ) (before : List Entry) →
@@ -32,8 +30,7 @@ module _ (issue : Issue) (message : Message) (e : Entry) (rest : List Entry) whe
   -- the stations of another kind
   elsewhere : (kind : Kind) (status : RegisterStatus) (n : ℕ) (x : Entry) (word : Option Instr) → is_stationed kind x ≡ false →
       waiting_at kind status n x word ≡ []
-  elsewhere kind status n x None away = refl
-  elsewhere kind status n x (Some i) away = cond-false (is_stationed kind x) (waiting_of status n x.pc i ∷ []) [] away
+  elsewhere kind status n x word away = grind arith
 
   -- the start of an instruction of another kind changes none of these stations
   pub others_started : (kind : Kind) → is_waiting e.stage ≡ true → is_stationed kind e ≡ false →
@@ -59,9 +56,8 @@ pending_from-append n (x ∷ xs) ys =
 
 All-pending : (P : PendingResult → Type 0) (n : ℕ) (stage : Stage) (rs : List PendingResult) →
     ((r : PendingResult) → r.seq ≡ n → P r) → All P rs → All P (pending_of n stage ++ rs)
-All-pending P n Waiting rs here rest = rest
 All-pending P n (Running issue message) rs here rest = All-cons P _ rs (here _ refl) rest
-All-pending P n (Finished issue cycle message) rs here rest = rest
+All-pending P n _ rs here rest = rest
 
 pending-below : (n m : ℕ) (xs : List Entry) → n + length xs ≤ m → All (λ (r : PendingResult). r.seq < m) (pending_from n xs)
 pending-below n m [] le = λ k d within. absurd (omega arith)
@@ -92,18 +88,14 @@ holds-apart m (r ∷ rs) apart =
     (holds-apart m rs (All-tail (λ (z : PendingResult). z.seq ≢ m) r rs apart))
 
 length-pending_of : (n : ℕ) (stage : Stage) (rs : List PendingResult) → length (pending_of n stage ++ rs) ≤ 1 + length rs
-length-pending_of n Waiting rs = omega arith
-length-pending_of n (Running issue message) rs = omega arith
-length-pending_of n (Finished issue cycle message) rs = omega arith
+length-pending_of n stage rs = grind arith
 
 length-pending : (n : ℕ) (xs : List Entry) → length (pending_from n xs) ≤ length xs
 length-pending n [] = omega arith
 length-pending n (x ∷ xs) = omega (arith, length-pending_of n x.stage (pending_from (n + 1) xs), length-pending (n + 1) xs)
 
 pending_waiting : (n : ℕ) (stage : Stage) → is_waiting stage ≡ true → pending_of n stage ≡ []
-pending_waiting n Waiting waits = refl
-pending_waiting n (Running issue message) waits = absurd (cc)
-pending_waiting n (Finished issue cycle message) waits = absurd (cc)
+pending_waiting n stage waits = grind arith
 
 module _ (e : Entry) (rest : List Entry) (waits : is_waiting e.stage ≡ true) where
   pending_split : (n : ℕ) (before : List Entry) →
@@ -130,18 +122,9 @@ module _ (e : Entry) (rest : List Entry) (waits : is_waiting e.stage ≡ true) w
     pending_absent =
         ap (holds number) (pending_split n before)
         ∙ holds-apart number (pending_from n before ++ pending_from (number + 1) rest)
-        (All-both (pending_from n before) (pending-below n number before (omega arith)))
-      where
-        above : All (λ (r : PendingResult). number < r.seq) (pending_from (number + 1) rest)
-        above = pending-above (number + 1) number rest (omega arith)
-
-        All-both : (xs : List PendingResult) → All (λ (r : PendingResult). r.seq < number) xs →
-            All (λ (r : PendingResult). r.seq ≢ number) (xs ++ pending_from (number + 1) rest)
-        All-both [] low = λ k d within same. omega (arith, above k d within, same)
-        All-both (x ∷ xs) low =
-            All-cons (λ (r : PendingResult). r.seq ≢ number) x (xs ++ pending_from (number + 1) rest)
-            (λ same. omega (arith, same, All-head (λ (r : PendingResult). r.seq < number) x xs low))
-            (All-both xs (All-tail (λ (r : PendingResult). r.seq < number) x xs low))
+        (All-append (λ (r : PendingResult). r.seq ≢ number) (pending_from n before) (pending_from (number + 1) rest)
+        (λ k d within same. omega (arith, pending-below n number before (omega arith) k d within, same))
+        (λ k d within same. omega (arith, pending-above (number + 1) number rest (omega arith) k d within, same)))
 
     -- its result goes to its place
     pub pending_started : (issue : Issue) (message : Message) →

@@ -1,12 +1,11 @@
 -- The stores older than an instruction are the same in the queue and in the definition.
-use Rattle.rv_core.proofs.Words.{◌≡◌, ℕ, suc, ◌+◌, ◌<◌, ◌≤◌, Bool, true, false, cond, List, [], ◌∷◌, ◌++◌, length, All, sym, refl, ap, ◌∙◌, inl, inr, append_assoc, arith, le-ltb, lt-ltb, cases_Bool, All-cons, All-head, All-tail, list_all, is_store, is_known_store, Store, Entry, Hardware, broadcast_of, store_of_broadcast, stores_of, stores_behind, AreBelow, AreBelow-append, AreBelow-head, AreBelow-tail, AreBelow-weaken, below-split, first_unknown, older_than, is_known_before}
+use Rattle.rv_core.proofs.Words.{◌≡◌, ℕ, suc, ◌+◌, ◌<◌, ◌≤◌, Bool, true, false, cond, List, [], ◌∷◌, ◌++◌, length, All, sym, refl, ap, ◌∙◌, append_assoc, arith, le-ltb, lt-ltb, All-cons, All-head, All-tail, list_all, is_store, is_known_store, Store, Entry, Hardware, broadcast_of, store_of_broadcast, stores_of, stores_behind, AreBelow, AreBelow-append, AreBelow-head, AreBelow-tail, AreBelow-weaken, below-split, first_unknown, older_than, is_known_before}
 
 abbrev seq_of : Store → ℕ
 seq_of s = s.seq
 
 stores_of-one : (b : Bool) (s : Store) (xs ys zs : List Store) → xs ≡ ys ++ zs → cond b (s ∷ xs) xs ≡ cond b (s ∷ ys) ys ++ zs
-stores_of-one true s xs ys zs is = ap (λ l. s ∷ l) is
-stores_of-one false s xs ys zs is = is
+stores_of-one b s xs ys zs is = grind arith
 
 pub stores_of-append : (n : ℕ) (xs ys : List Entry) → stores_of n (xs ++ ys) ≡ stores_of n xs ++ stores_of (n + length xs) ys
 stores_of-append n [] ys = ap (λ m. stores_of m ys) (omega arith)
@@ -37,18 +36,14 @@ stores_of-from n m (e ∷ xs) le =
 
 known_from : (m : ℕ) (ys : List Store) → All (λ s. m ≤ s.seq) ys → is_known_before (first_unknown ys) m ≡ true
 known_from m [] high = refl
-known_from m (y ∷ ys) high = elim (cases_Bool (is_known_store y)) [
-  | inl known ↦ rw known (known_from m ys (All-tail (λ s. m ≤ s.seq) y ys high))
-  | inr unknown ↦ rw (unknown, le-ltb y.seq m (All-head (λ s. m ≤ s.seq) y ys high)) refl
-]
+known_from m (y ∷ ys) high =
+    grind (arith, le-ltb y.seq m (All-head (λ s. m ≤ s.seq) y ys high), known_from m ys (All-tail (λ s. m ≤ s.seq) y ys high))
 
 known_before : (m : ℕ) (xs ys : List Store) → AreBelow seq_of m xs → All (λ s. m ≤ s.seq) ys →
     is_known_before (first_unknown (xs ++ ys)) m ≡ list_all is_known_store xs
 known_before m [] ys low high = known_from m ys high
-known_before m (x ∷ xs) ys low high = elim (cases_Bool (is_known_store x)) [
-  | inl known ↦ rw known (known_before m xs ys (AreBelow-tail seq_of m x xs low) high)
-  | inr unknown ↦ rw (unknown, lt-ltb x.seq m (AreBelow-head seq_of m x xs low)) refl
-]
+known_before m (x ∷ xs) ys low high =
+    grind (arith, lt-ltb x.seq m (AreBelow-head seq_of m x xs low), known_before m xs ys (AreBelow-tail seq_of m x xs low) high)
 
 module _ (h : Hardware) (retired : AreBelow seq_of h.rob.retired h.committed) (older rest : List Entry) where
   abbrev place : ℕ

@@ -1,5 +1,5 @@
 -- The stores older than an instruction write within RAM, and so does an instruction, or it faults.
-use Rattle.rv_core.proofs.Words.{◌≡◌, ℕ, ◌+◌, Bool, true, false, cond, List, [], ◌∷◌, length, IfSome, Some, None, All, Option, sym, refl, subst, arith, All-append, All-cons, All-head, All-tail, bytes_of_number, is_store, bytes_of, modulo_word, sum, Message, StoreAccess, Cause, Fault, Instr, Lines, Width, Values, Effect, Faults, Retires, effect, stores, State, register_of, IsAligned, Store as QueuedStore, Committed, Draining, Speculative, StoreState, Entry, Stage, Finished, Running, Waiting, Hardware, broadcast_of, store_of_broadcast, store_of_message, stores_of, effect_message, result_in, layout_of, stores_behind, Byte, Half, Word, LieIn, LiesIn, store_fault, IsLegalWrite, IsRetiredStore, IsSoundEntry, message_of}
+use Rattle.rv_core.proofs.Words.{◌≡◌, ℕ, ◌+◌, Bool, true, false, cond, List, [], ◌∷◌, length, IfSome, Some, None, All, Option, sym, refl, subst, arith, All-append, All-cons, All-head, All-tail, bytes_of_number, is_store, bytes_of, modulo_word, sum, Message, StoreAccess, Cause, Fault, Instr, Lines, Width, Values, Effect, Faults, Retires, effect, stores, State, register_of, IsAligned, Store as QueuedStore, Committed, Draining, StoreState, Entry, Stage, Finished, Hardware, broadcast_of, store_of_broadcast, store_of_message, stores_of, effect_message, result_in, layout_of, stores_behind, LieIn, LiesIn, store_fault, IsLegalWrite, IsRetiredStore, IsSoundEntry, message_of}
 use Rattle.rv_stores.specs.declared.store.StoreState.TheVariants as store
 use Rattle.rv_isa.specs.declared.instructions.Instr.TheVariants.{Store}
 use Rattle.rv_core.proofs.Loads.Effect.{aligned_width, store_faults, store_gives, store_within}
@@ -12,25 +12,21 @@ module _ (values : Values) where
   size = values.ram_size
 
   pub retired_inside : (state : StoreState) → IsRetiredStore values state → LiesIn base size state
-  retired_inside store.Waiting sound = absurd sound
-  retired_inside store.Faulted sound = absurd sound
-  retired_inside (store.Filled access Speculative) sound = absurd sound
   retired_inside (store.Filled access Committed) sound = (sound.from_base, sound.to_end)
   retired_inside (store.Filled access Draining) sound = (sound.from_base, sound.to_end)
+  retired_inside _ sound = absurd sound
 
   write_inside : (is : Bool) (fault : Option Fault) (access : Option StoreAccess) → IsLegalWrite values is fault access →
       LiesIn base size (store_of_message access)
   write_inside is fault None legal = tt
   write_inside true None (Some access) legal = (legal.from_base, legal.to_end)
-  write_inside true (Some fault) (Some access) legal = absurd legal
-  write_inside false fault (Some access) legal = absurd legal
+  write_inside _ _ (Some access) legal = absurd legal
 
   broadcast_inside : (is : Bool) (stage : Stage) →
       IfSome (message_of stage) (λ message. IsLegalWrite values is message.fault message.store) →
       LiesIn base size (store_of_broadcast (broadcast_of stage))
-  broadcast_inside is Waiting legal = tt
-  broadcast_inside is (Running issue message) legal = tt
   broadcast_inside is (Finished issue cycle message) legal = write_inside is message.fault message.store legal
+  broadcast_inside is _ legal = tt
 
   one_inside : (b : Bool) (s : QueuedStore) (ss : List QueuedStore) → LiesIn base size s.state → LieIn base size ss →
       LieIn base size (cond b (s ∷ ss) ss)
@@ -65,9 +61,7 @@ inside_behind h older committed sound =
 -- what an instruction writes
 
 length-bytes_of_number : (width : Width) (number : ℕ) → length (bytes_of_number (bytes_of width) number) ≡ bytes_of width
-length-bytes_of_number Byte number = refl
-length-bytes_of_number Half number = refl
-length-bytes_of_number Word number = refl
+length-bytes_of_number width number = grind arith
 
 abbrev writes_legally : Values → Bool → Message → Type 0
 writes_legally values is message = IsLegalWrite values is message.fault message.store

@@ -1,21 +1,7 @@
 -- The drain phase on the queue is that on the retired stores: what is in flight stays after them.
-use Rattle.rv_core.proofs.Words.{◌≡◌, ℕ, ◌+◌, ◌<◌, Bool, true, false, List, [], ◌∷◌, ◌++◌, if◌then◌else◌, Some, None, All, Option, refl, subst, All-cons, All-head, All-tail, is_store, Message, StoreAccess, Values, oldest_to_drain, with_oldest_draining, without_drained, access_to_drain, draining, is_draining, Store as QueuedStore, Committed, Draining, Speculative, StoreState, Entry, broadcast_of, store_of_broadcast, store_of_message, stores_of, AreBelow, is_oldest_draining, IsLegalAccess, IsRetiredStore}
+use Rattle.rv_core.proofs.Words.{◌≡◌, ℕ, ◌+◌, ◌<◌, Bool, true, false, List, [], ◌∷◌, ◌++◌, if◌then◌else◌, Some, None, All, Option, refl, subst, arith, All-cons, All-head, All-tail, is_store, Message, StoreAccess, Values, oldest_to_drain, with_oldest_draining, without_drained, access_to_drain, draining, is_draining, Store as QueuedStore, Committed, Draining, Speculative, StoreState, Entry, broadcast_of, store_of_broadcast, stores_of, AreBelow, is_oldest_draining, IsLegalAccess, IsRetiredStore}
 use Rattle.rv_stores.specs.declared.store.StoreState.TheVariants as store
 use Rattle.rv_core.proofs.Retired.Stores.{AreRetired}
-
--- a store in flight does not drain, and has nothing to drain
-
-told : (seq : ℕ) (written : Option StoreAccess) →
-    (is_draining (record { seq = seq; state = store_of_message written }) ≡ false)
-    × (access_to_drain (record { seq = seq; state = store_of_message written }) ≡ None)
-told seq None = (refl, refl)
-told seq (Some access) = (refl, refl)
-
-in_flight : (seq : ℕ) (message : Option Message) →
-    (is_draining (record { seq = seq; state = store_of_broadcast message }) ≡ false)
-    × (access_to_drain (record { seq = seq; state = store_of_broadcast message }) ≡ None)
-in_flight seq None = (refl, refl)
-in_flight seq (Some message) = told seq message.store
 
 -- among the stores in flight none drains
 pub record NoneDrains (flight : List QueuedStore) : Type 0 where
@@ -25,9 +11,11 @@ pub record NoneDrains (flight : List QueuedStore) : Type 0 where
 
 first_idle : (seq : ℕ) (is_store : Bool) (message : Option Message) (ss : List QueuedStore) → NoneDrains ss →
     NoneDrains (if is_store then record { seq = seq; state = store_of_broadcast message } ∷ ss else ss)
-first_idle seq false message ss none = none
-first_idle seq true message ss none =
-    record { stays = rw ((in_flight seq message).0) refl; idle = (in_flight seq message).1; rests = (in_flight seq message).0 }
+first_idle seq is_store message ss none = record {
+  stays = grind (arith, none.stays);
+  idle = grind (arith, none.idle);
+  rests = grind (arith, none.rests);
+}
 
 -- no store of an instruction in flight drains
 pub none_drains : (seq : ℕ) (es : List Entry) → NoneDrains (stores_of seq es)
@@ -39,8 +27,7 @@ none_drains seq (e ∷ es) =
 
 first_leaves : (leaves : Bool) (s : QueuedStore) (ss flight : List QueuedStore) →
     (if leaves then ss ++ flight else s ∷ (ss ++ flight)) ≡ (if leaves then ss else s ∷ ss) ++ flight
-first_leaves true s ss flight = refl
-first_leaves false s ss flight = refl
+first_leaves leaves s ss flight = grind arith
 
 -- the store whose access is over leaves the retired ones, whatever is in flight after them
 pub without_drained_behind : (ss flight : List QueuedStore) → NoneDrains flight →
@@ -79,11 +66,8 @@ kept_when_drained P (s ∷ ss) all = kept_by (is_draining s) P s ss all
 
 draining_is_retired : (values : Values) (state : StoreState) → IsRetiredStore values state →
     IsRetiredStore values (draining state)
-draining_is_retired values store.Waiting are = are
-draining_is_retired values store.Faulted are = are
 draining_is_retired values (store.Filled access Speculative) are = absurd are
-draining_is_retired values (store.Filled access Committed) are = are
-draining_is_retired values (store.Filled access Draining) are = are
+draining_is_retired values _ are = are
 
 -- retired stores stay retired ones where the oldest begins its access
 pub retired_when_draining : (values : Values) (ss : List QueuedStore) → AreRetired values ss →
@@ -108,11 +92,9 @@ drains_legally : (values : Values) (s : QueuedStore) (access : StoreAccess) → 
 drains_legally values s access retired is = go values s.state access retired is where
   go : (values : Values) (state : StoreState) (access : StoreAccess) → IsRetiredStore values state →
       access_to_drain (record { seq = 0; state = state }) ≡ Some access → IsLegalAccess values access
-  go values store.Waiting access retired is = absurd retired
-  go values store.Faulted access retired is = absurd retired
-  go values (store.Filled a Speculative) access retired is = absurd retired
   go values (store.Filled a Committed) access retired is = let same : a ≡ access = cc in subst (IsLegalAccess values) same retired
   go values (store.Filled a Draining) access retired is = absurd (cc)
+  go values _ access retired is = absurd retired
 
 -- what the oldest store writes
 pub oldest_is_legal : (values : Values) (ss : List QueuedStore) (access : StoreAccess) → AreRetired values ss →

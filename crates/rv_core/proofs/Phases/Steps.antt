@@ -3,7 +3,7 @@ use Rattle.rv_core.proofs.Words.{◌≡◌, ℕ, suc, ◌<◌, ◌≤◌, Bool, 
 use Rattle.std.specs.FinSet as set
 use Rattle.rv_arch.specs.declared.outcome.Stop.TheVariants as stop
 use Rattle.rv_hardware.specs.declared.step.Step.TheVariants as step
-use Rattle.rv_hardware.proofs.Turns.Commit.{CommitTurn, no_head, stale_head, unfinished, fence_waits, fence_writes, fence_retires, executes, serial_faults, traps, retires, retires_last, commit_turn_is}
+use Rattle.rv_hardware.proofs.Turns.Commit.{CommitTurn, stale_head, fence_retires, executes, serial_faults, traps, retires, retires_last, commit_turn_is}
 
 module _ (now : ℕ) where
   -- a commit that has taken at most so many steps
@@ -39,12 +39,7 @@ module _ (now : ℕ) where
     turn-commits : (most taken : ℕ) (c : Committing) (t : Turn Committing) → taken < most → CommitTurn is_stale c t →
         Commits taken c →
         Leads (Commits (suc taken)) (Commits most) t
-    turn-commits most taken c _ less (no_head none) is = stays taken most c _ less refl refl is.stop is
     turn-commits most taken c _ less (stale_head e es at stale) is = stays taken most c _ less refl refl tt is
-    turn-commits most taken c _ less (unfinished e es head plain none) is = stays taken most c _ less refl refl is.stop is
-    turn-commits most taken c _ less (fence_waits e es head fence busy) is = stays taken most c _ less refl refl is.stop is
-    turn-commits most taken c _ less (fence_writes e es head fence drained dirty) is =
-        stays taken most c _ less refl refl is.stop is
     turn-commits most taken c _ less (fence_retires e es written next head fence drained) is =
         stepped taken most c _ (row_of e written c.hardware.cycle) less refl refl is.stop is
     turn-commits most taken c _ less (executes e es written next head serial) is =
@@ -58,6 +53,7 @@ module _ (now : ℕ) where
         stepped taken (suc taken) c _ (row_of e (written_of e message) c.hardware.cycle) (omega arith) refl refl is.stop is
     turn-commits most taken c _ less (retires_last e es issue cycle message head plain at none) is =
         stepped taken most c _ (row_of e (written_of e message) c.hardware.cycle) less refl refl is.stop is
+    turn-commits most taken c _ less _ is = stays taken most c _ less refl refl is.stop is
 
     unless : (o : Option ℕ) (h : Hardware) → h.cycle ≡ now → 1 ≤ h.values.commit_width →
         Commits h.values.commit_width (commit_unless is_stale o h)

@@ -27,7 +27,7 @@ sound_with_cache h cache committed port sound described retired older free = rec
 abbrev pub with_parts : Contents Memory → Queue → ℕ → Inside → Inside
 with_parts cache stores port parts = record parts { cache = cache; stores = stores; port_free = port }
 
-module _ (parts : Inside) (cache : Contents Memory) (committed : List QueuedStore) (stores : Queue) (port : ℕ)
+module _ {parts : Inside} {cache : Contents Memory} {committed : List QueuedStore} {stores : Queue} {port : ℕ}
     (before : IsSound parts)
     (sound : IsSoundHardware (with_cache cache committed port (hardware_of parts)))
     (is : stores ≡ queue_of (with_cache cache committed port (hardware_of parts))) where

@@ -25,14 +25,10 @@ returns-in-Some-get-clause-operand c =
     let rob = c.args.rob.now in
     let registers = c.args.registers.now in
     let looked = sym (c.lookup.ensures.youngest ∙ ap (youngest register) c.requires.producers) ∙ c.in-Some-lookup.is in
-    rw c.in-Some.is (
-    c.operand_by.ensures.operand ∙
-    sym (
-    status-is register (values_in registers) rob.retired rob.entries ∙
-    ap (λ o. operand_from (values_in registers register) o rob.retired rob.entries) looked ∙
-    ap (operand_at c.in-Some-lookup.producer) (sym c.get.ensures ∙ ap option_copied c.in-Some-get.is)
-    )
-    )
+    rw c.in-Some.is (c.operand_by.ensures.operand
+    ∙ sym (status-is register (values_in registers) rob.retired rob.entries
+    ∙ ap (λ o. operand_from (values_in registers register) o rob.retired rob.entries) looked
+    ∙ ap (operand_at c.in-Some-lookup.producer) (sym c.get.ensures ∙ ap option_copied c.in-Some-get.is)))
 
 pub returns-in-None-clause-operand : goal.returns-in-None-clause-operand
 returns-in-None-clause-operand c =
@@ -40,10 +36,6 @@ returns-in-None-clause-operand c =
     let rob = c.args.rob.now in
     let registers = c.args.registers.now in
     let looked = sym (c.lookup.ensures.youngest ∙ ap (youngest register) c.requires.producers) ∙ c.in-Some-lookup.is in
-    rw c.in-Some.is (
-    sym (
-    status-is register (values_in registers) rob.retired rob.entries ∙
-    ap (λ o. operand_from (values_in registers register) o rob.retired rob.entries) looked ∙
-    ap (operand_at c.in-Some-lookup.producer) (sym c.get.ensures ∙ ap option_copied c.in-None.is)
-    )
-    )
+    rw c.in-Some.is (sym (status-is register (values_in registers) rob.retired rob.entries
+    ∙ ap (λ o. operand_from (values_in registers register) o rob.retired rob.entries) looked
+    ∙ ap (operand_at c.in-Some-lookup.producer) (sym c.get.ensures ∙ ap option_copied c.in-None.is)))

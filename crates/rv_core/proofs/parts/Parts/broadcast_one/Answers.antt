@@ -1,4 +1,4 @@
-use Rattle.rv_core.proofs.Words.{◌≡◌, ℕ, ◌+◌, Bool, true, false, cond, refl, predicting, cut_from, redirected, ◌&&◌, [], Some, None, sym, ap, ◌∙◌, subst, and_parts, finished, changed, is_mispredicted, mends_early, with_recovery, Hardware, Ends, GoesOn, find, is_ready_result, IsSound, hardware_of, Inside}
+use Rattle.rv_core.proofs.Words.{◌≡◌, ℕ, ◌+◌, Bool, true, false, cond, refl, predicting, cut_from, redirected, ◌&&◌, [], Some, None, sym, ap, ◌∙◌, subst, arith, and_parts, finished, changed, is_mispredicted, mends_early, with_recovery, Hardware, Ends, GoesOn, find, is_ready_result, IsSound, hardware_of, Inside}
 use Rattle.rv_core.proofs.Ties.Broadcast.{grant, sent_parts, sent-goes_on, sent-is, sent-recovers, sent-sound, sent_to, unsent, unsent_bus}
 use Rattle.rv_core.proofs.Ties.Bus.{IsGranted}
 use Rattle.rv_core.proofs.Ties.Entries.{entry_of-changed, with_entry-alike}
@@ -68,8 +68,7 @@ goes_on c =
     c.send-goes_on.ensures.goes_on s.entry s.issue s.message (s.held, s.running)
 
 none-mends : (mends : Bool) (next_pc : ℕ) → cond mends (Some next_pc) None ≡ None → mends ≡ false
-none-mends true next_pc is = absurd (cc)
-none-mends false next_pc is = refl
+none-mends mends next_pc is = grind arith
 
 some-mends : (mends : Bool) (next_pc told : ℕ) → cond mends (Some next_pc) None ≡ Some told → (mends ≡ true) × (told ≡ next_pc)
 some-mends true next_pc told is = (refl, cc)

@@ -3,62 +3,64 @@ use Rattle.std.specs.FinSet as set
 use Rattle.rv_core.proofs.Retired.Roles.{ended_as, first_is_head, heads_agree, turn_finishes, turn_of_stale}
 use Rattle.rv_core.proofs.Retired.Taught.{learns_at}
 use Rattle.rv_core.proofs.parts.Parts.commit_head.Goals as goal
-use Rattle.rv_core.proofs.parts.Parts.commit_head.Goals.{In-Some}
+use Rattle.rv_core.proofs.parts.Parts.commit_head.Goals.{After-is_stale}
 use Rattle.rv_core.proofs.parts.Parts.commit_head.Given.{Over}
 
-head : (g : Over) (c : In-Some g) → IsHead c.args.self.now c.in-Some.head.now
+head : (g : Over) (c : After-is_stale g) → IsHead c.args.self.now c.in-Some.head.now
 head g c =
     first_is_head c.args.self.now c.in-Some.head.now
     (ap (λ (h : Hardware). slice_get h.rob.entries 0) (sym c.self.view_is) ∙ sym c.in-Some.ensures)
 
+-- whether its word is stale
+stale : (g : Over) (c : After-is_stale g) →
+    set.contains c.args.self.now.stale (word_of c.in-Some.head.now.pc) ≡ c.is_stale.result
+stale g c =
+    ap (λ (h : Hardware). set.contains h.stale (word_of c.in-Some.head.now.pc)) (sym c.self.view_is)
+    ∙ sym c.is_stale.ensures.stale
+
+-- there is one head: what holds of the one that was got holds of each
+of_head : (g : Over) (c : After-is_stale g) (P : Entry → Type 0) → P c.in-Some.head.now → (e : Entry) →
+    IsHead c.args.self.now e → P e
+of_head g c P is e at = subst P (heads_agree c.args.self.now c.in-Some.head.now e (head g c) at) is
+
 pub serial_head-step-requires-clause-fresh : goal.serial_head-step-requires-clause-fresh
-serial_head-step-requires-clause-fresh g c e at =
-    let fresh = ap (λ (h : Hardware). set.contains h.stale (word_of c.in-Some.head.now.pc)) (sym c.self.view_is)
-    ∙ sym c.is_stale.ensures.stale ∙ c.if-is_stale.false in
-    let same = heads_agree c.args.self.now c.in-Some.head.now e
-    (head g (goal.at.serial_head-step-requires-clause-fresh g c).In-Some) at in
-    subst (λ (x : Entry). set.contains c.args.self.now.stale (word_of x.pc) ≡ false) same fresh
+serial_head-step-requires-clause-fresh g c =
+    let at = (goal.at.serial_head-step-requires-clause-fresh g c).After-is_stale in
+    of_head g at (λ x. set.contains c.args.self.now.stale (word_of x.pc) ≡ false) (stale g at ∙ c.if-is_stale.false)
 
 pub serial_head-step-requires-clause-serial : goal.serial_head-step-requires-clause-serial
-serial_head-step-requires-clause-serial g c e at =
-    let same = heads_agree c.args.self.now c.in-Some.head.now e
-    (head g (goal.at.serial_head-step-requires-clause-serial g c).In-Some) at in
-    subst (λ (x : Entry). is_serialising x.instruction ≡ true) same (sym c.is_serialising.ensures ∙ c.if-is_serialising.true)
+serial_head-step-requires-clause-serial g c =
+    of_head g (goal.at.serial_head-step-requires-clause-serial g c).After-is_stale (λ x. is_serialising x.instruction ≡ true)
+    (sym c.is_serialising.ensures ∙ c.if-is_serialising.true)
 
 pub finish_head-requires-clause-fresh : goal.finish_head-requires-clause-fresh
-finish_head-requires-clause-fresh g c e at =
-    let fresh = ap (λ (h : Hardware). set.contains h.stale (word_of c.in-Some.head.now.pc)) (sym c.self.view_is)
-    ∙ sym c.is_stale.ensures.stale ∙ c.if-is_stale.false in
-    let same = heads_agree c.args.self.now c.in-Some.head.now e
-    (head g (goal.at.finish_head-requires-clause-fresh g c).In-Some) at in
-    subst (λ (x : Entry). set.contains c.args.self.now.stale (word_of x.pc) ≡ false) same fresh
+finish_head-requires-clause-fresh g c =
+    let at = (goal.at.finish_head-requires-clause-fresh g c).After-is_stale in
+    of_head g at (λ x. set.contains c.args.self.now.stale (word_of x.pc) ≡ false) (stale g at ∙ c.if-is_stale.false)
 
 pub finish_head-requires-clause-plain : goal.finish_head-requires-clause-plain
-finish_head-requires-clause-plain g c e at =
-    let same = heads_agree c.args.self.now c.in-Some.head.now e
-    (head g (goal.at.finish_head-requires-clause-plain g c).In-Some) at in
-    subst (λ (x : Entry). is_serialising x.instruction ≡ false) same (sym c.is_serialising.ensures ∙ c.if-is_serialising.false)
+finish_head-requires-clause-plain g c =
+    of_head g (goal.at.finish_head-requires-clause-plain g c).After-is_stale (λ x. is_serialising x.instruction ≡ false)
+    (sym c.is_serialising.ensures ∙ c.if-is_serialising.false)
 
 pub returns-then-is_stale-clause-turn : goal.returns-then-is_stale-clause-turn
 returns-then-is_stale-clause-turn g c =
-    let at = head g (goal.at.returns-then-is_stale-clause-turn g c).In-Some in
-    let stale = ap (λ (h : Hardware). set.contains h.stale (word_of c.in-Some.head.now.pc)) (sym c.self.view_is)
-    ∙ sym c.is_stale.ensures.stale ∙ c.if-is_stale.true in
+    let at = (goal.at.returns-then-is_stale-clause-turn g c).After-is_stale in
     record {
       told = None;
-      left = λ steps. turn_of_stale c.args.self.now c.in-Some.head.now steps at stale;
+      left = λ steps.
+          turn_of_stale c.args.self.now c.in-Some.head.now steps (head g at) (stale g at ∙ c.if-is_stale.true);
       appended = refl;
       learns = refl;
     }
 
 pub returns-then-waits_for_result-clause-turn : goal.returns-then-waits_for_result-clause-turn
 returns-then-waits_for_result-clause-turn g c =
-    let at = head g (goal.at.returns-then-waits_for_result-clause-turn g c).In-Some in
-    let fresh = ap (λ (h : Hardware). set.contains h.stale (word_of c.in-Some.head.now.pc)) (sym c.self.view_is)
-    ∙ sym c.is_stale.ensures.stale ∙ c.if-is_stale.false in
+    let at = (goal.at.returns-then-waits_for_result-clause-turn g c).After-is_stale in
     record {
       told = None;
-      left = λ steps. turn_finishes c.args.self.now c.in-Some.head.now steps None at fresh
+      left = λ steps.
+          turn_finishes c.args.self.now c.in-Some.head.now steps None (head g at) (stale g at ∙ c.if-is_stale.false)
           (c.waits_for_result.ensures.role c.if-waits_for_result.true) (c.waits_for_result.ensures.unknown c.if-waits_for_result.true);
       appended = refl;
       learns = refl;

@@ -26,12 +26,12 @@ queued p stores before is =
 pub invariant_of-self : goal.invariant_of-self
 invariant_of-self c =
     let p = c.self.inside in
-    parts_with_cache p p.cache (next p).committed c.end_drain.new.self p.port_free c.self.invariant (sound p c.self.invariant)
+    parts_with_cache c.self.invariant (sound p c.self.invariant)
     (queued p c.end_drain.new.self c.self.invariant c.end_drain.ensures)
 
 pub returns : goal.returns
 returns c =
     let p = c.self.inside in
-    view_with_cache p p.cache (next p).committed c.end_drain.new.self p.port_free c.self.invariant (sound p c.self.invariant)
+    view_with_cache c.self.invariant (sound p c.self.invariant)
     (queued p c.end_drain.new.self c.self.invariant c.end_drain.ensures)
     ∙ ap end_drain c.self.view_is

@@ -1,16 +1,14 @@
 use Rattle.std.proofs.Common.{rules}
-use Rattle.rv_core.proofs.Words.{◌+◌, ◌-◌, is_some, nat_le, sym, refl, ap, ◌∙◌, arith, at_kind, Hardware, issue_kind, issue_turn, Ends, turn_of}
+use Rattle.rv_core.proofs.Words.{◌+◌, ◌-◌, is_some, sym, refl, ap, ◌∙◌, arith, at_kind, Hardware, issue_kind, issue_turn, Ends, turn_of}
 use Rattle.rv_core.proofs.Issued.Parts.{turn_empty}
 use Rattle.rv_core.proofs.Phases.Turned.{turned-ends, turned-goes, turned-none}
 use Rattle.rv_core.proofs.parts.Parts.issue_kind.Goals as goal
 
 pub returns-then-is_empty : goal.returns-then-is_empty
 returns-then-is_empty c =
-    let parts = c.self.inside in
-    let ends = turn_empty parts c.self.invariant c.args.kind (nat_le parts.port_free parts.cycle) refl
-    (c.is_empty.ensures.0 c.if-is_empty.true) in
+    let ends = turn_empty c.self.invariant c.self.view_is c.args.kind refl (c.is_empty.ensures.0 c.if-is_empty.true) in
     turned-none (issue_turn c.args.kind) (at_kind c.args.kind c.args.self.now.values.kinds).units c.args.self.now
-    (ap (λ (h : Hardware). Ends h) (sym c.self.view_is) ∙ ends ∙ ap (issue_turn c.args.kind) c.self.view_is)
+    (ap (λ (h : Hardware). Ends h) (sym c.self.view_is) ∙ ends)
 
 pub returns-in_default : goal.returns-in_default
 returns-in_default c =

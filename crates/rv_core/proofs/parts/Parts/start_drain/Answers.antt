@@ -89,9 +89,7 @@ stores c = queued c.self.inside c.start_drain-access.new.self c.start_drain-acce
 
 pub invariant_of-self : goal.invariant_of-self
 invariant_of-self c =
-    parts_with_cache c.self.inside c.write-cost.new.self (draining c.self.inside) c.start_drain-access.new.self
-    (c.self.inside.cycle + c.from.result)
-    c.self.invariant (sound c) (stores c)
+    parts_with_cache c.self.invariant (sound c) (stores c)
 
 -- the access is the definition's
 accessed : (c : goal.After-self-1) →
@@ -114,8 +112,7 @@ accessed c =
 pub returns : goal.returns
 returns c =
     let p = c.self.inside in
-    view_with_cache p c.write-cost.new.self (draining p) c.start_drain-access.new.self (p.cycle + c.from.result) c.self.invariant
-    (sound c) (stores c)
+    view_with_cache c.self.invariant (sound c) (stores c)
     ∙ accessed c
     ∙ ap (λ o. start_drain o (hardware_of p))
     (sym (is_oldest p c.start_drain-access.result c.self.invariant c.start_drain-access.ensures.access))

@@ -23,10 +23,9 @@ returns-clause-due_interrupt g c counted =
     (any_cycle (c.next_cycle.ensures.cycled counted).cycle))
 
 stalls_where : (none_dispatched : Bool) (stall : Option Stall) → IsCounted none_dispatched stall → is_some stall ≡ none_dispatched
-stalls_where true None counted = absurd counted
 stalls_where true (Some reason) counted = refl
 stalls_where false None counted = refl
-stalls_where false (Some reason) counted = absurd counted
+stalls_where _ _ counted = absurd counted
 
 pub returns-clause-stall : goal.returns-clause-stall
 returns-clause-stall g c counted =
