@@ -1,6 +1,6 @@
 -- At most `bus_width` results are broadcast in a cycle.
-use Rattle.rv_hardware.proofs.Words.{◌≡◌, ℕ, suc, ◌+◌, ◌<◌, ◌≤◌, Bool, true, false, List, ◌∷◌, ◌++◌, map, IfSome, ◌==◌, None, Option, refl, ap, ◌∙◌, arith, ne_eqb, eqb-true, le-leb, and_from, Instr, Values, finished, predicting, Entry, Stage, broadcast, broadcast_turn, Dispatching, dispatch, dispatch_turn, Hardware, NeverMoreThan, Turn, is_broadcast_in, passes, rows_of, Execution, Step, Each-weaker, Each-all, count, count-append, count-none, count-map, count-set-more, count-push, count-push-no, count-left, Leads, turns_within, kept_by_turns}
-use Rattle.rv_hardware.proofs.Marks.Cited.{dispatched_mark, BroadcastTurn, no_result, sends, mends, broadcast_turn_is, sent_entries, mended_entries, Shows, counted_law, History, dispatching, issued_all, sent_all, DispatchTurn, dispatch_turn_is, Mark, mark_of_row, mark_of_fetched, marks_in, until, broadcast_of_stage, broadcast_of_execution, until_by, SoundRow, SoundEntry, SoundStage, is_at, count_marks}
+use Rattle.rv_hardware.proofs.Words.{◌≡◌, ℕ, suc, ◌+◌, ◌<◌, ◌≤◌, Bool, true, false, List, ◌∷◌, IfSome, ◌==◌, None, Option, refl, ap, arith, ne_eqb, eqb-true, le-leb, and_from, Instr, Values, finished, predicting, Entry, Stage, broadcast, broadcast_turn, Dispatching, dispatch, dispatch_turn, Hardware, NeverMoreThan, Turn, is_broadcast_in, passes, rows_of, Execution, Step, Each-weaker, count, count-none, count-set-more, count-push, count-push-no, count-left, Leads, turns_within, kept_by_turns}
+use Rattle.rv_hardware.proofs.Marks.Cited.{dispatched_mark, BroadcastTurn, no_result, sends, mends, broadcast_turn_is, sent_entries, mended_entries, Shows, counted_law, History, issued_all, sent_all, DispatchTurn, dispatch_turn_is, until, broadcast_of_stage, broadcast_of_execution, until_by, SoundEntry, SoundStage, is_at, count_in_flight}
 
 sent_shows_by : (c D C : ℕ) (x : Option Execution) → IfSome x (λ x. (D < x.issued) × (x.issued + x.cost ≤ x.broadcast) × (x.broadcast < C)) → passes (λ y. y.broadcast == c) x ≡ true →
     (is_at c (until c (broadcast_of_execution x)) ≡ true) × (D < c) × (c < C)
@@ -54,13 +54,7 @@ row_sent_earlier D C now x le h = grind (arith, ne_eqb)
 pub law_of_bus_width : (v : Values) {steps : List Step} {h : Hardware} → History v steps h → NeverMoreThan v.bus_width is_broadcast_in (rows_of steps)
 law_of_bus_width v history =
     counted_law v is_broadcast_in (λ c m. is_at c m.broadcast) (sent_shows v) v.bus_width (λ earlier old new lines report before after passed.
-    let p : Mark → Bool = λ m. is_at old.cycle m.broadcast in
-    let d : Hardware = (dispatching lines old).hardware in
-    let all = ap (count p) passed.new_marks ∙ count-append p (marks_in (earlier ++ report.steps) d) (map mark_of_fetched passed.fetches.added) in
-    let parts = count_marks p (earlier ++ report.steps) d.rob.entries d.front.entries in
-    let rows = count-none (λ row. p (mark_of_row row)) (rows_of (earlier ++ report.steps)) (Each-weaker (SoundRow v (old.cycle + 1)) (λ row. p (mark_of_row row) ≡ false) (λ row w. row_sent_earlier row.dispatched row.retired old.cycle row.execution (omega (arith, w.below)) w.stamps.executed_between) (rows_of (earlier ++ report.steps)) passed.dispatches.basics.rows) in
-    let words = count-none (λ f. p (mark_of_fetched f)) d.front.entries (Each-all (λ f. p (mark_of_fetched f) ≡ false) (λ f. refl) d.front.entries) in
-    let added = count-map p mark_of_fetched passed.fetches.added ∙ count-none (λ f. p (mark_of_fetched f)) passed.fetches.added (Each-all (λ f. p (mark_of_fetched f) ≡ false) (λ f. refl) passed.fetches.added) in
+    let all = count_in_flight (λ m. is_at old.cycle m.broadcast) passed (λ row w. row_sent_earlier row.dispatched row.retired old.cycle row.execution (omega (arith, w.below)) w.stamps.executed_between) (λ f. refl) in
     let at_start = count-none (is_sent_now old.cycle v.bus_width) (issued_all lines old).rob.entries (Each-weaker (SoundEntry v old.cycle (old.cycle + 1) old.cycle) (λ e. is_at old.cycle (broadcast_of_stage e.stage) ≡ false) (λ e w. sent_earlier v e.instruction e.dispatched (old.cycle + 1) old.cycle e.stage w.stage) (issued_all lines old).rob.entries passed.issues.basics.entries) in
     let within = dispatch_keeps_sent old.cycle v.bus_width (sent_all lines old) (broadcast_within old.cycle v.bus_width (issued_all lines old) (ap (λ (w : Values). w.bus_width) passed.issues.basics.always.sizes.values) (omega (arith, at_start))) in
-    omega (arith, all, parts, rows, words, added, within)) history
+    omega (arith, all, within)) history

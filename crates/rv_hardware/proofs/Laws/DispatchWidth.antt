@@ -1,6 +1,6 @@
 -- At most `dispatch_width` instructions are dispatched in a cycle.
-use Rattle.rv_hardware.proofs.Words.{◌≡◌, ℕ, suc, ◌+◌, ◌<◌, ◌≤◌, Bool, false, List, ◌++◌, map, ◌==◌, None, refl, ap, ◌∙◌, arith, ne_eqb, eqb-true, le-leb, and_from, Values, Dispatching, dispatch, dispatch_turn, Hardware, NeverMoreThan, Turn, is_dispatched_in, rows_of, Step, Each-weaker, Each-all, count, count-append, count-none, count-map, count-push, Leads, turns_within}
-use Rattle.rv_hardware.proofs.Marks.Cited.{Shows, counted_law, History, dispatching, sent_all, DispatchTurn, dispatch_turn_is, Mark, mark_of_row, mark_of_fetched, marks_in, until_by, SoundRow, SoundEntry, is_at, count_marks}
+use Rattle.rv_hardware.proofs.Words.{◌≡◌, ℕ, suc, ◌+◌, ◌<◌, ◌≤◌, false, List, ◌==◌, None, refl, ap, arith, ne_eqb, eqb-true, le-leb, and_from, Values, Dispatching, dispatch, dispatch_turn, Hardware, NeverMoreThan, Turn, is_dispatched_in, rows_of, Step, Each-weaker, count, count-none, count-push, Leads, turns_within}
+use Rattle.rv_hardware.proofs.Marks.Cited.{Shows, counted_law, History, sent_all, DispatchTurn, dispatch_turn_is, until_by, SoundEntry, is_at, count_in_flight}
 
 -- that a row is dispatched in a cycle shows in its mark
 pub dispatched_shows : (v : Values) → Shows v is_dispatched_in (λ c m. is_at c m.dispatched)
@@ -22,13 +22,7 @@ module _ (now total : ℕ) where
 pub law_of_dispatch_width : (v : Values) {steps : List Step} {h : Hardware} → History v steps h → NeverMoreThan v.dispatch_width is_dispatched_in (rows_of steps)
 law_of_dispatch_width v history =
     counted_law v is_dispatched_in (λ c m. is_at c m.dispatched) (dispatched_shows v) v.dispatch_width (λ earlier old new lines report before after passed.
-    let p : Mark → Bool = λ m. is_at old.cycle m.dispatched in
-    let d : Hardware = (dispatching lines old).hardware in
-    let all = ap (count p) passed.new_marks ∙ count-append p (marks_in (earlier ++ report.steps) d) (map mark_of_fetched passed.fetches.added) in
-    let parts = count_marks p (earlier ++ report.steps) d.rob.entries d.front.entries in
-    let rows = count-none (λ row. p (mark_of_row row)) (rows_of (earlier ++ report.steps)) (Each-weaker (SoundRow v (old.cycle + 1)) (λ row. p (mark_of_row row) ≡ false) (λ row w. ne_eqb row.dispatched old.cycle (omega (arith, w.stamps.retired_after_dispatch, w.below))) (rows_of (earlier ++ report.steps)) passed.dispatches.basics.rows) in
-    let words = count-none (λ f. p (mark_of_fetched f)) d.front.entries (Each-all (λ f. p (mark_of_fetched f) ≡ false) (λ f. refl) d.front.entries) in
-    let added = count-map p mark_of_fetched passed.fetches.added ∙ count-none (λ f. p (mark_of_fetched f)) passed.fetches.added (Each-all (λ f. p (mark_of_fetched f) ≡ false) (λ f. refl) passed.fetches.added) in
+    let all = count_in_flight (λ m. is_at old.cycle m.dispatched) passed (λ row w. ne_eqb row.dispatched old.cycle (omega (arith, w.stamps.retired_after_dispatch, w.below))) (λ f. refl) in
     let at_start = count-none (λ e. e.dispatched == old.cycle) (sent_all lines old).rob.entries (Each-weaker (SoundEntry v old.cycle (old.cycle + 1) (old.cycle + 1)) (λ e. (e.dispatched == old.cycle) ≡ false) (λ e w. ne_eqb e.dispatched old.cycle (omega (arith, w.by_now))) (sent_all lines old).rob.entries passed.sends.basics.entries) in
     let within = dispatch_within old.cycle v.dispatch_width (sent_all lines old) (ap (λ (w : Values). w.dispatch_width) passed.sends.basics.always.sizes.values) (omega (arith, at_start)) in
-    omega (arith, all, parts, rows, words, added, within)) history
+    omega (arith, all, within)) history

@@ -21,6 +21,6 @@ pub use Rattle.rv_hardware.proofs.Marks.History.{committing, drained, issued_all
 pub use Rattle.rv_hardware.proofs.Marks.Past.{as_of_now, marks_settled, rows_obey}
 pub use Rattle.rv_hardware.proofs.Marks.Order.{IsDispatchedFirst, history_is_orderly}
 pub use Rattle.rv_hardware.proofs.Marks.Counted.{count-as_of, Shows, fails_later, counted_law, behind_law, behind_count}
-pub use Rattle.rv_hardware.proofs.Marks.Widths.{is_at, count_marks}
+pub use Rattle.rv_hardware.proofs.Marks.Widths.{is_at, count_marks, count_in_flight}
 pub use Rattle.rv_hardware.proofs.Marks.Pairs.{row_pairs, rows_start_behind, writer_serialises, Older, two_behind, rows_are_older}
 pub use Rattle.rv_hardware.proofs.Marks.Keeps.{InCommit, commit_turns_keep, InCycle, starts_in_cycle, IsKeptInCycle, in_cycle}

@@ -1,6 +1,6 @@
 -- Of rows that hold a unit in a cycle there are at most as many as there are units.
-use Rattle.rv_hardware.proofs.Words.{◌≡◌, ℕ, ◌+◌, ◌<◌, ◌≤◌, Bool, true, false, ◌&&◌, List, ◌++◌, map, IfSome, ◌==◌, Some, None, count_by, Option, ap, ◌∙◌, arith, is_of_kind, kind_of_word, at_kind, Lines, Kind, Values, Fetched, Hardware, Report, rows_of, Execution, Row, Step, Each-weaker, Each-all, count, count-append, count-none, count-map, count-le}
-use Rattle.rv_hardware.proofs.Marks.Cited.{in_cycle, Shows, counted_law, History, Passed, dispatching, Mark, Start, mark_of_row, mark_of_entry, mark_of_fetched, marks_in, Extends, SoundRow, count_marks}
+use Rattle.rv_hardware.proofs.Words.{◌≡◌, ℕ, ◌+◌, ◌<◌, ◌≤◌, Bool, true, false, ◌&&◌, List, ◌++◌, IfSome, ◌==◌, Some, None, count_by, Option, arith, is_of_kind, kind_of_word, at_kind, Lines, Kind, Values, Fetched, Hardware, Report, rows_of, Execution, Row, Step, Each-all, count, count-le}
+use Rattle.rv_hardware.proofs.Marks.Cited.{in_cycle, Shows, counted_law, History, Passed, dispatching, Mark, Start, mark_of_row, mark_of_entry, mark_of_fetched, marks_in, Extends, SoundRow, count_in_flight}
 use Rattle.rv_hardware.proofs.Laws.OtherUnits.Phases.{holds_mark, units_of_history, units_kept}
 
 -- an execution lies between the dispatch and the retirement
@@ -18,16 +18,12 @@ module _ (v : Values) (k : Kind) (test : ℕ → Mark → Bool)
   held_at_end earlier old new lines report before after passed =
       let p : Mark → Bool = test old.cycle in
       let d : Hardware = (dispatching lines old).hardware in
-      let all = ap (count p) passed.new_marks ∙ count-append p (marks_in (earlier ++ report.steps) d) (map mark_of_fetched passed.fetches.added) in
-      let parts = count_marks p (earlier ++ report.steps) d.rob.entries d.front.entries in
-      let rows = count-none (λ row. p (mark_of_row row)) (rows_of (earlier ++ report.steps)) (Each-weaker (SoundRow v (old.cycle + 1)) (λ row. p (mark_of_row row) ≡ false) (gone old.cycle) (rows_of (earlier ++ report.steps)) passed.dispatches.basics.rows) in
-      let words = count-none (λ f. p (mark_of_fetched f)) d.front.entries (Each-all (λ f. p (mark_of_fetched f) ≡ false) (no_word old.cycle) d.front.entries) in
-      let added = count-map p mark_of_fetched passed.fetches.added ∙ count-none (λ f. p (mark_of_fetched f)) passed.fetches.added (Each-all (λ f. p (mark_of_fetched f) ≡ false) (no_word old.cycle) passed.fetches.added) in
+      let all = count_in_flight p passed (gone old.cycle) (no_word old.cycle) in
       let held = in_cycle (units_kept v old.cycle) passed (units_of_history v before) k in
       let entries = count-le (λ e. p (mark_of_entry e)) (λ e. holds_mark v k old.cycle (mark_of_entry e)) d.rob.entries (Each-all (λ e. p (mark_of_entry e) ≡ true → holds_mark v k old.cycle (mark_of_entry e) ≡ true) (λ e. holds old.cycle (mark_of_entry e)) d.rob.entries) in
       let tied = held.tied old.cycle (omega arith) in
       let within = held.within old.cycle (omega arith) in
-      omega (arith, all, parts, rows, words, added, entries, tied, within)
+      omega (arith, all, entries, tied, within)
 
   module _ (row_test : ℕ → Row → Bool) (shows : Shows v row_test test) where
     -- in no cycle do more rows pass a test of holding a unit than there are units
