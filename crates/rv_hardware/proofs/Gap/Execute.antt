@@ -19,7 +19,7 @@ issued-same h =
     issue-keeps (SameAs h.values h.cache.values h.cycle) kept.issue (drain h) (drain-keeps kept.drain h (refl, refl, refl))
 
 -- nor does broadcast change the cycle's number
-pub broadcast-same : (h : Hardware) → (broadcast h).cycle ≡ h.cycle
+broadcast-same : (h : Hardware) → (broadcast h).cycle ≡ h.cycle
 broadcast-same h = (broadcast-keeps (same-kept h.values h.cache.values h.cycle).broadcast h (refl, refl, refl)).2
 
 -- in the next cycle the longest execution is the same
@@ -56,13 +56,23 @@ module _ (instruction : Option Instr) (R : Stage → Type 0) (cycle : ℕ)
   head-dispatched h head is = (dispatch-keeps head_dispatch h (head, is)).0
 
   -- the broadcast phase leaves the oldest instruction in such a stage
-  pub head-broadcasted : (h : Hardware) → HeadIs instruction R h.rob.entries → h.cycle ≡ cycle →
+  head-broadcasted : (h : Hardware) → HeadIs instruction R h.rob.entries → h.cycle ≡ cycle →
       HeadIs instruction R (broadcast h).rob.entries
   head-broadcasted h head is = (broadcast-keeps head_broadcast h (head, is)).0
 
   -- a turn of the broadcast phase does
   pub head-turn : (h : Hardware) → HasHead h → Leaves HasHead (broadcast_turn h)
   head-turn h has = broadcast_turn-keeps head_broadcast h has
+
+-- the phases after issue leave the oldest instruction in such a stage
+pub head-executed : (instruction : Option Instr) (R : Stage → Type 0) (h : Hardware) →
+    ((stage : Stage) (message : Message) (issue : Option Issue) → HasRun h.cycle stage message → R stage → R (Finished issue h.cycle message)) →
+    HeadIs instruction R (issue (drain h)).rob.entries → HeadIs instruction R (execute h).hardware.rob.entries
+head-executed instruction R h closed head =
+    let issued : Hardware = issue (drain h) in
+    let number : issued.cycle ≡ h.cycle = (issued-same h).2 in
+    head-dispatched instruction R h.cycle closed (broadcast issued)
+    (head-broadcasted instruction R h.cycle closed issued head number) (broadcast-same issued ∙ number)
 
 -- ---- its patience in the cycle after
 plain_time : (h : Hardware) (instruction : Option Instr) (stage : Stage) → is_serialising instruction ≡ false →

@@ -3,7 +3,7 @@ use Rattle.rv_hardware.proofs.Words.{◌≡◌, ℕ, ◌+◌, ◌*◌, ◌≤◌
 use Rattle.rv_hardware.proofs.Gap.Bound.{dirty_time-most}
 use Rattle.rv_hardware.proofs.Marks.Cited.{IsKeptByBroadcast, broadcast-keeps, IsKeptByDispatch, dispatch-keeps, drain-keeps, SameButPort, drain-same, longest_access, longest_execution, longest_write_back, IsKeptByIssue, issue-keeps, ready-parts, AreEnding, HasRoom, clean-after, room-kept}
 use Rattle.rv_hardware.proofs.Gap.Drained.{Drains, next_port_time}
-use Rattle.rv_hardware.proofs.Gap.Execute.{broadcast-same, head-broadcasted, head-dispatched, head-patience, issued-same, later, anywhere_closed}
+use Rattle.rv_hardware.proofs.Gap.Execute.{head-patience, later, anywhere_closed, head-executed}
 use Rattle.rv_hardware.proofs.Gap.Head.{HeadIs, IsAnywhere}
 use Rattle.rv_hardware.proofs.Gap.Patience.{dirty_time, patience, port_time, time_of_stores}
 
@@ -49,9 +49,7 @@ module _ (h : Hardware) (front : FetchBuffer) (e : Entry) (split : h.rob.entries
       let after : Alone port dirty issued = issue-keeps (Alone port dirty) (alone_issue port dirty) (drain h) before in
       let lasts : Lasts port dirty (execute h).hardware =
       dispatch-keeps (lasts_dispatch port dirty) (broadcast issued) (broadcast-keeps (lasts_broadcast port dirty) issued after.2) in
-      let there : HeadIs fence IsAnywhere new.rob.entries =
-      head-dispatched fence IsAnywhere h.cycle (anywhere_closed h.cycle) (broadcast issued)
-      (head-broadcasted fence IsAnywhere h.cycle (anywhere_closed h.cycle) issued after.1 (issued-same h).2) (broadcast-same issued ∙ (issued-same h).2) in
+      let there : HeadIs fence IsAnywhere new.rob.entries = head-executed fence IsAnywhere h (anywhere_closed h.cycle) after.1 in
       head-patience new fence IsAnywhere (port + dirty + 1) (new.cycle + longest_execution new) (λ stage is ends. omega (arith, lasts.0, lasts.1)) there ending
 
 -- ---- stores or the port are waited for

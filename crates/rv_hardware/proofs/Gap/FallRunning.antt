@@ -1,7 +1,7 @@
 -- Where the oldest instruction executes, a cycle brings its end nearer.
-use Rattle.rv_hardware.proofs.Words.{◌≡◌, ℕ, suc, ◌+◌, ◌-◌, ◌<◌, ◌≤◌, true, false, not, List, [], ◌∷◌, ◌++◌, is_none, Option, sym, refl, ap, ◌∙◌, subst, inl, inr, true≢false, arith, le-leb, cases_lt, is_serialising, Message, Instr, Issue, Kind, Values, finished, predicting, started, Entry, Stage, Finished, Running, FetchBuffer, broadcast, broadcast_turn, has_result, result_at, execute, drain, Hardware, is_waiting, issue, Turn, repeated, EveryBehind, Leaves, left_by_the_rest, kept_by_turns}
+use Rattle.rv_hardware.proofs.Words.{◌≡◌, ℕ, suc, ◌+◌, ◌-◌, ◌<◌, ◌≤◌, true, false, not, List, [], ◌∷◌, ◌++◌, is_none, Option, sym, refl, ap, subst, inl, inr, true≢false, arith, le-leb, cases_lt, is_serialising, Message, Instr, Issue, Kind, Values, finished, predicting, started, Entry, Stage, Finished, Running, FetchBuffer, broadcast, broadcast_turn, has_result, result_at, execute, drain, Hardware, is_waiting, issue, Turn, repeated, EveryBehind, Leaves, left_by_the_rest, kept_by_turns}
 use Rattle.rv_hardware.proofs.Marks.Cited.{BroadcastTurn, HasRun, no_result, sends, mends, broadcast_turn_is, IsMadeByBroadcast, sends-makes, mends-makes, drain-same, IsKeptByIssue, issue-keeps, AreEnding, longest_execution}
-use Rattle.rv_hardware.proofs.Gap.Execute.{broadcast-same, execute-same, head-broadcasted, head-dispatched, head-turn, issued-same, later, plain-patience}
+use Rattle.rv_hardware.proofs.Gap.Execute.{execute-same, head-dispatched, head-turn, issued-same, later, plain-patience, head-executed}
 use Rattle.rv_hardware.proofs.Gap.Head.{HeadIs, head-change, head-cut}
 use Rattle.rv_hardware.proofs.Gap.Patience.{patience, stage_time}
 
@@ -50,8 +50,7 @@ module _ (h : Hardware) (front : FetchBuffer) (instruction : Option Instr) (end 
       λ stage message start gives runs.
       let ends : gives.issue.cycle + gives.issue.cost ≡ end = subst (RunsUntil end) gives.runs runs in
       absurd (omega (arith, ends, gives.over, late)) in
-      head-dispatched instruction (RunsUntil end) h.cycle closed (broadcast issued)
-      (head-broadcasted instruction (RunsUntil end) h.cycle closed issued runs_issued number) (broadcast-same issued ∙ number)
+      head-executed instruction (RunsUntil end) h closed runs_issued
 
   left : (g : Hardware) (stage : Stage) → RunsUntil end stage → stage_time g instruction stage ≤ 1 + (end - g.cycle)
   left g stage runs = grind arith

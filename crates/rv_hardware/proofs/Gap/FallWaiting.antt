@@ -3,7 +3,7 @@ use Rattle.rv_hardware.proofs.Words.{◌≡◌, ℕ, ◌+◌, ◌-◌, ◌*◌, 
 use Rattle.rv_hardware.proofs.Gap.Bound.{free_time-most, no_more, unit_time-most}
 use Rattle.rv_hardware.proofs.Marks.Cited.{IsKeptByBroadcast, broadcast-keeps, IsKeptByDispatch, dispatch-keeps, drain-same, longest_execution, IsKeptByIssue, issue-keeps, AreEnding, EndsBy, HasSizes, AreHeld}
 use Rattle.rv_hardware.proofs.Gap.Drained.{Drains, next_port_time}
-use Rattle.rv_hardware.proofs.Gap.Execute.{begun-patience, begun_closed, begun_stage, broadcast-same, execute-same, head-broadcasted, head-dispatched, issued-same, later, plain-patience, same-longest, waits_closed, anywhere_closed}
+use Rattle.rv_hardware.proofs.Gap.Execute.{begun-patience, begun_closed, begun_stage, execute-same, later, plain-patience, same-longest, waits_closed, anywhere_closed, head-executed}
 use Rattle.rv_hardware.proofs.Gap.Head.{HasBegun, HeadIs, Waits, head-change, head-weaken, IsAnywhere}
 use Rattle.rv_hardware.proofs.Gap.Patience.{free_time, patience, port_time, stage_time, unit_time, waiting_time}
 use Rattle.rv_hardware.proofs.Gap.Ready.{CanGo, cache_access}
@@ -35,17 +35,9 @@ module _ (h : Hardware) (front : FetchBuffer) (instruction : Option Instr) (k : 
   abbrev new : Hardware
   new = later front (execute h).hardware
 
-  number : issued.cycle ≡ h.cycle
-  number = (issued-same h).2
-
-  behind_number : (broadcast issued).cycle ≡ h.cycle
-  behind_number = broadcast-same issued ∙ number
-
   -- ---- it left
   begun : HeadIs instruction HasBegun issued.rob.entries → HeadIs instruction HasBegun new.rob.entries
-  begun left =
-      head-dispatched instruction HasBegun h.cycle (begun_closed h.cycle) (broadcast issued)
-      (head-broadcasted instruction HasBegun h.cycle (begun_closed h.cycle) issued left number) behind_number
+  begun left = head-executed instruction HasBegun h (begun_closed h.cycle) left
 
   fall_begun : HeadIs instruction HasBegun issued.rob.entries → AreEnding new → longest_execution h + 2 ≤ patience h → patience new + 1 ≤ patience h
   fall_begun left ending old = omega (arith, begun-patience new instruction plain (begun left) ending, same-longest h front, old)
@@ -75,9 +67,7 @@ module _ (h : Hardware) (front : FetchBuffer) (instruction : Option Instr) (k : 
   fall_held : CanStart instruction k of_kind pool h.cycle issued → is_free h.cycle pool ≡ false → AreEnding new → unit_time h.cycle pool.starts ≤ longest_execution h →
       patience h ≡ free_time (cond (is_load instruction) (port_time h) 0) (unit_time h.cycle pool.starts) (longest_execution h) + longest_execution h + 2 → patience new + 1 ≤ patience h
   fall_held can held ending most is =
-      let waits : HeadIs instruction Waits new.rob.entries =
-      head-dispatched instruction Waits h.cycle (waits_closed h.cycle) (broadcast issued)
-      (head-broadcasted instruction Waits h.cycle (waits_closed h.cycle) issued can.0 number) behind_number in
+      let waits : HeadIs instruction Waits new.rob.entries = head-executed instruction Waits h (waits_closed h.cycle) can.0 in
       let keeps : Keeps (execute h).hardware =
       dispatch-keeps keeps_dispatch (broadcast issued) (broadcast-keeps keeps_broadcast issued (can.1, port_when issued can.3)) in
       let patient = plain-patience new instruction Waits (unit_time (h.cycle + 1) pool.starts + longest_execution h + 2) (new.cycle + longest_execution new) plain
@@ -124,8 +114,7 @@ module _ (h : Hardware) (front : FetchBuffer) (instruction : Option Instr) (k : 
       let after : Busy time issued = issue-keeps (Busy time) (busy_by_issue time) (drain h) before in
       let lasts : port_time new ≡ time =
       dispatch-keeps (lasts_dispatch time) (broadcast issued) (broadcast-keeps (lasts_broadcast time) issued after.2) in
-      let there : HeadIs instruction IsAnywhere new.rob.entries =
-      head-dispatched instruction IsAnywhere h.cycle (anywhere_closed h.cycle) (broadcast issued) (head-broadcasted instruction IsAnywhere h.cycle (anywhere_closed h.cycle) issued after.0 number) behind_number in
+      let there : HeadIs instruction IsAnywhere new.rob.entries = head-executed instruction IsAnywhere h (anywhere_closed h.cycle) after.0 in
       let patient = plain-patience new instruction IsAnywhere (port_time new + 2 * longest_execution new + 2) (new.cycle + longest_execution new) plain
       (λ stage waiting ends. still_busy stage ends held) there ending in
       let port : cond (is_load instruction) (port_time h) 0 ≡ port_time h = rw load refl in
