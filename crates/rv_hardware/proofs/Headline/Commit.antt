@@ -1,5 +1,5 @@
 -- The commit phase takes the steps of the one-at-a-time machine.
-use Rattle.rv_hardware.proofs.Words.{◌≡◌, ℕ, ◌*◌, Bool, true, false, ◌↔◌, List, [], ◌∷◌, ◌++◌, IfSome, if◌then◌else◌, nat_eq, ◌==◌, Some, None, Option, unwrap_or, sym, refl, ap, ◌∙◌, subst, arith, eqb-true, false≢true, code_of, is_serialising, Message, Cause, Fault, Instr, Csr, FenceI, Mret, Lines, Layout, is_in_ram, word_of, faulted_at, retired_at, due, Effect, Faults, Retires, effect, State, interrupted, stale, trap_taken, interrupt_cause, head_retired, Entry, Committing, commit, commit_turn, commit_turn_of, commit_unless, execute_head, finish_broadcast, finish_head, head_turn, is_drained, stop_of, take_effect, with_fault, with_write_back, write_back_time, Hardware, IsTrueCycle, Lead, nowhere, told, broadcast_of, Ends, GoesOn, row_of, with_result, written_of, layout_of, seen, with_state, flushed, is_breakpoint_cause, Step, Leads, left_by_turns}
+use Rattle.rv_hardware.proofs.Words.{◌≡◌, ℕ, ◌*◌, Bool, true, false, ◌↔◌, List, [], ◌∷◌, ◌++◌, IfSome, if◌then◌else◌, nat_eq, ◌==◌, Some, None, Option, unwrap_or, sym, refl, ap, ◌∙◌, subst, arith, eqb-true, false≢true, code_of, is_serialising, Message, Cause, Fault, Instr, Csr, FenceI, Mret, Lines, Layout, is_in_ram, word_of, faulted_at, retired_at, due, Effect, Faults, Retires, effect, State, interrupted, stale, trap_taken, interrupt_cause, head_retired, Entry, Committing, commit, commit_turn, commit_turn_of, commit_unless, execute_head, finish_broadcast, finish_head, head_turn, is_drained, stop_of, take_effect, with_fault, with_write_back, write_back_time, Hardware, IsTrueCycle, Lead, nowhere, told, broadcast_of, Ends, GoesOn, row_of, with_result, written_of, layout_of, seen, with_state, flushed, is_breakpoint_cause, Step, Leads, left_by_turns, Values}
 use Rattle.std.specs.FinSet as set
 use Rattle.rv_arch.specs.Step.{Step as MachineStep}
 use Rattle.rv_arch.specs.declared.outcome.RefStep.TheVariants as machine
@@ -13,11 +13,15 @@ use Rattle.rv_hardware.proofs.Headline.Retired.{flushed_sound, trap_sound, seen_
 use Rattle.rv_hardware.proofs.Headline.Serial.{IsSerialEffect, csr_serial, mret_serial, fence_serial, written_back_sound}
 use Rattle.rv_hardware.proofs.Headline.Steps.{AreRetirements, retirements_push, true_cycle_leads, true_retirements, true_push}
 
+-- the description, the cycle's number and the lines' levels are as they were
+pub record AsBefore (lines : Lines) (old : Hardware) (values : Values) (cycle : ℕ) (levels : Lines) : Type 0 where
+  pub values_are : values ≡ old.values
+  pub cycle_is : cycle ≡ old.cycle
+  pub lines_are : levels ≡ lines
+
 -- the phase while it goes on: so far instructions retired
 pub record IsGoing (lines : Lines) (before : State) (old : Hardware) (c : Committing) : Type 0 where
-  pub values_are : c.hardware.values ≡ old.values
-  pub cycle_is : c.hardware.cycle ≡ old.cycle
-  pub lines_are : c.hardware.lines ≡ lines
+  pub stays : AsBefore lines old c.hardware.values c.hardware.cycle c.hardware.lines
   pub calm : due c.hardware.csrs c.hardware.lines ≡ None
   pub sound : IsSound c.hardware
   pub leads : Lead (layout_of c.hardware.values) c.hardware.lines before c.steps (seen c.hardware)
@@ -26,9 +30,7 @@ pub record IsGoing (lines : Lines) (before : State) (old : Hardware) (c : Commit
 
 -- the phase at its end
 pub record IsDone (lines : Lines) (before : State) (old : Hardware) (c : Committing) : Type 0 where
-  pub values_are : c.hardware.values ≡ old.values
-  pub cycle_is : c.hardware.cycle ≡ old.cycle
-  pub lines_are : c.hardware.lines ≡ lines
+  pub stays : AsBefore lines old c.hardware.values c.hardware.cycle c.hardware.lines
   pub sound : IsSound c.hardware
   pub true_cycle : IsTrueCycle (layout_of c.hardware.values) c.hardware.lines c.hardware.cycle before c.steps c.stop (seen c.hardware)
 
@@ -42,9 +44,7 @@ no_stale_by b pc is = grind arith
 module _ (lines : Lines) (before : State) (old : Hardware) where
   done : (c : Committing) → IsGoing lines before old c → IsDone lines before old c
   done c going = record {
-    values_are = going.values_are;
-    cycle_is = going.cycle_is;
-    lines_are = going.lines_are;
+    stays = going.stays;
     sound = going.sound;
     true_cycle = true_retirements (layout_of c.hardware.values) c.hardware.lines c.hardware.cycle before (seen c.hardware) c.steps going.leads going.retirements c.stop
         (λ is. let none = going.no_stop in cc) (λ pc is. absurd (let none = going.no_stop in cc));
@@ -66,9 +66,7 @@ module _ (lines : Lines) (before : State) (old : Hardware) where
         let now : MachineStep layout s h.lines (machine.Trap e.pc cause value) (trap_taken s (code_of cause) value) =
         subst (λ pc. MachineStep layout s h.lines (machine.Trap pc cause value) (trap_taken s (code_of cause) value)) (sym here) takes in
         record {
-          values_are = going.values_are;
-          cycle_is = going.cycle_is;
-          lines_are = going.lines_are;
+          stays = going.stays;
           sound = trap_sound h (code_of cause) value going.sound.memory;
           true_cycle = true_push layout h.lines h.cycle before s c.steps going.leads going.retirements (step.Trap e.pc cause value h.cycle) (trap_taken s (code_of cause) value) (stop_of cause) now refl
               (stop_by (is_breakpoint_cause cause)) (no_stale_by (is_breakpoint_cause cause));
@@ -99,9 +97,7 @@ module _ (lines : Lines) (before : State) (old : Hardware) where
             Leads (IsGoing lines before old) (IsDone lines before old)
             (if straight then GoesOn (record c { hardware = after; steps = c.steps ++ row ∷ [] }) else Ends (record c { hardware = flushed after; steps = c.steps ++ row ∷ [] }))
         retire_done true is = record {
-          values_are = going.values_are;
-          cycle_is = going.cycle_is;
-          lines_are = going.lines_are;
+          stays = going.stays;
           calm = going.calm;
           sound = result_sound h e message going.sound es entries result takes.tells.store (eqb-true message.next_pc e.predicted_next is) takes.tells.aligned;
           leads = true_cycle_leads going.leads row retired_now;
@@ -109,9 +105,7 @@ module _ (lines : Lines) (before : State) (old : Hardware) where
           no_stop = going.no_stop;
         }
         retire_done false is = record {
-          values_are = going.values_are;
-          cycle_is = going.cycle_is;
-          lines_are = going.lines_are;
+          stays = going.stays;
           sound = flushed_sound after takes.tells.aligned going.sound.mepc_aligned (memory_stored h.values h.stale h.cache h.committed going.sound.memory h.rob.retired message.store takes.tells.store);
           true_cycle = true_push layout h.lines h.cycle before s c.steps going.leads going.retirements row (seen after) c.stop retired_now refl
               ((λ is. let none = going.no_stop in absurd (cc)), (λ is. absurd (false≢true is))) (λ pc is. let none = going.no_stop in cc);
@@ -149,9 +143,7 @@ module _ (lines : Lines) (before : State) (old : Hardware) where
                 subst (λ (t : State). MachineStep layout s h.lines (told row) t) same
                 (retired_at layout s h.lines (fetched layout s h.lines word (Some i) known) e.pc here word (word_here layout s h.lines word (Some i) known) i (decoded layout s h.lines word i known) register next gives) in
                 record {
-                  values_are = going.values_are;
-                  cycle_is = going.cycle_is;
-                  lines_are = going.lines_are;
+                  stays = going.stays;
                   sound = flushed_sound after serial.pc_aligned serial.mepc_aligned serial.memory;
                   true_cycle = true_push layout h.lines h.cycle before s c.steps going.leads going.retirements row (seen (flushed after)) c.stop now refl
                       ((λ is. let none = going.no_stop in absurd (cc)), (λ is. absurd (false≢true is))) (λ pc is. let none = going.no_stop in cc);
@@ -198,9 +190,7 @@ module _ (lines : Lines) (before : State) (old : Hardware) where
         let all = subst (AreInFlight (layout_of c.hardware.values) (seen c.hardware) (seen c.hardware)) entries going.sound.program.in_flight in
         let found = true_cycle_stale e.pc all.0.pc marked in
         record {
-          values_are = going.values_are;
-          cycle_is = going.cycle_is;
-          lines_are = going.lines_are;
+          stays = going.stays;
           sound = going.sound;
           true_cycle = true_retirements (layout_of c.hardware.values) c.hardware.lines c.hardware.cycle before (seen c.hardware) c.steps going.leads going.retirements (Some (stop.Stale e.pc))
               (λ is. cc)
@@ -215,16 +205,17 @@ module _ (lines : Lines) (before : State) (old : Hardware) where
 
 -- ---- the whole phase
 module _ (h : Hardware) (is : IsSound h) where
+  unchanged : AsBefore h.lines h h.values h.cycle h.lines
+  unchanged = record { values_are = refl; cycle_is = refl; lines_are = refl }
+
   -- where no interrupt is due, the phase begins with no step taken
   pub begins_going : due h.csrs h.lines ≡ None → IsGoing h.lines (seen h) h (record { hardware = h; steps = []; stop = None })
   begins_going now =
-      record { values_are = refl; cycle_is = refl; lines_are = refl; calm = now; sound = is; leads = nowhere; retirements = tt; no_stop = refl }
+      record { stays = unchanged; calm = now; sound = is; leads = nowhere; retirements = tt; no_stop = refl }
 
   commit_by : (o : Option ℕ) → due h.csrs h.lines ≡ o → IsDone h.lines (seen h) h (commit_unless set.contains o h)
   commit_by (Some code) now = record {
-    values_are = refl;
-    cycle_is = refl;
-    lines_are = refl;
+    stays = unchanged;
     sound = trap_sound h (interrupt_cause code) 0 is.memory;
     true_cycle = true_push (layout_of h.values) h.lines h.cycle (seen h) (seen h) [] nowhere tt (step.Interrupt h.pc (interrupt_cause code) h.cycle) (trap_taken (seen h) (interrupt_cause code) 0) None
         (interrupted code now) refl ((λ same. absurd (cc)), (λ same. absurd (false≢true same))) (λ pc same. cc);
