@@ -66,7 +66,8 @@ module _ (instruction : Option Instr) (R : Stage → Type 0) (cycle : ℕ)
 
 -- the phases after issue leave the oldest instruction in such a stage
 pub head-executed : (instruction : Option Instr) (R : Stage → Type 0) (h : Hardware) →
-    ((stage : Stage) (message : Message) (issue : Option Issue) → HasRun h.cycle stage message → R stage → R (Finished issue h.cycle message)) →
+    ((stage : Stage) (message : Message) (issue : Option Issue) → HasRun h.cycle stage message → R stage →
+    R (Finished issue h.cycle message)) →
     HeadIs instruction R (issue (drain h)).rob.entries → HeadIs instruction R (execute h).hardware.rob.entries
 head-executed instruction R h closed head =
     let issued : Hardware = issue (drain h) in

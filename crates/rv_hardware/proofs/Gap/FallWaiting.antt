@@ -114,7 +114,8 @@ module _ (h : Hardware) (front : FetchBuffer) (instruction : Option Instr) (k : 
       let after : Busy time issued = issue-keeps (Busy time) (busy_by_issue time) (drain h) before in
       let lasts : port_time new ≡ time =
       dispatch-keeps (lasts_dispatch time) (broadcast issued) (broadcast-keeps (lasts_broadcast time) issued after.2) in
-      let there : HeadIs instruction IsAnywhere new.rob.entries = head-executed instruction IsAnywhere h (anywhere_closed h.cycle) after.0 in
+      let there : HeadIs instruction IsAnywhere new.rob.entries =
+      head-executed instruction IsAnywhere h (anywhere_closed h.cycle) after.0 in
       let patient = plain-patience new instruction IsAnywhere (port_time new + 2 * longest_execution new + 2) (new.cycle + longest_execution new) plain
       (λ stage waiting ends. still_busy stage ends held) there ending in
       let port : cond (is_load instruction) (port_time h) 0 ≡ port_time h = rw load refl in

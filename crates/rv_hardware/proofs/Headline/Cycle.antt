@@ -32,7 +32,9 @@ cycle_true lines old report new is c =
     let committed : IsDone lines (seen old) (with_lines lines old) c.committing =
     subst (IsDone lines (seen old) (with_lines lines old)) (sym c.commits) (commit_done (with_lines lines old) (lines_sound lines old is)) in
     let h = c.committing.hardware in
-    let start : IsSoundAt old.values old.cycle (seen h) h = record { values_are = committed.stays.values_are; cycle_is = committed.stays.cycle_is; sees = refl; sound = committed.sound } in
+    let stays = committed.stays in
+    let start : IsSoundAt old.values old.cycle (seen h) h =
+    record { values_are = stays.values_are; cycle_is = stays.cycle_is; sees = refl; sound = committed.sound } in
     let executed : IsSoundAt old.values old.cycle (seen h) c.dispatching.hardware =
     subst (λ (d : Dispatching). IsSoundAt old.values old.cycle (seen h) d.hardware) (sym c.executes) (execute_kept old.values old.cycle (seen h) h start) in
     let fetched : IsSoundAt old.values (old.cycle + 1) (seen h) new =
@@ -50,7 +52,8 @@ cycle_true lines old report new is c =
           let P : Values → Lines → ℕ → Type 0 = λ values levels cycle. IsTrueCycle (layout_of values) levels cycle (seen old) c.committing.steps c.committing.stop (seen c.committing.hardware) in
           subst (λ (v : Values). P v lines old.cycle) committed.stays.values_are
           (subst (λ (l : Lines). P c.committing.hardware.values l old.cycle) committed.stays.lines_are
-          (subst (λ (n : ℕ). P c.committing.hardware.values c.committing.hardware.lines n) committed.stays.cycle_is committed.true_cycle))
+          (subst (λ (n : ℕ). P c.committing.hardware.values c.committing.hardware.lines n) committed.stays.cycle_is
+          committed.true_cycle))
 
 -- it always holds
 pub always_sound : {h : Hardware} → Reachable h → IsSound h

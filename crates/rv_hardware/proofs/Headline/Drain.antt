@@ -36,10 +36,7 @@ module _ (values : Values) (cycle : ℕ) (state : State) (h : Hardware) where
       ap (memory_behind h.values.ram_base ss) (sym (was.drains.0 is)) in
       let same_seen : seen (with_stores ss) ≡ seen (with_stores (s ∷ ss)) = ap (λ (ram : List ℕ). record (seen h) { ram = ram }) same in
       with_other_memory values cycle state (with_stores (s ∷ ss)) sound (with_stores ss) refl refl refl refl refl refl same_seen (record {
-        base_aligned = was.base_aligned;
-        size_aligned = was.size_aligned;
-        layout = was.layout;
-        cache_base = was.cache_base;
+        place = was.place;
         cache_size = was.cache_size;
         consistent = was.consistent;
         retired = was.retired.1;
@@ -84,7 +81,7 @@ module _ (values : Values) (cycle : ℕ) (state : State) (h : Hardware) where
     legal = rw (← access_is) was.retired.0.legal
 
     bytes_are : new.cache.bytes ≡ overwritten h.cache.bytes place access.bytes
-    bytes_are = ap (λ b. overwritten h.cache.bytes (access.address - b) access.bytes) was.cache_base
+    bytes_are = ap (λ b. overwritten h.cache.bytes (access.address - b) access.bytes) was.place.cache_base
 
     drained_is : drained.state ≡ Filled access Draining
     drained_is = ap draining now
@@ -106,8 +103,9 @@ module _ (values : Values) (cycle : ℕ) (state : State) (h : Hardware) where
     -- the line that the access brings is dirty, and so RAM may lack the store's bytes
     consistent : IsConsistent h.cache.base h.cache.values new.cache.bytes new.cache.sets new.cache.backing.bytes
     consistent =
-        let above : h.cache.base ≤ access.address = omega (arith, was.cache_base, legal.above) in
-        let below : access.address + length access.bytes ≤ h.cache.base + length h.cache.bytes = omega (arith, was.cache_base, was.cache_size, legal.below) in
+        let above : h.cache.base ≤ access.address = omega (arith, was.place.cache_base, legal.above) in
+        let below : access.address + length access.bytes ≤ h.cache.base + length h.cache.bytes =
+        omega (arith, was.place.cache_base, was.cache_size, legal.below) in
         let accessed = consistent_after h.cache.base h.cache.values h.cache.bytes h.cache.backing.bytes h.cache.sets was.consistent access.address above (omega (arith, legal.some, below)) true in
         let dirty = dirty_after_access h.cache.base h.cache.values h.cache.bytes new.cache.backing.bytes new.cache.sets accessed h.cache access.address refl refl in
         consistent_written h.cache.base h.cache.values h.cache.bytes new.cache.backing.bytes new.cache.sets accessed access.address access.bytes legal.aligned.0 legal.aligned.1 above below dirty
@@ -116,10 +114,7 @@ module _ (values : Values) (cycle : ℕ) (state : State) (h : Hardware) where
     start_one =
         let mixed = access_mixed h.cache access.address h.cache.backing.bytes was.consistent.size in
         with_other_memory values cycle state old sound new refl refl refl refl refl refl same_seen (record {
-          base_aligned = was.base_aligned;
-          size_aligned = was.size_aligned;
-          layout = was.layout;
-          cache_base = was.cache_base;
+          place = was.place;
           cache_size = ap length bytes_are ∙ length-stored (layout_of h.values) access legal h.cache.bytes was.cache_size;
           consistent = consistent;
           retired = (

@@ -13,12 +13,16 @@ DrainInOrder base bytes (s ∷ ss) = (is_draining s ≡ true → with_store base
 abbrev pub IsFreshInRam : ℕ → set.FinSet nat_cmp → List ℕ → List ℕ → Type 0
 IsFreshInRam base stale memory bytes = (i : ℕ) → set.contains stale (word_of (base + i)) ≡ false → get_or memory i 0 ≡ get_or bytes i 0
 
--- memory, the cache over it, and the retired stores
-pub record HoldsMemory (values : Values) (stale : set.FinSet nat_cmp) (cache : Contents Memory) (committed : List QueuedStore) : Type 0 where
+-- RAM and the cache over it begin where they should, in whole words
+pub record IsPlaced (values : Values) (ram : Layout) (base : ℕ) : Type 0 where
   pub base_aligned : values.ram_base % 4 ≡ 0
   pub size_aligned : values.ram_size % 4 ≡ 0
-  pub layout : cache.backing.layout ≡ layout_of values
-  pub cache_base : cache.base ≡ values.ram_base
+  pub layout : ram ≡ layout_of values
+  pub cache_base : base ≡ values.ram_base
+
+-- memory, the cache over it, and the retired stores
+pub record HoldsMemory (values : Values) (stale : set.FinSet nat_cmp) (cache : Contents Memory) (committed : List QueuedStore) : Type 0 where
+  pub place : IsPlaced values cache.backing.layout cache.base
   pub cache_size : length cache.bytes ≡ values.ram_size
   -- RAM lacks only what dirty lines hold
   pub consistent : IsConsistent cache.base cache.values cache.bytes cache.sets cache.backing.bytes

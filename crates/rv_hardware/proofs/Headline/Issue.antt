@@ -39,12 +39,10 @@ module _ (values : Values) (cycle : ℕ) (state : State) where
       let was = is.sound.memory in
       let mixed = access_mixed h.cache address h.cache.backing.bytes was.consistent.size in
       with_other_memory values cycle state h is (with_access (FromCache address) h) refl refl refl refl refl refl refl (record {
-        base_aligned = was.base_aligned;
-        size_aligned = was.size_aligned;
-        layout = was.layout;
-        cache_base = was.cache_base;
+        place = was.place;
         cache_size = was.cache_size;
-        consistent = consistent_after h.cache.base h.cache.values h.cache.bytes h.cache.backing.bytes h.cache.sets was.consistent address (omega (arith, was.cache_base, inside.0)) (omega (arith, was.cache_base, was.cache_size, inside.1)) false;
+        consistent = consistent_after h.cache.base h.cache.values h.cache.bytes h.cache.backing.bytes h.cache.sets was.consistent address
+            (omega (arith, was.place.cache_base, inside.0)) (omega (arith, was.place.cache_base, was.cache_size, inside.1)) false;
         retired = was.retired;
         drains = was.drains;
         fresh = λ i fresh. elim (mixed.either i) [

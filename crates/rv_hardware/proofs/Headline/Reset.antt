@@ -34,10 +34,12 @@ reset_sound values base image start legal loadable =
       pc_aligned = loadable.aligned;
       mepc_aligned = refl;
       memory = record {
-        base_aligned = omega (arith, legal.memory.base.1);
-        size_aligned = omega (arith, legal.memory.size.2);
-        layout = refl;
-        cache_base = refl;
+        place = record {
+          base_aligned = omega (arith, legal.memory.base.1);
+          size_aligned = omega (arith, legal.memory.size.2);
+          layout = refl;
+          cache_base = refl;
+        };
         cache_size = size;
         consistent = consistent_at_reset values image legal size;
         retired = tt;

@@ -36,10 +36,7 @@ module _ (values : Values) (stale : set.FinSet nat_cmp) (cache : Contents Memory
       let word = word_of access.address in
       let new : QueuedStore = record { seq = seq; state = Filled access Committed } in
       record {
-        base_aligned = was.base_aligned;
-        size_aligned = was.size_aligned;
-        layout = was.layout;
-        cache_base = was.cache_base;
+        place = was.place;
         cache_size = was.cache_size;
         consistent = was.consistent;
         retired = Each-push (IsRetiredStore layout (set.insert stale word)) committed new
@@ -52,7 +49,8 @@ module _ (values : Values) (stale : set.FinSet nat_cmp) (cache : Contents Memory
             ∙ sym (stored_elsewhere layout access legal ram size_seen i parts.1)
             ∙ ap (λ (xs : List ℕ). get_or xs i 0) (sym (ram_stored seq (Some access)));
         inside = λ other marked. elim (cases_eq other word) [
-          | inl same ↦ subst (λ n. is_in_ram layout (4 * n) 4 ≡ true) (sym same) (word_inside layout access was.base_aligned was.size_aligned legal legal.some)
+          | inl same ↦ subst (λ n. is_in_ram layout (4 * n) 4 ≡ true) (sym same)
+              (word_inside layout access was.place.base_aligned was.place.size_aligned legal legal.some)
           | inr apart ↦ was.inside other (marked_before stale word other marked apart)
         ];
       }

@@ -62,10 +62,7 @@ module _ (h : Hardware) (is : IsSound h) where
         pc_aligned = is.pc_aligned;
         mepc_aligned = is.mepc_aligned;
         memory = record {
-          base_aligned = was.base_aligned;
-          size_aligned = was.size_aligned;
-          layout = was.layout;
-          cache_base = was.cache_base;
+          place = was.place;
           cache_size = was.cache_size;
           consistent = consistent_cleaned h.cache.base h.cache.values h.cache.bytes h.cache.backing.bytes h.cache.sets was.consistent _ all_written;
           retired = was.retired;
@@ -90,10 +87,7 @@ module _ (h : Hardware) (is : IsSound h) where
         pc_aligned = aligned_next h.pc is.pc_aligned;
         mepc_aligned = is.mepc_aligned;
         memory = record {
-          base_aligned = was.base_aligned;
-          size_aligned = was.size_aligned;
-          layout = was.layout;
-          cache_base = was.cache_base;
+          place = was.place;
           cache_size = was.cache_size;
           consistent = consistent_cleaned h.cache.base h.cache.values h.cache.bytes h.cache.backing.bytes h.cache.sets was.consistent _ all_written;
           retired = subst (Each (IsRetiredStore (layout_of h.values) set.empty)) (sym none) tt;

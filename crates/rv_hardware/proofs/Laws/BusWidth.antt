@@ -54,7 +54,10 @@ row_sent_earlier D C now x le h = grind (arith, ne_eqb)
 pub law_of_bus_width : (v : Values) {steps : List Step} {h : Hardware} → History v steps h → NeverMoreThan v.bus_width is_broadcast_in (rows_of steps)
 law_of_bus_width v history =
     counted_law v is_broadcast_in (λ c m. is_at c m.broadcast) (sent_shows v) v.bus_width (λ earlier old new lines report before after passed.
-    let all = count_in_flight (λ m. is_at old.cycle m.broadcast) passed (λ row w. row_sent_earlier row.dispatched row.retired old.cycle row.execution (omega (arith, w.below)) w.stamps.executed_between) (λ f. refl) in
+    let all = count_in_flight (λ m. is_at old.cycle m.broadcast) passed
+    (λ row w.
+    row_sent_earlier row.dispatched row.retired old.cycle row.execution (omega (arith, w.below)) w.stamps.executed_between)
+    (λ f. refl) in
     let at_start = count-none (is_sent_now old.cycle v.bus_width) (issued_all lines old).rob.entries (Each-weaker (SoundEntry v old.cycle (old.cycle + 1) old.cycle) (λ e. is_at old.cycle (broadcast_of_stage e.stage) ≡ false) (λ e w. sent_earlier v e.instruction e.dispatched (old.cycle + 1) old.cycle e.stage w.stage) (issued_all lines old).rob.entries passed.issues.basics.entries) in
     let within = dispatch_keeps_sent old.cycle v.bus_width (sent_all lines old) (broadcast_within old.cycle v.bus_width (issued_all lines old) (ap (λ (w : Values). w.bus_width) passed.issues.basics.always.sizes.values) (omega (arith, at_start))) in
     omega (arith, all, within)) history

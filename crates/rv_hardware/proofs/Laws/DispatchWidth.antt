@@ -22,7 +22,8 @@ module _ (now total : ℕ) where
 pub law_of_dispatch_width : (v : Values) {steps : List Step} {h : Hardware} → History v steps h → NeverMoreThan v.dispatch_width is_dispatched_in (rows_of steps)
 law_of_dispatch_width v history =
     counted_law v is_dispatched_in (λ c m. is_at c m.dispatched) (dispatched_shows v) v.dispatch_width (λ earlier old new lines report before after passed.
-    let all = count_in_flight (λ m. is_at old.cycle m.dispatched) passed (λ row w. ne_eqb row.dispatched old.cycle (omega (arith, w.stamps.retired_after_dispatch, w.below))) (λ f. refl) in
+    let all = count_in_flight (λ m. is_at old.cycle m.dispatched) passed
+    (λ row w. ne_eqb row.dispatched old.cycle (omega (arith, w.stamps.retired_after_dispatch, w.below))) (λ f. refl) in
     let at_start = count-none (λ e. e.dispatched == old.cycle) (sent_all lines old).rob.entries (Each-weaker (SoundEntry v old.cycle (old.cycle + 1) (old.cycle + 1)) (λ e. (e.dispatched == old.cycle) ≡ false) (λ e w. ne_eqb e.dispatched old.cycle (omega (arith, w.by_now))) (sent_all lines old).rob.entries passed.sends.basics.entries) in
     let within = dispatch_within old.cycle v.dispatch_width (sent_all lines old) (ap (λ (w : Values). w.dispatch_width) passed.sends.basics.always.sizes.values) (omega (arith, at_start)) in
     omega (arith, all, within)) history

@@ -1,4 +1,4 @@
--- What the laws and the longest gap cite of the turns, of what always holds and of the marks, passed on from one place. Declares nothing.
+-- What other proofs cite of the turns, of what always holds and of the marks, passed on from one place. Declares nothing.
 pub use Rattle.rv_hardware.proofs.Turns.Cited.{with_entries, longest_access, longest_execution, longest_write_back, access_cost-most, access_cost-least, IsReady, ready-parts, IsKeptByIssue, starts-keep, issue_turn-keeps, issue_kind-keeps, issue-by, issue-keeps, with_mended, IsMadeByBroadcast, IsKeptByBroadcast, sends-makes, mends-makes, broadcast_turn-keeps, broadcast-keeps, IsKeptByDispatch, dispatch_turns-keep, dispatch-keeps, IsKeptByDrain, drain-keeps, SameButPort, drain-same, IsKeptByCommit, commit-keeps, execute-keeps, phases-keep, SameAs, same-kept, fetch-cases, IsNew, starts, IssueTurn, no_unit, none_ready, issue_turn_is, access_keeps, message_at, started_entries, HasRun, Sends, BroadcastTurn, no_result, sends, mends, broadcast_turn_is, sent_entries, mended_entries, dispatches, has_full_queue, waits, WaitsFor, for_serial, for_buffer, for_station, for_queue, DispatchTurn, buffer_empty, dispatch_turn_is, retires, executes, Head, written_back, executed, retired_with, retired_and_flushed, head_retired_entries, unfinished, traps, CommitTurn, no_head, stale_head, fence_waits, fence_writes, fence_retires, serial_faults, retires_last, commit_turn_is}
 pub use Rattle.rv_hardware.proofs.Always.Sizes.{HasShape, HasSizes, sizes-kept}
 pub use Rattle.rv_hardware.proofs.Always.Sets.{HasRoom, write_back_time-most, clean-after, room-kept}
