@@ -1,11 +1,11 @@
 -- What the execution of an instruction leaves is what the definition's start of it leaves.
-use Rattle.rv_core.proofs.Words.{◌≡◌, ℕ, ◌+◌, ◌^◌, ◌≤◌, Bool, true, List, [], ◌∷◌, ◌++◌, map, length, is_some, Some, None, All, Option, option_and_then, sym, refl, ap, ◌∙◌, subst, arith, All-head, is_store, kind_of_word, sources_of, bytes_of, width_of, at_kind, with_kind, modulo_word, sum, Message, Instr, Load, Issue, Kind, PerKind, CacheValues, instruction_of, Memory, State, register_of, Contents, access_cost, cost_of_access, CacheLine, UnitPool, started, changed, Entry, Hardware, memory_behind, FromCache, Path, cost_of, issued, path, path_of_word, with_start, result_in, result_of_word, layout_of, seen_behind, stores_behind, All-right, IsLegalCost, kind_of, Queue, older_than, Pool, taken_from, Ready, Pending, started_unit, Renaming, path_of_load, IsBehind, LieIn, cache_after, load_path, path_cost, port_after, operand_value, IsDescribedCache, IsLegalWrite, IsSoundEntry, IsSoundHardware, AreTied}
+use Rattle.rv_core.proofs.Words.{◌≡◌, ℕ, ◌+◌, ◌^◌, ◌≤◌, Bool, true, List, [], ◌∷◌, map, length, is_some, Some, None, All, Option, option_and_then, sym, refl, ap, ◌∙◌, subst, arith, is_store, kind_of_word, sources_of, bytes_of, width_of, at_kind, with_kind, modulo_word, sum, Message, Instr, Load, Issue, Kind, PerKind, CacheValues, instruction_of, Memory, State, register_of, Contents, access_cost, cost_of_access, CacheLine, UnitPool, started, changed, Entry, Hardware, memory_behind, FromCache, Path, cost_of, issued, path, path_of_word, with_start, result_in, result_of_word, layout_of, seen_behind, stores_behind, IsLegalCost, kind_of, Queue, older_than, Pool, taken_from, Ready, Pending, started_unit, Renaming, path_of_load, IsBehind, LieIn, cache_after, load_path, path_cost, port_after, operand_value, IsDescribedCache, IsLegalWrite, IsSoundEntry, IsSoundHardware, AreTied}
 use Rattle.rv_units.specs.Bus.{with_result}
 use Rattle.rv_core.specs.Access.{IsExecuted, path_of_ready}
 use Rattle.rv_core.proofs.Issued.Found.{Leaving, test_of}
 use Rattle.rv_core.proofs.Issued.Ready.{All-left, kind_there}
 use Rattle.rv_core.proofs.Issued.Stores.{older_than-behind}
-use Rattle.rv_core.proofs.Issued.Tied.{sound_started, tied_started}
+use Rattle.rv_core.proofs.Issued.Tied.{entry_sound, sound_started, tied_started}
 use Rattle.rv_core.proofs.Issued.Writes.{inside_behind, result_writes}
 use Rattle.rv_core.proofs.Loads.Path.{access_is_defined, cost_is_defined, path_is_defined}
 
@@ -87,23 +87,20 @@ module _ {h : Hardware} (sound : IsSoundHardware h) where
         ∙ load_path_defined h before s ready.instruction ready.first ready.second leaving.operands.values
         ∙ ap (path_of_word h before s) (sym leaving.decoded)
 
-    each : All (IsSoundEntry h.values) (before ++ entry ∷ leaving.rest)
-    each = subst (All (IsSoundEntry h.values)) leaving.split sound.entries.each
-
     behind : IsBehind h.cache (older_than ready.seq queue.stores) s
     behind = record {
       inside =
           subst (LieIn h.cache.base (length h.cache.bytes)) (sym older)
           (subst (λ b. LieIn b (length h.cache.bytes) (stores_behind h before)) (sym sound.cache.base)
           (subst (λ n. LieIn h.values.ram_base n (stores_behind h before)) (sym sound.cache.bytes)
-          (inside_behind h before sound.stores.each (All-left (IsSoundEntry h.values) before (entry ∷ leaving.rest) each))));
+          (inside_behind h before sound.stores.each
+          (All-left (IsSoundEntry h.values) before (entry ∷ leaving.rest)
+          (subst (All (IsSoundEntry h.values)) leaving.split sound.entries.each)))));
       ram = λ j. memory_behind (sym sound.cache.base j) (sym older j) h.cache.bytes;
     }
 
     own : IsSoundEntry h.values entry
-    own =
-        All-head (IsSoundEntry h.values) entry leaving.rest
-        (All-right (IsSoundEntry h.values) before (entry ∷ leaving.rest) each)
+    own = entry_sound leaving sound.entries.each
 
     word : (w : ℕ) × (entry.word ≡ Some w)
     word = word_decoded entry.word ready.instruction (sym own.decoded ∙ leaving.decoded)

@@ -1,18 +1,19 @@
 -- The instruction that leaves its station is the definition's, with what it reads.
-use Rattle.rv_core.proofs.Words.{◌≡◌, ◌+◌, Bool, true, ◌&&◌, ◌⊎◌, List, [], ◌∷◌, ◌++◌, length, nat_le, Some, None, All, Option, option_and_then, sym, refl, ap, ◌∙◌, subst, inl, inr, arith, and_parts, Message, Issue, Kind, Values, started, Entry, is_stationed, Hardware, is_ready_entry, oldest, layout_of, seen_behind, stores_behind, Alu, Div, Mem, Mul, has_value, is_ready_station, oldest_ready, ready_of, ready_with, without_oldest_ready, Operand, Ready, Station, Reads, goes, IsSoundEntry, IsSoundHardware, status_behind, values_in, waiting_from, waiting_of}
+use Rattle.rv_core.proofs.Words.{◌≡◌, ◌+◌, Bool, true, ◌⊎◌, List, [], ◌∷◌, ◌++◌, length, nat_le, Some, None, All, Option, option_and_then, sym, refl, ap, ◌∙◌, subst, inl, inr, arith, Message, Issue, Kind, Values, started, Entry, is_stationed, Hardware, is_ready_entry, oldest, layout_of, seen_behind, stores_behind, Alu, Div, Mem, Mul, oldest_ready, ready_of, without_oldest_ready, Ready, Station, Reads, goes, IsSoundEntry, IsSoundHardware, status_behind, values_in, waiting_from, waiting_of}
 use Rattle.rv_core.proofs.Issued.Operands.{reads, ready_parts, tells_at}
 use Rattle.rv_core.proofs.Issued.Ready.{All-left, HasTarget, accesses_agree, operations_agree, passes_by}
-use Rattle.rv_core.proofs.Issued.Search.{Agree, Found, NoneFound, search_from, station_behind}
+use Rattle.rv_core.proofs.Issued.Search.{Agree, Found, NoneFound, search_from}
 
--- what a search answers is ready
+-- a search that answers nothing found nothing, and takes nothing out
 
-found_ready : (test : Station → Bool) (ws : List Station) (w : Station) → oldest_ready test ws ≡ Some w →
-    is_ready_station w ≡ true
-found_ready test [] w is = absurd (cc)
-found_ready test (v ∷ ws) w is = grind (arith, and_parts, found_ready test ws w)
+none_found : (test : Station → Bool) (ws : List Station) → option_and_then ready_of (oldest_ready test ws) ≡ None →
+    oldest_ready test ws ≡ None
+none_found test [] is = refl
+none_found test (w ∷ ws) is = grind (arith, none_found test ws)
 
-ready_is_some : (w : Station) (a b : Operand) → (has_value a && has_value b) ≡ true → ready_with w a b ≡ None → ⊥
-ready_is_some w a b ready none = grind arith
+none_taken : (test : Station → Bool) (ws : List Station) → oldest_ready test ws ≡ None → without_oldest_ready test ws ≡ ws
+none_taken test [] none = refl
+none_taken test (w ∷ ws) none = grind (arith, none_taken test ws)
 
 sound_targets : (values : Values) (es : List Entry) → All (IsSoundEntry values) es → All HasTarget es
 sound_targets values es sound k d within = (sound k d within).target
@@ -70,18 +71,14 @@ module _ (h : Hardware) (kind : Kind) where
     -- nothing leaves where the definition finds nothing
     pub nothing_leaves : {result : Option Ready} → Answer result → result ≡ None →
         (oldest (is_ready_entry h kind) h.rob.entries ≡ None) × (without_oldest_ready test_of stationed_now ≡ stationed_now)
-    nothing_leaves answer is = elim searched [
-      | inl n ↦ (
-        n.defined,
-        ap (without_oldest_ready test_of) (from_first h.rob.entries) ∙ n.stays ∙ sym (from_first h.rob.entries),
-      )
-      | inr f ↦
-          let w = station_behind kind (values_in h.registers) h.rob.retired f.prior f.entry f.instruction in
-          let some : oldest_ready test_of stationed_now ≡ Some w =
-          ap (oldest_ready test_of) (from_first h.rob.entries) ∙ f.searched in
-          absurd (ready_is_some w w.first w.second (found_ready test_of stationed_now w some)
-          (sym (ap (option_and_then ready_of) some) ∙ sym answer ∙ is))
-    ]
+    nothing_leaves answer is =
+        let none = none_found test_of stationed_now (sym answer ∙ is) in (
+          elim searched [
+            | inl n ↦ n.defined
+            | inr f ↦ absurd (let found = sym none ∙ ap (oldest_ready test_of) (from_first h.rob.entries) ∙ f.searched in cc)
+          ],
+          none_taken test_of stationed_now none,
+        )
 
     leaves_by : (result : Option Ready) (ready : Ready) → Answer result → result ≡ Some ready →
         NoneFound kind (values_in h.registers) h.rob.retired h.rob.entries test_of (is_ready_entry h kind) [] h.rob.entries ⊎

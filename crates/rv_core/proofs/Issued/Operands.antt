@@ -1,5 +1,5 @@
 -- The operands in a station are what the definition reads after the older instructions.
-use Rattle.rv_core.proofs.Words.{◌≡◌, ℕ, ◌+◌, ◌<◌, Bool, cond, ◌&&◌, ◌≢◌, List, [], ◌∷◌, map, length, is_some, IfSome, slice_index, slice_index_or, Some, None, All, Option, sym, refl, ap, ◌∙◌, arith, get_or-set_other, get_or-set_same, eqb-true, ne_eqb, eqb-false, All-head, All-tail, is_target, target_of_word, sources_of, target_of, written, Message, Instr, Csr, Lui, State, with_register, Entry, broadcast_of, is_known_from, registers_behind, with_value, has_operands, has_value, is_ready_station, ready_of, ready_with, Operand, Value, Ready, Station, is_known, Reads, operand_value, RegisterStatus, operand_by, operand_of, status_behind, status_with, values_in, waiting_of}
+use Rattle.rv_core.proofs.Words.{◌≡◌, ℕ, ◌+◌, ◌<◌, Bool, cond, ◌&&◌, ◌≢◌, List, [], ◌∷◌, map, length, is_some, IfSome, slice_index, slice_index_or, Some, None, All, Option, sym, refl, ap, ◌∙◌, arith, get_or-set_other, get_or-set_same, eqb-true, ne_eqb, eqb-false, All-head, All-tail, is_target, target_of_word, sources_of, target_of, written, Message, Instr, Csr, Lui, State, Entry, broadcast_of, is_known_from, registers_behind, with_value, has_operands, has_value, is_ready_station, ready_of, ready_with, Operand, Value, Ready, Station, is_known, Reads, operand_value, RegisterStatus, operand_by, operand_of, status_behind, status_with, values_in, waiting_of}
 use Rattle.rv_hardware.proofs.Headline.Known.{length-with_value}
 use Rattle.rv_isa.specs.declared.instructions.CsrSource.TheVariants as source
 use Rattle.rv_hardware.specs.InFlight.{writes}
@@ -45,21 +45,13 @@ is_known-status registers seq older r = known_behind older (values_in registers)
 abbrev pub Tells : RegisterStatus → List ℕ → Type 0
 Tells status registers = (r v : ℕ) → status r ≡ Value v → slice_index registers r ≡ v
 
-with_register-other : (registers : List ℕ) (t r v : ℕ) → t ≢ 0 → r ≢ t →
-    slice_index (with_register registers t v) r ≡ slice_index registers r
-with_register-other registers t r v positive other = rw (ne_eqb t 0 positive) (get_or-set_other registers t r v 0 other)
-
-with_register-same : (registers : List ℕ) (t v : ℕ) → t ≢ 0 → t < length registers →
-    slice_index (with_register registers t v) t ≡ v
-with_register-same registers t v positive within = rw (ne_eqb t 0 positive) (get_or-set_same registers t v 0 within)
-
 tells_by : (status : RegisterStatus) (registers : List ℕ) (seq : ℕ) (target : Option ℕ) (o : Option Message) →
     IfSome target (λ t. t < length registers) → ((t : ℕ) → target ≡ Some t → t ≢ 0) → Tells status registers → (r v : ℕ) →
     cond (is_target r target) (operand_by seq o) (status r) ≡ Value v → slice_index (with_value registers target o) r ≡ v
 tells_by status registers seq None o within positive tells r v is = tells r v is
 tells_by status registers seq (Some t) None within positive tells r v is = grind (arith, tells)
 tells_by status registers seq (Some t) (Some message) within positive tells r v is =
-    grind (arith, tells, positive t refl, within, eqb-true, eqb-false, with_register-same, with_register-other)
+    grind (arith, tells, positive t refl, within, eqb-true, eqb-false, ne_eqb, get_or-set_same, get_or-set_other)
 
 pub tells_behind : (es : List Entry) (status : RegisterStatus) (registers : List ℕ) (seq : ℕ) → length registers ≡ 32 →
     All (λ e. IfSome (target_of_word e.instruction) (λ t. t < 32)) es → Tells status registers →
@@ -86,8 +78,7 @@ tells_at older registers seq sized targets =
 
 operand_value-told : (status : RegisterStatus) (s : State) (from : Option ℕ) (v : ℕ) → Tells status s.registers →
     operand_of status from ≡ Value v → operand_value s from ≡ v
-operand_value-told status s None v tells is = cc
-operand_value-told status s (Some r) v tells is = tells r v is
+operand_value-told status s from v tells is = grind (arith, tells)
 
 -- what leaves a station has the two values of its operands, and its number, pc and instruction
 pub ready_parts : (w : Station) (a b : Operand) (ready : Ready) → ready_with w a b ≡ Some ready →

@@ -1,5 +1,5 @@
 -- A station is ready, and passes the code's test, where the definition finds its instruction ready.
-use Rattle.rv_core.proofs.Words.{◌≡◌, ℕ, ◌+◌, ◌<◌, Bool, true, false, not, ◌&&◌, ◌||◌, List, ◌∷◌, ◌++◌, length, ℤ, IfSome, nat_le, slice_index, Some, All, Option, sym, refl, ap, ◌∙◌, subst, arith, and_parts, list_all, is_load, is_of_kind, kind_of_word, sources_of_word, target_of_word, bytes_of, width_of, modulo_word, sum, Instr, Load, Kind, LoadForm, is_known_store, Store, Entry, is_stationed, Hardware, is_waiting, registers_behind, has_operands, has_port, is_ready_entry, may_load, path_of_word, layout_of, seen_behind, stores_behind, AreBelow, kind_of, Mem, first_unknown, older_than, has_value, is_ready_station, Operand, Tag, Value, Station, path_of_load, is_operation, is_known_before, may_go, needs_port, path_of, RegisterStatus, status_behind, values_in, waiting_of}
+use Rattle.rv_core.proofs.Words.{◌≡◌, ℕ, ◌+◌, ◌<◌, Bool, true, false, not, ◌&&◌, ◌||◌, List, ◌∷◌, ◌++◌, length, ℤ, IfSome, nat_le, slice_index, Some, All, Option, sym, refl, ap, ◌∙◌, subst, arith, and_parts, list_all, is_load, is_of_kind, kind_of_word, sources_of_word, target_of_word, bytes_of, width_of, modulo_word, sum, Instr, Load, Kind, LoadForm, is_known_store, Store, Entry, is_stationed, Hardware, is_waiting, registers_behind, has_operands, has_port, is_ready_entry, path_of_word, layout_of, seen_behind, stores_behind, AreBelow, kind_of, Mem, first_unknown, older_than, has_value, is_ready_station, Operand, Tag, Value, Station, path_of_load, is_operation, is_known_before, may_go, needs_port, path_of, RegisterStatus, status_behind, values_in, waiting_of}
 use Rattle.std.proofs.Math.Seq.{take-append_seam}
 use Rattle.std.proofs.lemmas.List.Elements.{All-take}
 use Rattle.rv_hardware.proofs.Marks.Sound.{is_of_kind_is}
@@ -15,9 +15,6 @@ All-left P xs ys all = subst (All P) (take-append_seam xs ys) (All-take P (lengt
 agree_by : (ready goes operands may stationed : Bool) → ready ≡ operands → stationed ≡ true → (ready ≡ true → goes ≡ may) →
     (ready && goes) ≡ ((stationed && operands) && may)
 agree_by ready goes operands may stationed r s g = grind arith
-
-away_by : (stationed operands may : Bool) → stationed ≡ false → ((stationed && operands) && may) ≡ false
-away_by stationed operands may s = rw s refl
 
 -- an instruction that has a station of a kind is of that kind
 pub kind_there : (kind : Kind) (e : Entry) → is_stationed kind e ≡ true → kind_of_word e.instruction ≡ Some kind
@@ -45,8 +42,7 @@ module _ (h : Hardware) where
 
   -- in the stations of a kind that is no memory unit every ready instruction passes the test
   pub passes_by : (kind : Kind) → PassBy kind status0 h.rob.retired h.rob.entries goes (is_ready_entry h kind)
-  passes_by kind older e away =
-      away_by (is_stationed kind e) (has_operands older (sources_of_word e.instruction)) (may_load h older e) away
+  passes_by kind older e away = rw away refl
 
   module _ (older rest : List Entry) (e : Entry) where
     abbrev status : RegisterStatus

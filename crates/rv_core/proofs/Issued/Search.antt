@@ -83,7 +83,6 @@ module _ (kind : Kind) (status0 : RegisterStatus) (n0 : ℕ) where
     pub record NoneFound (older es : List Entry) : Type 0 where
       pub defined : oldest_from ready older es ≡ None
       pub searched : oldest_ready test (stations_behind older es) ≡ None
-      pub stays : without_oldest_ready test (stations_behind older es) ≡ stations_behind older es
 
     -- both find the same one
     pub record Found (older es : List Entry) : Type 0 where
@@ -106,10 +105,6 @@ module _ (kind : Kind) (status0 : RegisterStatus) (n0 : ℕ) where
         oldest_from ready older (e ∷ es) ≡ oldest_from ready (older ++ e ∷ []) es
     passed older e es not = cond-false (ready older e) (Some (older, e)) (oldest_from ready (older ++ e ∷ []) es) not
 
-    search_ready_none : (ws : List Station) → oldest_ready test ws ≡ None → without_oldest_ready test ws ≡ ws
-    search_ready_none [] none = refl
-    search_ready_none (w ∷ ws) none = grind (arith, search_ready_none ws)
-
     -- past an instruction whose stations' part is a list in which nothing is found
     module _ (older : List Entry) (e : Entry) (es : List Entry) (here : List Station)
         (at : waiting_at kind (status_behind status0 n0 older) (n0 + length older) e e.instruction ≡ here)
@@ -120,14 +115,10 @@ module _ (kind : Kind) (status0 : RegisterStatus) (n0 : ℕ) where
       joined xs = stations_step older e xs ∙ ap (λ l. l ++ stations_behind (older ++ e ∷ []) xs) at
 
       none_past : NoneFound (older ++ e ∷ []) es → NoneFound older (e ∷ es)
-      none_past n =
-          let searched : oldest_ready test (stations_behind older (e ∷ es)) ≡ None =
-          ap (oldest_ready test) (joined es) ∙ oldest_skips (stations_behind (older ++ e ∷ []) es) ∙ n.searched in
-          record {
-            defined = passed older e es not ∙ n.defined;
-            searched = searched;
-            stays = search_ready_none (stations_behind older (e ∷ es)) searched;
-          }
+      none_past n = record {
+        defined = passed older e es not ∙ n.defined;
+        searched = ap (oldest_ready test) (joined es) ∙ oldest_skips (stations_behind (older ++ e ∷ []) es) ∙ n.searched;
+      }
 
       found_past : Found (older ++ e ∷ []) es → Found older (e ∷ es)
       found_past f = record {
@@ -155,7 +146,7 @@ module _ (kind : Kind) (status0 : RegisterStatus) (n0 : ℕ) where
 
     -- the search from some instruction on
     pub search_from : (older es : List Entry) → older ++ es ≡ entries → Agree → PassBy → NoneFound older es ⊎ Found older es
-    search_from older [] all agree pass = inl (record { defined = refl; searched = refl; stays = refl })
+    search_from older [] all agree pass = inl (record { defined = refl; searched = refl })
     search_from older (e ∷ es) all agree pass =
         let rest = search_from (older ++ e ∷ []) es (append_assoc older (e ∷ []) es ∙ all) agree pass in
         elim (at_cases kind (status_behind status0 n0 older) (n0 + length older) e) [

@@ -1,20 +1,16 @@
 -- The stores older than an instruction are the same in the queue and in the definition.
-use Rattle.rv_core.proofs.Words.{◌≡◌, ℕ, suc, ◌+◌, ◌<◌, ◌≤◌, Bool, true, false, cond, List, [], ◌∷◌, ◌++◌, length, All, sym, refl, ap, ◌∙◌, append_assoc, arith, le-ltb, lt-ltb, All-cons, All-head, All-tail, list_all, is_store, is_known_store, Store, Entry, Hardware, broadcast_of, store_of_broadcast, stores_of, stores_behind, AreBelow, AreBelow-append, AreBelow-head, AreBelow-tail, AreBelow-weaken, below-split, first_unknown, older_than, is_known_before}
+use Rattle.rv_core.proofs.Words.{◌≡◌, ℕ, ◌+◌, ◌<◌, ◌≤◌, Bool, true, false, cond, List, [], ◌∷◌, ◌++◌, length, All, sym, refl, ap, ◌∙◌, append_assoc, arith, le-ltb, lt-ltb, All-cons, All-head, All-tail, list_all, is_store, is_known_store, Store, Entry, Hardware, broadcast_of, store_of_broadcast, stores_of, stores_behind, AreBelow, AreBelow-append, AreBelow-head, AreBelow-tail, AreBelow-weaken, below-split, first_unknown, older_than, is_known_before}
 
 abbrev seq_of : Store → ℕ
 seq_of s = s.seq
 
-stores_of-one : (b : Bool) (s : Store) (xs ys zs : List Store) → xs ≡ ys ++ zs → cond b (s ∷ xs) xs ≡ cond b (s ∷ ys) ys ++ zs
-stores_of-one b s xs ys zs is = grind arith
-
 pub stores_of-append : (n : ℕ) (xs ys : List Entry) → stores_of n (xs ++ ys) ≡ stores_of n xs ++ stores_of (n + length xs) ys
 stores_of-append n [] ys = ap (λ m. stores_of m ys) (omega arith)
 stores_of-append n (e ∷ xs) ys =
-    stores_of-one (is_store e.instruction) (record { seq = n; state = store_of_broadcast (broadcast_of e.stage) })
-    (stores_of (n + 1) (xs ++ ys)) (stores_of (n + 1) xs) (stores_of (n + suc (length xs)) ys)
-    (stores_of-append (n + 1) xs ys ∙ ap (λ m. stores_of (n + 1) xs ++ stores_of m ys) (omega arith))
+    grind (arith, stores_of-append (n + 1) xs ys)
 
-All-one : (P : Store → Type 0) (b : Bool) (s : Store) (xs : List Store) → P s → All P xs → All P (cond b (s ∷ xs) xs)
+-- a list with one more, where it is a store
+pub All-one : (P : Store → Type 0) (b : Bool) (s : Store) (xs : List Store) → P s → All P xs → All P (cond b (s ∷ xs) xs)
 All-one P true s xs here rest = All-cons P s xs here rest
 All-one P false s xs here rest = rest
 

@@ -1,5 +1,5 @@
 -- After the start of an instruction the parts are still told by the instructions in flight.
-use Rattle.rv_core.proofs.Words.{◌≡◌, ℕ, ◌+◌, ◌^◌, ◌<◌, ◌≤◌, true, false, ◌∷◌, ◌++◌, length, All, sym, refl, ap, ◌∙◌, arith, and_right, All-head, is_of_kind, is_serialising, is_store, kind_of_word, at_kind, with_kind, Message, Issue, Kind, PerKind, Memory, Contents, UnitPool, started, ReorderBuffer, changed, Entry, is_stationed, Hardware, is_waiting, stores_of, All-right, at_kind-by_kind, with_kind-by_kind, Queue, Ready, Pool, taken_from, Pending, holds, placed, Renaming, AreSoundEntries, IsDescribedCache, IsLegalWrite, IsSoundEntry, IsSoundHardware, AreTied, bus_of, pending_from, pool_of_kind, stations_of, values_in, waiting_from}
+use Rattle.rv_core.proofs.Words.{◌≡◌, ℕ, ◌+◌, ◌^◌, ◌<◌, ◌≤◌, true, false, ◌∷◌, ◌++◌, length, All, sym, refl, ap, ◌∙◌, subst, arith, and_right, All-head, is_of_kind, is_serialising, is_store, kind_of_word, at_kind, with_kind, Message, Issue, Kind, PerKind, Memory, Contents, UnitPool, started, ReorderBuffer, changed, Entry, is_stationed, Hardware, is_waiting, stores_of, All-right, at_kind-by_kind, with_kind-by_kind, Queue, Ready, Pool, taken_from, Pending, holds, placed, Renaming, AreSoundEntries, IsDescribedCache, IsLegalWrite, IsSoundEntry, IsSoundHardware, AreTied, bus_of, pending_from, pool_of_kind, stations_of, values_in, waiting_from}
 use Rattle.rv_hardware.proofs.Oldest.{with_entry-at}
 use Rattle.rv_units.specs.Bus.{with_result}
 use Rattle.rv_core.proofs.Issued.Found.{Leaving, test_of}
@@ -18,6 +18,13 @@ module _ {h : Hardware} {kind : Kind} {ready : Ready} (leaving : Leaving h kind 
 
   waiting : is_waiting e.stage ≡ true
   waiting = waits kind e leaving.there
+
+  -- it is one of the sound instructions in flight
+  pub entry_sound : All (IsSoundEntry h.values) h.rob.entries → IsSoundEntry h.values e
+  entry_sound each =
+      All-head (IsSoundEntry h.values) e leaving.rest
+      (All-right (IsSoundEntry h.values) leaving.before (e ∷ leaving.rest)
+      (subst (All (IsSoundEntry h.values)) leaving.split each))
 
   -- there is room on the bus, which does not hold the number
   pub room_on_bus : {bus : Pending} → bus ≡ bus_of h.values h.rob → length h.rob.entries ≤ h.values.rob →
@@ -112,9 +119,7 @@ module _ {h : Hardware} {kind : Kind} {ready : Ready} (leaving : Leaving h kind 
           AreSoundEntries h.values h.cycle rob_started
       entries_sound sound legal =
           let each : All (IsSoundEntry h.values) (leaving.before ++ e ∷ leaving.rest) = rw (← leaving.split) sound.each in
-          let own : IsSoundEntry h.values e =
-          All-head (IsSoundEntry h.values) e leaving.rest
-          (All-right (IsSoundEntry h.values) leaving.before (e ∷ leaving.rest) each) in
+          let own = entry_sound sound.each in
           record {
             capacity = sound.capacity;
             within = omega (arith, sound.within, length-with_entry (started issue message) n h.rob.retired h.rob.entries);

@@ -1,7 +1,8 @@
 -- The stores older than an instruction write within RAM, and so does an instruction, or it faults.
-use Rattle.rv_core.proofs.Words.{◌≡◌, ℕ, ◌+◌, Bool, true, false, cond, List, [], ◌∷◌, length, IfSome, Some, None, All, Option, sym, refl, subst, arith, All-append, All-cons, All-head, All-tail, bytes_of_number, is_store, bytes_of, modulo_word, sum, Message, StoreAccess, Cause, Fault, Instr, Lines, Width, Values, Effect, Faults, Retires, effect, stores, State, register_of, IsAligned, Store as QueuedStore, Committed, Draining, StoreState, Entry, Stage, Finished, Hardware, broadcast_of, store_of_broadcast, store_of_message, stores_of, effect_message, result_in, layout_of, stores_behind, LieIn, LiesIn, store_fault, IsLegalWrite, IsRetiredStore, IsSoundEntry, message_of}
+use Rattle.rv_core.proofs.Words.{◌≡◌, ℕ, ◌+◌, Bool, true, false, List, [], ◌∷◌, length, IfSome, Some, None, All, Option, sym, refl, subst, arith, All-append, All-head, All-tail, bytes_of_number, is_store, bytes_of, modulo_word, sum, Message, StoreAccess, Cause, Fault, Instr, Lines, Width, Values, Effect, Faults, Retires, effect, stores, State, register_of, IsAligned, Store as QueuedStore, Committed, Draining, StoreState, Entry, Stage, Finished, Hardware, broadcast_of, store_of_broadcast, store_of_message, stores_of, effect_message, result_in, layout_of, stores_behind, LieIn, LiesIn, store_fault, IsLegalWrite, IsRetiredStore, IsSoundEntry, message_of}
 use Rattle.rv_stores.specs.declared.store.StoreState.TheVariants as store
 use Rattle.rv_isa.specs.declared.instructions.Instr.TheVariants.{Store}
+use Rattle.rv_core.proofs.Issued.Stores.{All-one}
 use Rattle.rv_core.proofs.Loads.Effect.{aligned_width, store_faults, store_gives, store_within}
 
 module _ (values : Values) where
@@ -28,27 +29,18 @@ module _ (values : Values) where
   broadcast_inside is (Finished issue cycle message) legal = write_inside is message.fault message.store legal
   broadcast_inside is _ legal = tt
 
-  one_inside : (b : Bool) (s : QueuedStore) (ss : List QueuedStore) → LiesIn base size s.state → LieIn base size ss →
-      LieIn base size (cond b (s ∷ ss) ss)
-  one_inside true s ss here rest = All-cons (λ (t : QueuedStore). LiesIn base size t.state) s ss here rest
-  one_inside false s ss here rest = rest
-
   stores_inside : (n : ℕ) (es : List Entry) → All (IsSoundEntry values) es → LieIn base size (stores_of n es)
   stores_inside n [] sound = λ k d within. absurd (omega arith)
   stores_inside n (e ∷ es) sound =
-      one_inside (is_store e.instruction) (record { seq = n; state = store_of_broadcast (broadcast_of e.stage) })
-      (stores_of (n + 1) es)
+      All-one (λ t. LiesIn base size t.state) (is_store e.instruction)
+      (record { seq = n; state = store_of_broadcast (broadcast_of e.stage) }) (stores_of (n + 1) es)
       (broadcast_inside (is_store e.instruction) e.stage (All-head (IsSoundEntry values) e es sound).writes)
       (stores_inside (n + 1) es (All-tail (IsSoundEntry values) e es sound))
 
   -- retired stores lie in RAM
   pub committed_inside : (ss : List QueuedStore) → All (λ (s : QueuedStore). IsRetiredStore values s.state) ss →
       LieIn base size ss
-  committed_inside [] sound = λ k d within. absurd (omega arith)
-  committed_inside (s ∷ ss) sound =
-      All-cons (λ (t : QueuedStore). LiesIn base size t.state) s ss
-      (retired_inside s.state (All-head (λ (t : QueuedStore). IsRetiredStore values t.state) s ss sound))
-      (committed_inside ss (All-tail (λ (t : QueuedStore). IsRetiredStore values t.state) s ss sound))
+  committed_inside ss sound k d within = retired_inside _ (sound k d within)
 
 -- the stores older than an instruction lie in RAM
 pub inside_behind : (h : Hardware) (older : List Entry) → All (λ (s : QueuedStore). IsRetiredStore h.values s.state) h.committed →

@@ -8,11 +8,11 @@ abbrev pub with_cache : Contents Memory → List QueuedStore → ℕ → Hardwar
 with_cache cache committed port h = record h { cache = cache; committed = committed; port_free = port }
 
 -- such hardware is sound, with a described cache and retired stores
-pub sound_with_cache : (h : Hardware) (cache : Contents Memory) (committed : List QueuedStore) (port : ℕ) → IsSoundHardware h →
+pub sound_with_cache : {h : Hardware} {cache : Contents Memory} {committed : List QueuedStore} {port : ℕ} → IsSoundHardware h →
     IsDescribedCache h.values cache → AreRetired h.values committed →
     AreBelow (λ (s : QueuedStore). s.seq) h.rob.retired committed →
     port ≤ 2 ^ 43 → IsSoundHardware (with_cache cache committed port h)
-sound_with_cache h cache committed port sound described retired older free = record {
+sound_with_cache sound described retired older free = record {
   legal = sound.legal;
   cycles = sound.cycles;
   port = free;

@@ -1,4 +1,4 @@
-use Rattle.rv_core.proofs.Words.{◌≡◌, ℕ, ◌+◌, Bool, true, false, cond, refl, predicting, cut_from, redirected, ◌&&◌, [], Some, None, sym, ap, ◌∙◌, subst, arith, and_parts, finished, changed, is_mispredicted, mends_early, with_recovery, Hardware, Ends, GoesOn, find, is_ready_result, IsSound, hardware_of, Inside}
+use Rattle.rv_core.proofs.Words.{◌≡◌, ℕ, ◌+◌, Bool, true, false, cond, predicting, cut_from, redirected, ◌&&◌, [], Some, None, sym, ap, ◌∙◌, subst, arith, and_parts, finished, changed, is_mispredicted, mends_early, with_recovery, Hardware, Ends, GoesOn, find, is_ready_result, IsSound, hardware_of, Inside}
 use Rattle.rv_core.proofs.Ties.Broadcast.{grant, sent_parts, sent-goes_on, sent-is, sent-recovers, sent-sound, sent_to, unsent, unsent_bus}
 use Rattle.rv_core.proofs.Ties.Bus.{IsGranted}
 use Rattle.rv_core.proofs.Ties.Entries.{entry_of-changed, with_entry-alike}
@@ -71,8 +71,7 @@ none-mends : (mends : Bool) (next_pc : ℕ) → cond mends (Some next_pc) None �
 none-mends mends next_pc is = grind arith
 
 some-mends : (mends : Bool) (next_pc told : ℕ) → cond mends (Some next_pc) None ≡ Some told → (mends ≡ true) × (told ≡ next_pc)
-some-mends true next_pc told is = (refl, cc)
-some-mends false next_pc told is = absurd (cc)
+some-mends mends next_pc told is = (grind arith, grind arith)
 
 mended : (c : After-finish) (next_pc : ℕ) → c.send-goes_on.result ≡ Some next_pc → (mends c ≡ true) × (next_pc ≡ (sent c).message.next_pc)
 mended c next_pc is = some-mends (mends c) (sent c).message.next_pc next_pc (sym (goes_on c) ∙ is)

@@ -9,8 +9,7 @@ next p = end_drain (hardware_of p)
 sound : (p : Inside) → IsSound p → IsSoundHardware (next p)
 sound p before =
     let h = hardware_of p in
-    sound_with_cache h h.cache (without_drained h.committed) h.port_free before.sound
-    before.sound.cache
+    sound_with_cache before.sound before.sound.cache
     (kept_when_drained (λ (s : QueuedStore). IsRetiredStore h.values s.state) h.committed before.sound.stores.each)
     (kept_when_drained (λ (s : QueuedStore). s.seq < h.rob.retired) h.committed before.sound.stores.older) before.sound.port
 

@@ -1,11 +1,11 @@
-use Rattle.rv_core.proofs.Words.{◌≡◌, ◌+◌, Bool, true, false, List, length, Some, None, Option, sym, refl, ap, ◌∙◌, subst, true≢false, arith, StoreAccess, Memory, Contents, access_cost, accessed_sets, oldest_to_drain, with_oldest_draining, Store as QueuedStore, start_drain, with_drained, Hardware, stores_of, IsSome, IsTrue, IsAccess, seen_after, Queue, IsSound, hardware_of, IsDescribedCache, IsLegalAccess, IsSoundHardware, queue_of, Inside}
+use Rattle.rv_core.proofs.Words.{◌≡◌, ◌+◌, Bool, true, false, List, length, Some, None, Option, sym, refl, ap, ◌∙◌, subst, true≢false, arith, StoreAccess, Memory, Contents, access_cost, accessed_sets, oldest_to_drain, with_oldest_draining, Store as QueuedStore, start_drain, with_drained, Hardware, stores_of, IsSome, IsTrue, IsAccess, seen_after, Queue, IsSound, hardware_of, IsDescribedCache, IsSoundHardware, queue_of, Inside}
 use Rattle.rv_core.proofs.Phases.Drained.{below_when_draining, draining_behind, none_drains, oldest_behind, oldest_is_legal, retired_when_draining}
 use Rattle.rv_core.proofs.Phases.Stored.{sound_with_cache, parts_with_cache, view_with_cache, with_cache}
 use Rattle.rv_core.proofs.parts.Parts.start_drain.Goals as goal
 
 -- the queue's oldest store is the oldest retired one
-oldest : (p : Inside) → IsSound p → oldest_to_drain p.stores.stores ≡ oldest_to_drain (hardware_of p).committed
-oldest p before =
+oldest : {p : Inside} → IsSound p → oldest_to_drain p.stores.stores ≡ oldest_to_drain (hardware_of p).committed
+oldest {p = p} before =
     let h = hardware_of p in
     ap (λ (q : Queue). oldest_to_drain q.stores) before.tied.queued
     ∙ oldest_behind h.committed (stores_of h.rob.retired h.rob.entries) (none_drains h.rob.retired h.rob.entries)
@@ -20,48 +20,43 @@ returns-then-not-can_drain c =
     nothing_starts c.args.self.now (oldest_to_drain c.args.self.now.committed) c.can_drain.result
     (λ some. c.can_drain.ensures.1
     (subst IsSome (ap (λ (h : Hardware). oldest_to_drain h.committed) (sym c.self.view_is)
-    ∙ sym (oldest c.self.inside c.self.invariant)) some))
+    ∙ sym (oldest c.self.invariant)) some))
     c.if-not-can_drain.true
 
-legal : (p : Inside) (access : StoreAccess) → IsSound p → oldest_to_drain p.stores.stores ≡ Some access →
-    IsLegalAccess p.values access
-legal p access before is =
-    oldest_is_legal p.values (hardware_of p).committed access before.sound.stores.each (sym (oldest p before) ∙ is)
-
-is_access : (p : Inside) (access : StoreAccess) → IsSound p → IsLegalAccess p.values access →
+is_access : {p : Inside} (access : StoreAccess) → IsSound p → oldest_to_drain p.stores.stores ≡ Some access →
     IsAccess p.cache access.address (length access.bytes)
-is_access p access before legal = (
-  legal.aligned,
-  (
-    omega (arith, before.sound.cache.base, legal.from_base),
-    omega (arith, before.sound.cache.base, before.sound.cache.bytes, legal.to_end),
-  ),
-)
+is_access {p = p} access before is =
+    let legal = oldest_is_legal p.values (hardware_of p).committed access before.sound.stores.each (sym (oldest before) ∙ is) in (
+      legal.aligned,
+      (
+        omega (arith, before.sound.cache.base, legal.from_base),
+        omega (arith, before.sound.cache.base, before.sound.cache.bytes, legal.to_end),
+      ),
+    )
 
 pub write-cost-requires : goal.write-cost-requires
 write-cost-requires c = record {
   access = subst (λ l. IsAccess c.self.inside.cache c.start_drain-access.result.address (length l)) (sym c.as_slice.ensures.bytes)
-      (is_access c.self.inside c.start_drain-access.result c.self.invariant
-      (legal c.self.inside c.start_drain-access.result c.self.invariant c.start_drain-access.ensures.access));
+      (is_access c.start_drain-access.result c.self.invariant c.start_drain-access.ensures.access);
 }
 
-is_oldest : (p : Inside) (access : StoreAccess) → IsSound p → oldest_to_drain p.stores.stores ≡ Some access →
+is_oldest : {p : Inside} {access : StoreAccess} → IsSound p → oldest_to_drain p.stores.stores ≡ Some access →
     oldest_to_drain (hardware_of p).committed ≡ Some access
-is_oldest p access before is = sym (oldest p before) ∙ is
+is_oldest before is = sym (oldest before) ∙ is
 
 -- the parts but for cache and port
 abbrev draining : Inside → List QueuedStore
 draining p = with_oldest_draining (hardware_of p).committed
 
-queued : (p : Inside) (stores : Queue) (access : StoreAccess) → IsSound p → oldest_to_drain p.stores.stores ≡ Some access →
+queued : {p : Inside} {stores : Queue} {access : StoreAccess} → IsSound p → oldest_to_drain p.stores.stores ≡ Some access →
     stores ≡ record p.stores { stores = with_oldest_draining p.stores.stores } →
     stores ≡ queue_of (record (hardware_of p) { committed = draining p })
-queued p stores access before is left =
+queued {p = p} {access = access} before is left =
     let h = hardware_of p in
     left
     ∙ ap (λ (q : Queue). record q { stores = with_oldest_draining q.stores }) before.tied.queued
     ∙ ap (λ l. record { stores = l; capacity = h.values.store_queue })
-    (draining_behind h.committed (stores_of h.rob.retired h.rob.entries) access (is_oldest p access before is))
+    (draining_behind h.committed (stores_of h.rob.retired h.rob.entries) access (is_oldest before is))
 
 described : (c : goal.After-self-1) → IsDescribedCache c.self.inside.values c.write-cost.new.self
 described c = record {
@@ -76,16 +71,14 @@ sound : (c : goal.After-self-1) →
     (hardware_of c.self.inside))
 sound c =
     let h = hardware_of c.self.inside in
-    sound_with_cache h c.write-cost.new.self (draining c.self.inside) (c.self.inside.cycle + c.from.result) c.self.invariant.sound
-    (described c)
+    sound_with_cache c.self.invariant.sound (described c)
     (retired_when_draining h.values h.committed c.self.invariant.sound.stores.each)
     (below_when_draining h.rob.retired h.committed c.self.invariant.sound.stores.older)
     (omega (arith, c.self.invariant.sound.cycles, c.from.ensures, c.write-cost.type_inv))
 
 stores : (c : goal.After-self-1) →
     c.start_drain-access.new.self ≡ queue_of (record (hardware_of c.self.inside) { committed = draining c.self.inside })
-stores c = queued c.self.inside c.start_drain-access.new.self c.start_drain-access.result c.self.invariant
-    c.start_drain-access.ensures.access c.start_drain-access.ensures.stores
+stores c = queued c.self.invariant c.start_drain-access.ensures.access c.start_drain-access.ensures.stores
 
 pub invariant_of-self : goal.invariant_of-self
 invariant_of-self c =
@@ -115,5 +108,5 @@ returns c =
     view_with_cache c.self.invariant (sound c) (stores c)
     ∙ accessed c
     ∙ ap (λ o. start_drain o (hardware_of p))
-    (sym (is_oldest p c.start_drain-access.result c.self.invariant c.start_drain-access.ensures.access))
+    (sym (is_oldest c.self.invariant c.start_drain-access.ensures.access))
     ∙ ap (λ (h : Hardware). start_drain (oldest_to_drain h.committed) h) c.self.view_is
