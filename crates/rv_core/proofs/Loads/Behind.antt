@@ -10,13 +10,6 @@ module _ (base : ℕ) where
       length (with_store base state bytes) ≡ size
   length-with_store size state bytes sized inside = grind (arith, length-overwritten)
 
-  written_before : (address : ℕ) (access : StoreAccess) → address < access.address → written_at address access ≡ None
-  written_before address access before = cond-false _ _ None (lt-leb access.address address before)
-
-  written_from : (address : ℕ) (access : StoreAccess) → access.address ≤ address →
-      written_at address access ≡ slice_get access.bytes (address - access.address)
-  written_from address access from = cond-true _ _ None (le-leb access.address address from)
-
   get_or-with_access : (size address : ℕ) (access : StoreAccess) (bytes : List ℕ) → length bytes ≡ size → base ≤ access.address →
       access.address + length access.bytes ≤ base + size → base ≤ address →
       get_or (overwritten bytes (access.address - base) access.bytes) (address - base) 0
@@ -27,8 +20,6 @@ module _ (base : ℕ) where
         get_or-overwritten_below,
         get_or-overwritten_in,
         get_or-overwritten_above,
-        written_before,
-        written_from,
         slice_get-get_or,
         slice_get_past,
       )

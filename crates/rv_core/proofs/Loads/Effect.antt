@@ -4,33 +4,12 @@ use Rattle.rv_core.proofs.Words.{◌≡◌, ℕ, ◌+◌, ◌%◌, ◌≤◌, Bo
 use Rattle.rv_core.specs.declared.load.Path.TheVariants.{Without, FromStores, FromCache}
 use Rattle.rv_core.specs.declared.load.Path.{Path}
 
--- of two tests in turn, each with its fault
-
-abbrev fault_by : Bool → Bool → Cause → Cause → Option Cause
-fault_by aligned within misaligned outside = cond (not aligned) (Some misaligned) (cond (not within) (Some outside) None)
-
-abbrev effect_by : Bool → Bool → Cause → Cause → ℕ → Effect → Effect
-effect_by aligned within misaligned outside address effect =
-    cond (not aligned) (Faults misaligned address) (cond (not within) (Faults outside address) effect)
-
-faults_by : (aligned within : Bool) (misaligned outside cause : Cause) (access : Option StoreAccess) (address : ℕ)
-    (effect : Effect) → fault_by aligned within misaligned outside ≡ Some cause →
-    effect_message access (effect_by aligned within misaligned outside address effect) ≡ fault_message cause address
-faults_by aligned within misaligned outside cause access address effect is = grind arith
-
-gives_by : (aligned within : Bool) (misaligned outside : Cause) (access : Option StoreAccess) (address : ℕ) (effect : Effect) →
-    fault_by aligned within misaligned outside ≡ None →
-    effect_message access (effect_by aligned within misaligned outside address effect) ≡ effect_message access effect
-gives_by aligned within misaligned outside access address effect is = grind arith
-
 module _ (layout : Layout) (address : ℕ) where
   -- a load with a fault gives that fault
   pub load_faults : (s : State) (form : LoadForm) (rd : ℕ) (cause : Cause) →
       load_fault layout address (bytes_of (width_of form)) ≡ Some cause →
       effect_message None (loads layout s form rd address) ≡ fault_message cause address
-  load_faults s form rd cause is =
-      faults_by (is_aligned address (bytes_of (width_of form)))
-      (is_in_ram layout address (bytes_of (width_of form))) _ _ cause None address _ is
+  load_faults s form rd cause is = grind arith
 
   -- without a fault a load gives the number at its address, extended
   pub load_gives : (s : State) (form : LoadForm) (rd : ℕ) → load_fault layout address (bytes_of (width_of form)) ≡ None →
@@ -38,9 +17,7 @@ module _ (layout : Layout) (address : ℕ) where
       ≡ effect_message None (writes s rd
       (extended (is_sign_extended form) (bytes_of (width_of form)) (number_at layout s.ram address (bytes_of (width_of form))))
       (pc_plus_4 s.pc))
-  load_gives s form rd is =
-      gives_by (is_aligned address (bytes_of (width_of form)))
-      (is_in_ram layout address (bytes_of (width_of form))) _ _ None address _ is
+  load_gives s form rd is = grind arith
 
   -- and lies in RAM, at a multiple of its width
   pub load_within : (count : ℕ) → load_fault layout address count ≡ None →
@@ -51,16 +28,14 @@ module _ (layout : Layout) (address : ℕ) where
   pub store_faults : (s : State) (width : Width) (word : ℕ) (access : Option StoreAccess) (cause : Cause) →
       store_fault layout address (bytes_of width) ≡ Some cause →
       effect_message access (stores layout s width address word) ≡ fault_message cause address
-  store_faults s width word access cause is =
-      faults_by (is_aligned address (bytes_of width)) (is_writable layout address (bytes_of width)) _ _ cause access address _ is
+  store_faults s width word access cause is = grind arith
 
   -- without a fault a store gives what it writes
   pub store_gives : (s : State) (width : Width) (word : ℕ) (access : Option StoreAccess) →
       store_fault layout address (bytes_of width) ≡ None →
       effect_message access (stores layout s width address word)
       ≡ record { value = 0; fault = None; next_pc = pc_plus_4 s.pc; store = access }
-  store_gives s width word access is =
-      gives_by (is_aligned address (bytes_of width)) (is_writable layout address (bytes_of width)) _ _ access address _ is
+  store_gives s width word access is = grind arith
 
   -- and lies in writable RAM, at a multiple of its width
   pub store_within : (count : ℕ) → store_fault layout address count ≡ None →

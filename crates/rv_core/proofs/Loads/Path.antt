@@ -4,24 +4,10 @@ use Rattle.rv_core.proofs.Words.{◌≡◌, ℕ, Bool, cond, not, ◌&&◌, ◌|
 use Rattle.rv_core.specs.declared.load.Path.TheVariants.{FromStores, FromCache}
 use Rattle.rv_core.specs.declared.load.Path.{Path}
 
-path_covered : (all : Bool) (address : ℕ) (overlay : List (Option ℕ)) →
-    defined_path address (cond all (FromStores overlay) (FromCache overlay))
-    ≡ cond all DefinedFromStores (DefinedFromCache address)
-path_covered all address overlay = grind arith
-
-path_tested : (aligned in_ram : Bool) (misaligned outside : Cause) (address count : ℕ) (overlay : List (Option ℕ)) →
-    defined_path address (path_unless
-    (cond (not aligned) (Some misaligned) (cond (not in_ram) (Some outside) None)) overlay count)
-    ≡ cond (not (aligned && in_ram)) DefinedWithout
-    (cond (is_forwarded overlay count) DefinedFromStores (DefinedFromCache address))
-path_tested aligned in_ram misaligned outside address count overlay = grind (arith, path_covered)
-
 -- the code's path of a load is the definition's
 pub path_is_defined : (h : Hardware) (older : List Entry) (address count : ℕ) →
     defined_path address (path_of (layout_of h.values) (stores_behind h older) address count) ≡ path_of_load h older address count
-path_is_defined h older address count =
-    path_tested (is_aligned address count) (is_in_ram (layout_of h.values) address count) _ _ address count
-    (forwarded (stores_behind h older) address count)
+path_is_defined h older address count = grind arith
 
 -- what the port lets pass
 pub port_is_defined : (h : Hardware) (address : ℕ) (p : Path) →

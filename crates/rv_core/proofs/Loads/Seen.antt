@@ -39,9 +39,4 @@ module _ (h : Hardware) (sound : IsSoundHardware h) (address : ℕ) where
   -- no byte outside RAM is cached
   pub outside_by : (Found : Type 0) → IsCached h.cache address → is_in_ram (layout_of h.values) address 1 ≡ false → Found
   outside_by Found cached outside =
-      let above = le-leb h.values.ram_base address (omega (arith, cached.0, sound.cache.base)) in
-      let below = le-leb (address + 1) (h.values.ram_base + h.values.ram_size)
-      (omega (arith, cached.1, sound.cache.base, sound.cache.bytes)) in
-      absurd (false≢true (sym outside
-      ∙ and_from (nat_le h.values.ram_base address)
-      (nat_le (address + 1) (h.values.ram_base + h.values.ram_size)) above below))
+      absurd (grind (arith, and_from, sound.cache.base, sound.cache.bytes))

@@ -118,12 +118,7 @@ renamed_from : (capacity seq : ℕ) (target : Option ℕ) (is_jump : Bool) (es :
       producers = producers_of (seq + 1) es;
       checkpoints = if is_early then checkpoints_of [] (seq + 1) es else [];
     }
-renamed_from capacity seq None is_jump es false = refl
-renamed_from capacity seq (Some r) is_jump es false = rw (oldest_goes r seq (producers_of (seq + 1) es)) refl
-renamed_from capacity seq None is_jump es true =
-    rw (noted_goes seq [] (checkpoints_of [] (seq + 1) es) (younger_stay seq [] (seq + 1) es (omega arith)) is_jump) refl
-renamed_from capacity seq (Some r) is_jump es true =
-    rw (oldest_goes r seq (producers_of (seq + 1) es), without_head r seq es is_jump) refl
+renamed_from capacity seq target is_jump es is_early = grind (arith, oldest_goes, noted_goes, younger_stay, without_head)
 
 pub renamed_behind_head : (values : Values) (capacity seq : ℕ) (e : Entry) (es : List Entry) →
     without_checkpoint seq (without_target seq (target_of_word e.instruction)

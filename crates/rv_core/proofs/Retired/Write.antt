@@ -22,14 +22,7 @@ covered stale address from to = rw (le-leb stale.base address from, lt-ltb addre
 
 access_is_covered : (values : Values) (stale : StaleWords) (access : StoreAccess) → IsLegalAccess values access →
     stale.base ≡ values.ram_base → stale.size ≡ values.ram_size → IsTrue (is_covered stale access.address)
-access_is_covered values stale access legal base size =
-    covered stale access.address (omega (arith, base, legal.from_base)) (elim legal.aligned.0 [
-      | inl one ↦ omega (arith, one, base, size, legal.to_end)
-      | inr more ↦ elim more [
-        | inl two ↦ omega (arith, two, base, size, legal.to_end)
-        | inr four ↦ omega (arith, four, base, size, legal.to_end)
-      ]
-    ])
+access_is_covered values stale access legal base size = grind (arith, covered)
 
 -- it lies in the words that may be stale
 pub write_is_covered : (values : Values) (stale : StaleWords) (is_store : Bool) (written : Option StoreAccess) →
