@@ -43,13 +43,10 @@ module _ (ram below : List ℕ) (ss : List Store) (address place : ℕ) where
 forwarded_some : (o : Option ℕ) (a b : ℕ) → is_some o ≡ true → unwrap_or o a ≡ unwrap_or o b
 forwarded_some o a b some = grind arith
 
-fourth : (a b c d : Bool) → (a && (b && (c && (d && true)))) ≡ true → d ≡ true
-fourth a b c d all = grind arith
-
 pub forwarded_all : (width : Width) (ss : List Store) (address : ℕ) →
     is_forwarded (forwarded ss address (bytes_of width)) (bytes_of width) ≡ true → (k : ℕ) → k < bytes_of width →
     is_some (youngest_byte (address + k) ss) ≡ true
-forwarded_all width ss address all k lt = grind (arith, and_parts, fourth)
+forwarded_all width ss address all k lt = grind (arith, and_parts)
 
 module _ (base size : ℕ) (ss : List Store) (bytes : List ℕ) (sized : length bytes ≡ size) (inside : LieIn base size ss)
     (address : ℕ) (width : Width) (from : base ≤ address) (to : address + bytes_of width ≤ base + size) where

@@ -15,16 +15,15 @@ module _ (h : Hardware) (sound : IsSoundHardware h) (address : ℕ) where
 
   -- outside RAM there is none
   pub none_outside : (IsCached h.cache address → ⊥) → None ≡ byte
-  none_outside outside = elim (cases_lt address h.values.ram_base) [
-    | inl below ↦ sym (cond-false (nat_le h.values.ram_base address) _ None (lt-leb h.values.ram_base address below))
-    | inr from ↦ elim (cases_lt address (h.values.ram_base + h.values.ram_size)) [
-      | inl within ↦ absurd (outside (omega (arith, sound.cache.base), omega (arith, sound.cache.base, sound.cache.bytes)))
-      | inr past ↦
-          let long = length-memory_behind h.values.ram_base h.values.ram_size h.committed h.cache.bytes sound.cache.bytes
-          inside in
-          sym (from_base from ∙ slice_get_past (seen h).ram (address - h.values.ram_base) (omega (arith, long)))
-    ]
-  ]
+  none_outside outside =
+      grind (
+        arith,
+        from_base,
+        slice_get_past,
+        sound.cache.base,
+        sound.cache.bytes,
+        length-memory_behind h.values.ram_base h.values.ram_size h.committed h.cache.bytes sound.cache.bytes inside,
+      )
 
   -- in RAM it is the youngest store's, or the cache's
   pub some_inside : IsCached h.cache address → (n : ℕ) →

@@ -49,9 +49,7 @@ committed_whole start h old new done left before told turn next last some is end
 pub steps_with : (old before new : List Step) (so_far : List Step) (told : Option Step) → before ≡ old ++ so_far →
     new ≡ and_step before told →
     new ≡ old ++ and_step so_far told
-steps_with old before new so_far None appended more = more ∙ appended
-steps_with old before new so_far (Some step) appended more =
-    more ∙ ap (λ l. l ++ step ∷ []) appended ∙ append_assoc old so_far (step ∷ [])
+steps_with old before new so_far told appended more = grind (arith, append_assoc)
 
 -- a turn takes one step at most
 pub few_with : (steps : List Step) (told : Option Step) (done : ℕ) → length steps ≤ done → length (and_step steps told) ≤ done + 1

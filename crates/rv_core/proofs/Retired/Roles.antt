@@ -75,8 +75,7 @@ retires_last e m h steps none elsewhere = ap (λ f. finish_head e m f (committin
 -- a turn that ends the phase, as any turn
 pub ended_as : (h : Hardware) (steps : List Step) (told : Option Step) →
     turn_ended h steps told ≡ turn_left h steps told (head.Ends (stop_after told))
-ended_as h steps None = refl
-ended_as h steps (Some step) = refl
+ended_as h steps told = grind arith
 
 -- a serialising head waits for no result
 pub waits_not : (instruction : Option Instr) → role_of instruction ≡ WaitsForResult → is_serialising instruction ≡ true → ⊥

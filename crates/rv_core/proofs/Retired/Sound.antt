@@ -8,10 +8,9 @@ use Rattle.rv_core.proofs.Retired.Stores.{AreRetired}
 retired_with : (values : Values) (ss : List QueuedStore) (seq : ℕ) (is_store : Bool) (written : Option StoreAccess) →
     AreRetired values ss → IsLegalWrite values is_store None written → AreRetired values (ss ++ committed_store seq written)
 retired_with values ss seq is_store None are legal = rw (append-nil ss) are
-retired_with values ss seq false (Some access) are legal = absurd legal
-retired_with values ss seq true (Some access) are legal =
+retired_with values ss seq is_store (Some access) are legal =
     All-push (λ (t : QueuedStore). IsRetiredStore values t.state) ss
-    (record { seq = seq; state = Filled access Committed }) are legal
+    (record { seq = seq; state = Filled access Committed }) are (grind arith)
 
 older_with : (ss : List QueuedStore) (seq : ℕ) (written : Option StoreAccess) → All (λ (s : QueuedStore). s.seq < seq) ss →
     All (λ (s : QueuedStore). s.seq < seq + 1) (ss ++ committed_store seq written)

@@ -29,11 +29,10 @@ pub write_is_covered : (values : Values) (stale : StaleWords) (is_store : Bool) 
     IsLegalWrite values is_store None written →
     stale.base ≡ values.ram_base → stale.size ≡ values.ram_size → IfSome written (λ a. IsTrue (is_covered stale a.address))
 write_is_covered values stale writes None legal base size = record {}
-write_is_covered values stale false (Some access) legal base size = absurd legal
 write_is_covered values stale true (Some access) legal base size = access_is_covered values stale access legal base size
+write_is_covered values stale false (Some access) legal base size = absurd legal
 
 -- the registers with a target's value
 pub target_written : (registers : List ℕ) (target : Option ℕ) (m : Message) → IsTarget registers target →
     registers_with (option_map (λ (register : ℕ). (register, m.value)) target) registers ≡ with_value registers target (Some m)
-target_written registers None m ok = refl
-target_written registers (Some r) m ok = rw (ne_eqb r 0 ok.0) refl
+target_written registers target m ok = grind (arith, ne_eqb)

@@ -39,21 +39,15 @@ serial_in (Some e) = is_serialising e.instruction
 abbrev IsLast : List Entry → Type 0
 IsLast es = AllPairs (λ older younger. is_serialising older.instruction ≡ false) es
 
-serial-last : (es : List Entry) (i : ℕ) → length es ≡ i + 1 → IsLast es →
-    list_any (λ e. is_serialising e.instruction) es ≡ serial_in (slice_get es i)
-serial-last [] i is last = absurd (omega arith)
-serial-last (e ∷ []) i is last =
-    let first : i ≡ 0 = omega arith in rw first (or-false (is_serialising e.instruction))
-serial-last (e ∷ d ∷ es) zero is last = absurd (omega arith)
-serial-last (e ∷ d ∷ es) (suc i) is last =
-    let before : is_serialising e.instruction ≡ false = last 0 1 e (omega arith) (omega arith) in
-    let others = pairs-tail (λ older younger. is_serialising older.instruction ≡ false) e (d ∷ es) last in
-    rw before (serial-last (d ∷ es) i (omega arith) others)
-
 -- one of them serialises where the youngest does
 pub serial-youngest : (es : List Entry) → IsLast es → list_any (λ e. is_serialising e.instruction) es ≡ serial_in (youngest es)
 serial-youngest [] last = refl
-serial-youngest (e ∷ es) last = serial-last (e ∷ es) (length (e ∷ es) - 1) (omega arith) last
+serial-youngest (e ∷ []) last = or-false (is_serialising e.instruction)
+serial-youngest (e ∷ d ∷ es) last =
+    let before : is_serialising e.instruction ≡ false = last 0 1 e (omega arith) (omega arith) in
+    let others = pairs-tail (λ older younger. is_serialising older.instruction ≡ false) e (d ∷ es) last in
+    let place : suc (length (d ∷ es) - 1) ≡ length (e ∷ d ∷ es) - 1 = omega arith in
+    rw before (serial-youngest (d ∷ es) others ∙ ap (λ i. serial_in (slice_get (e ∷ d ∷ es) i)) place)
 
 -- the stations of a kind are full where as many instructions wait as there are stations
 pub full-is : (h : Hardware) (o : Option Kind) → are_full_for o (stations_of h.values h.registers h.rob) ≡ has_full_stations h o
@@ -96,9 +90,7 @@ module _ (h : Hardware) (fetched : Fetched) where
   all_fail : (es : List Entry) → list_any (λ e. is_serialising e.instruction) es ≡ false →
       All (λ (e : Entry). is_serialising e.instruction ≡ false) es
   all_fail [] none = λ k d lt. absurd (omega arith)
-  all_fail (e ∷ es) none =
-      let parts = or_parts (is_serialising e.instruction) (list_any (λ e. is_serialising e.instruction) es) none in
-      All-cons (λ (e : Entry). is_serialising e.instruction ≡ false) e es parts.0 (all_fail es parts.1)
+  all_fail (e ∷ es) none = grind (arith, All-cons, all_fail es)
 
   -- the hardware is as sound with the instruction as without it
   pub sound-dispatched : IsSoundHardware h → reason_of h fetched ≡ None → IsDecoded fetched →

@@ -1,5 +1,5 @@
 -- A change of the entry of a number, and a cut at one, keep what holds of the entries.
-use Rattle.rv_core.proofs.Words.{◌≡◌, ℕ, suc, ◌+◌, ◌<◌, ◌≤◌, true, false, cond, List, [], ◌∷◌, length, nat_lt, ◌==◌, slice_index_or as get_or, Some, All, AllPairs, sym, refl, ap, ◌∙◌, inl, inr, arith, le-ltb, eqb-true, cases_Bool, All-cons, All-head, All-tail, AllPairs-cons, entries_below, with_entry, Entry, entry_of}
+use Rattle.rv_core.proofs.Words.{Bool, ◌≡◌, ℕ, suc, ◌+◌, ◌<◌, ◌≤◌, true, false, cond, List, [], ◌∷◌, length, nat_lt, ◌==◌, slice_index_or as get_or, Some, All, AllPairs, sym, refl, ap, ◌∙◌, inl, inr, arith, le-ltb, eqb-true, cases_Bool, All-cons, All-head, All-tail, AllPairs-cons, entries_below, with_entry, Entry, entry_of}
 
 -- the entry of a number is the first one, or stands behind it
 pub data IsHeld (n s : ℕ) (d : Entry) (es : List Entry) (e : Entry) : Type 0 where
@@ -70,15 +70,15 @@ module _ (P : Entry → Type 0) where
         (All-with_entry f n (s + 1) es (λ d held. keeps d (rw other held)) (All-tail P e es each)))
   ]
 
+  All-if : (b : Bool) (e : Entry) (es : List Entry) → P e → All P es → All P (cond b (e ∷ es) [])
+  All-if b e es here later = grind (arith, All-cons)
+
   -- what holds of each holds of those that a cut leaves
   pub All-entries_below : (n s : ℕ) (es : List Entry) → All P es → All P (entries_below n s es)
   All-entries_below n s [] each = each
   All-entries_below n s (e ∷ es) each =
-      elim (nat_lt s n) as (λ b. All P (cond b (e ∷ entries_below n (s + 1) es) [])) [
-        | true ↦ All-cons P e (entries_below n (s + 1) es) (All-head P e es each)
-            (All-entries_below n (s + 1) es (All-tail P e es each))
-        | false ↦ λ k d lt. absurd (omega arith)
-      ]
+      All-if (nat_lt s n) e (entries_below n (s + 1) es) (All-head P e es each)
+      (All-entries_below n (s + 1) es (All-tail P e es each))
 
 -- ---- what holds of each entry and all later ones
 module _ (R : Entry → Entry → Type 0) where

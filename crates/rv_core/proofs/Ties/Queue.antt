@@ -129,13 +129,6 @@ module _ (n cycle : ℕ) (message : Message) where
   abbrev news : StoreState
   news = store_of_message message.store
 
-  answered-own : (s : ℕ) (e : Entry) (b : Option Message) → (s == n) ≡ true → b ≡ None →
-      answered n news (record { seq = s; state = store_of_broadcast b }) ≡ record { seq = s; state = news }
-  answered-own s e b equal silent = rw (silent, equal) refl
-
-  answered-at : (s : ℕ) (e : Entry) → (s == n) ≡ false → answered n news (store_at s e) ≡ store_at s e
-  answered-at s e other = rw other refl
-
   -- with a store, or with none
   answered-with : (b : Bool) (x y : Store) (xs ys : List Store) → answered n news x ≡ y → map (answered n news) xs ≡ ys →
       map (answered n news) (cond b (x ∷ xs) xs) ≡ cond b (y ∷ ys) ys
@@ -148,13 +141,12 @@ module _ (n cycle : ℕ) (message : Message) where
     | at_head equal number one ↦
         let quiet : broadcast_of d.stage ≡ None = rw one silent in
         rw equal
-        (answered-with (is_store d.instruction) (store_at s d) _ (stores_of (s + 1) es) _
-        (answered-own s d (broadcast_of d.stage) (eq-eqb s n (sym number)) quiet)
-        (answered-later n news (s + 1) es (omega (arith, number))))
+        (answered-with (is_store d.instruction) (store_at s d) (record { seq = s; state = news }) (stores_of (s + 1) es) _
+        (rw (quiet, eq-eqb s n (sym number)) refl) (answered-later n news (s + 1) es (omega (arith, number))))
     | in_tail other is ↦
         rw other
-        (answered-with (is_store d.instruction) (store_at s d) _ (stores_of (s + 1) es) _
-        (answered-at s d (ne_eqb s n (λ back. eqb-false n s other (sym back)))) (stores-answered (s + 1) es e is silent))
+        (answered-with (is_store d.instruction) (store_at s d) (store_at s d) (stores_of (s + 1) es) _
+        (rw (ne_eqb s n (λ back. eqb-false n s other (sym back))) refl) (stores-answered (s + 1) es e is silent))
   ]
 
 -- the queue with a broadcast told to it
