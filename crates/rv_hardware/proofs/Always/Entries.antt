@@ -1,5 +1,5 @@
 -- An instruction in flight waits for a unit or to be the oldest, or its message tells no more, and no less, than it may.
-use Rattle.rv_hardware.proofs.Words.{◌≡◌, ℕ, Bool, true, ◌||◌, List, ◌∷◌, ◌++◌, is_some, Some, None, Option, option_and_then, sym, subst, is_of_kind, is_serialising, is_store, kind_of_word, Message, Instr, Lines, Kind, Values, instruction_of, Layout, Effect, State, Each, finished, issue_of, predicting, started, Entry, Stage, Finished, Running, Waiting, Fetched, any_prediction, entry_of_fetched, stage_by, Hardware, broadcast_of, is_waiting, reset_hardware, access_of, effect_message, result_of_word, Each-append, Each-left, Each-right, Each-push, Each-change, Each-weaker, arith}
+use Rattle.rv_hardware.proofs.Words.{◌≡◌, ℕ, Bool, true, ◌||◌, ◌∷◌, ◌++◌, is_some, Some, None, Option, option_and_then, sym, subst, is_of_kind, is_serialising, is_store, kind_of_word, Message, Instr, Lines, Kind, instruction_of, Layout, Effect, State, Each, finished, issue_of, predicting, started, Entry, Stage, Finished, Running, Waiting, Fetched, any_prediction, entry_of_fetched, stage_by, Hardware, broadcast_of, is_waiting, access_of, effect_message, result_of_word, Each-append, Each-left, Each-right, Each-push, Each-change, Each-weaker, arith}
 use Rattle.rv_hardware.proofs.Turns.Cited.{IsNew, fetch_phase, IsKept, phases-kept, IsKeptByChanges, all_squashed, head_retires, one_starts, one_sent, one_mended, one_enters, IsResultOfWord, HasRun}
 use Rattle.rv_hardware.proofs.Always.Faults.{HasWordOr, IsUnitFault, by_result}
 use Rattle.rv_hardware.proofs.Marks.Sound.{some_kind}
@@ -116,7 +116,3 @@ entries-kept = record {
       let added = Each-weaker (IsNew cycle) FetchedShape (λ f new. no_word f.word f.instruction new.1) phase.added phase.are_new in
       (shape.0, subst (Each FetchedShape) (sym phase.entries) (Each-append FetchedShape h.front.entries phase.added shape.1 added));
 }
-
--- it holds at reset
-pub entries-at_reset : (values : Values) (image : List ℕ) (start : ℕ) → AreShaped (reset_hardware values image start)
-entries-at_reset values image start = (tt, tt)

@@ -1,5 +1,5 @@
 -- An execution is over within the longest one's time.
-use Rattle.rv_hardware.proofs.Words.{ℕ, ◌+◌, ◌≤◌, Bool, List, ◌∷◌, ◌++◌, None, Option, subst, arith, Message, Kind, Values, Each, finished, predicting, started, Entry, Stage, Finished, Running, stage_by, Hardware, reset_hardware, Each-left, Each-right, Each-push, Each-change, Each-weaker}
+use Rattle.rv_hardware.proofs.Words.{ℕ, ◌+◌, ◌≤◌, Bool, ◌∷◌, ◌++◌, None, Option, subst, arith, Message, Kind, Each, finished, predicting, started, Entry, Stage, Finished, Running, stage_by, Hardware, Each-left, Each-right, Each-push, Each-change, Each-weaker}
 use Rattle.rv_hardware.proofs.Turns.Cited.{IsKept, phases-kept, IsKeptByChanges, all_squashed, head_retires, one_starts, one_sent, one_mended, one_enters, longest_execution}
 
 -- where it executes, it is over by a cycle
@@ -49,7 +49,3 @@ ending-kept = record {
       let past : limit ≤ more = omega arith in
       Each-weaker (Ending limit) (Ending more) (λ e before. one_later limit more e.stage past before) h.rob.entries ends;
 }
-
--- it holds at reset
-pub ending-at_reset : (values : Values) (image : List ℕ) (start : ℕ) → AreEnding (reset_hardware values image start)
-ending-at_reset values image start = tt

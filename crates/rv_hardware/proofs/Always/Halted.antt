@@ -1,7 +1,7 @@
 -- Where fetch is halted, the last word, fetched or in flight, is the one that was not there.
-use Rattle.rv_hardware.proofs.Words.{◌≡◌, ℕ, zero, suc, ◌-◌, Bool, true, false, List, [], ◌∷◌, ◌++◌, map, length, Some, None, Option, MatchOption, sym, refl, ap, ◌∙◌, subst, append_assoc, map-append, Message, Values, Memory, finished, started, Entry, FetchBuffer, Fetches, FetchesInto, is_halted, stop_behind, stop_for, FetchStop, Halted, Fetched, any_prediction, entry_of_fetched, Hardware, reset_hardware, map-change, arith}
+use Rattle.rv_hardware.proofs.Words.{◌≡◌, ℕ, suc, ◌-◌, Bool, true, false, List, [], ◌∷◌, ◌++◌, map, length, Some, None, Option, MatchOption, sym, refl, ap, ◌∙◌, subst, append_assoc, map-append, Message, Memory, finished, started, Entry, FetchBuffer, Fetches, FetchesInto, is_halted, stop_behind, stop_for, FetchStop, Halted, Fetched, any_prediction, entry_of_fetched, Hardware, map-change, arith}
 use Rattle.rv_hardware.proofs.Turns.Cited.{IsKept, phases-kept, IsKeptByChanges, all_squashed, head_retires, one_starts, one_sent, one_mended, one_enters, fetch-cases}
-use Rattle.rv_hardware.proofs.Always.Entries.{AreShaped, entries_changes, entries-kept, entries-at_reset, told_at_end}
+use Rattle.rv_hardware.proofs.Always.Entries.{AreShaped, entries_changes, entries-kept, told_at_end}
 use Rattle.rv_hardware.proofs.Always.Faults.{HasWordOr}
 
 abbrev word_of_entry : Entry → Option ℕ
@@ -74,10 +74,9 @@ module _ (ram : Memory) (cycle : ℕ) where
       Fetches any_prediction ram cycle width room pc added next stop → stop ≡ Halted → (before : Option ℕ) →
       last_of before (map word_of_fetched added) ≡ None
   last_added (suc width) (suc room) pc [] next stop words halted before = absurd words.0
-  last_added zero room pc (e ∷ es) next stop words halted before = absurd words
-  last_added (suc width) zero pc (e ∷ es) next stop words halted before = absurd words
   last_added (suc width) (suc room) pc (e ∷ es) next stop (at, rest) halted before =
       last_by width room e es next stop (stop_behind e) refl halted (λ on. last_added width room e.predicted es next stop on halted e.word) rest
+  last_added width room pc (e ∷ es) next stop words halted before = absurd words
   last_added width room pc [] next stop words halted before = absurd (cc (words.0, halted))
 
   behind_added : (entries : List Entry) (old : FetchBuffer) (added : List Fetched) (next : ℕ) (stop : FetchStop) →
@@ -113,7 +112,3 @@ halted-kept = record {
   fetch = λ ram cycle h front stop has fetches.
       (entries-kept.fetch ram cycle h front stop has.0 fetches, behind_fetched ram cycle h.rob.entries h.front front stop fetches has.1);
 }
-
--- it holds at reset
-pub halted-at_reset : (values : Values) (image : List ℕ) (start : ℕ) → IsHalted (reset_hardware values image start)
-halted-at_reset values image start = (entries-at_reset values image start, tt)

@@ -1,5 +1,5 @@
 -- The stores that wait for the cache's port are retired ones, and only the oldest may have begun its access.
-use Rattle.rv_hardware.proofs.Words.{◌≡◌, ℕ, true, false, List, [], ◌∷◌, ◌++◌, Option, append-nil, StoreAccess, Values, Each, with_oldest_draining, without_drained, draining, is_committed, is_committed_state, is_draining, Store, StoreState, Hardware, reset_hardware, committed_store, by_test, Each-push, arith}
+use Rattle.rv_hardware.proofs.Words.{◌≡◌, ℕ, true, false, List, [], ◌∷◌, ◌++◌, Option, append-nil, StoreAccess, Each, with_oldest_draining, without_drained, draining, is_committed, is_committed_state, is_draining, Store, StoreState, Hardware, committed_store, by_test, Each-push, arith}
 use Rattle.rv_hardware.proofs.Turns.Cited.{IsKept, phases-kept, IsKeptByChanges}
 
 -- retired, and its access has not begun
@@ -41,7 +41,3 @@ queue_changes h given holds queue = grind (arith, queue_retired, queue_without, 
 -- every cycle keeps it
 pub queue-kept : IsKept HasQueue
 queue-kept = record { phases = phases-kept queue_changes; fetch = λ ram cycle h front stop queue fetches. queue }
-
--- it holds at reset
-pub queue-at_reset : (values : Values) (image : List ℕ) (start : ℕ) → HasQueue (reset_hardware values image start)
-queue-at_reset values image start = tt

@@ -1,5 +1,5 @@
 -- An instruction that waits to be the oldest is the youngest: nothing younger is in flight beside it.
-use Rattle.rv_hardware.proofs.Words.{◌≡◌, ℕ, true, false, List, [], ◌∷◌, ◌++◌, Option, refl, or_parts, map-append, is_serialising, Instr, Values, Each, Entry, Hardware, reset_hardware, map-change, arith}
+use Rattle.rv_hardware.proofs.Words.{◌≡◌, true, false, List, [], ◌∷◌, ◌++◌, Option, refl, or_parts, map-append, is_serialising, Instr, Each, Entry, Hardware, map-change, arith}
 use Rattle.rv_hardware.proofs.Turns.Cited.{IsKept, phases-kept, IsKeptByChanges, is_any_serialising}
 use Rattle.rv_hardware.proofs.Always.Stores.{instructions_of}
 
@@ -51,10 +51,6 @@ last_changes h given holds last = grind (arith, changed_last, mended_last, map-a
 -- every cycle keeps it
 pub last-kept : IsKept IsSerialLast
 last-kept = record { phases = phases-kept last_changes; fetch = λ ram cycle h front stop last fetches. last }
-
--- it holds at reset
-pub last-at_reset : (values : Values) (image : List ℕ) (start : ℕ) → IsSerialLast (reset_hardware values image start)
-last-at_reset values image start = tt
 
 -- so one that is the oldest is alone
 pub alone : (e : Entry) (es : List Entry) → AreSerialLast (instructions_of (e ∷ es)) → is_serialising e.instruction ≡ true →

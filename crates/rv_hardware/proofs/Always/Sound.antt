@@ -1,11 +1,11 @@
 -- What every reachable hardware is: of its description, its queue, stores, executions, units, port, instructions and fetch within their bounds.
 use Rattle.rv_hardware.proofs.Words.{ℕ, List, sym, subst, IsLegal, Lines, Values, IsCycle, any_prediction, Hardware, Report, reset_hardware, Reachable, always}
 use Rattle.rv_hardware.proofs.Turns.KeptByCycle.{IsKept, kept-together, both-kept, cycle-keeps}
-use Rattle.rv_hardware.proofs.Always.Halted.{IsHalted, halted-kept, halted-at_reset}
+use Rattle.rv_hardware.proofs.Always.Halted.{IsHalted, halted-kept}
 use Rattle.rv_hardware.proofs.Always.Port.{HasPort, port-kept, port-at_reset}
-use Rattle.rv_hardware.proofs.Always.Queue.{HasQueue, queue-kept, queue-at_reset}
-use Rattle.rv_hardware.proofs.Always.Executions.{AreEnding, ending-kept, ending-at_reset}
-use Rattle.rv_hardware.proofs.Always.Serial.{IsSerialLast, last-kept, last-at_reset}
+use Rattle.rv_hardware.proofs.Always.Queue.{HasQueue, queue-kept}
+use Rattle.rv_hardware.proofs.Always.Executions.{AreEnding, ending-kept}
+use Rattle.rv_hardware.proofs.Always.Serial.{IsSerialLast, last-kept}
 use Rattle.rv_hardware.proofs.Always.Sizes.{HasShape, shape-kept, shape-at_reset}
 use Rattle.rv_hardware.proofs.Always.Stores.{HasStores, stores-kept, stores-at_reset}
 use Rattle.rv_hardware.proofs.Always.Units.{AreHeld, held-kept, held-at_reset}
@@ -37,17 +37,17 @@ always-kept v =
     }) (λ h all. all.sizes) (λ h all. (all.queue, (all.stores, (all.ending, (all.held, (all.port, (all.last, all.halted))))))) (shape-kept v)
     (both-kept queue-kept (both-kept stores-kept (both-kept ending-kept (both-kept held-kept (both-kept port-kept (both-kept last-kept halted-kept))))))
 
--- it holds at reset
+-- it holds at reset, where nothing is in flight and no store waits
 pub always-at_reset : (v : Values) (image : List ℕ) (start : ℕ) → IsLegal v → IsSoundFor v (reset_hardware v image start)
 always-at_reset v image start legal = record {
   sizes = shape-at_reset v image start legal;
-  queue = queue-at_reset v image start;
+  queue = tt;
   stores = stores-at_reset v image start;
-  ending = ending-at_reset v image start;
+  ending = tt;
   held = held-at_reset v image start;
   port = port-at_reset v image start;
-  last = last-at_reset v image start;
-  halted = halted-at_reset v image start;
+  last = tt;
+  halted = ((tt, tt), tt);
 }
 
 -- what hardware is, of its own description

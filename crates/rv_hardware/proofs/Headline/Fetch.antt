@@ -1,5 +1,5 @@
 -- What the fetch phase reads from RAM are the words of the program, unless they are stale.
-use Rattle.rv_hardware.proofs.Words.{◌≡◌, ℕ, zero, suc, ◌-◌, ◌%◌, Bool, List, [], ◌∷◌, ◌++◌, length, MatchBool, Option, MatchOption, refl, subst, arith, Values, Layout, Memory, fetched_word, State, Entry, Answers, FetchBuffer, Fetches, FetchesInto, IsFetchedAt, is_halted, stop_behind, FetchStop, Halted, Fetched, Hardware, layout_of, seen}
+use Rattle.rv_hardware.proofs.Words.{◌≡◌, ℕ, suc, ◌-◌, ◌%◌, Bool, List, [], ◌∷◌, ◌++◌, length, MatchBool, Option, MatchOption, refl, subst, arith, Values, Layout, Memory, fetched_word, State, Entry, Answers, FetchBuffer, Fetches, FetchesInto, IsFetchedAt, is_halted, stop_behind, FetchStop, Halted, Fetched, Hardware, layout_of, seen}
 use Rattle.rv_hardware.proofs.Headline.Fold.{IsWordAt, IsInBuffer, AreInBuffer}
 use Rattle.rv_hardware.proofs.Headline.Invariant.{FollowsProgram, IsSound, IsSoundAt}
 use Rattle.rv_hardware.proofs.Headline.Words.{fetched_same, length-memory_behind}
@@ -24,12 +24,11 @@ module _ (answers : Answers) (layout : Layout) (ram : Memory) (s : State) (cycle
 
   added : (es : List Fetched) (width room pc next : ℕ) (stop : FetchStop) → pc % 4 ≡ 0 → Fetches answers ram cycle width room pc es next stop → AddedInOrder pc es next
   added [] width room pc next stop aligned fetches = grind arith
-  added (e ∷ es) zero room pc next stop aligned fetches = absurd fetches
-  added (e ∷ es) (suc width) zero pc next stop aligned fetches = absurd fetches
   added (e ∷ es) (suc width) (suc room) pc next stop aligned fetches =
       let one = fetched_one pc e aligned fetches.0 in
       let rest = behind_one (stop_behind e) e es width room next stop one.aligned fetches.1 (λ more. added es width room e.predicted next stop one.aligned more) in
       record { words = (one, rest.words); aligned = rest.aligned }
+  added (e ∷ es) width room pc next stop aligned fetches = absurd fetches
 
   into_by : (halted : Bool) (entries : List Entry) (old new : FetchBuffer) (stop : FetchStop) → FollowsProgram layout s entries old →
       MatchBool halted ((new ≡ old) × (stop ≡ Halted))
