@@ -1,5 +1,5 @@
 -- A cycle by what a predictor answers is one by any of the predictions that there may be.
-use Rattle.rv_hardware.proofs.Words.{arith, ◌≡◌, ℕ, zero, suc, ◌-◌, Bool, List, [], ◌∷◌, ◌++◌, length, Option, MatchBool, MatchOption, Memory, Fetched, FetchStop, Halted, IsCycle, any_prediction, Hardware, Report, Cycles, ended, cycled, Arrival, Lines}
+use Rattle.rv_hardware.proofs.Words.{arith, ◌≡◌, ℕ, suc, ◌-◌, Bool, List, [], ◌∷◌, ◌++◌, length, Option, MatchBool, MatchOption, Memory, Fetched, FetchStop, Halted, IsCycle, any_prediction, Hardware, Report, Cycles, ended, cycled, Arrival, Lines}
 use Rattle.rv_front.specs.FetchBuffer.{Answers, FetchBuffer, Fetches, FetchesInto, IsFetchedAt, IsGuess, is_halted, stop_behind}
 use Rattle.rv_hardware.specs.Guided.{GuidedCycles, GuidedHardware, ended as guided_ended, cycled as guided_cycled}
 
@@ -17,8 +17,7 @@ module _ (answers : Answers) (ram : Memory) (cycle : ℕ) where
   any-fetches width room pc [] next stop is = is
   any-fetches (suc width) (suc room) pc (e ∷ es) next stop is =
       (any-at pc e is.0, where_none (Fetches answers ram cycle width room e.predicted es next stop) (Fetches any_prediction ram cycle width room e.predicted es next stop) (λ reason. (es ≡ []) × (next ≡ e.predicted) × (stop ≡ reason)) (stop_behind e) (any-fetches width room e.predicted es next stop) is.1)
-  any-fetches zero room pc (e ∷ es) next stop is = is
-  any-fetches (suc width) zero pc (e ∷ es) next stop is = is
+  any-fetches width room pc (e ∷ es) next stop is = is
 
   any-into_at : (halted : Bool) (old new : FetchBuffer) (stop : FetchStop)
       → MatchBool halted ((new ≡ old) × (stop ≡ Halted)) ((added : List Fetched) × Fetches answers ram cycle old.width (old.capacity - length old.entries) old.next_pc added new.next_pc stop × (new ≡ record old { entries = old.entries ++ added; next_pc = new.next_pc; halted = is_halted stop }))

@@ -1,5 +1,5 @@
 -- What a described predictor guides is determined: from the same hardware and predictor, two runs are the same run.
-use Rattle.rv_hardware.proofs.Words.{◌≡◌, ◌∙◌, ℕ, zero, suc, ◌+◌, ◌-◌, ◌^◌, ◌≤◌, Bool, true, false, List, [], ◌∷◌, ◌++◌, length, Option, Some, None, MatchBool, MatchOption, is_some, refl, sym, ap, subst, arith, length-append, unwrap_or, Memory, Stop, Halted, Committing, Dispatching, Hardware, Report, IsStop, NoneStops, true≢false, Arrival, Lines, Fetched, FetchStop}
+use Rattle.rv_hardware.proofs.Words.{◌≡◌, ◌∙◌, ℕ, suc, ◌+◌, ◌-◌, ◌^◌, ◌≤◌, Bool, true, false, List, [], ◌∷◌, ◌++◌, length, Option, Some, None, MatchBool, MatchOption, is_some, refl, sym, ap, subst, arith, length-append, unwrap_or, Memory, Stop, Halted, Committing, Dispatching, Hardware, Report, IsStop, NoneStops, true≢false, Arrival, Lines, Fetched, FetchStop}
 use Rattle.std.specs.List.{fold}
 use Rattle.rv_arch.specs.declared.outcome.Stop.TheVariants as stop
 use Rattle.rv_front.specs.FetchBuffer.{EndsFor, FetchBuffer, Fetches, FetchesInto, IsFetchedAt, IsGuess, is_halted, stop_behind}
@@ -42,19 +42,17 @@ module _ (predictor : DescribedPredictor) (ram : Memory) (cycle : ℕ) where
 
   fetches_once : (width room pc : ℕ) (es es' : List Fetched) (next next' : ℕ) (why why' : FetchStop)
       → Fetches (answers_of (Some predictor)) ram cycle width room pc es next why → Fetches (answers_of (Some predictor)) ram cycle width room pc es' next' why' → AreSame es es' next next' why why'
-  fetches_once zero room pc [] [] next next' why why' is is' = record { words = refl; after = is.1 ∙ sym is'.1; reasons = ends_for_one zero room why why' is.0 is'.0 }
-  fetches_once (suc width) zero pc [] [] next next' why why' is is' = record { words = refl; after = is.1 ∙ sym is'.1; reasons = ends_for_one (suc width) zero why why' is.0 is'.0 }
-  fetches_once zero room pc [] (e' ∷ es') next next' why why' is is' = absurd is'
-  fetches_once (suc width) zero pc [] (e' ∷ es') next next' why why' is is' = absurd is'
-  fetches_once zero room pc (e ∷ es) es' next next' why why' is is' = absurd is
-  fetches_once (suc width) zero pc (e ∷ es) es' next next' why why' is is' = absurd is
-  fetches_once (suc width) (suc room) pc (e ∷ es) [] next next' why why' is is' = absurd is'.0
   fetches_once (suc width) (suc room) pc (e ∷ es) (e' ∷ es') next next' why why' is is' =
       let first : e ≡ e' = fetched_once pc e e' is.0 is'.0 in
       same_more e e' es es' next next' why why' first
       (rest_once width room e es es' next next' why why' (stop_behind e) (fetches_once width room e.predicted es es' next next' why why') is.1
       (subst (λ f. Rest width room f es' next' why' (stop_behind f)) (sym first) is'.1))
+  fetches_once (suc width) (suc room) pc (e ∷ es) [] next next' why why' is is' = absurd is'.0
   fetches_once (suc width) (suc room) pc [] es' next next' why why' is is' = absurd is.0
+  fetches_once width room pc (e ∷ es) es' next next' why why' is is' = absurd is
+  fetches_once width room pc [] (e' ∷ es') next next' why why' is is' = absurd is'
+  fetches_once width room pc [] [] next next' why why' is is' =
+      record { words = refl; after = is.1 ∙ sym is'.1; reasons = ends_for_one width room why why' is.0 is'.0 }
 
   into_once : (halted : Bool) (old new new' : FetchBuffer) (why why' : FetchStop)
       → MatchBool halted ((new ≡ old) × (why ≡ Halted)) ((added : List Fetched) × Fetches (answers_of (Some predictor)) ram cycle old.width (old.capacity - length old.entries) old.next_pc added new.next_pc why × (new ≡ record old { entries = old.entries ++ added; next_pc = new.next_pc; halted = is_halted why }))

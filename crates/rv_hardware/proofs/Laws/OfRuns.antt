@@ -1,5 +1,5 @@
 -- The laws hold of every run of the hardware, on hardware that was just reset and on hardware that has run.
-use Rattle.rv_hardware.proofs.Words.{◌≡◌, ℕ, suc, ◌+◌, ◌<◌, ◌≤◌, Bool, true, false, cond, List, [], ◌∷◌, ◌++◌, IfSome, ◌==◌, Some, None, All, count_by, Option, AllPairs, sym, refl, ap, ◌∙◌, subst, inl, inr, append_assoc, append-nil, arith, All-append, All-weaker, at_kind, Arrival, Kind, Values, Each, Hardware, AreApartAtPort, DoesNotWait, EachProducer, HasCost, HasOperandsIn, HasOrderedStamps, IsBroadcastFirst, IsFetchedAhead, IsFetchedBehind, IsFetchedSince, IsKnownBefore, IsTrappedSoon, IssuesWithOperands, LacksRoom, Laws, LeaveNoUnitIdle, LeavesNoBusIdle, LeavesNoUnitIdle, LoadsAfterStore, WaitsForBus, WaitsForRoom, WaitsForUnits, is_pipelined, units_of, Report, Cycles, Reachable, cycled, ended, steps_of, EachBehind, EachNext, flushes, is_broadcast_in, is_buffered_in, is_dispatched_in, is_executing_in, is_fetched_in, is_in_flight_in, is_issued_in, is_queued_in, is_stationed_in, last_from, producer_among, rows_of, sources_of_row, writes_register, is_interrupt, stamp_of, Execution, Row, Step, Interrupt, Retired, Trap, All-Each, All-right, Each-append, Each-right, Each-weaker, Each-both, count-count_by, count-append, count-none}
+use Rattle.rv_hardware.proofs.Words.{◌≡◌, ℕ, suc, ◌+◌, ◌<◌, ◌≤◌, Bool, true, false, cond, List, [], ◌∷◌, ◌++◌, IfSome, ◌==◌, Some, None, All, count_by, Option, AllPairs, sym, refl, ap, ◌∙◌, subst, inl, inr, append_assoc, append-nil, arith, All-append, All-weaker, at_kind, Arrival, Kind, Values, Each, Hardware, AreApartAtPort, DoesNotWait, EachProducer, HasCost, HasOperandsIn, HasOrderedStamps, IsBroadcastFirst, IsFetchedAhead, IsFetchedBehind, IsFetchedSince, IsKnownBefore, IsTrappedSoon, IssuesWithOperands, LacksRoom, Laws, LeaveNoUnitIdle, LeavesNoBusIdle, LeavesNoUnitIdle, LoadsAfterStore, WaitsForBus, WaitsForRoom, WaitsForUnits, is_pipelined, units_of, Report, Cycles, Reachable, cycled, ended, steps_of, EachBehind, EachNext, flushes, is_broadcast_in, is_buffered_in, is_dispatched_in, is_executing_in, is_fetched_in, is_in_flight_in, is_issued_in, is_queued_in, is_stationed_in, last_from, producer_among, rows_of, sources_of_row, writes_register, is_interrupt, stamp_of, Execution, Row, Step, Retired, All-Each, All-right, Each-append, Each-right, Each-weaker, Each-both, count-count_by, count-append, count-none}
 use Rattle.rv_hardware.proofs.Laws.HeadsDoNotWait.{law_of_heads_do_not_wait}
 use Rattle.rv_hardware.proofs.Laws.FetchedAhead.{law_of_fetched_ahead}
 use Rattle.rv_hardware.proofs.Laws.TrapsSoon.{law_of_traps_soon}
@@ -186,10 +186,7 @@ module _ (v : Values) (earlier steps : List Step) (old new : Hardware) (before_r
 
       by_steps : (x y : Step) → IsFetchedBehind v 0 (rows_of (earlier ++ steps)) x y → IsFetchedBehind v old.cycle (rows_of steps) x y
       by_steps (Retired a) (Retired b) h = by_cases a b h
-      by_steps (Retired a) (Trap pc cause value cycle) h = tt
-      by_steps (Retired a) (Interrupt pc cause cycle) h = tt
-      by_steps (Trap pc cause value cycle) y h = tt
-      by_steps (Interrupt pc cause cycle) y h = tt
+      by_steps x y h = tt
 
   pub laws_of_steps : Laws v old.cycle new.cycle steps
   laws_of_steps = record {

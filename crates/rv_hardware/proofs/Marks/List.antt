@@ -1,5 +1,5 @@
 -- The marks of rows, instructions in flight and fetched words go on, and stand as they stood at the end of each earlier cycle.
-use Rattle.rv_hardware.proofs.Words.{◌≡◌, ℕ, ◌<◌, ◌≤◌, Bool, false, cond, List, [], ◌∷◌, ◌++◌, map, is_some, if◌then◌else◌, nat_le, Some, None, filter, Option, sym, refl, ap, ◌∙◌, append_assoc, append-nil, arith, le-leb, lt-leb, map-append, filter-append, Message, Instr, Issue, instruction_of, Each, Entry, Stage, Finished, Running, Waiting, Fetched, Hardware, rows_of, Execution, Row, Step, Interrupt, Retired, Trap, Each-weaker, Beginning, Beginning-self, Beginning-trans}
+use Rattle.rv_hardware.proofs.Words.{◌≡◌, ℕ, ◌<◌, ◌≤◌, Bool, false, cond, List, [], ◌∷◌, ◌++◌, map, is_some, if◌then◌else◌, nat_le, Some, None, filter, Option, sym, refl, ap, ◌∙◌, append_assoc, append-nil, arith, le-leb, lt-leb, map-append, filter-append, Message, Instr, Issue, instruction_of, Each, Entry, Stage, Finished, Running, Waiting, Fetched, Hardware, rows_of, Execution, Row, Step, Retired, Each-weaker, Beginning, Beginning-self, Beginning-trans}
 
 -- the start of an execution, and whether what it gives is a fault
 pub record Start : Type 0 where
@@ -50,10 +50,8 @@ start_of_stage (Finished (Some issue) cycle message) = Some (start_of_issue issu
 
 -- the broadcast that a stage tells of
 abbrev pub broadcast_of_stage : Stage → Option ℕ
-broadcast_of_stage Waiting = None
-broadcast_of_stage (Running issue message) = None
-broadcast_of_stage (Finished None cycle message) = None
 broadcast_of_stage (Finished (Some issue) cycle message) = Some cycle
+broadcast_of_stage _ = None
 
 -- the mark of an instruction in flight
 abbrev pub mark_of_entry : Entry → Mark
@@ -137,8 +135,7 @@ fetched_append xs ys = map-append mark_of_fetched xs ys
 pub rows_append : (xs ys : List Step) → rows_of (xs ++ ys) ≡ rows_of xs ++ rows_of ys
 rows_append [] ys = refl
 rows_append (Retired row ∷ xs) ys = ap (λ l. row ∷ l) (rows_append xs ys)
-rows_append (Trap pc cause value cycle ∷ xs) ys = rows_append xs ys
-rows_append (Interrupt pc cause cycle ∷ xs) ys = rows_append xs ys
+rows_append (step ∷ xs) ys = rows_append xs ys
 
 pub row_marks_append : (xs ys : List Step) → map mark_of_row (rows_of (xs ++ ys)) ≡ map mark_of_row (rows_of xs) ++ map mark_of_row (rows_of ys)
 row_marks_append xs ys = ap (map mark_of_row) (rows_append xs ys) ∙ map-append mark_of_row (rows_of xs) (rows_of ys)

@@ -1,5 +1,5 @@
 -- A relation of each two marks gives one of each two rows, and the rows before a row are sound.
-use Rattle.rv_hardware.proofs.Words.{◌≡◌, ℕ, ◌≤◌, true, List, [], ◌∷◌, ◌++◌, map, None, Option, is_serialising, is_target, kind_of_word, target_of_word, Instr, Values, Each, Hardware, instruction_of_row, rows_of, Row, Step, Interrupt, Retired, Trap, Each-append, Each-both, EveryPair, EveryBehind, EveryPair-left, EveryPair-weaker, EveryPair-unmap, EveryBehind-left, EveryBehind-unmap, EveryBehind-EveryPair, arith}
+use Rattle.rv_hardware.proofs.Words.{◌≡◌, ℕ, ◌≤◌, true, List, [], ◌∷◌, ◌++◌, map, None, Option, is_serialising, is_target, kind_of_word, target_of_word, Instr, Values, Each, Hardware, instruction_of_row, rows_of, Row, Step, Retired, Each-append, Each-both, EveryPair, EveryBehind, EveryPair-left, EveryPair-weaker, EveryPair-unmap, EveryBehind-left, EveryBehind-unmap, EveryBehind-EveryPair, arith}
 use Rattle.rv_hardware.proofs.Marks.History.{History, history_is_sound}
 use Rattle.rv_hardware.proofs.Marks.List.{Mark, marks_in, mark_of_row, mark_of_entry, mark_of_fetched}
 use Rattle.rv_hardware.proofs.Laws.Operands.Known.{StartsBehind, history_starts_behind}
@@ -32,14 +32,12 @@ SerialFirst a b = is_serialising (instruction_of_row a) ≡ true → a.retired �
 rows_after : (a : Row) (steps : List Step) → Each (InOrder (Retired a)) steps → Each (SerialFirst a) (rows_of steps)
 rows_after a [] h = tt
 rows_after a (Retired row ∷ steps) h = (h.0.anew, rows_after a steps h.1)
-rows_after a (Trap pc cause value cycle ∷ steps) h = rows_after a steps h.1
-rows_after a (Interrupt pc cause cycle ∷ steps) h = rows_after a steps h.1
+rows_after a (step ∷ steps) h = rows_after a steps h.1
 
 rows_in_pairs : (steps : List Step) → EveryPair InOrder steps → EveryPair SerialFirst (rows_of steps)
 rows_in_pairs [] h = tt
 rows_in_pairs (Retired row ∷ steps) h = (rows_after row steps h.0, rows_in_pairs steps h.1)
-rows_in_pairs (Trap pc cause value cycle ∷ steps) h = rows_in_pairs steps h.1
-rows_in_pairs (Interrupt pc cause cycle ∷ steps) h = rows_in_pairs steps h.1
+rows_in_pairs (step ∷ steps) h = rows_in_pairs steps h.1
 
 -- each row after those that are older, which are sound
 every_before : {X : Type 0} (P : X → Type 0) (before xs : List X) → Each P before → Each P xs → EveryBehind (λ b x. Each P b) before xs

@@ -99,10 +99,8 @@ module _ (v : Values) (now s : ℕ) (store_waits : Bool) (stale : set.FinSet nat
 -- ---- a FENCE.I that executes does not trap
 
 abbrev is_trap : Option Step → Bool
-is_trap None = false
-is_trap (Some (Retired row)) = false
 is_trap (Some (Trap pc cause value cycle)) = true
-is_trap (Some (Interrupt pc cause cycle)) = false
+is_trap _ = false
 
 -- no more steps, or one more row
 abbrev LeavesRow : List Step → List Step → Type 0

@@ -20,8 +20,7 @@ fewer_held : (now : ℕ) (xs : List Issue) → length (holding now (holding now 
 fewer_held now xs = filtered (holds_unit now) (holding now xs)
   where
     picks : (b : Bool) (m n : ℕ) → m ≤ n → cond b (suc m) m ≤ suc n
-    picks true m n le = omega arith
-    picks false m n le = omega arith
+    picks b m n le = grind arith
 
     pick_length : {X : Type 0} (b : Bool) (x : X) (ys : List X) →
         length (cond b (x ∷ ys) ys) ≡ cond b (suc (length ys)) (length ys)
