@@ -1,8 +1,7 @@
 -- The operands in a station are what the definition reads after the older instructions.
-use Rattle.rv_core.proofs.Words.{◌≡◌, ℕ, ◌+◌, ◌<◌, Bool, cond, ◌&&◌, ◌≢◌, List, [], ◌∷◌, map, length, is_some, IfSome, slice_index, slice_index_or, Some, None, All, Option, sym, refl, ap, ◌∙◌, arith, get_or-set_other, get_or-set_same, eqb-true, ne_eqb, eqb-false, All-head, All-tail, is_target, target_of_word, sources_of, target_of, written, Message, Instr, Csr, Lui, State, Entry, broadcast_of, is_known_from, registers_behind, with_value, has_operands, has_value, is_ready_station, ready_of, ready_with, Operand, Value, Ready, Station, is_known, Reads, operand_value, RegisterStatus, operand_by, operand_of, status_behind, status_with, values_in, waiting_of}
+use Rattle.rv_core.proofs.Words.{◌≡◌, ℕ, ◌+◌, ◌<◌, cond, ◌&&◌, ◌≢◌, List, [], ◌∷◌, map, length, IfSome, slice_index, slice_index_or, Some, None, All, Option, sym, refl, ap, ◌∙◌, arith, get_or-set_other, get_or-set_same, eqb-true, ne_eqb, eqb-false, All-head, All-tail, is_target, target_of_word, sources_of, target_of, written, Message, Instr, Csr, Lui, State, Entry, broadcast_of, is_known_from, registers_behind, with_value, has_operands, has_value, is_ready_station, ready_of, ready_with, Operand, Value, Ready, Station, is_known, Reads, operand_value, RegisterStatus, operand_by, operand_of, status_behind, status_with, values_in, waiting_of}
 use Rattle.rv_hardware.proofs.Headline.Known.{length-with_value}
 use Rattle.rv_isa.specs.declared.instructions.CsrSource.TheVariants as source
-use Rattle.rv_hardware.specs.InFlight.{writes}
 
 -- an instruction has two sources
 pub two_sources : (i : Instr) → sources_of i ≡ slice_index_or (sources_of i) 0 None ∷ slice_index_or (sources_of i) 1 None ∷ []
@@ -23,16 +22,10 @@ target_of_word_nonzero (Some i) r is = target_nonzero i r is
 
 -- whether the value is there
 
-has_value-one : (b : Bool) (seq : ℕ) (o : Option Message) (under : Operand) →
-    has_value (cond b (operand_by seq o) under) ≡ cond b (is_some o) (has_value under)
-has_value-one b seq o under = grind arith
-
 known_behind : (es : List Entry) (status : RegisterStatus) (seq r : ℕ) →
     has_value (status_behind status seq es r) ≡ is_known_from (has_value (status r)) es r
 known_behind [] status seq r = refl
-known_behind (e ∷ es) status seq r =
-    known_behind es (status_with status seq e) (seq + 1) r
-    ∙ ap (λ b. is_known_from b es r) (has_value-one (writes e r) seq (broadcast_of e.stage) (status r))
+known_behind (e ∷ es) status seq r = grind (arith, known_behind es (status_with status seq e) (seq + 1) r)
 
 -- a register has a value in the status where the definition knows it
 pub is_known-status : (registers : List ℕ) (seq : ℕ) (older : List Entry) (r : ℕ) →

@@ -1,5 +1,5 @@
 -- What a search passed by, the next one of the phase may pass by: the port is no sooner idle after a start.
-use Rattle.rv_core.proofs.Words.{◌≡◌, ℕ, ◌+◌, ◌≤◌, Bool, true, ◌&&◌, ◌||◌, List, [], ◌∷◌, nat_le, take, None, Option, refl, arith, leb-true, CacheLine, CacheValues, Kind, Memory, Contents, access_cost, cost_of_access, FromCache, Path, Mem, Store, Layout, oldest_ready, Station, port_after, goes}
+use Rattle.rv_core.proofs.Words.{◌≡◌, ℕ, ◌+◌, ◌≤◌, Bool, true, List, [], ◌∷◌, nat_le, take, None, Option, refl, arith, leb-true, CacheLine, CacheValues, Kind, Memory, Contents, access_cost, cost_of_access, FromCache, Path, Mem, Store, Layout, oldest_ready, Station, port_after, goes}
 use Rattle.rv_stations.specs.Waiting.{ArePassedBy}
 
 -- a test that passes no more than another finds nothing where the other does not
@@ -9,13 +9,9 @@ none_by test less fewer [] none = refl
 none_by test less fewer (w ∷ ws) none = grind (arith, fewer, none_by test less fewer ws)
 
 -- with the port idle no less goes
-wider : (a b c idle still : Bool) → (still ≡ true → idle ≡ true) → (a || (b && (still || c))) ≡ true →
-    (a || (b && (idle || c))) ≡ true
-wider a b c idle still later is = grind arith
-
 goes_later : (kind : Kind) (layout : Layout) (stores : List Store) (idle still : Bool) → (still ≡ true → idle ≡ true) →
     (w : Station) → goes kind layout stores still w ≡ true → goes kind layout stores idle w ≡ true
-goes_later Mem layout stores idle still later w is = wider _ _ _ idle still later is
+goes_later Mem layout stores idle still later w is = grind (arith, later)
 goes_later _ layout stores idle still later w is = refl
 
 -- what may not go in a cycle may not go later in it, when the port is idle only if it was

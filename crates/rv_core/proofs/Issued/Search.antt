@@ -101,10 +101,6 @@ module _ (kind : Kind) (status0 : RegisterStatus) (n0 : ℕ) where
           without_oldest_ready test (stations_behind older es)
           ≡ stations_behind older (before ++ started issue message entry ∷ rest)
 
-    passed : (older : List Entry) (e : Entry) (es : List Entry) → ready older e ≡ false →
-        oldest_from ready older (e ∷ es) ≡ oldest_from ready (older ++ e ∷ []) es
-    passed older e es not = cond-false (ready older e) (Some (older, e)) (oldest_from ready (older ++ e ∷ []) es) not
-
     -- past an instruction whose stations' part is a list in which nothing is found
     module _ (older : List Entry) (e : Entry) (es : List Entry) (here : List Station)
         (at : waiting_at kind (status_behind status0 n0 older) (n0 + length older) e e.instruction ≡ here)
@@ -116,7 +112,7 @@ module _ (kind : Kind) (status0 : RegisterStatus) (n0 : ℕ) where
 
       none_past : NoneFound (older ++ e ∷ []) es → NoneFound older (e ∷ es)
       none_past n = record {
-        defined = passed older e es not ∙ n.defined;
+        defined = rw not n.defined;
         searched = ap (oldest_ready test) (joined es) ∙ oldest_skips (stations_behind (older ++ e ∷ []) es) ∙ n.searched;
       }
 
@@ -131,7 +127,7 @@ module _ (kind : Kind) (status0 : RegisterStatus) (n0 : ℕ) where
         behind = f.behind ∙ append_assoc older (e ∷ []) f.before;
         decoded = f.decoded;
         there = f.there;
-        defined = passed older e es not ∙ f.defined;
+        defined = rw not f.defined;
         searched = ap (oldest_ready test) (joined es) ∙ oldest_skips (stations_behind (older ++ e ∷ []) es) ∙ f.searched;
         left = λ issue message.
             ap (without_oldest_ready test) (joined es)

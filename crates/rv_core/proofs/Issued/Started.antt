@@ -1,5 +1,5 @@
 -- The start of an instruction changes one of a list of entries, and what that list tells by this one alone.
-use Rattle.rv_core.proofs.Words.{◌≡◌, ℕ, suc, ◌+◌, ◌<◌, ◌≤◌, true, false, cond, ◌≢◌, List, [], ◌∷◌, ◌++◌, length, nat_lt, None, All, Option, sym, refl, ap, ◌∙◌, append_assoc, arith, le-ltb, lt-ltb, ne_eqb, cond-false, cond-true, All-append, All-cons, All-head, All-tail, is_store, Message, Instr, Issue, Kind, Store, started, Entry, Stage, Running, is_stationed, broadcast_of, is_waiting, store_of_broadcast, stores_of, holds, placed, PendingResult, RegisterStatus, pending_from, pending_of, status_with, waiting_at, waiting_from}
+use Rattle.rv_core.proofs.Words.{◌≡◌, ℕ, ◌+◌, ◌<◌, ◌≤◌, true, false, ◌≢◌, List, [], ◌∷◌, ◌++◌, length, nat_lt, All, Option, sym, refl, ap, ◌∙◌, append_assoc, arith, le-ltb, lt-ltb, ne_eqb, cond-false, cond-true, All-append, All-cons, All-head, All-tail, Message, Instr, Issue, Kind, started, Entry, Stage, Running, is_stationed, is_waiting, stores_of, holds, placed, PendingResult, RegisterStatus, pending_from, pending_of, status_with, waiting_at, waiting_from}
 use Rattle.rv_core.proofs.Issued.Search.{status_started}
 
 module _ (issue : Issue) (message : Message) (e : Entry) (rest : List Entry) where
@@ -13,19 +13,11 @@ module _ (issue : Issue) (message : Message) (e : Entry) (rest : List Entry) whe
       All-cons P x (before ++ e' ∷ rest) (All-head P x (before ++ e ∷ rest) all)
       (All_started P before here (All-tail P x (before ++ e ∷ rest) all))
 
-  store_staged : (n : ℕ) (stage : Stage) (ys : List Store) → is_waiting stage ≡ true →
-      cond (is_store e.instruction) (record { seq = n; state = store_of_broadcast None } ∷ ys) ys
-      ≡ cond (is_store e.instruction) (record { seq = n; state = store_of_broadcast (broadcast_of stage) } ∷ ys) ys
-  store_staged n stage ys waits = grind arith
-
   -- the start of an instruction changes no store
   pub stores_started : is_waiting e.stage ≡ true → (n : ℕ) (before : List Entry) →
       stores_of n (before ++ e' ∷ rest) ≡ stores_of n (before ++ e ∷ rest)
-  stores_started waits n [] = store_staged n e.stage (stores_of (n + 1) rest) waits
-  stores_started waits n (x ∷ before) =
-      ap (λ (l : List Store). cond (is_store x.instruction)
-      (record { seq = n; state = store_of_broadcast (broadcast_of x.stage) } ∷ l) l)
-      (stores_started waits (n + 1) before)
+  stores_started waits n [] = grind arith
+  stores_started waits n (x ∷ before) = grind (arith, stores_started waits (n + 1) before)
 
   -- the stations of another kind
   elsewhere : (kind : Kind) (status : RegisterStatus) (n : ℕ) (x : Entry) (word : Option Instr) → is_stationed kind x ≡ false →
@@ -37,22 +29,16 @@ module _ (issue : Issue) (message : Message) (e : Entry) (rest : List Entry) whe
       (status : RegisterStatus) (n : ℕ) (before : List Entry) →
       waiting_from kind status n (before ++ e' ∷ rest) ≡ waiting_from kind status n (before ++ e ∷ rest)
   others_started kind waits away status n [] =
-      λ k. (elsewhere kind status n e' e.instruction refl
-      ∙ sym (elsewhere kind status n e e.instruction away)) k ++ waiting_from kind
-      (status_started status n e issue message waits k) (n + 1) rest
+      grind (arith, elsewhere kind status n e e.instruction away, status_started status n e issue message waits)
   others_started kind waits away status n (x ∷ before) =
-      ap (λ l. waiting_at kind status n x x.instruction ++ l)
-      (others_started kind waits away (status_with status n x) (n + 1) before)
+      grind (arith, others_started kind waits away (status_with status n x) (n + 1) before)
 
 -- the results in execution
 
 pending_from-append : (n : ℕ) (xs ys : List Entry) →
     pending_from n (xs ++ ys) ≡ pending_from n xs ++ pending_from (n + length xs) ys
 pending_from-append n [] ys = ap (λ m. pending_from m ys) (omega arith)
-pending_from-append n (x ∷ xs) ys =
-    ap (λ l. pending_of n x.stage ++ l)
-    (pending_from-append (n + 1) xs ys ∙ ap (λ m. pending_from (n + 1) xs ++ pending_from m ys) (omega arith))
-    ∙ sym (append_assoc (pending_of n x.stage) (pending_from (n + 1) xs) (pending_from (n + suc (length xs)) ys))
+pending_from-append n (x ∷ xs) ys = grind (arith, append_assoc, pending_from-append (n + 1) xs ys)
 
 All-pending : (P : PendingResult → Type 0) (n : ℕ) (stage : Stage) (rs : List PendingResult) →
     ((r : PendingResult) → r.seq ≡ n → P r) → All P rs → All P (pending_of n stage ++ rs)
@@ -101,9 +87,7 @@ module _ (e : Entry) (rest : List Entry) (waits : is_waiting e.stage ≡ true) w
   pending_split : (n : ℕ) (before : List Entry) →
       pending_from n (before ++ e ∷ rest) ≡ pending_from n before ++ pending_from (n + length before + 1) rest
   pending_split n before =
-      pending_from-append n before (e ∷ rest)
-      ∙ ap (λ l. pending_from n before ++ (l ++ pending_from (n + length before + 1) rest))
-      (pending_waiting (n + length before) e.stage waits)
+      grind (arith, pending_from-append n before (e ∷ rest), pending_waiting (n + length before) e.stage waits)
 
   -- there is room for the result of an instruction that waits
   pub pending_room : (n : ℕ) (before : List Entry) → length (pending_from n (before ++ e ∷ rest)) < length (before ++ e ∷ rest)

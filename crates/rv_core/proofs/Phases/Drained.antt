@@ -1,5 +1,5 @@
 -- The drain phase on the queue is that on the retired stores: what is in flight stays after them.
-use Rattle.rv_core.proofs.Words.{◌≡◌, ℕ, ◌+◌, ◌<◌, Bool, true, false, List, [], ◌∷◌, ◌++◌, if◌then◌else◌, Some, None, All, Option, refl, subst, arith, All-cons, All-head, All-tail, is_store, Message, StoreAccess, Values, oldest_to_drain, with_oldest_draining, without_drained, access_to_drain, draining, is_draining, Store as QueuedStore, Committed, Draining, Speculative, StoreState, Entry, broadcast_of, store_of_broadcast, stores_of, AreBelow, is_oldest_draining, IsLegalAccess, IsRetiredStore}
+use Rattle.rv_core.proofs.Words.{◌≡◌, ℕ, ◌+◌, ◌<◌, Bool, true, false, List, [], ◌∷◌, ◌++◌, if◌then◌else◌, Some, None, All, refl, subst, arith, All-cons, All-head, All-tail, StoreAccess, Values, oldest_to_drain, with_oldest_draining, without_drained, access_to_drain, draining, is_draining, Store as QueuedStore, Committed, Draining, Speculative, StoreState, Entry, stores_of, AreBelow, is_oldest_draining, IsLegalAccess, IsRetiredStore}
 use Rattle.rv_stores.specs.declared.store.StoreState.TheVariants as store
 use Rattle.rv_core.proofs.Retired.Stores.{AreRetired}
 
@@ -9,31 +9,20 @@ pub record NoneDrains (flight : List QueuedStore) : Type 0 where
   pub idle : oldest_to_drain flight ≡ None
   pub rests : is_oldest_draining flight ≡ false
 
-first_idle : (seq : ℕ) (is_store : Bool) (message : Option Message) (ss : List QueuedStore) → NoneDrains ss →
-    NoneDrains (if is_store then record { seq = seq; state = store_of_broadcast message } ∷ ss else ss)
-first_idle seq is_store message ss none = record {
-  stays = grind (arith, none.stays);
-  idle = grind (arith, none.idle);
-  rests = grind (arith, none.rests);
-}
-
 -- no store of an instruction in flight drains
 pub none_drains : (seq : ℕ) (es : List Entry) → NoneDrains (stores_of seq es)
 none_drains seq [] = record { stays = refl; idle = refl; rests = refl }
 none_drains seq (e ∷ es) =
-    first_idle seq (is_store e.instruction) (broadcast_of e.stage) (stores_of (seq + 1) es) (none_drains (seq + 1) es)
+    let none = none_drains (seq + 1) es in
+    record { stays = grind (arith, none.stays); idle = grind (arith, none.idle); rests = grind (arith, none.rests) }
 
 -- the whole queue
-
-first_leaves : (leaves : Bool) (s : QueuedStore) (ss flight : List QueuedStore) →
-    (if leaves then ss ++ flight else s ∷ (ss ++ flight)) ≡ (if leaves then ss else s ∷ ss) ++ flight
-first_leaves leaves s ss flight = grind arith
 
 -- the store whose access is over leaves the retired ones, whatever is in flight after them
 pub without_drained_behind : (ss flight : List QueuedStore) → NoneDrains flight →
     without_drained (ss ++ flight) ≡ without_drained ss ++ flight
 without_drained_behind [] flight none = none.stays
-without_drained_behind (s ∷ ss) flight none = first_leaves (is_draining s) s ss flight
+without_drained_behind (s ∷ ss) flight none = grind arith
 
 -- the oldest store to drain is one of the retired ones, whatever is in flight after them
 pub oldest_behind : (ss flight : List QueuedStore) → NoneDrains flight → oldest_to_drain (ss ++ flight) ≡ oldest_to_drain ss

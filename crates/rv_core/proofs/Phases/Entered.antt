@@ -16,7 +16,7 @@ pub sound-taken : (p : Inside) (front : FetchBuffer) → IsSound p → front ≡
 sound-taken p front is rest =
     sound_with_front p front is (rw rest (All-drop IsDecoded 1 p.front.entries is.sound.fetched))
 
-module _ (p : Inside) (f : Fetched) (is : IsSound p) (waits_not : reason_of (hardware_of p) f ≡ None) (decoded : IsDecoded f)
+module _ {p : Inside} (f : Fetched) (is : IsSound p) (waits_not : reason_of (hardware_of p) f ≡ None) (decoded : IsDecoded f)
     (target : IfSome (target_of_word f.instruction) (λ register. register < 32)) where
   -- the parts with the instruction of a fetched word
   abbrev pub entered_parts : Inside

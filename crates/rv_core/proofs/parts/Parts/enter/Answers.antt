@@ -63,8 +63,7 @@ left-is : (c : After-push_entry) →
       rename = c.checkpoint_jump.new.rename;
       rob = c.push_entry.new.rob;
     }
-    ≡ entered_parts c.self.inside c.args.fetched.now c.self.invariant
-    (waits_not c) c.requires.decoded c.define_target.ensures.in_range
+    ≡ entered_parts c.args.fetched.now c.self.invariant (waits_not c) c.requires.decoded c.define_target.ensures.in_range
 left-is c =
     let p = c.self.inside in
     let f = c.args.fetched.now in
@@ -84,13 +83,11 @@ pub invariant_of-self : goal.invariant_of-self
 invariant_of-self c =
     let at = (goal.at.invariant_of-self c).After-push_entry in
     subst IsSound (sym (left-is at))
-    (entered-sound c.self.inside c.args.fetched.now c.self.invariant
-    (waits_not at) c.requires.decoded c.define_target.ensures.in_range)
+    (entered-sound c.args.fetched.now c.self.invariant (waits_not at) c.requires.decoded c.define_target.ensures.in_range)
 
 pub returns : goal.returns
 returns c =
     let at = (goal.at.returns c).After-push_entry in
     ap hardware_of (left-is at) ∙
-    entered-is c.self.inside c.args.fetched.now c.self.invariant
-    (waits_not at) c.requires.decoded c.define_target.ensures.in_range ∙
+    entered-is c.args.fetched.now c.self.invariant (waits_not at) c.requires.decoded c.define_target.ensures.in_range ∙
     ap {A = Hardware} (λ x. record x { rob = pushed (entry_of_fetched x c.args.fetched.now) x.rob }) c.self.view_is

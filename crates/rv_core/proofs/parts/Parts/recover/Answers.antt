@@ -1,4 +1,4 @@
-use Rattle.rv_core.proofs.Words.{◌≡◌, ◌+◌, Some, sym, ap, ◌∙◌, subst, arith, predicting, changed, Hardware, redirected, cut_from, entry_of, IsSound, hardware_of}
+use Rattle.rv_core.proofs.Words.{◌+◌, sym, ap, ◌∙◌, subst, arith, predicting, changed, Hardware, redirected, cut_from, IsSound, hardware_of}
 use Rattle.rv_core.proofs.Ties.Broadcast.{recovered-is, recovered-sound}
 use Rattle.rv_core.proofs.Ties.Entries.{entry_of-from}
 use Rattle.rv_core.proofs.parts.Parts.recover.Goals as goal
@@ -6,8 +6,7 @@ use Rattle.rv_core.proofs.parts.Parts.recover.Goals as goal
 pub overflow_add-from : goal.overflow_add-from
 overflow_add-from c =
     let p = c.self.inside in
-    let held : entry_of c.args.seq p.rob.retired p.rob.entries ≡ Some c.requires.jump.0 =
-    rw (← c.self.view_is) at c.requires.jump.1 in
+    let held = rw (← c.self.view_is) at c.requires.jump.1 in
     let sound = c.self.invariant.sound in
     omega (
       arith,
@@ -21,8 +20,7 @@ overflow_add-from c =
 pub invariant_of-self : goal.invariant_of-self
 invariant_of-self c =
     let p = c.self.inside in
-    let held : entry_of c.args.seq p.rob.retired p.rob.entries ≡ Some c.requires.jump.0 =
-    rw (← c.self.view_is) at c.requires.jump.1 in
+    let held = rw (← c.self.view_is) at c.requires.jump.1 in
     let rob = c.cut.ensures ∙ ap (cut_from (c.args.seq + 1)) c.correct_prediction.ensures in
     subst IsSound (λ i. record p {
       rob = sym rob i;
@@ -38,8 +36,7 @@ invariant_of-self c =
 pub returns : goal.returns
 returns c =
     let p = c.self.inside in
-    let held : entry_of c.args.seq p.rob.retired p.rob.entries ≡ Some c.requires.jump.0 =
-    rw (← c.self.view_is) at c.requires.jump.1 in
+    let held = rw (← c.self.view_is) at c.requires.jump.1 in
     let rob = c.cut.ensures ∙ ap (cut_from (c.args.seq + 1)) c.correct_prediction.ensures in
     (λ i. hardware_of (record p {
       rob = rob i;

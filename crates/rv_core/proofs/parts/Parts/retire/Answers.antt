@@ -6,19 +6,18 @@ use Rattle.rv_core.proofs.Retired.Write.{legal_write, target_written, write_is_c
 use Rattle.rv_core.proofs.parts.Parts.retire.Goals as goal
 
 -- what the callers promise, of the parts themselves
-head : (p : Inside) (h : Hardware) (e : Entry) → hardware_of p ≡ h → IsHead h e → IsHead (hardware_of p) e
-head p h e view is = subst (λ (x : Hardware). IsHead x e) (sym view) is
+head : (p : Inside) {h : Hardware} {e : Entry} → hardware_of p ≡ h → IsHead h e → IsHead (hardware_of p) e
+head p {e = e} view is = subst (λ (x : Hardware). IsHead x e) (sym view) is
 
-legal : (p : Inside) (h : Hardware) (e : Entry) (m : Message) → IsSound p → hardware_of p ≡ h → IsHead h e →
+legal : {p : Inside} {h : Hardware} {e : Entry} {m : Message} → IsSound p → hardware_of p ≡ h → IsHead h e →
     broadcast_of e.stage ≡ Some m → m.fault ≡ None → IsLegalWrite p.values (is_store e.instruction) None m.store
-legal p h e m sound view is known faultless =
-    let at = head p h e view is in legal_write (hardware_of p) e at.0 m sound.sound at.1 known faultless
+legal {p = p} {e = e} {m = m} sound view is known faultless =
+    let at = head p view is in legal_write (hardware_of p) e at.0 m sound.sound at.1 known faultless
 
 pub commit_store-requires : goal.commit_store-requires
 commit_store-requires c =
     write_is_covered c.self.inside.values c.self.inside.stale (is_store c.args.entry.now.instruction) c.args.message.now.store
-    (legal c.self.inside c.args.self.now c.args.entry.now c.args.message.now c.self.invariant c.self.view_is c.requires.head
-    c.requires.known c.requires.sound)
+    (legal c.self.invariant c.self.view_is c.requires.head c.requires.known c.requires.sound)
     c.self.invariant.stale_base c.self.invariant.stale_size
 
 abbrev left : goal.After-self-1 → Inside
@@ -42,20 +41,18 @@ target c =
 
 write : (c : goal.After-self-1) →
     IsLegalWrite c.self.inside.values (is_store c.args.entry.now.instruction) None c.args.message.now.store
-write c =
-    legal c.self.inside c.args.self.now c.args.entry.now c.args.message.now c.self.invariant c.self.view_is c.requires.head
-    c.requires.known c.requires.sound
+write c = legal c.self.invariant c.self.view_is c.requires.head c.requires.known c.requires.sound
 
 sound : (c : goal.After-self-1) → IsSoundHardware (next c)
 sound c =
-    let at = head c.self.inside c.args.self.now c.args.entry.now c.self.view_is c.requires.head in
+    let at = head c.self.inside c.self.view_is c.requires.head in
     sound_behind_head (hardware_of c.self.inside) c.args.entry.now at.0 c.args.message.now c.self.invariant.sound at.1
     (subst (λ (x : Hardware). x.rob.retired < 8 * x.cycle + 8) (sym c.self.view_is) c.requires.room) (write c)
 
 tied : (c : goal.After-self-1) → AreTied (next c) (left c).rename (left c).stations (left c).bus (left c).stores
 tied c =
     let p = c.self.inside in
-    let at = head p c.args.self.now c.args.entry.now c.self.view_is c.requires.head in
+    let at = head p c.self.view_is c.requires.head in
     let seq = p.rob.retired in
     let behind =
     tied_behind_head (hardware_of p) c.args.entry.now at.0 c.args.message.now p.rename p.stations p.bus p.stores
