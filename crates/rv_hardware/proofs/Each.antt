@@ -71,6 +71,11 @@ module _ {X : Type 0} (P : X → Type 0) where
   Each-map f [] h = tt
   Each-map f (y ∷ ys) h = (h.0, Each-map f ys h.1)
 
+  -- what holds of every image holds of each
+  pub Each-images : {Y : Type 0} (f : Y → X) → ((y : Y) → P (f y)) → (ys : List Y) → Each P (map f ys)
+  Each-images f holds [] = tt
+  Each-images f holds (y ∷ ys) = (holds y, Each-images f holds ys)
+
   -- of each element of the image, and so of the image of each element
   pub Each-unmap : {Y : Type 0} (f : Y → X) (ys : List Y) → Each P (map f ys) → Each (λ y. P (f y)) ys
   Each-unmap f [] h = tt

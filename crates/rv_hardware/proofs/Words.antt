@@ -101,6 +101,6 @@ pub use Rattle.rv_hardware.specs.declared.step.Row.{Row}
 pub use Rattle.rv_hardware.specs.declared.step.Step.{Step}
 pub use Rattle.rv_hardware.specs.declared.step.Step.TheVariants.{Interrupt, Retired, Trap}
 pub use Rattle.rv_hardware.proofs.Tests.{by_test, and_first, and_second, not_both, never_both}
-pub use Rattle.rv_hardware.proofs.Each.{All-Each, Each-All, All-right, Each-append, Each-left, Each-right, Each-push, Each-change, Each-set, Each-place, Each-weaker, Each-all, Each-both, Each-map, Each-unmap, Each-filter, map-change}
+pub use Rattle.rv_hardware.proofs.Each.{All-Each, Each-All, All-right, Each-append, Each-left, Each-right, Each-push, Each-change, Each-set, Each-place, Each-weaker, Each-all, Each-both, Each-map, Each-images, Each-unmap, Each-filter, map-change}
 pub use Rattle.rv_hardware.proofs.Lists.{EveryPair, EveryBehind, count, Beginning, AllPairs-EveryPair, Across, EveryPair-append, EveryPair-left, EveryPair-right, EveryPair-across, EveryPair-weaker, EveryPair-map, EveryPair-unmap, EveryPair-set, count-count_by, count-append, count-none, count-yes, count-map, count-le, count-length, count-set-same, count-set-more, count-set-grows, count-set-one_more, count-set-less, count-push, count-push-no, count-push-most, count-left, Beginning-self, Beginning-trans, Beginning-count, EveryBehind-left, EveryBehind-append, EveryBehind-right, Beginning-EveryBehind, EveryBehind-moved, EveryBehind-all, EveryBehind-set, EveryBehind-at, EachBehind-EveryBehind, EveryBehind-unmap, EveryBehind-weaker, EveryBehind-both, EveryPair-EveryBehind, EveryBehind-EveryPair}
 pub use Rattle.rv_hardware.proofs.Repeated.{Leads, Leaves, leads_both, left_by_the_rest, turns_within, left_by_turns, kept_by_turns, always}

@@ -1,5 +1,5 @@
 -- A load issues after the broadcasts of all older stores.
-use Rattle.rv_hardware.proofs.Words.{◌≡◌, ℕ, ◌<◌, Bool, true, false, List, [], ◌∷◌, map, IfSome, Some, None, Option, AllPairs, sym, refl, ◌∙◌, true≢false, is_load, Instr, Values, Each, Hardware, LoadsAfterStore, instruction_of_row, is_load_row, is_store_row, rows_of, Execution, Row, Step, Each-weaker, Each-unmap, AllPairs-EveryPair, EveryBehind-weaker, EveryPair-EveryBehind, arith}
+use Rattle.rv_hardware.proofs.Words.{◌≡◌, ℕ, ◌<◌, Bool, true, false, List, [], map, IfSome, Some, None, Option, AllPairs, sym, refl, ◌∙◌, true≢false, is_load, Instr, Values, Each, Hardware, LoadsAfterStore, instruction_of_row, is_load_row, is_store_row, rows_of, Execution, Row, Step, Each-weaker, Each-unmap, AllPairs-EveryPair, EveryBehind-weaker, EveryPair-EveryBehind, arith, Each-all}
 use Rattle.rv_hardware.proofs.Marks.Cited.{IsBefore, History, mark_of_row, start_of_execution, broadcast_of_execution, rows_start_behind}
 use Rattle.rv_hardware.proofs.Laws.Operands.Known.{Found, StartsBehind}
 
@@ -17,22 +17,15 @@ loads_by : (before : List Row) (row : Row) → StartsBehind (map mark_of_row bef
 loads_by before row h = by_load (is_load_row row) refl
   where
     by_execution : (y : Option Execution) → IfSome y (λ t. Each (λ a. is_store_row a ≡ true → IfSome a.execution (λ s. s.broadcast < t.issued)) before) → Each (λ a. is_store_row a ≡ true → IfSome a.execution (λ s. IfSome y (λ t. s.broadcast < t.issued))) before
-    by_execution None g = Each-weaker (λ a. Unit {0}) (λ a. is_store_row a ≡ true → IfSome a.execution (λ s. Unit {0})) (λ a u store. both_executed a.execution None tt) before (everything before)
-      where
-        everything : (rows : List Row) → Each (λ a. Unit {0}) rows
-        everything [] = tt
-        everything (r ∷ rows) = (tt, everything rows)
+    by_execution None g =
+        Each-all (λ a. is_store_row a ≡ true → IfSome a.execution (λ s. Unit {0})) (λ a store. both_executed a.execution None tt) before
     by_execution (Some t) g = g
 
     by_load : (b : Bool) → is_load_row row ≡ b → Each (λ a. LoadsAfterStore a row) before
     by_load true is =
         Each-weaker (λ a. is_store_row a ≡ true → IfSome a.execution (λ s. IfSome row.execution (λ t. s.broadcast < t.issued))) (λ a. LoadsAfterStore a row) (λ a f store load. f store) before
         (by_execution row.execution (load_by row (instruction_of_row row) before row.execution h is))
-    by_load false is = nothing before
-      where
-        nothing : (rows : List Row) → Each (λ a. LoadsAfterStore a row) rows
-        nothing [] = tt
-        nothing (r ∷ rows) = ((λ store load. absurd (true≢false (sym load ∙ is))), nothing rows)
+    by_load false is = Each-all (λ a. LoadsAfterStore a row) (λ a store load. absurd (true≢false (sym load ∙ is))) before
 
 -- the field `loads_after_stores` of `Laws`, over every history
 pub law_of_loads_after_stores : (v : Values) {steps : List Step} {h : Hardware} → History v steps h → AllPairs LoadsAfterStore (rows_of steps)

@@ -1,5 +1,5 @@
 -- The bus is not idle while a result waits.
-use Rattle.rv_hardware.proofs.Words.{◌≡◌, ℕ, suc, ◌+◌, ◌<◌, ◌≤◌, Bool, true, false, List, [], ◌∷◌, ◌++◌, map, length, IfSome, ◌==◌, Some, None, count_by, Option, refl, ap, ◌∙◌, subst, append_assoc, arith, eq-eqb, le-leb, Message, Issue, Values, Each, finished, predicting, Entry, Fetched, broadcast, broadcast_turn, has_result, with_broadcast, Hardware, LeavesNoBusIdle, Turn, EachBehind, is_broadcast_in, passes, rows_of, Execution, Row, Step, and_second, Each-append, Each-place, Each-all, EveryBehind, count, count-set-grows, count-set-one_more, EveryBehind-left, EveryBehind-append, EveryBehind-right, Beginning-EveryBehind, EveryBehind-moved, EveryBehind-all, EveryBehind-set, Leads, turns_within}
+use Rattle.rv_hardware.proofs.Words.{◌≡◌, ℕ, suc, ◌+◌, ◌<◌, ◌≤◌, Bool, true, false, List, [], ◌∷◌, ◌++◌, map, length, IfSome, ◌==◌, Some, None, count_by, Option, refl, ap, ◌∙◌, subst, append_assoc, arith, eq-eqb, le-leb, Message, Issue, Values, Each, finished, predicting, Entry, Fetched, broadcast, broadcast_turn, has_result, with_broadcast, Hardware, LeavesNoBusIdle, Turn, EachBehind, is_broadcast_in, passes, rows_of, Execution, Row, Step, and_second, Each-append, Each-place, Each-all, EveryBehind, count, count-set-grows, count-set-one_more, EveryBehind-left, EveryBehind-append, EveryBehind-right, Beginning-EveryBehind, EveryBehind-moved, EveryBehind-all, EveryBehind-set, Leads, turns_within, Each-images}
 use Rattle.rv_hardware.proofs.Marks.Cited.{IsBefore, IsSentIfReady, Advances, IsSent, Kept, BroadcastTurn, no_result, sends, mends, Sends, broadcast_turn_is, sent_entries, mended_entries, behind_law, behind_count, Anything, anything_is_kept, History, history_is_legal, history_is_sound, issued_all, sent_all, dispatching, rows_sent, entries_sent, rows_obey, Broadcasts, broadcast_turn_keeps, dispatch_keeps, goes_later, send_is, with_marks, SoundRow, Mark, Start, mark_of_row, mark_of_entry, mark_of_fetched, marks, marks_in, marks_at_entry, as_of, at_end, until, broadcast_of_execution, until_now, is_at}
 
 abbrev pub is_sent_in : ℕ → Mark → Bool
@@ -28,8 +28,7 @@ pub none_waits : (k now : ℕ) (before xs : List Mark) → Each (IsSentIfReady n
 none_waits k now before xs h = EveryBehind-all (IsSentIfReady now) (BusyBus k now) (none_waits_here k now) before xs h
 
 pub words_do_not_wait : (now : ℕ) (fs : List Fetched) → Each (IsSentIfReady now) (map mark_of_fetched fs)
-words_do_not_wait now [] = tt
-words_do_not_wait now (f ∷ fs) = (tt, words_do_not_wait now fs)
+words_do_not_wait now fs = Each-images (IsSentIfReady now) mark_of_fetched (λ f. tt) fs
 
 -- a broadcast of the oldest: one more for what is younger
 pub one_more : (k now : ℕ) (xs ys : List Mark) (m n : Mark) → IsSent now xs m n → EveryBehind (BusyBus k now) [] (xs ++ m ∷ ys) → EveryBehind (BusyBus (suc k) now) [] (xs ++ n ∷ ys)

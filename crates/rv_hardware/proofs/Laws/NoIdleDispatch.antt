@@ -1,5 +1,5 @@
 -- A fetched instruction that is no store waits for nothing but room and the width.
-use Rattle.rv_hardware.proofs.Words.{◌≡◌, ℕ, suc, ◌<◌, ◌≤◌, Bool, true, false, cond, ◌&&◌, ◌||◌, ◌⊎◌, List, [], ◌∷◌, ◌++◌, map, length, is_some, is_none, nat_lt, nat_le, ◌==◌, Some, None, count_by, filter, Option, sym, refl, ap, ◌∙◌, subst, inl, inr, true≢false, arith, lt-ltb, eq-eqb, leb-false, leb-true, and_from, length-filter, list_any, is_same-own, is_of_kind, is_serialising, is_store, kind_of_word, at_kind, Kind, Values, Each, Entry, Stage, Fetched, Dispatching, dispatch, dispatch_turn, has_full_stations, is_stationed, Hardware, is_waiting, WaitsForRoom, Turn, EachBehind, is_dispatched_in, is_in_flight_in, is_row_of_kind, is_stationed_in, is_store_row, passes, rows_of, Execution, Row, Step, and_first, and_second, Each-All, Each-left, Each-right, Each-place, Each-weaker, Each-all, Each-map, Each-filter, EveryBehind, count, count-count_by, count-append, count-yes, count-map, count-le, EveryBehind-append, Beginning-EveryBehind, EveryBehind-all, EachBehind-EveryBehind, Leads, turns_within, entry_of_fetched}
+use Rattle.rv_hardware.proofs.Words.{◌≡◌, ℕ, suc, ◌<◌, ◌≤◌, Bool, true, false, cond, ◌&&◌, ◌||◌, ◌⊎◌, List, [], ◌∷◌, ◌++◌, map, length, is_some, is_none, nat_lt, nat_le, ◌==◌, Some, None, count_by, filter, Option, sym, refl, ap, ◌∙◌, subst, inl, inr, true≢false, arith, lt-ltb, eq-eqb, leb-false, leb-true, and_from, length-filter, list_any, is_same-own, is_of_kind, is_serialising, is_store, kind_of_word, at_kind, Kind, Values, Each, Entry, Stage, Fetched, Dispatching, dispatch, dispatch_turn, has_full_stations, is_stationed, Hardware, is_waiting, WaitsForRoom, Turn, EachBehind, is_dispatched_in, is_in_flight_in, is_row_of_kind, is_stationed_in, is_store_row, passes, rows_of, Execution, Row, Step, and_first, and_second, Each-All, Each-left, Each-right, Each-place, Each-weaker, Each-all, Each-map, Each-filter, EveryBehind, count, count-count_by, count-append, count-yes, count-map, count-le, EveryBehind-append, Beginning-EveryBehind, EveryBehind-all, EachBehind-EveryBehind, Leads, turns_within, entry_of_fetched, Each-images}
 use Rattle.rv_hardware.proofs.Marks.Cited.{is_in_flight_mark, is_stationed_mark, History, history_is_sound, sent_all, dispatching, behind_law, behind_count, DispatchTurn, dispatch_turn_is, WaitsFor, for_serial, for_buffer, for_station, for_queue, buffer_empty, waits, dispatches, IsNew, Mark, mark_of_row, mark_of_entry, mark_of_fetched, at_end, as_of, was_fetched, start_until, start_of_stage, start_of_execution, until_by, until_now, Older, rows_are_older, rows_obey, SoundRow, HasShape, some_kind, is_at}
 
 -- a word that could have been dispatched in a cycle: it is the oldest that was not, and no serialising instruction is in flight
@@ -111,16 +111,11 @@ words_wait v now rows h shape (f ∷ fs) at left = (
       (λ all. was_dispatched (mark_of_fetched f) (Each-place (λ x. is_some x.dispatched ≡ true) (map mark_of_row rows ++ map mark_of_entry h.rob.entries) [] (mark_of_fetched f) all) refl),
 )
 
-dispatched_ones : (v : Values) (now : ℕ) (before xs : List Mark) → Each (λ x. is_some x.dispatched ≡ true) xs → EveryBehind (EntersSoon v now) before xs
-dispatched_ones v now before xs h = EveryBehind-all (λ x. is_some x.dispatched ≡ true) (EntersSoon v now) (λ b x is may. was_dispatched x is may.not_yet) before xs h
+abbrev IsDispatched : Mark → Type 0
+IsDispatched x = is_some x.dispatched ≡ true
 
-rows_dispatched : (rows : List Row) → Each (λ x. is_some x.dispatched ≡ true) (map mark_of_row rows)
-rows_dispatched [] = tt
-rows_dispatched (row ∷ rows) = (refl, rows_dispatched rows)
-
-entries_dispatched : (es : List Entry) → Each (λ x. is_some x.dispatched ≡ true) (map mark_of_entry es)
-entries_dispatched [] = tt
-entries_dispatched (e ∷ es) = (refl, entries_dispatched es)
+dispatched_ones : (v : Values) (now : ℕ) (before xs : List Mark) → Each IsDispatched xs → EveryBehind (EntersSoon v now) before xs
+dispatched_ones v now before xs h = EveryBehind-all IsDispatched (EntersSoon v now) (λ b x is may. was_dispatched x is may.not_yet) before xs h
 
 soon_marks : (v : Values) {steps : List Step} {h : Hardware} → History v steps h → (c : ℕ) → c < h.cycle → EveryBehind (EntersSoon v c) [] (as_of c (map mark_of_row (rows_of steps)))
 soon_marks v history =
@@ -134,8 +129,10 @@ soon_marks v history =
     let es : List Mark = map mark_of_entry d.rob.entries in
     let fs : List Mark = map mark_of_fetched d.front.entries in
     rw (passed.new_marks) (EveryBehind-append (EntersSoon v now) [] (rows ++ (es ++ fs)) (map mark_of_fetched passed.fetches.added)
-    (EveryBehind-append (EntersSoon v now) [] rows (es ++ fs) (dispatched_ones v now [] rows (rows_dispatched (rows_of all)))
-    (EveryBehind-append (EntersSoon v now) rows es fs (dispatched_ones v now rows es (entries_dispatched d.rob.entries)) (words_wait v now (rows_of all) d passed.dispatches.basics.always.sizes d.front.entries refl left)))
+    (EveryBehind-append (EntersSoon v now) [] rows (es ++ fs) (dispatched_ones v now [] rows (Each-images IsDispatched mark_of_row (λ row. refl) (rows_of all)))
+    (EveryBehind-append (EntersSoon v now) rows es fs
+    (dispatched_ones v now rows es (Each-images IsDispatched mark_of_entry (λ e. refl) d.rob.entries))
+    (words_wait v now (rows_of all) d passed.dispatches.basics.always.sizes d.front.entries refl left)))
     (EveryBehind-all (λ m. now ≤ m.fetched) (EntersSoon v now) (λ b x le may. absurd (too_new now x le may.fetched)) (rows ++ (es ++ fs)) (map mark_of_fetched passed.fetches.added)
     (Each-map (λ m. now ≤ m.fetched) mark_of_fetched passed.fetches.added (Each-weaker (IsNew now) (λ f. now ≤ f.cycle) (λ f w. omega (arith, w.0)) passed.fetches.added passed.fetches.are_new)))))
     history

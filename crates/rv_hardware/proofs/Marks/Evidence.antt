@@ -1,5 +1,5 @@
 -- When an instruction starts, is broadcast or is dispatched, the marks of older ones show its operands, its turn and its room.
-use Rattle.rv_hardware.proofs.Words.{◌≡◌, ℕ, ◌+◌, ◌<◌, ◌≤◌, Bool, true, false, cond, not, ◌&&◌, List, [], ◌∷◌, ◌++◌, map, length, is_some, is_none, IfSome, nat_le, Some, None, filter, Option, sym, refl, ◌∙◌, true≢false, arith, leb-false, length-filter, list_all, is_of_kind, is_store, kind_of_word, Message, Instr, Issue, Kind, Values, Each, is_known as is_known_store, Store as QueuedStore, Entry, Stage, has_result, result_at, is_stationed, broadcast_of, is_known_from, is_waiting, store_of_broadcast, stores_of, writes, has_operands, last_from, last_that, Execution, Row, and_first, and_second, Each-append, Each-weaker, Each-map, EveryBehind, count, count-count_by, count-append, count-none, count-map, count-le, count-length}
+use Rattle.rv_hardware.proofs.Words.{◌≡◌, ℕ, ◌+◌, ◌<◌, ◌≤◌, Bool, true, false, cond, not, ◌&&◌, List, [], ◌∷◌, ◌++◌, map, length, is_some, is_none, IfSome, nat_le, Some, None, filter, Option, sym, refl, ◌∙◌, true≢false, arith, leb-false, length-filter, list_all, is_of_kind, is_store, kind_of_word, Message, Instr, Issue, Kind, Values, Each, is_known as is_known_store, Store as QueuedStore, Entry, Stage, has_result, result_at, is_stationed, broadcast_of, is_known_from, is_waiting, store_of_broadcast, stores_of, writes, has_operands, last_from, last_that, Execution, Row, and_first, and_second, Each-append, Each-weaker, Each-map, EveryBehind, count, count-count_by, count-append, count-none, count-map, count-le, count-length, Each-images, list_all-append}
 use Rattle.rv_hardware.specs.InFlight.{is_known}
 use Rattle.rv_hardware.proofs.Marks.Advance.{IsBefore, writes_mark, IsKnownMark, OperandsKnown, IsKnownStore, IsSentIfReady, is_in_flight_mark, is_stationed_mark}
 use Rattle.rv_hardware.proofs.Marks.List.{Mark, mark_of_row, mark_of_entry, broadcast_of_stage, start_of_stage, broadcast_of_execution, start_of_execution}
@@ -96,11 +96,9 @@ module _ (v : Values) (d a now : ℕ) where
     stores_known committed seq older sound h =
         Each-append (IsKnownStore now) (map mark_of_row rows) (map mark_of_entry older)
         (Each-weaker (IsKnownMark now) (IsKnownStore now) (λ m known store. known (store_has_unit m.instruction store)) (map mark_of_row rows) rows_known)
-        (stores_all seq older sound (all_right committed (stores_of seq older) h))
-      where
-        all_right : (xs ys : List QueuedStore) → list_all is_known_store (xs ++ ys) ≡ true → list_all is_known_store ys ≡ true
-        all_right [] ys k = k
-        all_right (x ∷ xs) ys k = all_right xs ys (and_second (is_known_store x) (list_all is_known_store (xs ++ ys)) k)
+        (stores_all seq older sound
+        (and_second (list_all is_known_store committed) (list_all is_known_store (stores_of seq older))
+        (sym (list_all-append is_known_store committed (stores_of seq older)) ∙ h)))
 
 -- no older result waits
 
@@ -133,19 +131,18 @@ none_waits v d a now rows older sound_rows sound none =
 
 -- rows and instructions in flight were dispatched
 pub rows_and_entries_are_dispatched : (rows : List Row) (es : List Entry) → Each (λ x. is_some x.dispatched ≡ true) (map mark_of_row rows ++ map mark_of_entry es)
-rows_and_entries_are_dispatched [] [] = tt
-rows_and_entries_are_dispatched [] (e ∷ es) = (refl, rows_and_entries_are_dispatched [] es)
-rows_and_entries_are_dispatched (row ∷ rows) es = (refl, rows_and_entries_are_dispatched rows es)
-
-rows_not_in_flight : (rows : List Row) → Each (λ row. is_in_flight_mark (mark_of_row row) ≡ false) rows
-rows_not_in_flight [] = tt
-rows_not_in_flight (row ∷ rows) = (refl, rows_not_in_flight rows)
+rows_and_entries_are_dispatched rows es =
+    Each-append (λ x. is_some x.dispatched ≡ true) (map mark_of_row rows) (map mark_of_entry es)
+    (Each-images (λ x. is_some x.dispatched ≡ true) mark_of_row (λ row. refl) rows)
+    (Each-images (λ x. is_some x.dispatched ≡ true) mark_of_entry (λ e. refl) es)
 
 -- no more marks are in flight than the reorder buffer has entries
 pub in_flight_room : (rows : List Row) (es : List Entry) → count is_in_flight_mark (map mark_of_row rows ++ map mark_of_entry es) ≤ length es
 in_flight_room rows es =
     let both = count-append is_in_flight_mark (map mark_of_row rows) (map mark_of_entry es) in
-    let none = count-map is_in_flight_mark mark_of_row rows ∙ count-none (λ row. is_in_flight_mark (mark_of_row row)) rows (rows_not_in_flight rows) in
+    let none =
+    count-none is_in_flight_mark (map mark_of_row rows)
+    (Each-images (λ x. is_in_flight_mark x ≡ false) mark_of_row (λ row. refl) rows) in
     let all = count-map is_in_flight_mark mark_of_entry es in
     let some = count-length (λ e. is_in_flight_mark (mark_of_entry e)) es in
     omega (arith, both, none, all, some)

@@ -1,5 +1,5 @@
 -- Steps come in order, within the width; interrupts alone, flushes last; after a flush everything is fetched anew.
-use Rattle.rv_hardware.proofs.Words.{nat_eq as eqb, ◌≡◌, ℕ, suc, ◌+◌, ◌<◌, ◌≤◌, Bool, true, false, List, [], ◌∷◌, ◌++◌, map, length, ◌==◌, Some, None, Option, nat_cmp, unwrap_or, sym, refl, ap, subst, true≢false, append_assoc, append-nil, arith, length-append, ne_eqb, eqb-true, IsLegal, is_serialising, Message, Issue, Lines, Values, instruction_of, due, Stop, Each, Entry, Finished, Committing, commit_turn, commit_unless, with_fault, IsCycle, any_prediction, with_lines, Hardware, IsFetchedSince, Turn, Report, written_of, flushes, rows_of, is_interrupt, stamp_of, Row, Step, Retired, Trap, Each-append, Each-left, Each-right, Each-set, Each-place, Each-weaker, Each-all, Each-both, Each-map, Each-unmap, EveryPair, count, EveryPair-append, count-append, count-none, count-length, Leads, leads_both, turns_within}
+use Rattle.rv_hardware.proofs.Words.{nat_eq as eqb, ◌≡◌, ℕ, suc, ◌+◌, ◌<◌, ◌≤◌, Bool, true, false, List, [], ◌∷◌, ◌++◌, map, length, ◌==◌, Some, None, Option, nat_cmp, unwrap_or, sym, refl, ap, subst, true≢false, append_assoc, append-nil, arith, length-append, ne_eqb, eqb-true, IsLegal, is_serialising, Message, Issue, Lines, Values, instruction_of, due, Stop, Each, Entry, Finished, Committing, commit_turn, commit_unless, with_fault, IsCycle, any_prediction, with_lines, Hardware, IsFetchedSince, Turn, Report, written_of, flushes, rows_of, is_interrupt, stamp_of, Row, Step, Retired, Trap, Each-append, Each-left, Each-right, Each-set, Each-place, Each-weaker, Each-all, Each-both, Each-map, Each-unmap, EveryPair, count, EveryPair-append, count-append, count-none, count-length, Leads, leads_both, turns_within, Each-images}
 use Rattle.std.specs.FinSet as set
 use Rattle.rv_hardware.proofs.Marks.Advance.{Kept, Advances}
 use Rattle.rv_hardware.proofs.Marks.List.{Mark, mark_of_row, mark_of_entry, mark_of_fetched, marks_in}
@@ -181,8 +181,7 @@ anew_is_kept steps v now = record {
 }
 
 rows_are_gone : (steps : List Step) (rows : List Row) → Each (FetchedAnew steps) (map mark_of_row rows)
-rows_are_gone steps [] = tt
-rows_are_gone steps (row ∷ rows) = ((λ none. some_is_none row.retired none), rows_are_gone steps rows)
+rows_are_gone steps rows = Each-images (FetchedAnew steps) mark_of_row (λ row none. some_is_none row.retired none) rows
 
 module _ (v : Values) (legal : IsLegal v) (earlier : List Step) (old new : Hardware) (lines : Lines) (report : Report) (begins : Sound v earlier old) (past : StepsPast v earlier old) (is : IsCycle any_prediction lines old report new) where
   now : ℕ
