@@ -1,5 +1,5 @@
 -- A cycle in which an instruction was dispatched is a busy one.
-use Rattle.rv_hardware.proofs.Words.{◌≡◌, ℕ, suc, ◌+◌, ◌-◌, ◌<◌, ◌≤◌, Bool, true, false, cond, not, ◌||◌, List, [], ◌∷◌, ◌++◌, map, length, ◌==◌, Some, None, sym, refl, ap, ◌∙◌, subst, append_assoc, append-nil, arith, ne_eqb, eqb-true, list_any, range_with_len, Arrival, Lines, Values, Each, Entry, Fetched, IsCycle, any_prediction, Dispatching, dispatch, dispatch_turn, Hardware, AreCounted, dispatch_cycles, Turn, Report, Cycles, Reachable, busy_of, cycled, ended, stalls_of, steps_of, is_dispatched_in, rows_of, Row, Step, Each-append, Each-left, Each-set, Each-place, Each-weaker, Each-all, Each-map, Each-unmap, count, count-count_by, count-le, Leads, kept_by_turns}
+use Rattle.rv_hardware.proofs.Words.{◌≡◌, ℕ, suc, ◌+◌, ◌-◌, ◌<◌, ◌≤◌, Bool, true, false, cond, not, ◌||◌, List, [], ◌∷◌, ◌++◌, map, length, ◌==◌, Some, None, sym, refl, ap, ◌∙◌, subst, append_assoc, append-nil, arith, ne_eqb, eqb-true, list_any, range_with_len, Arrival, Lines, Values, Each, Entry, Fetched, IsCycle, any_prediction, Dispatching, dispatch, dispatch_turn, Hardware, AreCounted, dispatch_cycles, Turn, Report, Cycles, Reachable, busy_of, cycled, ended, stalls_of, steps_of, is_dispatched_in, rows_of, Row, Step, Each-append, Each-left, Each-set, Each-place, Each-weaker, Each-all, Each-map, Each-unmap, count, count-count_by, count-le, Leads, kept_by_turns, Each-images}
 use Rattle.rv_hardware.proofs.Headline.Reached.{cycles_counted}
 use Rattle.rv_hardware.proofs.Marks.Cited.{Advances, Kept, Anything, History, went_on, Passed, cycle_passes, dispatching, sent_all, history_is_legal, history_is_sound, reachable_has_history, history_passes, DispatchTurn, dispatch_turn_is, Mark, mark_of_row, mark_of_entry, mark_of_fetched, marks_in, rows_append, SoundRow, SoundEntry}
 use Rattle.rv_hardware.proofs.Laws.OfCycles.{counts_of_runs}
@@ -25,7 +25,7 @@ elsewhere_is_kept c v now lt = record {
 }
 
 words_elsewhere : (c : ℕ) (fs : List Fetched) → Each (IsElsewhere c) (map mark_of_fetched fs)
-words_elsewhere c fs = Each-map (IsElsewhere c) mark_of_fetched fs (Each-all (λ f. IsElsewhere c (mark_of_fetched f)) (λ f same. absurd (cc)) fs)
+words_elsewhere c fs = Each-images (IsElsewhere c) mark_of_fetched (λ f same. absurd (cc)) fs
 
 module _ (v : Values) (c : ℕ) where
   elsewhere_goes_on : {earlier : List Step} {old new : Hardware} {lines : Lines} {report : Report} → c < old.cycle → History v earlier old → IsCycle any_prediction lines old report new →

@@ -1,7 +1,7 @@
 -- Of two loads that use the cache's port one is over when the other begins.
 pub mod Loads
 pub mod Phases
-use Rattle.rv_hardware.proofs.Words.{◌≡◌, ℕ, ◌+◌, ◌<◌, ◌≤◌, Bool, true, false, cond, not, ◌⊎◌, List, [], ◌∷◌, ◌++◌, map, IfSome, nat_le, ◌==◌, Some, None, Option, AllPairs, sym, refl, ap, ◌∙◌, subst, inl, inr, true≢false, append_assoc, arith, le-leb, and_from, cases_lt, Instr, Values, Each, Entry, Stage, Finished, Running, Waiting, Fetched, Hardware, AreApartAtPort, EachBehind, instruction_of_row, is_load_row, passes, rows_of, uses_port, Execution, Row, Step, and_first, and_second, Each-left, Each-place, Each-weaker, Each-all, Each-both, Each-map, EveryPair, EveryBehind, AllPairs-EveryPair, EveryPair-append, EveryPair-map, Beginning-EveryBehind, EveryPair-EveryBehind, EveryBehind-EveryPair}
+use Rattle.rv_hardware.proofs.Words.{◌≡◌, ℕ, ◌+◌, ◌<◌, ◌≤◌, Bool, true, false, cond, not, ◌⊎◌, List, [], ◌∷◌, ◌++◌, map, IfSome, nat_le, ◌==◌, Some, None, Option, AllPairs, sym, refl, ap, ◌∙◌, subst, inl, inr, true≢false, append_assoc, arith, le-leb, and_from, cases_lt, Instr, Values, Each, Entry, Stage, Finished, Running, Waiting, Fetched, Hardware, AreApartAtPort, EachBehind, instruction_of_row, is_load_row, passes, rows_of, uses_port, Execution, Row, Step, and_first, and_second, Each-left, Each-place, Each-weaker, Each-all, Each-both, Each-map, EveryPair, EveryBehind, AllPairs-EveryPair, EveryPair-append, EveryPair-map, Beginning-EveryBehind, EveryPair-EveryBehind, EveryBehind-EveryPair, Each-images}
 use Rattle.rv_hardware.proofs.Marks.Cited.{in_cycle, behind_law, History, began, went_on, dispatching, history_is_legal, history_is_sound, history_passes, Mark, Start, mark_of_row, mark_of_entry, mark_of_fetched, marks_in, as_of, as_of-cons, at_end, start_until, start_of_execution, start_of_stage, rows_obey, SoundRow, SoundEntry, SoundStage}
 use Rattle.rv_hardware.proofs.Laws.Port.Loads.{uses_cache, WhereUsed, OverBy, OneAtATime}
 use Rattle.rv_hardware.proofs.Laws.Port.Phases.{PortOk, Tied, new_pair, port_kept}
@@ -60,11 +60,11 @@ words_last : (v : Values) (now : ℕ) (ms : List Mark) (fs : List Fetched) → E
     EveryPair (OneAtATime v now) (ms ++ map mark_of_fetched fs)
 words_last v now ms fs h =
     EveryPair-append (OneAtATime v now) ms (map mark_of_fetched fs) h (among fs)
-    (Each-all (λ m. Each (OneAtATime v now m) (map mark_of_fetched fs)) (λ m. Each-map (OneAtATime v now m) mark_of_fetched fs (Each-all (λ f. OneAtATime v now m (mark_of_fetched f)) (λ f. new_pair v now m (mark_of_fetched f) refl) fs)) ms)
+    (Each-all (λ m. Each (OneAtATime v now m) (map mark_of_fetched fs)) (λ m. Each-images (OneAtATime v now m) mark_of_fetched (λ f. new_pair v now m (mark_of_fetched f) refl) fs) ms)
   where
     among : (gs : List Fetched) → EveryPair (OneAtATime v now) (map mark_of_fetched gs)
     among [] = tt
-    among (g ∷ gs) = (Each-map (OneAtATime v now (mark_of_fetched g)) mark_of_fetched gs (Each-all (λ f. OneAtATime v now (mark_of_fetched g) (mark_of_fetched f)) (λ f. new_pair v now (mark_of_fetched g) (mark_of_fetched f) refl) gs), among gs)
+    among (g ∷ gs) = (Each-images (OneAtATime v now (mark_of_fetched g)) mark_of_fetched (λ f. new_pair v now (mark_of_fetched g) (mark_of_fetched f) refl) gs, among gs)
 
 abbrev PortBehind : Values → ℕ → List Mark → Mark → Type 0
 PortBehind v c before m = Each (λ a. OneAtATime v c a m) before

@@ -1,6 +1,6 @@
 -- Every cycle keeps the store queue's tie to the rows, and so it holds no more stores than it has room for.
 pub mod Queue
-use Rattle.rv_hardware.proofs.Words.{◌≡◌, ℕ, zero, suc, ◌+◌, ◌<◌, ◌≤◌, Bool, true, false, cond, ◌&&◌, List, [], ◌∷◌, ◌++◌, map, length, is_some, nat_lt, nat_le, Some, None, filter, Option, nat_cmp, sym, refl, ap, ◌∙◌, subst, inl, inr, append_assoc, append-nil, arith, ltb-true, le-ltb, lt-ltb, le-leb, leb-true, and_from, cases_lt, is_serialising, is_store, Message, Issue, Lines, Kind, CacheValues, Values, due, interrupt_cause, Each, Store, Entry, Finished, broadcast, Committing, commit_unless, with_fault, with_lines, dispatch, drain, Hardware, broadcast_of, FromCache, has_port, issue, NeverMoreThan, Turn, Report, written_of, is_queued_in, is_store_row, rows_of, Row, Step, Interrupt, Retired, Trap, and_first, and_second, Each-weaker, Each-all, count, count-count_by, count-append, count-none, count-map, count-le, count-length, Beginning-count, Leads}
+use Rattle.rv_hardware.proofs.Words.{◌≡◌, ℕ, zero, suc, ◌+◌, ◌<◌, ◌≤◌, Bool, true, false, cond, ◌&&◌, List, [], ◌∷◌, ◌++◌, map, length, is_some, nat_lt, nat_le, Some, None, filter, Option, nat_cmp, sym, refl, ap, ◌∙◌, subst, inl, inr, append_assoc, append-nil, arith, ltb-true, le-ltb, lt-ltb, le-leb, leb-true, and_from, cases_lt, is_serialising, is_store, Message, Issue, Lines, Kind, CacheValues, Values, due, interrupt_cause, Each, Store, Entry, Finished, broadcast, Committing, commit_unless, with_fault, with_lines, dispatch, drain, Hardware, broadcast_of, FromCache, has_port, issue, NeverMoreThan, Turn, Report, written_of, is_queued_in, is_store_row, rows_of, Row, Step, Interrupt, Retired, Trap, and_first, and_second, Each-weaker, Each-all, count, count-count_by, count-append, count-none, count-map, count-le, count-length, Beginning-count, Leads, and_right}
 use Rattle.std.specs.FinSet as set
 use Rattle.rv_hardware.proofs.Marks.Cited.{IsKeptByBroadcast, broadcast-keeps, access_cost-least, IsKeptByDispatch, dispatch-keeps, IsKeptByDrain, drain-keeps, IsKeptByIssue, issue-keeps, ready-parts, store_count, instructions_of, CommitTurn, no_head, stale_head, unfinished, fence_waits, fence_writes, fence_retires, executes, serial_faults, traps, retires, retires_last, written_back, retired_with, count-as_of, Anything, anything_is_kept, Passed, History, began, went_on, begin, committing, drained, history_is_legal, history_is_sound, history_passes, InCommit, commit_turns_keep, Mark, mark_of_row, mark_of_entry, mark_of_fetched, marks_in, at_end, as_of, was_fetched, until, Extends, rows_append, until_by, rows_obey, SoundRow, row_at, retiring_is_one, may_retire_serial, may_retire_finished, MayRetire, SoundEntry, row_decodes, Shaped, told_at_end, count_marks}
 use Rattle.rv_hardware.proofs.Headline.Stores.{serialising_is_no_store}
@@ -168,14 +168,11 @@ law_by_cycle v history =
     let parts = count_marks p (earlier ++ report.steps) new.rob.entries new.front.entries in
     let rows = queued_rows v.cache.hit old.cycle (rows_of (earlier ++ report.steps)) new.port_free new.committed ok in
     let entries = queued_entries v.cache.hit old.cycle new.rob.entries in
-    let words = count-none (λ f. p (mark_of_fetched f)) new.front.entries (Each-all (λ f. p (mark_of_fetched f) ≡ false) (λ f. not_dispatched (is_store f.instruction)) new.front.entries) in
+    let words = count-none (λ f. p (mark_of_fetched f)) new.front.entries
+    (Each-all (λ f. p (mark_of_fetched f) ≡ false) (λ f. and_right (is_store f.instruction) false refl) new.front.entries) in
     let room = (history_is_sound v after).always.stores.1 in
     let values = ap (λ (w : Values). w.store_queue) (history_is_sound v after).always.sizes.values in
     omega (arith, parts, rows, entries, words, room, values)) history
-  where
-    not_dispatched : (b : Bool) → (b && false) ≡ false
-    not_dispatched true = refl
-    not_dispatched false = refl
 
 -- so of rows
 

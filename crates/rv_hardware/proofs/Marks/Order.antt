@@ -1,5 +1,5 @@
 -- Instructions are fetched and dispatched in order, and the reorder buffer and the stations hold no more than they have room for.
-use Rattle.rv_hardware.proofs.Words.{◌≡◌, ℕ, ◌+◌, ◌<◌, ◌≤◌, Bool, true, false, ◌&&◌, List, [], ◌∷◌, ◌++◌, map, is_some, is_none, IfSome, Some, None, Option, sym, refl, ap, ◌∙◌, subst, arith, and_left, and_right, is_of_kind, kind_of_word, at_kind, Kind, Values, Each, Fetched, Hardware, Step, and_second, never_both, Each-append, Each-left, Each-set, Each-place, Each-weaker, Each-all, Each-both, Each-map, EveryPair, count, Across, EveryPair-append, EveryPair-left, EveryPair-right, EveryPair-across, EveryPair-set, count-append, count-none, count-map, count-length, count-set-same, count-set-less, count-push-most, count-left}
+use Rattle.rv_hardware.proofs.Words.{◌≡◌, ℕ, ◌+◌, ◌<◌, ◌≤◌, Bool, true, false, ◌&&◌, List, [], ◌∷◌, ◌++◌, map, is_some, is_none, IfSome, Some, None, Option, sym, refl, ap, ◌∙◌, subst, arith, and_left, and_right, is_of_kind, kind_of_word, at_kind, Kind, Values, Each, Fetched, Hardware, Step, and_second, never_both, Each-append, Each-left, Each-set, Each-place, Each-weaker, Each-all, Each-both, Each-map, EveryPair, count, Across, EveryPair-append, EveryPair-left, EveryPair-right, EveryPair-across, EveryPair-set, count-append, count-none, count-map, count-length, count-set-same, count-set-less, count-push-most, count-left, Each-images}
 use Rattle.rv_hardware.proofs.Marks.Advance.{IsBefore, Advances, mark_retires, mark_starts, mark_is_sent, mark_enters, Enters, is_in_flight_mark, is_stationed_mark}
 use Rattle.rv_hardware.proofs.Marks.History.{NewWords, is_buffered_mark, KeptMarks, History, marks_of_history}
 use Rattle.rv_hardware.proofs.Turns.Fetch.{IsNew}
@@ -116,17 +116,17 @@ new_in_order now (f ∷ fs) are = grind (arith, Each-map, Each-weaker, new_in_or
 
 none_dispatched : (fs : List Fetched) → EveryPair IsDispatchedFirst (map mark_of_fetched fs)
 none_dispatched [] = tt
-none_dispatched (f ∷ fs) = (Each-map (IsDispatchedFirst (mark_of_fetched f)) mark_of_fetched fs (Each-all (λ g. IsDispatchedFirst (mark_of_fetched f) (mark_of_fetched g)) (λ g. tt) fs), none_dispatched fs)
+none_dispatched (f ∷ fs) = (Each-images (IsDispatchedFirst (mark_of_fetched f)) mark_of_fetched (λ g. tt) fs, none_dispatched fs)
 
 orderly_more : (v : Values) (now : ℕ) (ms : List Mark) (fs : List Fetched) → NewWords v now ms fs → Orderly v now ms → Orderly v (now + 1) (ms ++ map mark_of_fetched fs)
 orderly_more v now ms fs words o = record {
   fetched = EveryPair-append (λ x y. x.fetched ≤ y.fetched) ms (map mark_of_fetched fs) o.fetched (new_in_order now fs words.are_new)
       (Each-weaker (λ m. m.fetched < now) (λ m. Each (λ y. m.fetched ≤ y.fetched) (map mark_of_fetched fs)) (λ m le. Each-map (λ y. m.fetched ≤ y.fetched) mark_of_fetched fs (Each-weaker (IsNew now) (λ g. m.fetched ≤ g.cycle) (λ g w. omega (arith, w.0, le)) fs words.are_new)) ms words.by_now);
   dispatched = EveryPair-append IsDispatchedFirst ms (map mark_of_fetched fs) o.dispatched (none_dispatched fs)
-      (Each-all (λ m. Each (IsDispatchedFirst m) (map mark_of_fetched fs)) (λ m. Each-map (IsDispatchedFirst m) mark_of_fetched fs (Each-all (λ g. IsDispatchedFirst m (mark_of_fetched g)) (λ g. tt) fs)) ms);
+      (Each-all (λ m. Each (IsDispatchedFirst m) (map mark_of_fetched fs)) (λ m. Each-images (IsDispatchedFirst m) mark_of_fetched (λ g. tt) fs) ms);
   by_now = Each-append (DispatchedBy (now + 1)) ms (map mark_of_fetched fs)
       (Each-weaker (DispatchedBy now) (DispatchedBy (now + 1)) (λ m w. later m.dispatched w) ms o.by_now)
-      (Each-map (DispatchedBy (now + 1)) mark_of_fetched fs (Each-all (λ f. DispatchedBy (now + 1) (mark_of_fetched f)) (λ f. tt) fs));
+      (Each-images (DispatchedBy (now + 1)) mark_of_fetched (λ f. tt) fs);
   buffer = let same = not_there is_in_flight_mark ms fs (λ f. refl) in omega (arith, same, o.buffer);
   words =
       let all = count-append is_buffered_mark ms (map mark_of_fetched fs) in

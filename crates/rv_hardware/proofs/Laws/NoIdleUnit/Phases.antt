@@ -1,5 +1,5 @@
 -- The issue phase leaves no pipelined unit idle, and the other phases keep it so.
-use Rattle.rv_hardware.proofs.Words.{◌≡◌, ℕ, suc, ◌+◌, ◌<◌, ◌≤◌, Bool, true, false, cond, List, [], ◌∷◌, ◌++◌, map, length, nat_lt, nat_le, Some, None, filter, sym, refl, ap, ◌∙◌, subst, append_assoc, append-nil, arith, ltb-false, le-ltb, eq-eqb, and_from, and_right, at_kind-for_each, with_kind-each, with_kind-other, with_kind-own, IsLegal, is_of_kind, kind_of_word, at_kind, for_each, with_kind, Issue, Lines, Kind, PerKind, Values, Each, Pool, free_pool, holding, holds_unit, started, Entry, with_lines, Hardware, cost_of, is_ready, issue, issue_kind, issue_turn, issued, path, Turn, Report, rows_of, Step, Each-append, Each-left, Each-weaker, Each-all, Each-filter, EveryBehind, count, count-set-one_more, EveryBehind-append, EveryBehind-right, EveryBehind-moved, EveryBehind-all, EveryBehind-weaker, Leads, turns_within}
+use Rattle.rv_hardware.proofs.Words.{◌≡◌, ℕ, suc, ◌+◌, ◌<◌, ◌≤◌, true, false, List, [], ◌∷◌, ◌++◌, map, length, nat_lt, nat_le, Some, None, sym, refl, ap, ◌∙◌, subst, append_assoc, append-nil, arith, ltb-false, le-ltb, eq-eqb, and_from, and_right, at_kind-for_each, with_kind-each, with_kind-other, with_kind-own, IsLegal, is_of_kind, kind_of_word, at_kind, for_each, with_kind, Issue, Lines, Kind, PerKind, Values, Each, Pool, free_pool, holding, holds_unit, started, Entry, with_lines, Hardware, cost_of, is_ready, issue, issue_kind, issue_turn, issued, path, Turn, Report, rows_of, Step, Each-append, Each-left, Each-weaker, Each-all, Each-filter, EveryBehind, count, count-set-one_more, EveryBehind-append, EveryBehind-right, EveryBehind-moved, EveryBehind-all, EveryBehind-weaker, Leads, turns_within, length-filter, count-count_by, count-length}
 use Rattle.std.specs.FinSet as set
 use Rattle.rv_isa.specs.declared.operations.Kind.TheVariants as kind
 use Rattle.rv_units.specs.Pool.{started as started_unit}
@@ -17,19 +17,11 @@ none_holds now [] h = refl
 none_holds now (s ∷ ss) h = rw (and_right (nat_le s.cycle now) (nat_lt now (s.cycle + s.cost)) (le-ltb now (s.cycle + s.cost) h.0)) (none_holds now ss h.1)
 
 fewer_held : (now : ℕ) (xs : List Issue) → length (holding now (holding now xs)) ≤ length (holding now xs)
-fewer_held now xs = filtered (holds_unit now) (holding now xs)
-  where
-    picks : (b : Bool) (m n : ℕ) → m ≤ n → cond b (suc m) m ≤ suc n
-    picks b m n le = grind arith
-
-    pick_length : {X : Type 0} (b : Bool) (x : X) (ys : List X) →
-        length (cond b (x ∷ ys) ys) ≡ cond b (suc (length ys)) (length ys)
-    pick_length true x ys = refl
-    pick_length false x ys = refl
-
-    filtered : {X : Type 0} (p : X → Bool) (ys : List X) → length (filter p ys) ≤ length ys
-    filtered p [] = omega arith
-    filtered p (y ∷ ys) = let rest = filtered p ys in let here = pick_length (p y) y (filter p ys) in let less = picks (p y) (length (filter p ys)) (length ys) rest in omega (arith, here, less)
+fewer_held now xs =
+    let held : List Issue = holding now xs in
+    let passing = length-filter (holds_unit now) held ∙ sym (count-count_by (holds_unit now) held) in
+    let most = count-length (holds_unit now) held in
+    omega (arith, passing, most)
 
 filter-append_length : (now : ℕ) (xs : List Issue) (s : Issue) →
     length (holding now (xs ++ s ∷ [])) ≤ suc (length (holding now xs))

@@ -1,5 +1,5 @@
 -- Of the results that are ready the oldest is broadcast first.
-use Rattle.rv_hardware.proofs.Words.{◌≡◌, ℕ, ◌+◌, ◌<◌, ◌≤◌, List, [], ◌∷◌, ◌++◌, map, IfSome, Some, None, Option, sym, ap, ◌∙◌, subst, arith, Values, Each, Fetched, Hardware, Step, Each-append, Each-left, Each-right, Each-set, Each-place, Each-weaker, Each-all, Each-both, Each-map, EveryPair, EveryPair-append, EveryPair-left, EveryPair-right, EveryPair-across, EveryPair-set}
+use Rattle.rv_hardware.proofs.Words.{◌≡◌, ℕ, ◌+◌, ◌<◌, ◌≤◌, List, [], ◌∷◌, ◌++◌, map, IfSome, Some, None, Option, sym, ap, ◌∙◌, subst, arith, Values, Each, Fetched, Hardware, Step, Each-append, Each-left, Each-right, Each-set, Each-place, Each-weaker, Each-all, Each-both, EveryPair, EveryPair-append, EveryPair-left, EveryPair-right, EveryPair-across, EveryPair-set, Each-images}
 use Rattle.rv_hardware.proofs.Marks.Cited.{IsBefore, Advances, mark_retires, mark_starts, mark_is_sent, mark_enters, Starts, IsSent, IsSentIfReady, KeptMarks, History, marks_of_history, Mark, Start, mark_of_fetched, marks_in}
 
 -- where b was broadcast, an earlier a whose result was ready by then was broadcast by then
@@ -73,7 +73,7 @@ bus_set v now xs ys m n (mark_enters a) o = same_bus now xs ys m n (ap (λ x. x.
 
 none_sent : (fs : List Fetched) → EveryPair OldestFirst (map mark_of_fetched fs)
 none_sent [] = tt
-none_sent (f ∷ fs) = (Each-map (OldestFirst (mark_of_fetched f)) mark_of_fetched fs (Each-all (λ g. Unit {0}) (λ g. tt) fs), none_sent fs)
+none_sent (f ∷ fs) = (Each-images (OldestFirst (mark_of_fetched f)) mark_of_fetched (λ g. tt) fs, none_sent fs)
 
 sent_by_later : (now : ℕ) (m : Mark) (o : Option ℕ) → IfSome o (λ b. b ≤ now) → IfSome o (λ b. b ≤ now + 1)
 sent_by_later now m o h = grind arith
@@ -87,9 +87,9 @@ bus_is_kept v = record {
   };
   more = λ now ms fs words o. record {
     oldest_first = EveryPair-append OldestFirst ms (map mark_of_fetched fs) o.oldest_first (none_sent fs)
-        (Each-all (λ m. Each (OldestFirst m) (map mark_of_fetched fs)) (λ m. Each-map (OldestFirst m) mark_of_fetched fs (Each-all (λ g. Unit {0}) (λ g. tt) fs)) ms);
+        (Each-all (λ m. Each (OldestFirst m) (map mark_of_fetched fs)) (λ m. Each-images (OldestFirst m) mark_of_fetched (λ g. tt) fs) ms);
     by_now = Each-append (SentBy (now + 1)) ms (map mark_of_fetched fs) (Each-weaker (SentBy now) (SentBy (now + 1)) (λ m w. sent_by_later now m m.broadcast w) ms o.by_now)
-        (Each-map (SentBy (now + 1)) mark_of_fetched fs (Each-all (λ g. Unit {0}) (λ g. tt) fs));
+        (Each-images (SentBy (now + 1)) mark_of_fetched (λ g. tt) fs);
   };
 }
 
