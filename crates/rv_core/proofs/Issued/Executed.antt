@@ -116,10 +116,7 @@ module _ {h : Hardware} (sound : IsSoundHardware h) where
     result = gave ∙ (λ j. result_of_word (layout_of h.values) s h.lines (sym word.1 j) (sym leaving.decoded j))
 
     legal_write : IsLegalWrite h.values (is_store entry.instruction) x.message.fault x.message.store
-    legal_write =
-        subst (λ i. IsLegalWrite h.values (is_store i) x.message.fault x.message.store) (sym leaving.decoded)
-        (subst (λ (m : Message). IsLegalWrite h.values (is_store (Some ready.instruction)) m.fault m.store) (sym gave)
-        (result_writes h.values s h.lines word.0 ready.instruction))
+    legal_write = rw (leaving.decoded, gave) (result_writes h.values s h.lines word.0 ready.instruction)
 
     abbrev issue : Issue
     issue = record { cycle = h.cycle; cost = x.cost }

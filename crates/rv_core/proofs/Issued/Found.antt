@@ -109,7 +109,7 @@ module _ (h : Hardware) (kind : Kind) where
           there = f.there;
           number = parts.2;
           found = f.defined;
-          operands = subst (Reads (seen_behind h f.prior f.entry.pc) ready.pc ready.first ready.second) (sym parts.4) given;
+          operands = rw parts.4 given;
           left = λ issue message.
               ap (without_oldest_ready test_of) (from_first h.rob.entries)
               ∙ f.left issue message

@@ -1,5 +1,5 @@
 -- The operands in a station are what the definition reads after the older instructions.
-use Rattle.rv_core.proofs.Words.{◌≡◌, ℕ, ◌+◌, ◌<◌, cond, ◌&&◌, ◌≢◌, List, [], ◌∷◌, map, length, IfSome, slice_index, slice_index_or, Some, None, All, Option, sym, refl, ap, ◌∙◌, arith, get_or-set_other, get_or-set_same, eqb-true, ne_eqb, eqb-false, All-head, All-tail, is_target, target_of_word, sources_of, target_of, written, Message, Instr, Csr, Lui, State, Entry, broadcast_of, is_known_from, registers_behind, with_value, has_operands, has_value, is_ready_station, ready_of, ready_with, Operand, Value, Ready, Station, is_known, Reads, operand_value, RegisterStatus, operand_by, operand_of, status_behind, status_with, values_in, waiting_of}
+use Rattle.rv_core.proofs.Words.{◌≡◌, ℕ, ◌+◌, ◌<◌, cond, ◌≢◌, List, [], ◌∷◌, map, length, IfSome, slice_index, slice_index_or, Some, None, All, Option, sym, refl, ap, ◌∙◌, arith, get_or-set_other, get_or-set_same, eqb-true, ne_eqb, eqb-false, All-head, All-tail, is_target, target_of_word, sources_of, target_of, written, Message, Instr, Csr, Lui, State, Entry, broadcast_of, is_known_from, registers_behind, with_value, has_operands, has_value, is_ready_station, ready_of, ready_with, Operand, Value, Ready, Station, is_known, Reads, operand_value, RegisterStatus, operand_by, operand_of, status_behind, status_with, values_in, waiting_of}
 use Rattle.rv_hardware.proofs.Headline.Known.{length-with_value}
 use Rattle.rv_isa.specs.declared.instructions.CsrSource.TheVariants as source
 
@@ -77,16 +77,7 @@ operand_value-told status s from v tells is = grind (arith, tells)
 pub ready_parts : (w : Station) (a b : Operand) (ready : Ready) → ready_with w a b ≡ Some ready →
     (a ≡ Value ready.first) × (b ≡ Value ready.second) × (ready.seq ≡ w.seq) × (ready.pc ≡ w.pc) ×
     (ready.instruction ≡ w.instruction)
-ready_parts w (Value x) (Value y) ready is =
-    let made : Ready = record { seq = w.seq; pc = w.pc; instruction = w.instruction; first = x; second = y } in
-    let same : made ≡ ready = cc in (
-      ap (λ (r : Ready). Value r.first) same,
-      ap (λ (r : Ready). Value r.second) same,
-      ap (λ (r : Ready). r.seq) (sym same),
-      ap (λ (r : Ready). r.pc) (sym same),
-      ap (λ (r : Ready). r.instruction) (sym same),
-    )
-ready_parts w _ _ ready is = absurd (cc)
+ready_parts w a b ready is = (grind arith, grind arith, grind arith, grind arith, grind arith)
 
 -- what leaves a station has what the instruction reads
 pub reads : (status : RegisterStatus) (seq pc : ℕ) (i : Instr) (s : State) (ready : Ready) →
@@ -104,16 +95,8 @@ reads status seq pc i s ready is tells at =
           parts.1 k ∷ []);
     }
 
--- it is ready where the definition knows its operands
-
-both_known : (status : RegisterStatus) (older : List Entry) → ((r : ℕ) → has_value (status r) ≡ is_known older r) →
-    (a b : Option ℕ) → (has_value (operand_of status a) && has_value (operand_of status b)) ≡ has_operands older (a ∷ b ∷ [])
-both_known status older known a b = grind (arith, known)
-
 -- a station is ready where the definition has the operands of its instruction
 pub is_ready-known : (status : RegisterStatus) (older : List Entry) (seq pc : ℕ) (i : Instr) →
     ((r : ℕ) → has_value (status r) ≡ is_known older r) →
     is_ready_station (waiting_of status seq pc i) ≡ has_operands older (sources_of i)
-is_ready-known status older seq pc i known =
-    both_known status older known (slice_index_or (sources_of i) 0 None) (slice_index_or (sources_of i) 1 None)
-    ∙ ap (has_operands older) (sym (two_sources i))
+is_ready-known status older seq pc i known = rw (two_sources i) (grind (arith, known))

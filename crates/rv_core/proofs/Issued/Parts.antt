@@ -113,12 +113,7 @@ module _ {parts : Inside} (sound : IsSound parts) {old : Hardware} (view : hardw
         seen = λ j. record h { cache = x.cache; port_free = x.port_free; units = sym held j; rob = sym changes j }
 
         tied : AreTied started_now parts.rename stations bus parts.stores
-        tied =
-            subst (λ (b : Pending). AreTied started_now parts.rename stations b parts.stores) (sym accepted)
-            (subst (λ (ps : PerKind Pool). AreTied started_now parts.rename ps
-            (with_result ready.seq (parts.cycle + x.cost) parts.bus) parts.stores)
-            (sym (left ∙ ap (λ test. with_kind kind (taken_from test (at_kind kind parts.stations)) parts.stations) same_test))
-            (is_tied sound.sound leaving x told sound.tied))
+        tied = rw (accepted, left, same_test) (is_tied sound.sound leaving x told sound.tied)
 
         -- the parts that have started it are sound
         pub sound_after : IsSound after

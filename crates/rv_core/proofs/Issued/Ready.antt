@@ -23,9 +23,7 @@ kind_there kind e is =
 
 -- loads are of the memory's kind
 not_load : (kind : Kind) (i : Instr) → is_operation (Some kind) ≡ true → kind_of i ≡ Some kind → is_load (Some i) ≡ false
-not_load Mem (Load form rd rs1 offset) operation is = absurd (cc)
-not_load _ (Load form rd rs1 offset) operation is = absurd (cc)
-not_load kind _ operation is = refl
+not_load kind i operation is = grind arith
 
 -- an entry's target is a register
 abbrev pub HasTarget : Entry → Type 0
@@ -112,10 +110,7 @@ module _ (h : Hardware) where
       Agree kind status0 h.rob.retired h.rob.entries (λ w. true) (is_ready_entry h kind)
   operations_agree kind operation older rest e i all decoded there =
       agrees older rest e kind (λ w. true) i decoded there
-      (λ ready. ap (λ b. not b ||
-      (list_all is_known_store (stores_behind h older) && has_port h
-      (path_of_word h older (seen_behind h older e.pc) (Some i))))
-      (sym (not_load kind i operation (ap kind_of_word (sym decoded) ∙ kind_there kind e there))))
+      (λ ready. rw (not_load kind i operation (ap kind_of_word (sym decoded) ∙ kind_there kind e there)) refl)
 
   -- in those of the memory unit it passes the test where the definition finds it ready
   pub accesses_agree : length h.registers ≡ 32 → All HasTarget h.rob.entries →

@@ -9,9 +9,7 @@ status_started status seq e issue message waits = grind arith
 status_push : (status : RegisterStatus) (seq : ℕ) (older : List Entry) (e : Entry) →
     status_behind status seq (older ++ e ∷ []) ≡ status_with (status_behind status seq older) (seq + length older) e
 status_push status seq [] e = ap (λ n. status_with status n e) (omega arith)
-status_push status seq (x ∷ older) e =
-    status_push (status_with status seq x) (seq + 1) older e
-    ∙ ap (λ n. status_with (status_behind (status_with status seq x) (seq + 1) older) n e) (omega arith)
+status_push status seq (x ∷ older) e = grind (arith, status_push (status_with status seq x) (seq + 1) older e)
 
 -- an instruction that has a station waits
 pub waits : (kind : Kind) (e : Entry) → is_stationed kind e ≡ true → is_waiting e.stage ≡ true
@@ -52,21 +50,18 @@ module _ (kind : Kind) (status0 : RegisterStatus) (n0 : ℕ) where
       stations_behind older (e ∷ es)
       ≡ waiting_at kind (status_behind status0 n0 older) (n0 + length older) e e.instruction ++ stations_behind
       (older ++ e ∷ []) es
-  stations_step older e es =
-      let here = waiting_at kind (status_behind status0 n0 older) (n0 + length older) e e.instruction in
-      λ k. here ++ waiting_from kind (sym (status_push status0 n0 older e) k) (next_place older e k) es
+  stations_step older e es = rw (status_push status0 n0 older e, ← next_place older e) refl
 
   -- once an instruction that was there has started, the stations hold what is after it
   stations_started : (older : List Entry) (e : Entry) (i : Instr) (es : List Entry) (issue : Issue) (message : Message) →
       e.instruction ≡ Some i → is_waiting e.stage ≡ true →
       stations_behind older (started issue message e ∷ es) ≡ stations_behind (older ++ e ∷ []) es
   stations_started older e i es issue message is waiting =
-      let status = status_behind status0 n0 older in
-      let n = n0 + length older in
-      ap (λ ws. ws ++ waiting_from kind (status_with status n (started issue message e)) (n + 1) es)
-      (ap (waiting_at kind status n (started issue message e)) is)
-      ∙ (λ k. waiting_from kind ((status_started status n e issue message waiting ∙ sym (status_push status0 n0 older e)) k)
-      (next_place older e k) es)
+      rw (
+        status_push status0 n0 older e,
+        ← next_place older e,
+        ← status_started (status_behind status0 n0 older) (n0 + length older) e issue message waiting,
+      ) (grind (arith, is))
 
   module _ (entries : List Entry) (test : Station → Bool) (ready : List Entry → Entry → Bool) where
     -- each station of the kind is ready, and passes the test, where its instruction is ready

@@ -1,5 +1,5 @@
 -- The start of an instruction changes one of a list of entries, and what that list tells by this one alone.
-use Rattle.rv_core.proofs.Words.{◌≡◌, ℕ, ◌+◌, ◌<◌, ◌≤◌, true, false, ◌≢◌, List, [], ◌∷◌, ◌++◌, length, nat_lt, All, Option, sym, refl, ap, ◌∙◌, append_assoc, arith, le-ltb, lt-ltb, ne_eqb, cond-false, cond-true, All-append, All-cons, All-head, All-tail, Message, Instr, Issue, Kind, started, Entry, Stage, Running, is_stationed, is_waiting, stores_of, holds, placed, PendingResult, RegisterStatus, pending_from, pending_of, status_with, waiting_at, waiting_from}
+use Rattle.rv_core.proofs.Words.{◌≡◌, ℕ, ◌+◌, ◌<◌, ◌≤◌, true, false, ◌≢◌, List, [], ◌∷◌, ◌++◌, length, nat_lt, All, Option, sym, refl, ap, ◌∙◌, append_assoc, arith, le-ltb, lt-ltb, ne_eqb, cond-true, All-append, All-cons, All-head, All-tail, Message, Instr, Issue, Kind, started, Entry, Stage, Running, is_stationed, is_waiting, stores_of, holds, placed, PendingResult, RegisterStatus, pending_from, pending_of, status_with, waiting_at, waiting_from}
 use Rattle.rv_core.proofs.Issued.Search.{status_started}
 
 module _ (issue : Issue) (message : Message) (e : Entry) (rest : List Entry) where
@@ -61,8 +61,7 @@ placed-between : (r : PendingResult) (xs ys : List PendingResult) → All (λ (x
     All (λ (y : PendingResult). r.seq < y.seq) ys → placed r (xs ++ ys) ≡ xs ++ r ∷ ys
 placed-between r [] [] low high = refl
 placed-between r [] (y ∷ ys) low high =
-    cond-false (nat_lt y.seq r.seq) _ _
-    (le-ltb y.seq r.seq (omega (arith, All-head (λ (z : PendingResult). r.seq < z.seq) y ys high)))
+    rw (le-ltb y.seq r.seq (omega (arith, All-head (λ (z : PendingResult). r.seq < z.seq) y ys high))) refl
 placed-between r (x ∷ xs) ys low high =
     cond-true (nat_lt x.seq r.seq) _ _ (lt-ltb x.seq r.seq (All-head (λ (z : PendingResult). z.seq < r.seq) x xs low))
     ∙ ap (λ l. x ∷ l) (placed-between r xs ys (All-tail (λ (z : PendingResult). z.seq < r.seq) x xs low) high)

@@ -75,15 +75,12 @@ below_when_draining n (s ∷ ss) are =
     All-cons (λ (t : QueuedStore). t.seq < n) (record s { state = draining s.state }) ss
     (All-head (λ (t : QueuedStore). t.seq < n) s ss are) (All-tail (λ (t : QueuedStore). t.seq < n) s ss are)
 
-drains_legally : (values : Values) (s : QueuedStore) (access : StoreAccess) → IsRetiredStore values s.state →
-    access_to_drain s ≡ Some access →
-    IsLegalAccess values access
-drains_legally values s access retired is = go values s.state access retired is where
-  go : (values : Values) (state : StoreState) (access : StoreAccess) → IsRetiredStore values state →
-      access_to_drain (record { seq = 0; state = state }) ≡ Some access → IsLegalAccess values access
-  go values (store.Filled a Committed) access retired is = let same : a ≡ access = cc in subst (IsLegalAccess values) same retired
-  go values (store.Filled a Draining) access retired is = absurd (cc)
-  go values _ access retired is = absurd retired
+drains_legally : (values : Values) (state : StoreState) (access : StoreAccess) → IsRetiredStore values state →
+    access_to_drain (record { seq = 0; state = state }) ≡ Some access → IsLegalAccess values access
+drains_legally values (store.Filled a Committed) access retired is =
+    let same : a ≡ access = cc in subst (IsLegalAccess values) same retired
+drains_legally values (store.Filled a Draining) access retired is = absurd (cc)
+drains_legally values _ access retired is = absurd retired
 
 -- what the oldest store writes
 pub oldest_is_legal : (values : Values) (ss : List QueuedStore) (access : StoreAccess) → AreRetired values ss →
@@ -91,4 +88,4 @@ pub oldest_is_legal : (values : Values) (ss : List QueuedStore) (access : StoreA
     IsLegalAccess values access
 oldest_is_legal values [] access are is = absurd (cc)
 oldest_is_legal values (s ∷ ss) access are is =
-    drains_legally values s access (All-head (λ (t : QueuedStore). IsRetiredStore values t.state) s ss are) is
+    drains_legally values s.state access (All-head (λ (t : QueuedStore). IsRetiredStore values t.state) s ss are) is
