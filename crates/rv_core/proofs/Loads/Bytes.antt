@@ -1,5 +1,5 @@
 -- The bytes that a load takes from the older stores and the cache are those of memory after the stores.
-use Rattle.rv_core.proofs.Words.{◌≡◌, ℕ, zero, suc, ◌+◌, ◌-◌, ◌<◌, ◌≤◌, true, List, [], ◌∷◌, ◌++◌, length, take, drop, is_some, slice_index_or as get_or, slice_range, Option, unwrap_or, sym, refl, ap, ◌∙◌, arith, and_parts, bytes_of, Width, forwarded, youngest_byte, Store, memory_behind, drop_more, get_or_append_left, get_or-between, length-between, Byte, Half, Word, LieIn, bytes_over, is_forwarded}
+use Rattle.rv_core.proofs.Words.{◌≡◌, ℕ, zero, suc, ◌+◌, ◌-◌, ◌<◌, ◌≤◌, Bool, true, ◌&&◌, List, [], ◌∷◌, ◌++◌, length, take, drop, is_some, slice_index_or as get_or, slice_range, Option, unwrap_or, sym, refl, ap, ◌∙◌, arith, and_parts, bytes_of, Width, forwarded, youngest_byte, Store, memory_behind, drop_more, get_or_append_left, get_or-between, length-between, Byte, Half, Word, LieIn, bytes_over, is_forwarded}
 use Rattle.rv_core.proofs.Loads.Behind.{get_or-memory_behind, length-memory_behind}
 
 -- so many numbers of a list, from a place on
