@@ -44,11 +44,11 @@ module _ (is_stale : set.FinSet nat_cmp → ℕ → Bool) where
     abbrev rest : Committing → Committing
     rest c = repeated (commit_turn is_stale) width c
 
-    abbrev Left : Hardware → Type 0
-    Left after = SilentAt h.rob.entries h after
+    abbrev LeftSilent : Hardware → Type 0
+    LeftSilent after = SilentAt h.rob.entries h after
 
     abbrev Outcome : Turn Committing → Type 0
-    Outcome t = (followed_by rest t).steps ≡ [] → (followed_by rest t).stop ≡ None → Left (followed_by rest t).hardware
+    Outcome t = (followed_by rest t).steps ≡ [] → (followed_by rest t).stop ≡ None → LeftSilent (followed_by rest t).hardware
 
     none_reported : (steps : List Step) → IsSome steps → steps ≡ [] → ⊥
     none_reported steps some given = grind arith
@@ -64,11 +64,11 @@ module _ (is_stale : set.FinSet nat_cmp → ℕ → Bool) where
     start = record { hardware = h; steps = []; stop = None }
 
     at_head : (e : Entry) (es : List Entry) (after : Hardware) → h.rob.entries ≡ e ∷ es →
-        SilentHead e.instruction e.stage h after → Left after
+        SilentHead e.instruction e.stage h after → LeftSilent after
     at_head e es after split silent = subst (λ l. SilentAt l h after) (sym split) silent
 
     at_fence : (e : Entry) (es : List Entry) (after : Hardware) → h.rob.entries ≡ e ∷ es → e.instruction ≡ Some FenceI →
-        SilentFence h after → Left after
+        SilentFence h after → LeftSilent after
     at_fence e es after split is silent = at_head e es after split (subst (λ i. SilentHead i e.stage h after) (sym is) silent)
 
     first_outcome : (t : Turn Committing) → CommitTurn is_stale start t → Outcome t

@@ -6,7 +6,7 @@ use Rattle.rv_arch.specs.declared.outcome.RefStep.TheVariants as machine
 use Rattle.rv_arch.specs.declared.outcome.Stop.TheVariants as stop
 use Rattle.rv_hardware.specs.declared.step.Step.TheVariants as step
 use Rattle.rv_hardware.proofs.Headline.Fold.{result_at, AreInFlight}
-use Rattle.rv_hardware.proofs.Headline.Head.{IsReady, some_word, fetched, word_here, decoded, Retires_as, IsStepOf, step_of}
+use Rattle.rv_hardware.proofs.Headline.Head.{IsReadyHead, some_word, fetched, word_here, decoded, Retires_as, IsStepOf, step_of}
 use Rattle.rv_hardware.proofs.Headline.Invariant.{IsSound}
 use Rattle.rv_hardware.proofs.Headline.Known.{broadcast_is}
 use Rattle.rv_hardware.proofs.Headline.Retired.{flushed_sound, trap_sound, seen_result, result_sound, memory_stored}
@@ -79,7 +79,7 @@ module _ (lines : Lines) (before : State) (old : Hardware) where
       here : e.pc ≡ s.pc
       here = all.0.pc
 
-      ready : IsReady layout s h.lines e.word e.instruction
+      ready : IsReadyHead layout s h.lines e.word e.instruction
       ready = grind (arith, here)
 
       -- ---- a result retires
@@ -127,10 +127,10 @@ module _ (lines : Lines) (before : State) (old : Hardware) where
       -- ---- a serialising instruction executes
       effect_done : (i : Instr) → e.instruction ≡ Some i → (eff : Effect) → effect layout s h.lines (unwrap_or e.word 0) i ≡ eff → IsSerialEffect h eff → IsDone lines before old (take_effect e eff c)
       effect_done i is eff gives serial =
-          let known : IsReady layout s h.lines e.word (Some i) = subst (IsReady layout s h.lines e.word) is ready in
+          let known : IsReadyHead layout s h.lines e.word (Some i) = subst (IsReadyHead layout s h.lines e.word) is ready in
           let word = some_word layout s h.lines e.word i known in
-          by_effect eff gives serial (subst (λ (w : Option ℕ). IsReady layout s h.lines w (Some i)) word known) where
-            by_effect : (eff : Effect) → effect layout s h.lines (unwrap_or e.word 0) i ≡ eff → IsSerialEffect h eff → IsReady layout s h.lines (Some (unwrap_or e.word 0)) (Some i) → IsDone lines before old (take_effect e eff c)
+          by_effect eff gives serial (subst (λ (w : Option ℕ). IsReadyHead layout s h.lines w (Some i)) word known) where
+            by_effect : (eff : Effect) → effect layout s h.lines (unwrap_or e.word 0) i ≡ eff → IsSerialEffect h eff → IsReadyHead layout s h.lines (Some (unwrap_or e.word 0)) (Some i) → IsDone lines before old (take_effect e eff c)
             by_effect (Faults cause value) gives serial known =
                 let word = unwrap_or e.word 0 in
                 trap_done e cause value here (faulted_at layout s h.lines (fetched layout s h.lines word (Some i) known) word (word_here layout s h.lines word (Some i) known) i (decoded layout s h.lines word i known) cause value gives)

@@ -6,19 +6,19 @@ abbrev pub is_sent_in : ℕ → Mark → Bool
 is_sent_in c m = is_at c m.broadcast
 
 -- a result waits at the end of a cycle
-abbrev pub IsReady : ℕ → Option Start → Type 0
-IsReady c None = ⊥
-IsReady c (Some s) = s.cycle + s.cost ≤ c
+abbrev pub IsOverBy : ℕ → Option Start → Type 0
+IsOverBy c None = ⊥
+IsOverBy c (Some s) = s.cycle + s.cost ≤ c
 
 abbrev pub WaitsForBus : ℕ → Mark → Type 0
-WaitsForBus c m = IsReady c m.start × (m.broadcast ≡ None)
+WaitsForBus c m = IsOverBy c m.start × (m.broadcast ≡ None)
 
 -- where one waits, so many that are older were broadcast in the cycle
 abbrev pub BusyBus : ℕ → ℕ → List Mark → Mark → Type 0
 BusyBus k c before m = WaitsForBus c m → k ≤ count (is_sent_in c) before
 
 -- none of these waits
-ready_is_sent : (now : ℕ) (o : Option Start) (p : Option ℕ) → IfSome o (λ s. s.cycle + s.cost ≤ now → IsBefore (now + 1) p) → IsReady now o → p ≡ None → ⊥
+ready_is_sent : (now : ℕ) (o : Option Start) (p : Option ℕ) → IfSome o (λ s. s.cycle + s.cost ≤ now → IsBefore (now + 1) p) → IsOverBy now o → p ≡ None → ⊥
 ready_is_sent now o p h ready given = grind arith
 
 none_waits_here : (k now : ℕ) (before : List Mark) (m : Mark) → IsSentIfReady now m → BusyBus k now before m

@@ -24,8 +24,8 @@ module _ (v : Values) (now : ℕ) where
   abbrev dispatched_now : Entry → Bool
   dispatched_now e = e.dispatched == now
 
-  abbrev Left : Dispatching → Type 0
-  Left d = (f : Fetched) (fs : List Fetched) → d.hardware.front.entries ≡ f ∷ fs → (v.dispatch_width ≤ count dispatched_now d.hardware.rob.entries) ⊎ WaitsFor d.hardware f
+  abbrev LeftByDispatch : Dispatching → Type 0
+  LeftByDispatch d = (f : Fetched) (fs : List Fetched) → d.hardware.front.entries ≡ f ∷ fs → (v.dispatch_width ≤ count dispatched_now d.hardware.rob.entries) ⊎ WaitsFor d.hardware f
 
   abbrev Entering : ℕ → Dispatching → Type 0
   Entering k d = (d.hardware.cycle ≡ now) × (k ≤ count dispatched_now d.hardware.rob.entries)
@@ -33,7 +33,7 @@ module _ (v : Values) (now : ℕ) where
   same_head : (f g : Fetched) (fs gs : List Fetched) → f ∷ fs ≡ g ∷ gs → f ≡ g
   same_head f g fs gs e = cc
 
-  left_leads : (k : ℕ) (d : Dispatching) (t : Turn Dispatching) → DispatchTurn d t → Entering k d → Leads (Entering (suc k)) Left t
+  left_leads : (k : ℕ) (d : Dispatching) (t : Turn Dispatching) → DispatchTurn d t → Entering k d → Leads (Entering (suc k)) LeftByDispatch t
   left_leads k d _ (buffer_empty none) p = λ f fs at. absurd (let no_more = sym none ∙ at in cc)
   left_leads k d _ (waits f fs reason at why) p = λ g gs at'. inr (subst (WaitsFor d.hardware) (same_head f g fs gs (sym at ∙ at')) why)
   left_leads k d _ (dispatches f fs at nothing) p =
@@ -41,9 +41,9 @@ module _ (v : Values) (now : ℕ) where
       (p.0, omega (arith, count-append dispatched_now d.hardware.rob.entries (entry_of_fetched d.hardware f ∷ []), one, p.1))
 
   -- after the dispatch phase the width is used up, or the oldest word has a reason to wait
-  pub dispatch_leaves : (h : Hardware) → h.values.dispatch_width ≡ v.dispatch_width → h.cycle ≡ now → Left (dispatch h)
+  pub dispatch_leaves : (h : Hardware) → h.values.dispatch_width ≡ v.dispatch_width → h.cycle ≡ now → LeftByDispatch (dispatch h)
   dispatch_leaves h width cycle =
-      turns_within v.dispatch_width Entering Left dispatch_turn (λ k d lt p. left_leads k d (dispatch_turn d) (dispatch_turn_is d) p) (λ d p f fs at. inl p.1)
+      turns_within v.dispatch_width Entering LeftByDispatch dispatch_turn (λ k d lt p. left_leads k d (dispatch_turn d) (dispatch_turn_is d) p) (λ d p f fs at. inl p.1)
       h.values.dispatch_width 0 (record { hardware = h; dispatched = 0; waits_for = None }) (omega (arith, width)) (cycle, omega arith)
 
 -- entries as marks

@@ -73,8 +73,8 @@ module _ (n : ℕ) (halted : Bool) where
     issue_goes k = grind (arith, starts_goes)
 
     -- early recovery may squash
-    abbrev pub Left : Hardware → Type 0
-    Left h = WholeOrNone steps h ⊎ Mended v now h
+    abbrev pub LeftByBroadcast : Hardware → Type 0
+    LeftByBroadcast h = WholeOrNone steps h ⊎ Mended v now h
 
     abbrev Sending : Hardware → Type 0
     Sending h = (h.cycle ≡ now) × (h.values ≡ v) × WholeOrNone steps h
@@ -82,7 +82,7 @@ module _ (n : ℕ) (halted : Bool) where
     is_early : (r : Recovery) → mends_early r ≡ true → r ≡ Early
     is_early r is = grind arith
 
-    broadcast_leads : (h : Hardware) (t : Turn Hardware) → BroadcastTurn h t → Sending h → Leads Sending Left t
+    broadcast_leads : (h : Hardware) (t : Turn Hardware) → BroadcastTurn h t → Sending h → Leads Sending LeftByBroadcast t
     broadcast_leads h _ (no_result none) p = inl p.2
     broadcast_leads h _ (sends older younger e issue message sent late) p =
         let more = starts_goes h older younger e (finished message h.cycle e) sent.place p.2 in
@@ -99,17 +99,17 @@ module _ (n : ℕ) (halted : Bool) where
           sent = ap (λ (m : Mark). m.broadcast) (finished_mark h.cycle e issue message sent.runs) ∙ ap Some p.0;
         })
 
-    broadcast_goes : (h : Hardware) → Sending h → Left (broadcast h)
-    broadcast_goes h p = left_by_turns Sending Left broadcast_turn (λ g q. broadcast_leads g (broadcast_turn g) (broadcast_turn_is g) q) (λ g q. inl q.2) h.values.bus_width h p
+    broadcast_goes : (h : Hardware) → Sending h → LeftByBroadcast (broadcast h)
+    broadcast_goes h p = left_by_turns Sending LeftByBroadcast broadcast_turn (λ g q. broadcast_leads g (broadcast_turn g) (broadcast_turn_is g) q) (λ g q. inl q.2) h.values.bus_width h p
 
     no_words : {P : Type 0} (h : Hardware) (f : Fetched) (fs : List Fetched) → h.front.entries ≡ f ∷ fs → h.front.entries ≡ [] → P
     no_words h f fs first none = not_empty f fs (sym first ∙ none)
 
-    dispatch_left : (h : Hardware) (f : Fetched) (fs : List Fetched) → h.front.entries ≡ f ∷ fs → Left h →
+    dispatch_left : (h : Hardware) (f : Fetched) (fs : List Fetched) → h.front.entries ≡ f ∷ fs → LeftByBroadcast h →
         (length (rows_of steps) + (length (h.rob.entries ++ entry_of_fetched h f ∷ []) + length fs) ≡ n) × (h.front.halted ≡ halted)
     dispatch_left h f fs first given = grind (arith, length-append, no_words)
 
-    dispatch_goes : IsKeptByDispatch Left
+    dispatch_goes : IsKeptByDispatch LeftByBroadcast
     dispatch_goes = record { dispatches = λ h f fs p first none. inl (inl (dispatch_left h f fs first p)) }
 
     -- the drain and the issue phase squash nothing
@@ -118,5 +118,5 @@ module _ (n : ℕ) (halted : Bool) where
 
     -- the broadcast and the dispatch phase squash nothing but what early recovery does
     pub broadcast_and_dispatch : (h : Hardware) → h.cycle ≡ now → h.values ≡ v → WholeOrNone steps h →
-        Left (dispatch (broadcast h)).hardware
+        LeftByBroadcast (dispatch (broadcast h)).hardware
     broadcast_and_dispatch h cycle values p = dispatch-keeps dispatch_goes (broadcast h) (broadcast_goes h (cycle, values, p))

@@ -3,7 +3,7 @@ use Rattle.rv_hardware.proofs.Words.{◌≡◌, ℕ, ◌+◌, ◌-◌, ◌<◌, 
 use Rattle.std.specs.FinSet as set
 use Rattle.rv_hardware.proofs.Marks.Cited.{fetch-cases, IsNew, count-as_of, Passed, History, began, went_on, is_buffered_mark, buffered_words, committing, issued_all, dispatching, cycle_passes, history_is_legal, history_is_sound, Mark, mark_of_row, mark_of_entry, mark_of_fetched, marks_in, marks, marks_at_entry, as_of_now, marks_settled, SoundRow, SoundFetched}
 use Rattle.rv_hardware.proofs.Laws.NoIdleFetch.Links.{with_word, IsBy, Followed, IsOpen, Linked, LastIs, held_behind, held_count, WasLinked, was_linked_kept, linked_stays, linked_on, linked_cut, linked_words, last_at}
-use Rattle.rv_hardware.proofs.Laws.NoIdleFetch.Phases.{size, size_of_marks, Uncut, Left, commit_goes_by, drain_and_issue, broadcast_and_dispatch}
+use Rattle.rv_hardware.proofs.Laws.NoIdleFetch.Phases.{size, size_of_marks, Uncut, LeftByBroadcast, commit_goes_by, drain_and_issue, broadcast_and_dispatch}
 
 -- the last mark after a squash: a row, or the instruction whose broadcast squashed the rest
 abbrev Squashes : Values → ℕ → Mark → Type 0
@@ -45,7 +45,7 @@ module _ (v : Values) {earlier : List Step} {old new : Hardware} {lines : Lines}
   abbrev all : List Step
   all = earlier ++ report.steps
 
-  left : Left (length (marks_in earlier old)) old.front.halted v old.cycle all d
+  left : LeftByBroadcast (length (marks_in earlier old)) old.front.halted v old.cycle all d
   left =
       let g : Hardware = with_lines lines old in
       let n : ℕ = length (marks_in earlier old) in
@@ -149,7 +149,7 @@ module _ (v : Values) {earlier : List Step} {old new : Hardware} {lines : Lines}
         linked_on v old.cycle (IsOpen v old.front.halted old.cycle) (IsOpen v new.front.halted (old.cycle + 1)) (λ c. 0) (marks_in all d) (mark_of_fetched f) (map mark_of_fetched fs) (on_followed f fs at these.0) still
         (λ h. linked_words v old.cycle new.front.halted h (map mark_of_fetched (f ∷ fs)) these)
 
-  by_squash : Left (length (marks_in earlier old)) old.front.halted v old.cycle all d →
+  by_squash : LeftByBroadcast (length (marks_in earlier old)) old.front.halted v old.cycle all d →
       Next (marks_in all d ++ map mark_of_fetched passed.fetches.added)
   by_squash (inl (inl uncut)) = goes_on uncut passed.fetches.added refl
   by_squash (inl (inr empty)) =
