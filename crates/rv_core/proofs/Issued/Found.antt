@@ -1,5 +1,5 @@
 -- The instruction that leaves its station is the definition's, with what it reads.
-use Rattle.rv_core.proofs.Words.{◌≡◌, ◌+◌, Bool, true, ◌⊎◌, List, [], ◌∷◌, ◌++◌, length, nat_le, Some, None, All, Option, option_and_then, sym, refl, ap, ◌∙◌, subst, inl, inr, arith, Message, Issue, Kind, Values, started, Entry, is_stationed, Hardware, is_ready_entry, oldest, layout_of, seen_behind, stores_behind, Alu, Div, Mem, Mul, oldest_ready, ready_of, without_oldest_ready, Ready, Station, Reads, goes, IsSoundEntry, IsSoundHardware, status_behind, values_in, waiting_from, waiting_of}
+use Rattle.rv_core.proofs.Words.{◌≡◌, ◌+◌, Bool, true, ◌⊎◌, List, [], ◌∷◌, ◌++◌, length, nat_le, Some, None, All, Option, option_and_then, sym, refl, ap, ◌∙◌, subst, inl, inr, arith, Message, Issue, Kind, started, Entry, is_stationed, Hardware, is_ready_entry, oldest, layout_of, seen_behind, stores_behind, Mem, oldest_ready, ready_of, without_oldest_ready, Ready, Station, Reads, goes, IsSoundHardware, status_behind, values_in, waiting_from, waiting_of}
 use Rattle.rv_core.proofs.Issued.Operands.{reads, ready_parts, tells_at}
 use Rattle.rv_core.proofs.Issued.Ready.{All-left, HasTarget, accesses_agree, operations_agree, passes_by}
 use Rattle.rv_core.proofs.Issued.Search.{Agree, Found, NoneFound, search_from}
@@ -14,9 +14,6 @@ none_found test (w ∷ ws) is = grind (arith, none_found test ws)
 none_taken : (test : Station → Bool) (ws : List Station) → oldest_ready test ws ≡ None → without_oldest_ready test ws ≡ ws
 none_taken test [] none = refl
 none_taken test (w ∷ ws) none = grind (arith, none_taken test ws)
-
-sound_targets : (values : Values) (es : List Entry) → All (IsSoundEntry values) es → All HasTarget es
-sound_targets values es sound k d within = (sound k d within).target
 
 module _ (h : Hardware) (kind : Kind) where
   -- the test that the definition has in the words of the stations
@@ -44,14 +41,12 @@ module _ (h : Hardware) (kind : Kind) where
 
   module _ (sound : IsSoundHardware h) where
     targets : All HasTarget h.rob.entries
-    targets = sound_targets h.values h.rob.entries sound.entries.each
+    targets k d within = (sound.entries.each k d within).target
 
     agree_of : (k : Kind) → Agree k (values_in h.registers) h.rob.retired h.rob.entries
         (goes k (layout_of h.values) (stores_behind h h.rob.entries) (nat_le h.port_free h.cycle)) (is_ready_entry h k)
-    agree_of Alu = operations_agree h Alu refl
-    agree_of Mul = operations_agree h Mul refl
-    agree_of Div = operations_agree h Div refl
     agree_of Mem = accesses_agree h sound.registers targets sound.stores.older
+    agree_of k = operations_agree h k refl
 
     searched :
         NoneFound kind (values_in h.registers) h.rob.retired h.rob.entries test_of (is_ready_entry h kind) [] h.rob.entries ⊎

@@ -17,8 +17,7 @@ target_nonzero (Lui rd immediate) r is = written_nonzero rd r is
 target_nonzero _ r is = grind (arith, written_nonzero)
 
 target_of_word_nonzero : (word : Option Instr) (r : ℕ) → target_of_word word ≡ Some r → r ≢ 0
-target_of_word_nonzero None r is = absurd (cc)
-target_of_word_nonzero (Some i) r is = target_nonzero i r is
+target_of_word_nonzero word r is = grind (arith, target_nonzero)
 
 -- whether the value is there
 

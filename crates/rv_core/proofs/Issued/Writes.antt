@@ -52,9 +52,6 @@ inside_behind h older committed sound =
 
 -- what an instruction writes
 
-length-bytes_of_number : (width : Width) (number : ℕ) → length (bytes_of_number (bytes_of width) number) ≡ bytes_of width
-length-bytes_of_number width number = grind arith
-
 abbrev writes_legally : Values → Bool → Message → Type 0
 writes_legally values is message = IsLegalWrite values is message.fault message.store
 
@@ -72,7 +69,7 @@ module _ (values : Values) (s : State) (width : Width) (address word : ℕ) wher
       subst (writes_legally values true) (sym (store_faults (layout_of values) address s width word (Some access) cause is)) tt
   store_by_fault None is =
       let within = store_within (layout_of values) address (bytes_of width) is in
-      let long = length-bytes_of_number width word in
+      let long : length (bytes_of_number (bytes_of width) word) ≡ bytes_of width = grind arith in
       subst (writes_legally values true) (sym (store_gives (layout_of values) address s width word (Some access) is))
       (record {
         aligned = subst (IsAligned address) (sym long) (aligned_width width address within.0);

@@ -6,16 +6,16 @@ use Rattle.rv_core.proofs.parts.Parts.end_drain.Goals as goal
 abbrev next : Inside → Hardware
 next p = end_drain (hardware_of p)
 
-sound : (p : Inside) → IsSound p → IsSoundHardware (next p)
-sound p before =
+sound : {p : Inside} → IsSound p → IsSoundHardware (next p)
+sound {p = p} before =
     let h = hardware_of p in
     sound_with_cache before.sound before.sound.cache
     (kept_when_drained (λ (s : QueuedStore). IsRetiredStore h.values s.state) h.committed before.sound.stores.each)
     (kept_when_drained (λ (s : QueuedStore). s.seq < h.rob.retired) h.committed before.sound.stores.older) before.sound.port
 
-queued : (p : Inside) (stores : Queue) → IsSound p → stores ≡ record p.stores { stores = without_drained p.stores.stores } →
+queued : {p : Inside} {stores : Queue} → IsSound p → stores ≡ record p.stores { stores = without_drained p.stores.stores } →
     stores ≡ queue_of (next p)
-queued p stores before is =
+queued {p = p} before is =
     let h = hardware_of p in
     is
     ∙ ap (λ (q : Queue). record q { stores = without_drained q.stores }) before.tied.queued
@@ -24,13 +24,9 @@ queued p stores before is =
 
 pub invariant_of-self : goal.invariant_of-self
 invariant_of-self c =
-    let p = c.self.inside in
-    parts_with_cache c.self.invariant (sound p c.self.invariant)
-    (queued p c.end_drain.new.self c.self.invariant c.end_drain.ensures)
+    parts_with_cache c.self.invariant (sound c.self.invariant) (queued c.self.invariant c.end_drain.ensures)
 
 pub returns : goal.returns
 returns c =
-    let p = c.self.inside in
-    view_with_cache c.self.invariant (sound p c.self.invariant)
-    (queued p c.end_drain.new.self c.self.invariant c.end_drain.ensures)
+    view_with_cache c.self.invariant (sound c.self.invariant) (queued c.self.invariant c.end_drain.ensures)
     ∙ ap end_drain c.self.view_is
