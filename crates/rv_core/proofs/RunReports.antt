@@ -19,24 +19,11 @@ silence_from-push : (n : ℕ) (rs : List Report) (r : Report) →
 silence_from-push n [] r = refl
 silence_from-push n (x ∷ rs) r = silence_from-push (silence_after (is_silent x.steps) n) rs r
 
-longest_one : (b : Bool) (n : ℕ) → cond b (n + 1) (max n 0) ≡ max n (silence_after b n)
-longest_one b n = grind arith
-
-longest_past : (b : Bool) (n : ℕ) (rs : List Report) (r : Report) →
-    longest_gap_from (n + 1) (rs ++ r ∷ [])
-    ≡ max (longest_gap_from (n + 1) rs) (silence_after (is_silent r.steps) (silence_from (n + 1) rs)) →
-    longest_gap_from 0 (rs ++ r ∷ []) ≡ max (longest_gap_from 0 rs) (silence_after (is_silent r.steps) (silence_from 0 rs)) →
-    cond b (longest_gap_from (n + 1) (rs ++ r ∷ [])) (max n (longest_gap_from 0 (rs ++ r ∷ [])))
-    ≡ max (cond b (longest_gap_from (n + 1) rs) (max n (longest_gap_from 0 rs)))
-    (silence_after (is_silent r.steps) (silence_from (silence_after b n) rs))
-longest_past b n rs r silent loud = grind arith
-
 -- whether the silence before is counted on or begun anew
 longest_gap_from-push : (n : ℕ) (rs : List Report) (r : Report) →
     longest_gap_from n (rs ++ r ∷ []) ≡ max (longest_gap_from n rs) (silence_after (is_silent r.steps) (silence_from n rs))
-longest_gap_from-push n [] r = longest_one (is_silent r.steps) n
-longest_gap_from-push n (x ∷ rs) r =
-    longest_past (is_silent x.steps) n rs r (longest_gap_from-push (n + 1) rs r) (longest_gap_from-push 0 rs r)
+longest_gap_from-push n [] r = grind arith
+longest_gap_from-push n (x ∷ rs) r = grind (arith, longest_gap_from-push (n + 1) rs r, longest_gap_from-push 0 rs r)
 
 busy_one : (idle : Bool) (n : ℕ) → n + cond (not idle) 1 0 ≡ cond idle n (n + 1)
 busy_one idle n = grind arith
@@ -65,13 +52,9 @@ progress_of-push rs r =
 
 -- ---- no count is above that of the cycles
 
-silence-past : (b : Bool) (n : ℕ) (rs : List Report) → silence_from (n + 1) rs ≤ n + 1 + length rs →
-    silence_from 0 rs ≤ 0 + length rs → silence_from (silence_after b n) rs ≤ n + suc (length rs)
-silence-past b n rs silent loud = grind arith
-
 silence-bound : (n : ℕ) (rs : List Report) → silence_from n rs ≤ n + length rs
 silence-bound n [] = omega arith
-silence-bound n (x ∷ rs) = silence-past (is_silent x.steps) n rs (silence-bound (n + 1) rs) (silence-bound 0 rs)
+silence-bound n (x ∷ rs) = grind (arith, silence-bound (n + 1) rs, silence-bound 0 rs)
 
 -- a count of stalls to which each cycle adds one at most
 stalls-bound : (count : StallCounts → ℕ) → ((o : Option Stall) (c : StallCounts) → count (counted_stall o c) ≤ count c + 1) →

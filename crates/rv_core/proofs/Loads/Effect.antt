@@ -54,11 +54,7 @@ PathFacts fault overlay count (Without cause) = fault ≡ Some cause
 PathFacts fault overlay count (FromStores found) = (fault ≡ None) × (found ≡ overlay) × (is_forwarded overlay count ≡ true)
 PathFacts fault overlay count (FromCache found) = (fault ≡ None) × (found ≡ overlay)
 
-path_facts_over : (all : Bool) (overlay : List (Option ℕ)) (count : ℕ) → is_forwarded overlay count ≡ all →
-    PathFacts None overlay count (cond all (FromStores overlay) (FromCache overlay))
-path_facts_over all overlay count is = grind arith
-
 -- so it is of the path that is found
 pub path_facts : (fault : Option Cause) (overlay : List (Option ℕ)) (count : ℕ) →
     PathFacts fault overlay count (path_unless fault overlay count)
-path_facts fault overlay count = grind (arith, path_facts_over)
+path_facts fault overlay count = grind arith

@@ -17,10 +17,7 @@ head_alone h e es sound entries is =
     (λ (older younger : Entry). is_serialising older.instruction ≡ false) l) entries sound.entries.serial) is)
 
 no_store : (seq : ℕ) (e : Entry) → e.instruction ≡ Some FenceI → stores_of seq (e ∷ []) ≡ []
-no_store seq e is = ap (λ instruction. if is_store instruction then record {
-  seq = seq;
-  state = store_of_broadcast (broadcast_of e.stage);
-} ∷ [] else []) is
+no_store seq e is = grind arith
 
 -- beside FENCE.I the queue holds retired stores alone
 pub queue_beside_fence : (h : Hardware) (e : Entry) (es : List Entry) → IsSoundHardware h → h.rob.entries ≡ e ∷ es →

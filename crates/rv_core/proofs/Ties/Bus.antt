@@ -136,19 +136,11 @@ module _ (cycle : ℕ) where
   granted n older (e ∷ es) r found =
       granted-at n older e e.stage es r found (λ later. granted (n + 1) (older ++ e ∷ []) es r later)
 
-  none-at : (n : ℕ) (older : List Entry) (e : Entry) (stage : Stage) (es : List Entry) →
-      find (is_ready_result cycle) (pending_of n stage ++ pending_from (n + 1) es) ≡ None
-      → (find (is_ready_result cycle) (pending_from (n + 1) es) ≡ None →
-      oldest_from (has_result cycle) (older ++ record e { stage = stage } ∷ []) es ≡ None)
-      → oldest_from (has_result cycle) older (record e { stage = stage } ∷ es) ≡ None
-  none-at n older e stage es given later = grind arith
-
   -- where none is ready, no execution is over
   pub granted-none : (n : ℕ) (older es : List Entry) → find (is_ready_result cycle) (pending_from n es) ≡ None →
       oldest_from (has_result cycle) older es ≡ None
   granted-none n older [] none = refl
-  granted-none n older (e ∷ es) none =
-      none-at n older e e.stage es none (λ later. granted-none (n + 1) (older ++ e ∷ []) es later)
+  granted-none n older (e ∷ es) none = grind (arith, granted-none (n + 1) (older ++ e ∷ []) es)
 
   -- and nothing leaves the bus
   pub without-none : (ps : List PendingResult) → find (is_ready_result cycle) ps ≡ None → without_first_ready cycle ps ≡ ps

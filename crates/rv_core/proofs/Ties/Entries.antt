@@ -1,5 +1,8 @@
 -- A change of the entry of a number, and a cut at one, keep what holds of the entries.
-use Rattle.rv_core.proofs.Words.{Bool, ◌≡◌, ℕ, suc, ◌+◌, ◌<◌, ◌≤◌, true, false, cond, List, [], ◌∷◌, length, nat_lt, ◌==◌, slice_index_or as get_or, Some, All, AllPairs, sym, refl, ap, ◌∙◌, inl, inr, arith, le-ltb, eqb-true, cases_Bool, All-cons, All-head, All-tail, AllPairs-cons, entries_below, with_entry, Entry, entry_of}
+use Rattle.rv_core.proofs.Words.{◌-◌, ◌≡◌, ℕ, suc, ◌+◌, ◌<◌, ◌≤◌, true, false, cond, List, [], ◌∷◌, length, nat_lt, ◌==◌, slice_index_or as get_or, Some, All, AllPairs, sym, refl, ap, ◌∙◌, inl, inr, arith, le-ltb, eqb-true, cases_Bool, All-cons, All-head, All-tail, AllPairs-cons, entries_below, with_entry, Entry, entry_of}
+use Rattle.std.proofs.lemmas.List.{get_or-take, length-take}
+use Rattle.std.proofs.lemmas.List.Elements.{All-take}
+use Rattle.rv_rob.proofs.Places.{entries_below-take}
 
 -- the entry of a number is the first one, or stands behind it
 pub data IsHeld (n s : ℕ) (d : Entry) (es : List Entry) (e : Entry) : Type 0 where
@@ -24,8 +27,7 @@ entry_of-from n s (d ∷ es) e held = elim (held_at n s d es e held) [
 
 -- nothing is older than the first
 pub entries_below-none : (n s : ℕ) (es : List Entry) → n ≤ s → entries_below n s es ≡ []
-entries_below-none n s [] le = refl
-entries_below-none n s (e ∷ es) le = rw (le-ltb s n le) refl
+entries_below-none n s es le = entries_below-take 0 n s es (omega (arith, le))
 
 -- a change of an entry leaves as many
 pub length-with_entry : (f : Entry → Entry) (n s : ℕ) (es : List Entry) → length (with_entry f n s es) ≡ length es
@@ -70,15 +72,9 @@ module _ (P : Entry → Type 0) where
         (All-with_entry f n (s + 1) es (λ d held. keeps d (rw other held)) (All-tail P e es each)))
   ]
 
-  All-if : (b : Bool) (e : Entry) (es : List Entry) → P e → All P es → All P (cond b (e ∷ es) [])
-  All-if b e es here later = grind (arith, All-cons)
-
   -- what holds of each holds of those that a cut leaves
   pub All-entries_below : (n s : ℕ) (es : List Entry) → All P es → All P (entries_below n s es)
-  All-entries_below n s [] each = each
-  All-entries_below n s (e ∷ es) each =
-      All-if (nat_lt s n) e (entries_below n (s + 1) es) (All-head P e es each)
-      (All-entries_below n (s + 1) es (All-tail P e es each))
+  All-entries_below n s es each = rw (entries_below-take (n - s) n s es refl) (All-take P (n - s) es each)
 
 -- ---- what holds of each entry and all later ones
 module _ (R : Entry → Entry → Type 0) where
@@ -90,13 +86,10 @@ module _ (R : Entry → Entry → Type 0) where
 
   -- what holds of each pair holds of those that a cut leaves
   pub pairs-entries_below : (n s : ℕ) (es : List Entry) → AllPairs R es → AllPairs R (entries_below n s es)
-  pairs-entries_below n s [] pairs = pairs
-  pairs-entries_below n s (e ∷ es) pairs =
-      elim (nat_lt s n) as (λ b. AllPairs R (cond b (e ∷ entries_below n (s + 1) es) [])) [
-        | true ↦ AllPairs-cons R e (entries_below n (s + 1) es) (All-entries_below (R e) n (s + 1) es (pairs-head e es pairs))
-            (pairs-entries_below n (s + 1) es (pairs-tail e es pairs))
-        | false ↦ λ i j d lt within. absurd (omega arith)
-      ]
+  pairs-entries_below n s es pairs =
+      rw (entries_below-take (n - s) n s es refl) (λ i j d lt within.
+      let size = length-take (n - s) es in
+      rw (get_or-take (n - s) es i d (omega arith), get_or-take (n - s) es j d (omega arith)) (pairs i j d lt (omega arith)))
 
   -- and of those with a changed entry, where the change keeps it
   pub pairs-with_entry : (f : Entry → Entry) → ((d e : Entry) → R d e → R (f d) e) → ((d e : Entry) → R d e → R d (f e)) →
