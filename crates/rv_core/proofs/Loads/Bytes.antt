@@ -26,17 +26,7 @@ module _ (ram below : List ℕ) (ss : List Store) (address place : ℕ) where
   pub bytes_laid : (width : Width) → place + bytes_of width ≤ length ram → ((k : ℕ) → k < bytes_of width → IsByte k) →
       slice_range ram place (place + bytes_of width)
       ≡ take (bytes_of width) (bytes_over (forwarded ss address (bytes_of width)) below)
-  bytes_laid Byte within byte =
-      between-numbers 1 place ram within
-      ∙ (λ j. byte_at place 0 (omega arith) (byte 0 (omega arith)) j ∷ [])
-  bytes_laid Half within byte =
-      between-numbers 2 place ram within
-      ∙ (λ j. byte_at place 0 (omega arith) (byte 0 (omega arith)) j ∷ byte_at (place + 1) 1 refl (byte 1 (omega arith)) j ∷ [])
-  bytes_laid Word within byte =
-      between-numbers 4 place ram within
-      ∙ (λ j. byte_at place 0 (omega arith) (byte 0 (omega arith)) j ∷ byte_at (place + 1) 1 refl
-      (byte 1 (omega arith)) j ∷ byte_at (place + 1 + 1) 2 (omega arith) (byte 2 (omega arith)) j ∷ byte_at
-      (place + 1 + 1 + 1) 3 (omega arith) (byte 3 (omega arith)) j ∷ [])
+  bytes_laid width within byte = grind (arith, between-numbers, byte_at)
 
 -- where stores forward all, what is below says nothing
 

@@ -74,18 +74,11 @@ without_retired r seq older n (e ∷ es) =
     (checkpoints_of (producers_with older n e) (n + 1) es)
     (without_retired r seq (producers_with older n e) (n + 1) es) (is_branch_or_jump e.instruction)
 
-noted_stays : (seq n : ℕ) (ps : List Producer) (cs : List Checkpoint) → seq < n → filter (λ c. not (seq == c.seq)) cs ≡ cs →
-    (is_jump : Bool) →
-    filter (λ c. not (seq == c.seq)) (noted is_jump n ps cs) ≡ noted is_jump n ps cs
-noted_stays seq n ps cs lt e is_jump = grind (arith, ne_eqb)
-
 -- the checkpoints of younger instructions stay
 younger_stay : (seq : ℕ) (older : List Producer) (n : ℕ) (es : List Entry) → seq < n →
     filter (λ c. not (seq == c.seq)) (checkpoints_of older n es) ≡ checkpoints_of older n es
 younger_stay seq older n [] lt = refl
-younger_stay seq older n (e ∷ es) lt =
-    noted_stays seq n (producers_with older n e) (checkpoints_of (producers_with older n e) (n + 1) es) lt
-    (younger_stay seq (producers_with older n e) (n + 1) es (omega (arith, lt))) (is_branch_or_jump e.instruction)
+younger_stay seq older n (e ∷ es) lt = grind (arith, ne_eqb, younger_stay seq (producers_with older n e) (n + 1) es)
 
 noted_goes : (seq : ℕ) (ps : List Producer) (cs : List Checkpoint) → filter (λ c. not (seq == c.seq)) cs ≡ cs → (is_jump : Bool) →
     filter (λ c. not (seq == c.seq)) (noted is_jump seq ps cs) ≡ cs

@@ -85,7 +85,4 @@ waits_not instruction is serial = grind arith
 pub turn_accesses : (e : Entry) (instruction : Option Instr) (access : Access) (c : Committing) →
     role_of instruction ≡ CsrAccess access →
     head_turn e instruction c ≡ Ends (execute_head e (instruction_of_access access) c)
-turn_accesses e (Some (Csr op rd csr source)) access c is =
-    let same : record { op = op; rd = rd; csr = csr; source = source } ≡ access = cc in
-    ap (λ (a : Access). Ends (execute_head e (instruction_of_access a) c)) same
-turn_accesses e _ access c is = absurd (cc)
+turn_accesses e instruction access c is = grind arith

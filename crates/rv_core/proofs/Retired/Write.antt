@@ -16,13 +16,9 @@ legal_write h e es m sound entries known faultless =
     (known_message e.stage m known) entry.writes in
     subst (λ (o : Option Fault). IsLegalWrite h.values (is_store e.instruction) o m.store) faultless legal
 
-covered : (stale : StaleWords) (address : ℕ) → stale.base ≤ address → address < stale.base + stale.size →
-    IsTrue (is_covered stale address)
-covered stale address from to = rw (le-leb stale.base address from, lt-ltb address (stale.base + stale.size) to) refl
-
 access_is_covered : (values : Values) (stale : StaleWords) (access : StoreAccess) → IsLegalAccess values access →
     stale.base ≡ values.ram_base → stale.size ≡ values.ram_size → IsTrue (is_covered stale access.address)
-access_is_covered values stale access legal base size = grind (arith, covered)
+access_is_covered values stale access legal base size = grind arith
 
 -- it lies in the words that may be stale
 pub write_is_covered : (values : Values) (stale : StaleWords) (is_store : Bool) (written : Option StoreAccess) →

@@ -20,10 +20,7 @@ held_at n s d es e held = elim (cases_Bool (n == s)) [
 -- the number of an entry that is held lies among those of the list
 pub entry_of-from : (n s : ℕ) (es : List Entry) (e : Entry) → entry_of n s es ≡ Some e → (s ≤ n) × (n < s + length es)
 entry_of-from n s [] e held = absurd (cc)
-entry_of-from n s (d ∷ es) e held = elim (held_at n s d es e held) [
-  | at_head equal same one ↦ (omega (arith, same), omega (arith, same))
-  | in_tail other is ↦ let later = entry_of-from n (s + 1) es e is in (omega (arith, later.0), omega (arith, later.1))
-]
+entry_of-from n s (d ∷ es) e held = grind (arith, eqb-true, entry_of-from n (s + 1) es e)
 
 -- nothing is older than the first
 pub entries_below-none : (n s : ℕ) (es : List Entry) → n ≤ s → entries_below n s es ≡ []
@@ -43,19 +40,13 @@ length-entries_below n s (e ∷ es) = grind (arith, length-entries_below n (s + 
 pub entry_of-changed : (f : Entry → Entry) (n s : ℕ) (es : List Entry) (e : Entry) → entry_of n s es ≡ Some e →
     entry_of n s (with_entry f n s es) ≡ Some (f e)
 entry_of-changed f n s [] e held = absurd (cc)
-entry_of-changed f n s (d ∷ es) e held = elim (held_at n s d es e held) [
-  | at_head equal same one ↦ rw (equal, equal) (ap (λ x. Some (f x)) one)
-  | in_tail other is ↦ rw (other, other) (entry_of-changed f n (s + 1) es e is)
-]
+entry_of-changed f n s (d ∷ es) e held = grind (arith, entry_of-changed f n (s + 1) es e)
 
 -- changes that leave the same at its number
 pub with_entry-alike : (f g : Entry → Entry) (n s : ℕ) (es : List Entry) (e : Entry) → entry_of n s es ≡ Some e → f e ≡ g e →
     with_entry f n s es ≡ with_entry g n s es
 with_entry-alike f g n s [] e held alike = refl
-with_entry-alike f g n s (d ∷ es) e held alike = elim (held_at n s d es e held) [
-  | at_head equal same one ↦ rw equal (ap (λ x. x ∷ es) (ap f one ∙ alike ∙ sym (ap g one)))
-  | in_tail other is ↦ rw other (ap (λ xs. d ∷ xs) (with_entry-alike f g n (s + 1) es e is alike))
-]
+with_entry-alike f g n s (d ∷ es) e held alike = grind (arith, with_entry-alike f g n (s + 1) es e)
 
 -- ---- what holds of each entry
 module _ (P : Entry → Type 0) where
