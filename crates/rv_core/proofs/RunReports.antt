@@ -1,5 +1,5 @@
 -- What is counted of the cycles of a run is what their reports tell, with each cycle that comes.
-use Rattle.rv_core.proofs.Words.{◌≡◌, ℕ, suc, ◌+◌, ◌≤◌, max, Bool, cond, not, List, [], ◌∷◌, ◌++◌, length, ◌==◌, None, Option, sym, refl, ap, ◌∙◌, append_assoc, append-nil, arith, length-append, Arrival, Report, NoneStops, busy_of, counted_stall, is_silent, longest_gap_from, stalls_from, stalls_of, steps_of, count_by-le-length, GuidedCycles, GuidedHardware, guided_ended as ended, Stall, StallCounts, Step, IsBounded, last_stall_of, progress_after, progress_of, silence_after, silence_from, IsRun, Progress}
+use Rattle.rv_core.proofs.Words.{◌≡◌, ℕ, ◌+◌, ◌≤◌, max, Bool, cond, not, List, [], ◌∷◌, ◌++◌, length, ◌==◌, None, Option, sym, refl, ap, ◌∙◌, append_assoc, append-nil, arith, length-append, Arrival, Report, NoneStops, busy_of, counted_stall, is_silent, longest_gap_from, stalls_from, stalls_of, steps_of, count_by-le-length, GuidedCycles, GuidedHardware, guided_ended as ended, Stall, StallCounts, Step, IsBounded, last_stall_of, progress_after, progress_of, silence_after, silence_from, IsRun, Progress}
 use Rattle.std.proofs.lemmas.List.Sums.{sum_by_push}
 
 -- ---- each count, with one more report at the end

@@ -1,5 +1,5 @@
 -- A byte after stores is that of the youngest store which covers it, else the one below.
-use Rattle.rv_core.proofs.Words.{◌≡◌, ℕ, ◌+◌, ◌-◌, ◌<◌, ◌≤◌, List, [], ◌∷◌, length, slice_get, slice_index_or as get_or, Some, None, Option, unwrap_or, sym, refl, ap, ◌∙◌, arith, le-leb, cond-false, cond-true, lt-leb, All-head, All-tail, option_or, StoreAccess, overwritten, get_or-overwritten_above, get_or-overwritten_below, get_or-overwritten_in, length-overwritten, youngest_byte, byte_of_state, written_at, Store, StoreState, memory_behind, slice_get-get_or, slice_get_past, LieIn, LiesIn}
+use Rattle.rv_core.proofs.Words.{◌≡◌, ℕ, ◌+◌, ◌-◌, ◌<◌, ◌≤◌, List, [], ◌∷◌, length, slice_get, slice_index_or as get_or, Some, Option, unwrap_or, sym, refl, ap, ◌∙◌, arith, All-head, All-tail, option_or, StoreAccess, overwritten, get_or-overwritten_above, get_or-overwritten_below, get_or-overwritten_in, length-overwritten, youngest_byte, byte_of_state, written_at, Store, StoreState, memory_behind, slice_get-get_or, slice_get_past, LieIn, LiesIn}
 use Rattle.rv_hardware.specs.InFlight.{with_store}
 
 unwrap_or-option_or : (a b : Option ℕ) (d : ℕ) → unwrap_or (option_or a b) d ≡ unwrap_or a (unwrap_or b d)

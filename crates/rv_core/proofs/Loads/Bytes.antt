@@ -1,5 +1,5 @@
 -- The bytes that a load takes from the older stores and the cache are those of memory after the stores.
-use Rattle.rv_core.proofs.Words.{◌≡◌, ℕ, zero, suc, ◌+◌, ◌-◌, ◌<◌, ◌≤◌, Bool, true, ◌&&◌, List, [], ◌∷◌, ◌++◌, length, take, drop, is_some, slice_index_or as get_or, slice_range, Option, unwrap_or, sym, refl, ap, ◌∙◌, arith, and_parts, bytes_of, Width, forwarded, youngest_byte, Store, memory_behind, drop_more, get_or_append_left, get_or-between, length-between, Byte, Half, Word, LieIn, bytes_over, is_forwarded}
+use Rattle.rv_core.proofs.Words.{◌≡◌, ℕ, zero, suc, ◌+◌, ◌-◌, ◌<◌, ◌≤◌, true, List, [], ◌∷◌, ◌++◌, length, take, drop, is_some, slice_index_or as get_or, slice_range, Option, unwrap_or, sym, refl, ap, ◌∙◌, arith, and_parts, bytes_of, Width, forwarded, youngest_byte, Store, memory_behind, drop_more, get_or_append_left, get_or-between, length-between, LieIn, bytes_over, is_forwarded}
 use Rattle.rv_core.proofs.Loads.Behind.{get_or-memory_behind, length-memory_behind}
 
 -- so many numbers of a list, from a place on
@@ -9,9 +9,7 @@ numbers (suc n) i xs = get_or xs i 0 ∷ numbers n (i + 1) xs
 
 take-drop : (n i : ℕ) (xs : List ℕ) → i + n ≤ length xs → take n (drop i xs) ≡ numbers n i xs
 take-drop zero i xs within = refl
-take-drop (suc n) i xs within =
-    ap (take (suc n)) (drop_more xs i 0 (omega arith))
-    ∙ ap (λ l. get_or xs i 0 ∷ l) (take-drop n (i + 1) xs (omega arith))
+take-drop (suc n) i xs within = grind (arith, drop_more, take-drop n (i + 1) xs)
 
 between-numbers : (n i : ℕ) (xs : List ℕ) → i + n ≤ length xs → slice_range xs i (i + n) ≡ numbers n i xs
 between-numbers n i xs within = ap (λ k. take k (drop i xs)) (omega arith) ∙ take-drop n i xs within

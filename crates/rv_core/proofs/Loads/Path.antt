@@ -1,7 +1,6 @@
 -- The path of a load in the code is the definition's.
 use Rattle.std.proofs.Common.{arith}
-use Rattle.rv_core.proofs.Words.{◌≡◌, ℕ, Bool, cond, not, ◌&&◌, ◌||◌, List, nat_le, Some, None, Option, at_kind, Cause, Kind, is_aligned, is_in_ram, forwarded, Entry, Hardware, FromCache as DefinedFromCache, FromStores as DefinedFromStores, Path as DefinedPath, Without as DefinedWithout, cost_of, has_port, with_access, layout_of, stores_behind, path_of_load, cache_after, defined_path, path_cost, port_after, is_forwarded, needs_port, path_of, path_unless}
-use Rattle.rv_core.specs.declared.load.Path.TheVariants.{FromStores, FromCache}
+use Rattle.rv_core.proofs.Words.{◌≡◌, ℕ, not, ◌||◌, List, nat_le, at_kind, Kind, Entry, Hardware, Path as DefinedPath, cost_of, has_port, with_access, layout_of, stores_behind, path_of_load, cache_after, defined_path, path_cost, port_after, needs_port, path_of}
 use Rattle.rv_core.specs.declared.load.Path.{Path}
 
 -- the code's path of a load is the definition's

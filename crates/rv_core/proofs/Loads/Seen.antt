@@ -1,5 +1,5 @@
 -- The byte that programs see is the youngest retired store's, else the cache's.
-use Rattle.rv_core.proofs.Words.{◌≡◌, ℕ, ◌+◌, ◌-◌, ◌≤◌, false, nat_le, slice_get, slice_index_or as get_or, Some, None, Option, unwrap_or, sym, ap, ◌∙◌, inl, inr, arith, le-leb, and_from, cases_lt, cond-false, cond-true, false≢true, lt-leb, is_in_ram, youngest_byte, Hardware, layout_of, seen, slice_get_past, byte_seen, IsCached, LieIn, IsSoundHardware}
+use Rattle.rv_core.proofs.Words.{◌≡◌, ℕ, ◌-◌, ◌≤◌, false, nat_le, slice_get, slice_index_or as get_or, Some, None, Option, unwrap_or, sym, ap, ◌∙◌, arith, le-leb, and_from, cond-true, is_in_ram, youngest_byte, Hardware, layout_of, seen, slice_get_past, byte_seen, IsCached, LieIn, IsSoundHardware}
 use Rattle.rv_core.proofs.Loads.Behind.{length-memory_behind, slice_get-memory_behind}
 use Rattle.rv_core.proofs.Issued.Writes.{committed_inside}
 

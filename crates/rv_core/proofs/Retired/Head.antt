@@ -1,5 +1,5 @@
 -- The head retires: rename map, stations, bus and queue are those of the instructions after it.
-use Rattle.rv_core.proofs.Words.{◌≡◌, ℕ, ◌+◌, ◌<◌, Bool, true, false, not, ◌≢◌, List, [], ◌∷◌, ◌++◌, map, length, IfSome, if◌then◌else◌, ◌==◌, Some, None, filter, Option, sym, refl, ap, ◌∙◌, arith, get_or-set_other, get_or-set_same, eq-eqb, ne_eqb, is_branch_or_jump, is_store, is_target, target_of_word, at_kind, Message, Kind, PerKind, Values, with_register, ReorderBuffer, after_head, head_retired, Entry, Stage, mends_early, Hardware, broadcast_of, is_waiting, stores_of, with_value, committed_store, with_result, by_kind-same, Queue, Pool, Pending, Checkpoint, Renaming, checkpoint_without_oldest, retired, without_checkpoint, without_oldest, Producer, with_commit, without_target, IsLegalWrite, AreTied, bus_of, checkpoints_of, operand_by, pending_of, pool_of_kind, producer_of, producers_of, producers_with, renaming_of, stations_of, status_with, values_in, waiting_from}
+use Rattle.rv_core.proofs.Words.{◌≡◌, ℕ, ◌+◌, ◌<◌, Bool, false, not, ◌≢◌, List, [], ◌∷◌, ◌++◌, map, length, IfSome, if◌then◌else◌, ◌==◌, Some, None, filter, Option, sym, refl, ap, ◌∙◌, arith, get_or-set_other, get_or-set_same, eq-eqb, ne_eqb, is_branch_or_jump, is_store, is_target, target_of_word, at_kind, Message, Kind, PerKind, Values, with_register, ReorderBuffer, after_head, head_retired, Entry, Stage, mends_early, Hardware, broadcast_of, is_waiting, stores_of, with_value, committed_store, with_result, by_kind-same, Queue, Pool, Pending, Checkpoint, Renaming, checkpoint_without_oldest, retired, without_checkpoint, without_oldest, Producer, with_commit, without_target, IsLegalWrite, AreTied, bus_of, checkpoints_of, operand_by, pending_of, pool_of_kind, producer_of, producers_of, producers_with, renaming_of, stations_of, status_with, values_in, waiting_from}
 use Rattle.rv_core.proofs.Ties.Stations.{busy-at}
 use Rattle.rv_core.proofs.Retired.Stores.{AreRetired, queued_behind_head}
 
@@ -69,10 +69,7 @@ without_retired : (r seq : ℕ) (older : List Producer) (n : ℕ) (es : List Ent
     ≡ checkpoints_of older n es
 without_retired r seq older n [] = refl
 without_retired r seq older n (e ∷ es) =
-    noted_without r seq n (producers_with older n e)
-    (checkpoints_of (record { register = r; seq = seq } ∷ producers_with older n e) (n + 1) es)
-    (checkpoints_of (producers_with older n e) (n + 1) es)
-    (without_retired r seq (producers_with older n e) (n + 1) es) (is_branch_or_jump e.instruction)
+    grind (arith, oldest_goes, without_retired r seq (producers_with older n e) (n + 1) es)
 
 -- the checkpoints of younger instructions stay
 younger_stay : (seq : ℕ) (older : List Producer) (n : ℕ) (es : List Entry) → seq < n →

@@ -1,5 +1,5 @@
 -- A dispatch keeps the ties of the parts and the soundness of the hardware.
-use Rattle.rv_core.proofs.Words.{◌≡◌, ℕ, zero, suc, ◌+◌, ◌-◌, ◌<◌, Bool, false, cond, ◌&&◌, List, [], ◌∷◌, ◌++◌, length, IfSome, nat_le, slice_get, Some, None, All, Option, AllPairs, sym, refl, ap, ◌∙◌, arith, length-append, leb-false, or_parts, All-cons, list_any, is_branch_or_jump, is_serialising, is_store, kind_of_word, target_of_word, Instr, Lines, Kind, PerKind, Values, Layout, State, pushed, Entry, Finished, Fetched, mends_early, entry_of_fetched, has_full_stations, reason_of, stage_by, Hardware, result_of_word, layout_of, seen_behind, stores_behind, or-false, All-push, all_pairs_push, at_kind-by_kind, Queue, Pool, Pending, Renaming, next_number, Stall, are_full_for, with_instruction, with_jump, with_store, with_target, IsDecoded, IsLegalWrite, IsSoundEntry, IsSoundHardware, message_of, AreTied, stations_of, status_behind, values_in}
+use Rattle.rv_core.proofs.Words.{◌≡◌, ℕ, suc, ◌-◌, ◌<◌, Bool, false, cond, ◌&&◌, List, [], ◌∷◌, ◌++◌, length, IfSome, nat_le, slice_get, Some, None, All, Option, AllPairs, sym, refl, ap, ◌∙◌, arith, length-append, leb-false, All-cons, list_any, is_branch_or_jump, is_serialising, is_store, kind_of_word, target_of_word, Instr, Lines, Kind, PerKind, Values, Layout, State, pushed, Entry, Finished, Fetched, mends_early, entry_of_fetched, has_full_stations, reason_of, stage_by, Hardware, result_of_word, layout_of, seen_behind, stores_behind, or-false, All-push, all_pairs_push, at_kind-by_kind, Queue, Pool, Pending, Renaming, next_number, are_full_for, with_instruction, with_jump, with_store, with_target, IsDecoded, IsLegalWrite, IsSoundEntry, IsSoundHardware, message_of, AreTied, stations_of, status_behind, values_in}
 use Rattle.rv_hardware.specs.declared.report.Stall.TheVariants as stall
 use Rattle.rv_rob.specs.ReorderBuffer.{youngest}
 use Rattle.rv_core.proofs.Phases.InFlight.{sound_in_flight}
@@ -17,19 +17,9 @@ pub record Goes (h : Hardware) (fetched : Fetched) : Type 0 where
   pub station : has_full_stations h (kind_of_word fetched.instruction) ≡ false
   pub queue : (is_store fetched.instruction && nat_le h.values.store_queue (length (stores_behind h h.rob.entries))) ≡ false
 
-none_holds : (a b c d : Bool) (w x y z : Stall) →
-    cond a (Some w) (cond b (Some x) (cond c (Some y) (cond d (Some z) None))) ≡ None
-    → (a ≡ false) × (b ≡ false) × (c ≡ false) × (d ≡ false)
-none_holds a b c d w x y z given = grind arith
-
 -- what holds where nothing has a fetched word wait
 pub goes : (h : Hardware) (fetched : Fetched) → reason_of h fetched ≡ None → Goes h fetched
-goes h fetched none = let each = none_holds _ _ _ _ _ _ _ _ none in record {
-  serial = each.0;
-  room = each.1;
-  station = each.2;
-  queue = each.3;
-}
+goes h fetched none = grind arith
 
 -- a serialising instruction in flight is the youngest
 abbrev pub serial_in : Option Entry → Bool

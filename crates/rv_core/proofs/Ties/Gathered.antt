@@ -1,5 +1,5 @@
 -- What instructions in flight give, one after another, keeps its numbers, and a cut or a push of them is one of it.
-use Rattle.rv_core.proofs.Words.{◌≡◌, ℕ, ◌+◌, ◌≤◌, List, [], ◌∷◌, ◌++◌, length, All, sym, refl, ap, ◌∙◌, inl, inr, append_assoc, append-nil, arith, length-append, le-ltb, lt-ltb, cases_lt, All-append, entries_below, with_entry, Entry, AreBelow, below, AreBelow-append, below-all, below-append, below-none}
+use Rattle.rv_core.proofs.Words.{◌≡◌, ℕ, ◌+◌, ◌≤◌, List, [], ◌∷◌, ◌++◌, length, All, refl, ◌∙◌, inl, inr, append_assoc, append-nil, arith, length-append, le-ltb, lt-ltb, cases_lt, All-append, entries_below, with_entry, Entry, AreBelow, below, AreBelow-append, below-all, below-append, below-none}
 
 -- the state of what needs none
 abbrev pub nothing : Unit {0} → ℕ → Entry → Unit {0}
@@ -20,10 +20,8 @@ module _ {S : Type 0} (next : S → ℕ → Entry → S) where
     -- one instruction more
     pub gathered-push : (st : S) (s n : ℕ) (es : List Entry) (e : Entry) → n ≡ s + length es →
         gathered st s (es ++ e ∷ []) ≡ gathered st s es ++ own (behind st s es) n e
-    gathered-push st s n [] e is = let same : n ≡ s = omega (arith, is) in rw same (append-nil (own st s e))
-    gathered-push st s n (d ∷ es) e is =
-        ap (λ xs. own st s d ++ xs) (gathered-push (next st s d) (s + 1) n es e (omega (arith, is))) ∙
-        sym (append_assoc (own st s d) (gathered (next st s d) (s + 1) es) (own (behind (next st s d) (s + 1) es) n e))
+    gathered-push st s n [] e is = grind (arith, append-nil)
+    gathered-push st s n (d ∷ es) e is = grind (arith, append_assoc, gathered-push (next st s d) (s + 1) n es e)
 
     -- a change of one instruction that none of this sees
     pub gathered-same : (f : Entry → Entry) → ((st : S) (s : ℕ) (e : Entry) → own st s (f e) ≡ own st s e) →

@@ -70,9 +70,7 @@ checkpoint-one b c = grind arith
 behind-producers : (older : List Producer) (s : ℕ) (es : List Entry) →
     behind producers_with older s es ≡ older ++ producers_of s es
 behind-producers older s [] = sym (append-nil older)
-behind-producers older s (e ∷ es) =
-    behind-producers (producers_with older s e) (s + 1) es ∙
-    append_assoc older (producer_of s (target_of_word e.instruction)) (producers_of (s + 1) es)
+behind-producers older s (e ∷ es) = grind (arith, append_assoc, behind-producers (producers_with older s e) (s + 1) es)
 
 checkpoints-push : (s n : ℕ) (es : List Entry) (e : Entry) → n ≡ s + length es →
     checkpoints_of [] s (es ++ e ∷ []) ≡ checkpoints_of [] s es ++ own_checkpoint (producers_of s es) n e
