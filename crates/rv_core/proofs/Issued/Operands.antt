@@ -1,5 +1,5 @@
 -- The operands in a station are what the definition reads after the older instructions.
-use Rattle.rv_core.proofs.Words.{◌≡◌, ℕ, ◌+◌, ◌<◌, cond, ◌≢◌, List, [], ◌∷◌, map, length, IfSome, slice_index, slice_index_or, Some, None, All, Option, sym, refl, ap, ◌∙◌, arith, get_or-set_other, get_or-set_same, eqb-true, ne_eqb, eqb-false, All-head, All-tail, is_target, target_of_word, sources_of, target_of, written, Message, Instr, Csr, Lui, State, Entry, broadcast_of, is_known_from, registers_behind, with_value, has_operands, has_value, is_ready_station, ready_of, ready_with, Operand, Value, Ready, Station, is_known, Reads, operand_value, RegisterStatus, operand_by, operand_of, status_behind, status_with, values_in, waiting_of}
+use Rattle.rv_core.proofs.Words.{◌≡◌, ℕ, ◌+◌, ◌<◌, cond, ◌≢◌, List, [], ◌∷◌, map, length, IfSome, slice_index, slice_index_or, Some, None, All, Option, sym, refl, ap, ◌∙◌, arith, get_or-set_other, get_or-set_same, eqb-true, ne_eqb, eqb-false, All-head, All-tail, is_target, target_of_word, sources_of, target_of, Message, Instr, Csr, Lui, State, Entry, broadcast_of, is_known_from, registers_behind, with_value, has_operands, has_value, is_ready_station, ready_of, ready_with, Operand, Value, Ready, Station, is_known, Reads, operand_value, RegisterStatus, operand_by, operand_of, status_behind, status_with, values_in, waiting_of}
 use Rattle.rv_hardware.proofs.Headline.Known.{length-with_value}
 use Rattle.rv_isa.specs.declared.instructions.CsrSource.TheVariants as source
 
@@ -8,13 +8,10 @@ pub two_sources : (i : Instr) → sources_of i ≡ slice_index_or (sources_of i)
 two_sources (Csr op rd csr (source.Register rs1)) = refl
 two_sources _ = refl
 
-written_nonzero : (rd r : ℕ) → written rd ≡ Some r → r ≢ 0
-written_nonzero rd r is nought = grind (arith, eqb-false)
-
 -- x0 is no target
 pub target_nonzero : (i : Instr) (r : ℕ) → target_of i ≡ Some r → r ≢ 0
-target_nonzero (Lui rd immediate) r is = written_nonzero rd r is
-target_nonzero _ r is = grind (arith, written_nonzero)
+target_nonzero (Lui rd immediate) r is nought = grind (arith, eqb-false)
+target_nonzero _ r is nought = grind (arith, eqb-false)
 
 target_of_word_nonzero : (word : Option Instr) (r : ℕ) → target_of_word word ≡ Some r → r ≢ 0
 target_of_word_nonzero word r is = grind (arith, target_nonzero)

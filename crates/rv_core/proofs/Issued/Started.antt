@@ -1,5 +1,5 @@
 -- The start of an instruction changes one of a list of entries, and what that list tells by this one alone.
-use Rattle.rv_core.proofs.Words.{◌≡◌, ℕ, ◌+◌, ◌<◌, ◌≤◌, true, false, ◌≢◌, List, [], ◌∷◌, ◌++◌, length, nat_lt, All, Option, sym, refl, ap, ◌∙◌, append_assoc, arith, le-ltb, lt-ltb, ne_eqb, cond-true, All-append, All-cons, All-head, All-tail, Message, Instr, Issue, Kind, started, Entry, Stage, Running, is_stationed, is_waiting, stores_of, holds, placed, PendingResult, RegisterStatus, pending_from, pending_of, status_with, waiting_at, waiting_from}
+use Rattle.rv_core.proofs.Words.{◌≡◌, ℕ, ◌+◌, ◌<◌, ◌≤◌, true, false, ◌≢◌, List, [], ◌∷◌, ◌++◌, length, nat_lt, All, sym, refl, ap, ◌∙◌, append_assoc, arith, le-ltb, lt-ltb, ne_eqb, cond-true, All-append, All-cons, All-head, All-tail, Message, Issue, Kind, started, Entry, Stage, Running, is_stationed, is_waiting, stores_of, holds, placed, PendingResult, RegisterStatus, pending_from, pending_of, status_with, waiting_from}
 use Rattle.rv_core.proofs.Issued.Search.{status_started}
 
 module _ (issue : Issue) (message : Message) (e : Entry) (rest : List Entry) where
@@ -19,17 +19,12 @@ module _ (issue : Issue) (message : Message) (e : Entry) (rest : List Entry) whe
   stores_started waits n [] = grind arith
   stores_started waits n (x ∷ before) = grind (arith, stores_started waits (n + 1) before)
 
-  -- the stations of another kind
-  elsewhere : (kind : Kind) (status : RegisterStatus) (n : ℕ) (x : Entry) (word : Option Instr) → is_stationed kind x ≡ false →
-      waiting_at kind status n x word ≡ []
-  elsewhere kind status n x word away = grind arith
-
   -- the start of an instruction of another kind changes none of these stations
   pub others_started : (kind : Kind) → is_waiting e.stage ≡ true → is_stationed kind e ≡ false →
       (status : RegisterStatus) (n : ℕ) (before : List Entry) →
       waiting_from kind status n (before ++ e' ∷ rest) ≡ waiting_from kind status n (before ++ e ∷ rest)
   others_started kind waits away status n [] =
-      grind (arith, elsewhere kind status n e e.instruction away, status_started status n e issue message waits)
+      grind (arith, status_started status n e issue message waits)
   others_started kind waits away status n (x ∷ before) =
       grind (arith, others_started kind waits away (status_with status n x) (n + 1) before)
 
