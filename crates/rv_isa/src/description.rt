@@ -1,10 +1,10 @@
-ghost use Rattle.std.specs.Prelude.{◌≡◌, ◌↔◌, ◌<◌, IsSome, IsTrue, IfSome};
+ghost use Rattle.std.specs.Prelude.{◌≡◌, ◌+◌, ◌*◌, ◌↔◌, ◌<◌, ◌≤◌, IsSome, IsTrue, IfSome};
 ghost use Rattle.std.specs.List.{list_all};
-ghost use Rattle.rv_isa.specs.Description.{IsLegal, gap_bound_of, greatest_latency};
+ghost use Rattle.rv_isa.specs.Description.{IsLegal, IsLegalCache, gap_bound_of, greatest_access, greatest_latency};
 ghost use Rattle.rv_isa.specs.Key.{ObeysEachKey, obeys};
 
 use crate::keys::{Key, all_keys};
-use crate::values::Values;
+use crate::values::{CacheValues, Values};
 use std::marker::Model;
 
 /// A machine description whose values all are in their ranges.
@@ -52,14 +52,30 @@ impl Description {
     pub fn gap_bound(&self) -> u64
         ensures { result ≡ gap_bound_of self.now }
     {
-        let values = self.values();
-        let cache = values.cache;
-        let access = u64::from(cache.hit + cache.miss + cache.write_back);
-        let lines = u64::from(cache.sets * cache.ways);
-        16 + u64::from(values.store_queue + 8) * access
-            + 4 * u64::from(longest_latency(&values))
-            + 2 * lines * u64::from(cache.write_back)
+        let values = &self.legal;
+        16 + drain_cost(values)
+            + 4 * u64::from(longest_latency(values))
+            + write_back_cost(&values.cache)
     }
+}
+
+// What the accesses before a drain and those of a full store queue cost at most.
+fn drain_cost(values: &Values) -> u64
+    requires legal { IsLegal values.now }
+    ensures cost { result ≡ (values.now.store_queue + 8) * greatest_access values.now.cache }
+    ensures bounded { result ≤ 72 * 2016 }
+{
+    let cache = &values.cache;
+    u64::from(values.store_queue + 8) * u64::from(cache.hit + cache.miss + cache.write_back)
+}
+
+// What it costs at most to write each line of the cache back twice.
+fn write_back_cost(cache: &CacheValues) -> u64
+    requires legal { IsLegalCache cache.now }
+    ensures cost { result ≡ 2 * cache.now.sets * cache.now.ways * cache.now.write_back }
+    ensures bounded { result ≤ 2 * 4096 * 1000 }
+{
+    u64::from(2 * cache.sets * cache.ways) * u64::from(cache.write_back)
 }
 
 fn longest_latency(values: &Values) -> u32

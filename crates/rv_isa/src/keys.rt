@@ -1,10 +1,11 @@
 ghost use Rattle.std.specs.Prelude.{◌≡◌, []};
 ghost use Rattle.std.specs.List.{slice_get};
 ghost use Rattle.std.specs.Option.{option_map_or};
-ghost use Rattle.rv_isa.specs.Key.{joined, kind_row, order, key_place, row, row_of, shown, shown_row, text_at, text_of, top};
+ghost use Rattle.rv_isa.specs.Key.{joined, kind_row, order, key_place, row_of, shown, shown_row, text_at, text_of};
 
 use crate::bounds::Bounds::{self, Front, Pages, Powers, Whole, Words};
 use crate::operations::Kind;
+use crate::per_kind::PerKind;
 
 /// The numbers of a kind's units and stations.
 #[derive(Clone, Copy)]
@@ -68,15 +69,14 @@ pub struct NumberRow {
 }
 
 // A key at top level.
-fn top(name: &'static str) -> Place
-    ensures place { shown result ≡ top name.now }
-    ensures text { result.text.now ≡ name.now }
-{
-    Place {
-        table: None,
-        name,
-        text: name,
-    }
+macro_rules! top {
+    ($name:literal) => {
+        Place {
+            table: None,
+            name: $name,
+            text: $name,
+        }
+    };
 }
 
 // A key of a table.
@@ -90,33 +90,117 @@ macro_rules! inside {
     };
 }
 
-// A key of a kind's table.
-macro_rules! of_kind {
-    ($kind:expr, $name:literal) => {
-        match $kind {
-            Kind::Alu => inside!("alu", $name),
-            Kind::Mul => inside!("mul", $name),
-            Kind::Div => inside!("div", $name),
-            Kind::Mem => inside!("mem", $name),
+macro_rules! row {
+    ($place:expr, $bounds:expr) => {
+        NumberRow {
+            place: $place,
+            bounds: $bounds,
         }
     };
 }
 
-fn row(place: Place, bounds: Bounds) -> NumberRow
-    ensures row { shown_row result ≡ row (shown place) bounds }
-    ensures text { result.place.text.now ≡ place.text.now }
-{
-    NumberRow { place, bounds }
+// The rows of the keys with this name in the tables of the kinds.
+macro_rules! rows_of_kinds {
+    ($name:literal, $bounds:expr) => {
+        PerKind {
+            alu: row!(inside!("alu", $name), $bounds),
+            mul: row!(inside!("mul", $name), $bounds),
+            div: row!(inside!("div", $name), $bounds),
+            mem: row!(inside!("mem", $name), $bounds),
+        }
+    };
 }
 
-fn kind_row(kind: Kind, key: KindKey) -> NumberRow
-    ensures row { shown_row result ≡ kind_row kind key }
-    ensures text { result.place.text.now ≡ joined (kind_row kind key).place.table (kind_row kind key).place.name }
+static RAM_BASE: NumberRow = row!(top!("ram_base"), Pages(0, 0xff00_0000));
+
+static RAM_SIZE: NumberRow = row!(top!("ram_size"), Pages(4096, 16_777_216));
+
+static ROM_BYTES: NumberRow = row!(top!("rom_bytes"), Front);
+
+static FETCH_WIDTH: NumberRow = row!(top!("fetch_width"), Whole(1, 8));
+
+static DISPATCH_WIDTH: NumberRow = row!(top!("dispatch_width"), Whole(1, 8));
+
+static COMMIT_WIDTH: NumberRow = row!(top!("commit_width"), Whole(1, 8));
+
+static BUS_WIDTH: NumberRow = row!(top!("bus_width"), Whole(1, 8));
+
+static FETCH_BUFFER: NumberRow = row!(top!("fetch_buffer"), Whole(1, 32));
+
+static ROB: NumberRow = row!(top!("rob"), Whole(1, 256));
+
+static STORE_QUEUE: NumberRow = row!(top!("store_queue"), Whole(1, 64));
+
+static FORWARD: NumberRow = row!(top!("forward"), Whole(1, 64));
+
+static STATIONS: PerKind<NumberRow> = rows_of_kinds!("stations", Whole(1, 64));
+
+static UNITS: PerKind<NumberRow> = rows_of_kinds!("units", Whole(1, 8));
+
+static LATENCY: PerKind<NumberRow> = rows_of_kinds!("latency", Whole(1, 64));
+
+static CACHE_SETS: NumberRow = row!(inside!("cache", "sets"), Powers(1, 256));
+
+static CACHE_WAYS: NumberRow = row!(inside!("cache", "ways"), Whole(1, 16));
+
+static CACHE_LINE: NumberRow = row!(inside!("cache", "line"), Powers(4, 128));
+
+static CACHE_HIT: NumberRow = row!(inside!("cache", "hit"), Whole(1, 16));
+
+static CACHE_MISS: NumberRow = row!(inside!("cache", "miss"), Whole(0, 1000));
+
+static CACHE_WRITE_BACK: NumberRow = row!(inside!("cache", "write_back"), Whole(0, 1000));
+
+static PREDICTOR_ENTRIES: NumberRow = row!(inside!("predictor", "entries"), Whole(1, 4096));
+
+static REPORT_DUMP_ADDRESS: NumberRow = row!(inside!("report", "dump_address"), Words);
+
+static REPORT_DUMP_WORDS: NumberRow = row!(inside!("report", "dump_words"), Whole(0, 256));
+
+static PIPELINED: PerKind<Place> = PerKind {
+    alu: inside!("alu", "pipelined"),
+    mul: inside!("mul", "pipelined"),
+    div: inside!("div", "pipelined"),
+    mem: inside!("mem", "pipelined"),
+};
+
+fn kind_row(kind: Kind, key: KindKey) -> &'static NumberRow
+    ensures row { shown_row result.now ≡ kind_row kind key }
+    ensures text { result.now.place.text.now ≡ joined (kind_row kind key).place.table (kind_row kind key).place.name }
 {
     match key {
-        KindKey::Stations => row(of_kind!(kind, "stations"), Whole(1, 64)),
-        KindKey::Units => row(of_kind!(kind, "units"), Whole(1, 8)),
-        KindKey::Latency => row(of_kind!(kind, "latency"), Whole(1, 64)),
+        KindKey::Stations => STATIONS.get(kind),
+        KindKey::Units => UNITS.get(kind),
+        KindKey::Latency => LATENCY.get(kind),
+    }
+}
+
+fn number_row(key: NumberKey) -> &'static NumberRow
+    ensures row { shown_row result.now ≡ row_of key }
+    ensures text { result.now.place.text.now ≡ text_of (Key.Number key) }
+{
+    match key {
+        NumberKey::RamBase => &RAM_BASE,
+        NumberKey::RamSize => &RAM_SIZE,
+        NumberKey::RomBytes => &ROM_BYTES,
+        NumberKey::FetchWidth => &FETCH_WIDTH,
+        NumberKey::DispatchWidth => &DISPATCH_WIDTH,
+        NumberKey::CommitWidth => &COMMIT_WIDTH,
+        NumberKey::BusWidth => &BUS_WIDTH,
+        NumberKey::FetchBuffer => &FETCH_BUFFER,
+        NumberKey::Rob => &ROB,
+        NumberKey::StoreQueue => &STORE_QUEUE,
+        NumberKey::Forward => &FORWARD,
+        NumberKey::OfKind(kind, key) => kind_row(kind, key),
+        NumberKey::CacheSets => &CACHE_SETS,
+        NumberKey::CacheWays => &CACHE_WAYS,
+        NumberKey::CacheLine => &CACHE_LINE,
+        NumberKey::CacheHit => &CACHE_HIT,
+        NumberKey::CacheMiss => &CACHE_MISS,
+        NumberKey::CacheWriteBack => &CACHE_WRITE_BACK,
+        NumberKey::PredictorEntries => &PREDICTOR_ENTRIES,
+        NumberKey::ReportDumpAddress => &REPORT_DUMP_ADDRESS,
+        NumberKey::ReportDumpWords => &REPORT_DUMP_WORDS,
     }
 }
 
@@ -126,36 +210,14 @@ impl NumberKey {
         ensures row { shown_row result ≡ row_of self }
         ensures text { result.place.text.now ≡ text_of (Key.Number self) }
     {
-        match self {
-            NumberKey::RamBase => row(top("ram_base"), Pages(0, 0xff00_0000)),
-            NumberKey::RamSize => row(top("ram_size"), Pages(4096, 16_777_216)),
-            NumberKey::RomBytes => row(top("rom_bytes"), Front),
-            NumberKey::FetchWidth => row(top("fetch_width"), Whole(1, 8)),
-            NumberKey::DispatchWidth => row(top("dispatch_width"), Whole(1, 8)),
-            NumberKey::CommitWidth => row(top("commit_width"), Whole(1, 8)),
-            NumberKey::BusWidth => row(top("bus_width"), Whole(1, 8)),
-            NumberKey::FetchBuffer => row(top("fetch_buffer"), Whole(1, 32)),
-            NumberKey::Rob => row(top("rob"), Whole(1, 256)),
-            NumberKey::StoreQueue => row(top("store_queue"), Whole(1, 64)),
-            NumberKey::Forward => row(top("forward"), Whole(1, 64)),
-            NumberKey::OfKind(kind, key) => kind_row(kind, key),
-            NumberKey::CacheSets => row(inside!("cache", "sets"), Powers(1, 256)),
-            NumberKey::CacheWays => row(inside!("cache", "ways"), Whole(1, 16)),
-            NumberKey::CacheLine => row(inside!("cache", "line"), Powers(4, 128)),
-            NumberKey::CacheHit => row(inside!("cache", "hit"), Whole(1, 16)),
-            NumberKey::CacheMiss => row(inside!("cache", "miss"), Whole(0, 1000)),
-            NumberKey::CacheWriteBack => row(inside!("cache", "write_back"), Whole(0, 1000)),
-            NumberKey::PredictorEntries => row(inside!("predictor", "entries"), Whole(1, 4096)),
-            NumberKey::ReportDumpAddress => row(inside!("report", "dump_address"), Words),
-            NumberKey::ReportDumpWords => row(inside!("report", "dump_words"), Whole(0, 256)),
-        }
+        *number_row(self)
     }
 
     /// The numbers that the key takes.
     pub fn bounds(self) -> Bounds
         ensures { result ≡ (row_of self).bounds }
     {
-        self.row().bounds
+        number_row(self).bounds
     }
 }
 
@@ -167,8 +229,8 @@ impl Key {
     {
         match self {
             Key::Number(key) => key.row().place,
-            Key::Recovery => top("recovery"),
-            Key::Pipelined(kind) => of_kind!(kind, "pipelined"),
+            Key::Recovery => top!("recovery"),
+            Key::Pipelined(kind) => *PIPELINED.get(kind),
             Key::PredictorKind => inside!("predictor", "kind"),
         }
     }
