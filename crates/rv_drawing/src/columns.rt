@@ -13,7 +13,7 @@ use rv_text::ReportError;
 use std::io::Write;
 
 /// What stands in the columns of a window.
-#[derive(Clone, Copy, Debug)]
+#[derive(Clone, Copy)]
 pub(crate) enum Columns<'a> {
     /// The cycle numbers of a terminal.
     Scale,

@@ -10,7 +10,7 @@ use std::marker::Model;
 const PLACES: usize = 256;
 
 /// A word with the instruction that it decodes to, if it is one.
-#[derive(Clone, Copy, Debug)]
+#[derive(Clone, Copy)]
 pub(crate) struct DecodedWord {
     word: u32,
     instruction: Option<Instr>,
@@ -55,7 +55,7 @@ impl DecodedWord {
 
 /// The words that were decoded last, by their addresses: a word and its instruction at the place pc / 4 modulo 256. What
 /// a word decodes to never changes, so no place is ever out of date.
-#[derive(Debug, Drop)]
+#[derive(Drop)]
 pub(crate) struct DecodedWords {
     places: Vec<DecodedWord>,
 }

@@ -5,7 +5,7 @@ use rv_decode::decode;
 use rv_isa::Instr;
 
 /// Where a program may go on after an instruction, as far as its word and its pc say.
-#[derive(Clone, Copy, Debug, PartialEq, Eq)]
+#[derive(Clone, Copy)]
 pub enum Flow {
     /// At the next word: the instruction neither branches nor jumps, or the word is illegal.
     Sequential,

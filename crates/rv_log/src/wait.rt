@@ -8,7 +8,7 @@ use rv_isa::{Instr, Kind, kind};
 use rv_passage::{Passage, Producer};
 
 /// What an instruction waits for.
-#[derive(Clone, Copy, Debug)]
+#[derive(Clone, Copy)]
 pub(crate) enum Awaited {
     /// Its dispatch, for room or its turn.
     Dispatch,
@@ -25,7 +25,7 @@ pub(crate) enum Awaited {
 }
 
 /// A wait of an instruction.
-#[derive(Clone, Copy, Debug)]
+#[derive(Clone, Copy)]
 pub(crate) struct Wait {
     /// The first cycle of the wait.
     pub(crate) from: u128,

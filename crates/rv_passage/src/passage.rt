@@ -8,7 +8,7 @@ use rv_isa::{Cause, Instr, Issue, Reg};
 use rv_rob::{Entry, Stage};
 
 /// How an instruction left the hardware, or that it did not yet.
-#[derive(Clone, Copy, Debug, PartialEq, Eq)]
+#[derive(Clone, Copy)]
 pub enum Ending {
     InFlight,
     /// It retired, and wrote a register, never x0, or none.
@@ -59,7 +59,7 @@ impl Ending {
 }
 
 /// A fetched instruction, and when it passed through the hardware.
-#[derive(Clone, Copy, Debug, PartialEq, Eq)]
+#[derive(Clone, Copy)]
 pub struct Passage {
     /// How many were fetched before it, since the table began.
     pub number: u64,

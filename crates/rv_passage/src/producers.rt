@@ -9,7 +9,7 @@ use crate::passage::Passage;
 use rv_isa::{Instr, Kind, Reg, kind, sources, target};
 
 /// An instruction whose result another one waits for.
-#[derive(Clone, Copy, Debug, PartialEq, Eq)]
+#[derive(Clone, Copy)]
 pub struct Producer {
     /// The register that it writes.
     pub register: Reg,
@@ -23,7 +23,7 @@ pub struct Producer {
 /// Whose results an instruction waits for from its dispatch on, each until its broadcast: for each of the two registers that
 /// it reads the youngest older instruction in flight that writes it, where that was not broadcast before. One that both
 /// registers come from stands here once.
-#[derive(Clone, Copy, Debug, PartialEq, Eq)]
+#[derive(Clone, Copy)]
 pub struct Producers {
     pub first: Option<Producer>,
     pub second: Option<Producer>,

@@ -32,7 +32,7 @@ fn pc_of(step: &Step) -> u32
 }
 
 /// The passages of instructions in order of fetch, and the cycles of the interrupts.
-#[derive(Debug, Drop)]
+#[derive(Drop)]
 pub struct Table {
     rows: Vec<Passage>,
     interrupts: Vec<u64>,
@@ -51,14 +51,23 @@ impl Table {
         ensures interrupts { IfOk result (λ table. 8 ≤ vec_capacity table.interrupts) }
         ensures few { IfOk result (λ table. length (passages_of table).rows ≤ 288) }
     {
-        let mut table = Table {
+        let mut table = Table::empty(alloc)?;
+        table.append_fetched(0, rob, front);
+        Ok(table)
+    }
+
+    // A table of nothing, with room for two cycles.
+    fn empty(alloc: Global) -> Result<Table, AllocError>
+        ensures table { IfOk result (λ table. passages_of table ≡ table_from []) }
+        ensures rows { IfOk result (λ table. vec_capacity table.rows ≡ 576) }
+        ensures interrupts { IfOk result (λ table. vec_capacity table.interrupts ≡ 8) }
+    {
+        Ok(Table {
             rows: Vec::with_capacity(alloc, 2 * MOST_IN_FLIGHT)?,
             interrupts: Vec::with_capacity(alloc, 8)?,
             fetched: 0,
             retired: 0,
-        };
-        table.append_fetched(0, rob, front);
-        Ok(table)
+        })
     }
 
     /// The passages, in order of fetch.

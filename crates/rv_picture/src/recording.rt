@@ -22,7 +22,7 @@ use std::io;
 use std::io::Write;
 
 /// What became of the instructions in some cycles of a run.
-#[derive(Debug, Drop)]
+#[derive(Drop)]
 pub(crate) struct Recording {
     /// The instructions, those that were in flight before the cycles too, and the interrupts.
     pub(crate) table: Table,
@@ -53,7 +53,7 @@ impl Watcher for Nobody {
 }
 
 // The watcher that follows the instructions, and notes what each cycle waits for.
-#[derive(Debug, Drop)]
+#[derive(Drop)]
 struct Follower {
     table: Table,
     stalls: Vec<Option<Stall>>,

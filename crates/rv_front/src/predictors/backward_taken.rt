@@ -7,7 +7,7 @@ use crate::flow::Flow;
 use crate::predictor::Predictor;
 
 /// Predicts that a branch is taken where its offset is negative, as at the end of a loop.
-#[derive(Clone, Copy, Debug, PartialEq, Eq)]
+#[derive(Clone, Copy)]
 pub struct BackwardTaken;
 
 impl Predictor for BackwardTaken {

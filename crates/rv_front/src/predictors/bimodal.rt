@@ -36,11 +36,10 @@ impl Bimodal {
         requires { Within 1 4096 entries }
         ensures { IfOk result (λ tables. tables ≡ untaught entries) }
     {
-        let mut counters = Vec::with_capacity(alloc, entries as usize)?;
-        counters.resize(entries as usize, 1)?;
-        let mut targets = Vec::with_capacity(alloc, entries as usize)?;
-        targets.resize(entries as usize, None)?;
-        Ok(Bimodal { counters, targets })
+        Ok(Bimodal {
+            counters: vec![in alloc; 1; entries as usize]?,
+            targets: vec![in alloc; None; entries as usize]?,
+        })
     }
 
     // The place of a pc in both tables.

@@ -7,7 +7,7 @@ use crate::flow::Flow;
 use crate::predictor::Predictor;
 
 /// Predicts that no branch is taken. Only a JAL leads elsewhere than to the next word.
-#[derive(Clone, Copy, Debug, PartialEq, Eq)]
+#[derive(Clone, Copy)]
 pub struct NotTaken;
 
 impl Predictor for NotTaken {
