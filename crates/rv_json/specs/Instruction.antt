@@ -7,6 +7,10 @@ use Rattle.rv_passage.specs.declared.passage.{Ending.Ending, Passage.Passage}
 use Rattle.rv_passage.specs.declared.passage.Ending.TheVariants.{InFlight, Retired, Trapped, Squashed}
 use Rattle.rv_json.specs.Json.{Json, also, also_some, begins, quoted}
 
+-- the cost of its execution
+abbrev pub cost_of : Passage → Option ℕ
+cost_of p = option_map (λ (issue : Issue). issue.cost) p.issue
+
 -- what it was, and when it passed through the hardware
 unfoldable pub passage_text : Passage → List ℕ
 passage_text p =
@@ -15,7 +19,7 @@ passage_text p =
     (also (codes "fetched") (decimal p.fetched) ++
     (also_some (codes "dispatched") p.dispatched ++
     (also_some (codes "issued") (option_map (λ (issue : Issue). issue.cycle) p.issue) ++
-    (also_some (codes "cost") (option_map (λ (issue : Issue). issue.cost) p.issue) ++
+    (also_some (codes "cost") (cost_of p) ++
     also_some (codes "broadcast") p.broadcast)))))
 
 -- it retired, and wrote a register or none

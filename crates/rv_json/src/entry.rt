@@ -3,7 +3,6 @@ ghost use Rattle.rv_hardware.specs.InFlight.{broadcast_of};
 ghost use Rattle.rv_isa.specs.Instruction.{kind_of_word, target_of_word};
 ghost use Rattle.rv_isa.specs.Key.{kind_name};
 ghost use Rattle.rv_json.specs.Entry.{cause_of, cost_of, entry_text, fault_of, fault_value_of, finished_in, head_text, issued_in, kind_text, next_pc_of, stage_text, value_of};
-ghost use Rattle.rv_json.specs.declared.json.Value.TheVariants.{Maybe};
 ghost use Rattle.rv_text.specs.Written.{IsWritten};
 
 use crate::json::{Member, Value, write_front, write_members};
@@ -63,30 +62,12 @@ fn write_head<W: Write>(writer: &mut W, number: u64, entry: &Entry) -> Result<()
         "sequence",
         number,
         &[
-            Member {
-                name: "pc",
-                value: Value::Number(u64::from(entry.pc)),
-            },
-            Member {
-                name: "word",
-                value: Value::Maybe(entry.word.map(u64::from)),
-            },
-            Member {
-                name: "fetched",
-                value: Value::Number(entry.fetched),
-            },
-            Member {
-                name: "dispatched",
-                value: Value::Number(entry.dispatched),
-            },
-            Member {
-                name: "predicted",
-                value: Value::Number(u64::from(entry.predicted_next)),
-            },
-            Member {
-                name: "target",
-                value: Value::Maybe(target_number(entry)),
-            },
+            Member::word("pc", entry.pc),
+            Member::maybe_word("word", entry.word),
+            Member::number("fetched", entry.fetched),
+            Member::number("dispatched", entry.dispatched),
+            Member::word("predicted", entry.predicted_next),
+            Member::maybe("target", target_number(entry)),
         ],
     )
 }
@@ -115,13 +96,19 @@ fn write_kind<W: Write>(writer: &mut W, entry: &Entry) -> Result<(), ReportError
 fn issued(stage: &Stage) -> Option<u64>
     ensures { result ≡ issued_in stage.now }
 {
-    stage.issue().map(|issue| issue.cycle)
+    match stage.issue() {
+        Some(issue) => Some(issue.cycle),
+        None => None,
+    }
 }
 
 fn cost(stage: &Stage) -> Option<u64>
     ensures { result ≡ cost_of stage.now }
 {
-    stage.issue().map(|issue| u64::from(issue.cost))
+    match stage.issue() {
+        Some(issue) => Some(u64::from(issue.cost)),
+        None => None,
+    }
 }
 
 // The value that its result has.
@@ -156,23 +143,19 @@ fn fault(stage: &Stage) -> Option<Fault>
 fn cause(stage: &Stage) -> Option<u64>
     ensures { result ≡ cause_of stage.now }
 {
-    fault(stage).map(|fault| u64::from(fault.cause.code()))
+    match fault(stage) {
+        Some(fault) => Some(u64::from(fault.cause.code())),
+        None => None,
+    }
 }
 
 // The word that a fault gives mtval.
 fn fault_value(stage: &Stage) -> Option<u64>
     ensures { result ≡ fault_value_of stage.now }
 {
-    fault(stage).map(|fault| u64::from(fault.value))
-}
-
-fn number(name: &'static str, value: Option<u64>) -> Member
-    ensures name { result.name.now ≡ name.now }
-    ensures value { result.value ≡ Maybe value }
-{
-    Member {
-        name,
-        value: Value::Maybe(value),
+    match fault(stage) {
+        Some(fault) => Some(u64::from(fault.value)),
+        None => None,
     }
 }
 
@@ -183,13 +166,13 @@ fn write_stage<W: Write>(writer: &mut W, stage: &Stage) -> Result<(), ReportErro
     write_members(
         writer,
         &[
-            number("issued", issued(stage)),
-            number("cost", cost(stage)),
-            number("finished", finished(stage)),
-            number("value", value(stage)),
-            number("next_pc", next_pc(stage)),
-            number("cause", cause(stage)),
-            number("mtval", fault_value(stage)),
+            Member::maybe("issued", issued(stage)),
+            Member::maybe("cost", cost(stage)),
+            Member::maybe("finished", finished(stage)),
+            Member::maybe("value", value(stage)),
+            Member::maybe("next_pc", next_pc(stage)),
+            Member::maybe("cause", cause(stage)),
+            Member::maybe("mtval", fault_value(stage)),
         ],
     )
 }

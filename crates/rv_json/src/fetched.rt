@@ -19,18 +19,9 @@ fn write_fetched<W: Write>(writer: &mut W, word: &Fetched) -> Result<(), ReportE
         "pc",
         u64::from(word.pc),
         &[
-            Member {
-                name: "word",
-                value: Value::Maybe(word.word.map(u64::from)),
-            },
-            Member {
-                name: "fetched",
-                value: Value::Number(word.cycle),
-            },
-            Member {
-                name: "predicted",
-                value: Value::Number(u64::from(word.predicted)),
-            },
+            Member::maybe_word("word", word.word),
+            Member::number("fetched", word.cycle),
+            Member::word("predicted", word.predicted),
         ],
     )
 }
@@ -66,10 +57,7 @@ fn write_next_fetch<W: Write>(writer: &mut W, front: &Front) -> Result<(), Repor
     write_members(
         writer,
         &[
-            Member {
-                name: "next_fetch",
-                value: Value::Number(u64::from(front.next_pc())),
-            },
+            Member::word("next_fetch", front.next_pc()),
             Member {
                 name: "halted",
                 value: Value::Truth(front.is_halted()),

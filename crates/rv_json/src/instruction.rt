@@ -1,4 +1,5 @@
-ghost use Rattle.rv_json.specs.Instruction.{details_text, ended_text, ending_text, instruction_json, passage_text, retired_text, squashed_text, trapped_text};
+ghost use Rattle.std.specs.Prelude.{◌≡◌};
+ghost use Rattle.rv_json.specs.Instruction.{cost_of, details_text, ended_text, ending_text, instruction_json, passage_text, retired_text, squashed_text, trapped_text};
 ghost use Rattle.rv_text.specs.Written.{IsWritten};
 
 use crate::array::Values;
@@ -8,6 +9,16 @@ use rv_passage::{Ending, Passage};
 use rv_text::{ReportError, put};
 use std::io::Write;
 
+// The cost of its execution, if that began.
+fn cost(row: &Passage) -> Option<u64>
+    ensures { result ≡ cost_of row.now }
+{
+    match row.issue {
+        Some(issue) => Some(u64::from(issue.cost)),
+        None => None,
+    }
+}
+
 #[tactic(auto, unfolding(crate::specs::Instruction::passage_text))]
 fn write_passage<W: Write>(writer: &mut W, row: &Passage) -> Result<(), ReportError>
     ensures { IsWritten result (W.contents writer.old) (W.contents writer.new) (passage_text row.now) }
@@ -15,34 +26,13 @@ fn write_passage<W: Write>(writer: &mut W, row: &Passage) -> Result<(), ReportEr
     write_members(
         writer,
         &[
-            Member {
-                name: "pc",
-                value: Value::Number(u64::from(row.pc)),
-            },
-            Member {
-                name: "word",
-                value: Value::Maybe(row.word.map(u64::from)),
-            },
-            Member {
-                name: "fetched",
-                value: Value::Number(row.fetched),
-            },
-            Member {
-                name: "dispatched",
-                value: Value::Maybe(row.dispatched),
-            },
-            Member {
-                name: "issued",
-                value: Value::Maybe(row.issue.map(|issue| issue.cycle)),
-            },
-            Member {
-                name: "cost",
-                value: Value::Maybe(row.issue.map(|issue| u64::from(issue.cost))),
-            },
-            Member {
-                name: "broadcast",
-                value: Value::Maybe(row.broadcast),
-            },
+            Member::word("pc", row.pc),
+            Member::maybe_word("word", row.word),
+            Member::number("fetched", row.fetched),
+            Member::maybe("dispatched", row.dispatched),
+            Member::maybe("issued", row.issued()),
+            Member::maybe("cost", cost(row)),
+            Member::maybe("broadcast", row.broadcast),
         ],
     )
 }
@@ -60,14 +50,8 @@ fn write_retired<W: Write>(writer: &mut W, written: Option<(Reg, u32)>) -> Resul
             writer,
             &[
                 end,
-                Member {
-                    name: "register",
-                    value: Value::Number(u64::from(register.number())),
-                },
-                Member {
-                    name: "value",
-                    value: Value::Number(u64::from(word)),
-                },
+                Member::number("register", u64::from(register.number())),
+                Member::word("value", word),
             ],
         ),
         None => write_members(writer, &[end]),
@@ -85,10 +69,7 @@ fn write_trapped<W: Write>(writer: &mut W, cause: Cause) -> Result<(), ReportErr
                 name: "end",
                 value: Value::Name("trapped"),
             },
-            Member {
-                name: "cause",
-                value: Value::Number(u64::from(cause.code())),
-            },
+            Member::word("cause", cause.code()),
         ],
     )
 }

@@ -1,7 +1,8 @@
 ghost use Rattle.std.specs.Prelude.{◌≡◌, ◌++◌, codes, decimal};
 ghost use Rattle.std.specs.List.{flat_map};
-ghost use Rattle.rv_json.specs.Json.{also, begins, json_byte, key, opens, string, truth};
+ghost use Rattle.rv_json.specs.Json.{also, begins, json_byte, key, opens, quoted, string, truth};
 ghost use Rattle.rv_json.specs.Member.{member_text};
+ghost use Rattle.rv_json.specs.declared.json.Value.TheVariants.{Maybe, Number};
 ghost use Rattle.rv_text.specs.Written.{IsWritten};
 
 use itoa::Buffer;
@@ -9,7 +10,7 @@ use rv_text::{ReportError, put, put_all, write_plain_byte};
 use std::io::Write;
 
 /// What a member of an object has.
-#[derive(Clone, Copy, Debug)]
+#[derive(Clone, Copy)]
 pub enum Value {
     /// A whole number.
     Number(u64),
@@ -22,12 +23,52 @@ pub enum Value {
 }
 
 /// A member of an object, but for its first one.
-#[derive(Clone, Copy, Debug)]
+#[derive(Clone, Copy)]
 pub struct Member {
     /// Its name, which needs no escape.
     pub name: &'static str,
     /// What it has.
     pub value: Value,
+}
+
+impl Member {
+    /// A member that is a number.
+    pub fn number(name: &'static str, number: u64) -> Member
+        ensures name { result.name.now ≡ name.now }
+        ensures value { result.value ≡ Number number }
+    {
+        Member {
+            name,
+            value: Value::Number(number),
+        }
+    }
+
+    // A member that is a word.
+    pub(crate) fn word(name: &'static str, word: u32) -> Member
+        ensures name { result.name.now ≡ name.now }
+        ensures value { result.value ≡ Number word }
+    {
+        Member::number(name, u64::from(word))
+    }
+
+    // A number where there is one.
+    pub(crate) fn maybe(name: &'static str, number: Option<u64>) -> Member
+        ensures name { result.name.now ≡ name.now }
+        ensures value { result.value ≡ Maybe number }
+    {
+        Member {
+            name,
+            value: Value::Maybe(number),
+        }
+    }
+
+    // A word where there is one.
+    pub(crate) fn maybe_word(name: &'static str, word: Option<u32>) -> Member
+        ensures name { result.name.now ≡ name.now }
+        ensures value { result.value ≡ Maybe word }
+    {
+        Member::maybe(name, word.map(u64::from))
+    }
 }
 
 /// Writes the name of a further member.
@@ -39,13 +80,37 @@ pub fn write_key<W: Write>(writer: &mut W, name: &str) -> Result<(), ReportError
 }
 
 /// Writes a further member that is a number.
-#[tactic(auto, unfolding(crate::specs::Json::also, crate::specs::Json::key))]
 pub fn write_number<W: Write>(writer: &mut W, name: &str, number: u64) -> Result<(), ReportError>
     ensures { IsWritten result (W.contents writer.old) (W.contents writer.new) (also name.now (decimal number)) }
 {
     let mut buffer = Buffer::new();
-    let digits = buffer.format(number).as_bytes();
-    put_all(writer, &[b",\"", name.as_bytes(), b"\":", digits])
+    write_text(writer, name, buffer.format(number).as_bytes())
+}
+
+// Writes a further member that has this text.
+#[tactic(auto, unfolding(crate::specs::Json::also, crate::specs::Json::key))]
+fn write_text<W: Write>(writer: &mut W, name: &str, text: &[u8]) -> Result<(), ReportError>
+    ensures { IsWritten result (W.contents writer.old) (W.contents writer.new) (also name.now text.now) }
+{
+    put_all(writer, &[b",\"", name.as_bytes(), b"\":", text])
+}
+
+// Writes a further member that is a string of characters that need no escape.
+#[tactic(auto, unfolding(crate::specs::Json::also, crate::specs::Json::key, crate::specs::Json::quoted))]
+fn write_name<W: Write>(writer: &mut W, name: &str, text: &str) -> Result<(), ReportError>
+    ensures { IsWritten result (W.contents writer.old) (W.contents writer.new) (also name.now (quoted text.now)) }
+{
+    put_all(
+        writer,
+        &[
+            b",\"",
+            name.as_bytes(),
+            b"\":",
+            b"\"",
+            text.as_bytes(),
+            b"\"",
+        ],
+    )
 }
 
 #[tactic(auto, unfolding(crate::specs::Json::truth))]
@@ -55,7 +120,6 @@ fn truth(value: bool) -> &'static [u8]
     if value { b"true" } else { b"false" }
 }
 
-#[tactic(auto, unfolding(crate::specs::Json::also, crate::specs::Json::key, crate::specs::Json::quoted))]
 fn write_member<W: Write>(writer: &mut W, member: Member) -> Result<(), ReportError>
     ensures { IsWritten result (W.contents writer.old) (W.contents writer.new) (member_text member) }
 {
@@ -63,18 +127,8 @@ fn write_member<W: Write>(writer: &mut W, member: Member) -> Result<(), ReportEr
     match member.value {
         Value::Number(number) | Value::Maybe(Some(number)) => write_number(writer, name, number),
         Value::Maybe(None) => Ok(()),
-        Value::Truth(value) => put_all(writer, &[b",\"", name.as_bytes(), b"\":", truth(value)]),
-        Value::Name(text) => put_all(
-            writer,
-            &[
-                b",\"",
-                name.as_bytes(),
-                b"\":",
-                b"\"",
-                text.as_bytes(),
-                b"\"",
-            ],
-        ),
+        Value::Truth(value) => write_text(writer, name, truth(value)),
+        Value::Name(text) => write_name(writer, name, text),
     }
 }
 

@@ -1,7 +1,7 @@
 ghost use Rattle.rv_json.specs.Listing.{line_text, listing_line, listing_lines, place_text};
 ghost use Rattle.rv_text.specs.Written.{IsWritten};
 
-use crate::json::{Member, Value, write_front, write_key, write_string};
+use crate::json::{Member, write_front, write_key, write_string};
 use crate::place::word_address;
 use rv_isa::Values;
 use rv_source::Listing;
@@ -16,10 +16,7 @@ fn write_place<W: Write>(writer: &mut W, address: u32, number: usize) -> Result<
         writer,
         "address",
         u64::from(address),
-        &[Member {
-            name: "line",
-            value: Value::Number(number as u64),
-        }],
+        &[Member::number("line", number as u64)],
     )
 }
 

@@ -2,7 +2,6 @@ ghost use Rattle.std.specs.Prelude.{◌≡◌, codes};
 ghost use Rattle.rv_isa.specs.Key.{kind_name};
 ghost use Rattle.rv_json.specs.Json.{also, key};
 ghost use Rattle.rv_json.specs.Machine.{buffers_text, cache_json, format_text, header_line, kind_json, kinds_text, machine_json, numbers_text, predictor_json, predictor_name, recovery_name, recovery_text, sizes_text, widths_text};
-ghost use Rattle.rv_json.specs.declared.json.Value.TheVariants.{Number};
 ghost use Rattle.rv_text.specs.Written.{IsWritten};
 
 use crate::entry::kind_name;
@@ -30,16 +29,6 @@ fn predictor_name(kind: PredictorKind) -> &'static str
     }
 }
 
-fn number(name: &'static str, number: u32) -> Member
-    ensures name { result.name.now ≡ name.now }
-    ensures value { result.value ≡ Number number }
-{
-    Member {
-        name,
-        value: Value::Number(u64::from(number)),
-    }
-}
-
 #[tactic(auto, unfolding(crate::specs::Machine::sizes_text))]
 fn write_sizes<W: Write>(writer: &mut W, values: &Values) -> Result<(), ReportError>
     ensures { IsWritten result (W.contents writer.old) (W.contents writer.new) (sizes_text values.now) }
@@ -49,8 +38,8 @@ fn write_sizes<W: Write>(writer: &mut W, values: &Values) -> Result<(), ReportEr
         "ram_base",
         u64::from(values.ram_base),
         &[
-            number("ram_size", values.ram_size),
-            number("rom_bytes", values.rom_bytes),
+            Member::word("ram_size", values.ram_size),
+            Member::word("rom_bytes", values.rom_bytes),
         ],
     )
 }
@@ -62,10 +51,10 @@ fn write_widths<W: Write>(writer: &mut W, values: &Values) -> Result<(), ReportE
     write_members(
         writer,
         &[
-            number("fetch_width", values.fetch_width),
-            number("dispatch_width", values.dispatch_width),
-            number("commit_width", values.commit_width),
-            number("bus_width", values.bus_width),
+            Member::word("fetch_width", values.fetch_width),
+            Member::word("dispatch_width", values.dispatch_width),
+            Member::word("commit_width", values.commit_width),
+            Member::word("bus_width", values.bus_width),
         ],
     )
 }
@@ -77,10 +66,10 @@ fn write_buffers<W: Write>(writer: &mut W, values: &Values) -> Result<(), Report
     write_members(
         writer,
         &[
-            number("fetch_buffer", values.fetch_buffer),
-            number("rob", values.rob),
-            number("store_queue", values.store_queue),
-            number("forward", values.forward),
+            Member::word("fetch_buffer", values.fetch_buffer),
+            Member::word("rob", values.rob),
+            Member::word("store_queue", values.store_queue),
+            Member::word("forward", values.forward),
         ],
     )
 }
@@ -116,8 +105,8 @@ fn write_kind_object<W: Write>(writer: &mut W, values: KindValues) -> Result<(),
         "stations",
         u64::from(values.stations),
         &[
-            number("units", values.units),
-            number("latency", values.latency),
+            Member::word("units", values.units),
+            Member::word("latency", values.latency),
             Member {
                 name: "pipelined",
                 value: Value::Truth(values.pipelined),
@@ -157,11 +146,11 @@ fn write_cache_object<W: Write>(writer: &mut W, values: CacheValues) -> Result<(
         "sets",
         u64::from(values.sets),
         &[
-            number("ways", values.ways),
-            number("line", values.line),
-            number("hit", values.hit),
-            number("miss", values.miss),
-            number("write_back", values.write_back),
+            Member::word("ways", values.ways),
+            Member::word("line", values.line),
+            Member::word("hit", values.hit),
+            Member::word("miss", values.miss),
+            Member::word("write_back", values.write_back),
         ],
     )
 }

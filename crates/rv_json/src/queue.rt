@@ -4,7 +4,7 @@ ghost use Rattle.rv_json.specs.Queue.{access_text, filling_text, head_text, stat
 ghost use Rattle.rv_text.specs.Written.{IsWritten};
 
 use crate::array::{Values, write_array_member};
-use crate::json::{Member, Value, write_front, write_members};
+use crate::json::{Member, Value, write_front, write_number};
 use itoa::Buffer;
 use rv_isa::{StoreAccess, StoreBytes};
 use rv_stores::{Store, StorePhase, StoreQueue, StoreState};
@@ -50,13 +50,7 @@ fn state_name(state: &StoreState) -> &'static str
 fn write_address<W: Write>(writer: &mut W, address: u32) -> Result<(), ReportError>
     ensures { IsWritten result (W.contents writer.old) (W.contents writer.new) (also (codes "address") (decimal address)) }
 {
-    write_members(
-        writer,
-        &[Member {
-            name: "address",
-            value: Value::Number(u64::from(address)),
-        }],
-    )
+    write_number(writer, "address", u64::from(address))
 }
 
 fn write_slice<W: Write>(writer: &mut W, bytes: &[u8]) -> Result<(), ReportError>

@@ -6,7 +6,7 @@ ghost use Rattle.rv_json.specs.declared.json.Value.TheVariants.{Number};
 ghost use Rattle.rv_text.specs.Written.{IsWritten};
 
 use crate::array::Values;
-use crate::json::{Member, Value, write_front, write_key, write_members};
+use crate::json::{Member, write_front, write_key, write_members};
 use itoa::Buffer;
 use rv_arch::Observed;
 use rv_isa::Csr;
@@ -39,10 +39,7 @@ fn member(name: &'static str, seen: &Observed, csr: Csr) -> Member
     ensures name { result.name.now ≡ name.now }
     ensures value { result.value ≡ Number (value_of seen.now.csrs seen.now.lines csr) }
 {
-    Member {
-        name,
-        value: Value::Number(u64::from(seen.csrs.value(csr, seen.lines))),
-    }
+    Member::word(name, seen.csrs.value(csr, seen.lines))
 }
 
 #[tactic(auto, unfolding(crate::specs::Registers::interrupts_text))]

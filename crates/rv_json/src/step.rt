@@ -41,14 +41,8 @@ fn write_trap<W: Write>(
                 name: "step",
                 value: Value::Name("trap"),
             },
-            Member {
-                name: "cause",
-                value: Value::Number(u64::from(cause.code())),
-            },
-            Member {
-                name: "value",
-                value: Value::Number(u64::from(value)),
-            },
+            Member::word("cause", cause.code()),
+            Member::word("value", value),
         ],
     )
 }
@@ -66,10 +60,7 @@ fn write_interrupt<W: Write>(writer: &mut W, pc: u32, cause: u32) -> Result<(), 
                 name: "step",
                 value: Value::Name("interrupt"),
             },
-            Member {
-                name: "cause",
-                value: Value::Number(u64::from(cause)),
-            },
+            Member::word("cause", cause),
         ],
     )
 }

@@ -4,7 +4,7 @@ ghost use Rattle.rv_json.specs.Units.{start_json, units_json};
 ghost use Rattle.rv_text.specs.Written.{IsWritten};
 
 use crate::array::{Values, write_array, write_array_member};
-use crate::json::{Member, Value, write_key, write_object, write_opens};
+use crate::json::{Member, write_key, write_object, write_opens};
 use rv_isa::{Issue, Kind};
 use rv_text::{ReportError, put};
 use rv_units::Units;
@@ -44,10 +44,7 @@ fn write_start<W: Write>(writer: &mut W, start: Issue) -> Result<(), ReportError
         writer,
         "since",
         start.cycle,
-        &[Member {
-            name: "cycles",
-            value: Value::Number(u64::from(start.cost)),
-        }],
+        &[Member::word("cycles", start.cost)],
     )
 }
 

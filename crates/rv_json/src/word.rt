@@ -19,10 +19,7 @@ fn write_word_object<W: Write>(
         "memory",
         u64::from(address),
         &[
-            Member {
-                name: "word",
-                value: Value::Number(u64::from(word)),
-            },
+            Member::word("word", word),
             Member {
                 name: "stale",
                 value: Value::Truth(stale),
