@@ -8,7 +8,7 @@ use Rattle.rv_hardware.specs.Run.{IsStop}
 use Rattle.rv_report.specs.State.{stop_text}
 use Rattle.rv_report.specs.Tally.{losses_of}
 use Rattle.rv_report.specs.Totals.{totals_at}
-use Rattle.rv_report.specs.declared.losses.ComparedRun.{ComparedRun}
+use Rattle.rv_report.specs.declared.{losses.ComparedRun.ComparedRun, totals.Totals.Totals}
 use Rattle.rv_text.specs.Plain.{plain_text}
 use Rattle.rv_text.specs.ReadField.{cell_text}
 use Rattle.rv_text.specs.declared.fields.Value.{Value}
@@ -29,16 +29,21 @@ table_head =
     codes "number\tcycles\tretired\tcpi\ttraps\tinterrupts\tbusy\tstall_fetch\tstall_serial\tstall_rob\t" ++
     codes "stall_station\tstall_store\tmispredicted\tsquashed\tmisses\tname\tstop\n"
 
--- the number of a run, its counts, the cycles that dispatched nothing, by the reason, and what it lost cycles to
-abbrev pub row_values : ℕ → ComparedRun → List Value
-row_values number run =
+-- the number of a run, and the counts of its cycles and steps
+abbrev pub count_values : ℕ → Totals → List Value
+count_values number totals =
     Count number ∷
-    Count run.totals.cycles ∷
-    Count run.totals.steps.retired ∷
-    Ratio run.totals.cycles run.totals.steps.retired ∷
-    Count run.totals.steps.traps ∷
-    Count run.totals.steps.interrupts ∷
-    Count run.totals.busy ∷
+    Count totals.cycles ∷
+    Count totals.steps.retired ∷
+    Ratio totals.cycles totals.steps.retired ∷
+    Count totals.steps.traps ∷
+    Count totals.steps.interrupts ∷
+    Count totals.busy ∷
+    []
+
+-- the cycles that dispatched nothing, by the reason, and what a run lost cycles to
+abbrev pub loss_values : ComparedRun → List Value
+loss_values run =
     Count run.totals.stalls.fetch ∷
     Count run.totals.stalls.serial ∷
     Count run.totals.stalls.rob ∷
@@ -57,7 +62,9 @@ name_text (first ∷ others) = plain_text (first ∷ others)
 -- the line of a run ends with the name of its machine and why the run ended
 unfoldable pub table_row : ℕ → List ℕ → ComparedRun → List ℕ
 table_row number name run =
-    flat_map cell_text (row_values number run) ++ (name_text name ++ (codes "\t" ++ (stop_text run.totals.stop ++ codes "\n")))
+    flat_map cell_text (count_values number run.totals) ++
+    (flat_map cell_text (loss_values run) ++
+    (name_text name ++ (codes "\t" ++ (stop_text run.totals.stop ++ codes "\n"))))
 
 -- the line of a run with a number, where the machines from the first on have these names
 abbrev pub row_of : List (List ℕ) → ℕ × ComparedRun → List ℕ

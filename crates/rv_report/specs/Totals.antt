@@ -73,14 +73,17 @@ stall_lines stalls =
     (count_line (codes "stall station") stalls.station ++
     count_line (codes "stall store") stalls.store)))
 
--- the counts of a run
-unfoldable pub total_lines : Totals → List ℕ
-total_lines totals =
+-- the cycles, and the steps by their sort
+unfoldable pub cycle_lines : Totals → List ℕ
+cycle_lines totals =
     count_line (codes "cycles") totals.cycles ++
     (count_line (codes "retired") totals.steps.retired ++
     (count_line (codes "traps") totals.steps.traps ++
     (count_line (codes "interrupts") totals.steps.interrupts ++
     (line_of (codes "cpi") (ratio_text totals.cycles totals.steps.retired) ++
     (count_line (codes "longest_gap") totals.longest_gap ++
-    (count_line (codes "busy") totals.busy ++
-    stall_lines totals.stalls))))))
+    count_line (codes "busy") totals.busy)))))
+
+-- the counts of a run
+unfoldable pub total_lines : Totals → List ℕ
+total_lines totals = cycle_lines totals ++ stall_lines totals.stalls

@@ -1,12 +1,13 @@
 ghost use Rattle.std.specs.Prelude.{◌≡◌, ◌+◌, ◌++◌, [], codes, get_or, map};
 ghost use Rattle.std.specs.List.{enumerate_from, flat_map};
-ghost use Rattle.rv_report.specs.Comparison.{name_text, row_of, row_values, table_head, table_of, table_row};
+ghost use Rattle.rv_report.specs.Comparison.{count_values, loss_values, name_text, row_of, table_head, table_of, table_row};
 ghost use Rattle.rv_report.specs.State.{stop_text};
 ghost use Rattle.rv_text.specs.ReadField.{cell_text};
 ghost use Rattle.rv_text.specs.Written.{IsWritten};
 
 use crate::losses::ComparedRun;
 use crate::state::write_reason;
+use crate::totals::Totals;
 use rv_arch::Stop;
 use rv_text::{ReportError, Value, put, put_all, write_cells, write_plain};
 use std::io::Write;
@@ -24,11 +25,10 @@ fn write_head<W: Write>(writer: &mut W) -> Result<(), ReportError>
     )
 }
 
-// The counts of a run, with its number.
-fn write_counts<W: Write>(writer: &mut W, number: u64, run: ComparedRun) -> Result<(), ReportError>
-    ensures { IsWritten result (W.contents writer.old) (W.contents writer.new) (flat_map cell_text (row_values number run)) }
+// The number of a run, and the counts of its cycles and steps.
+fn write_counts<W: Write>(writer: &mut W, number: u64, totals: &Totals) -> Result<(), ReportError>
+    ensures { IsWritten result (W.contents writer.old) (W.contents writer.new) (flat_map cell_text (count_values number totals.now)) }
 {
-    let ComparedRun { totals, losses } = run;
     let values = [
         Value::Count(number),
         Value::Count(totals.cycles),
@@ -40,14 +40,23 @@ fn write_counts<W: Write>(writer: &mut W, number: u64, run: ComparedRun) -> Resu
         Value::Count(totals.steps.traps),
         Value::Count(totals.steps.interrupts),
         Value::Count(totals.busy),
-        Value::Count(totals.stalls.fetch),
-        Value::Count(totals.stalls.serial),
-        Value::Count(totals.stalls.rob),
-        Value::Count(totals.stalls.station),
-        Value::Count(totals.stalls.store),
-        Value::Count(losses.mispredicted),
-        Value::Count(losses.squashed),
-        Value::Count(losses.misses),
+    ];
+    write_cells(writer, &values)
+}
+
+// The cycles of a run that dispatched nothing, by the reason, and what it lost cycles to.
+fn write_losses<W: Write>(writer: &mut W, run: &ComparedRun) -> Result<(), ReportError>
+    ensures { IsWritten result (W.contents writer.old) (W.contents writer.new) (flat_map cell_text (loss_values run.now)) }
+{
+    let values = [
+        Value::Count(run.totals.stalls.fetch),
+        Value::Count(run.totals.stalls.serial),
+        Value::Count(run.totals.stalls.rob),
+        Value::Count(run.totals.stalls.station),
+        Value::Count(run.totals.stalls.store),
+        Value::Count(run.losses.mispredicted),
+        Value::Count(run.losses.squashed),
+        Value::Count(run.losses.misses),
     ];
     write_cells(writer, &values)
 }
@@ -84,11 +93,12 @@ fn write_row<W: Write>(
     writer: &mut W,
     number: u64,
     name: &[u8],
-    run: ComparedRun,
+    run: &ComparedRun,
 ) -> Result<(), ReportError>
-    ensures { IsWritten result (W.contents writer.old) (W.contents writer.new) (table_row number name.now run) }
+    ensures { IsWritten result (W.contents writer.old) (W.contents writer.new) (table_row number name.now run.now) }
 {
-    write_counts(writer, number, run)?;
+    write_counts(writer, number, &run.totals)?;
+    write_losses(writer, run)?;
     write_name_and_end(writer, name, run.totals.stop)
 }
 
@@ -113,7 +123,7 @@ fn write_rows<W: Write>(
 {
     for place in 0..runs.len() {
         let run = runs[place];
-        write_row(writer, 1 + place as u64, name_at(names, place), run)?;
+        write_row(writer, 1 + place as u64, name_at(names, place), &run)?;
     }
     Ok(())
 }

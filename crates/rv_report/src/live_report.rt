@@ -18,7 +18,7 @@ use std::convert::Infallible;
 use std::io::Write;
 
 // The steps of a run so far: how many there were of each sort, and whether their lines, where they are shown, were written.
-#[derive(Clone, Copy, Debug)]
+#[derive(Clone, Copy)]
 struct Trace {
     is_shown: bool,
     counts: StepCounts,

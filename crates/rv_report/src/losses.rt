@@ -13,7 +13,7 @@ pub struct Losses {
 }
 
 /// A run of the core, as a table compares it with others.
-#[derive(Clone, Copy, Debug, PartialEq, Eq)]
+#[derive(Clone, Copy)]
 pub struct ComparedRun {
     pub totals: Totals,
     pub losses: Losses,

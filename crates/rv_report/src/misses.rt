@@ -10,7 +10,7 @@ use rv_hardware::{Execution, Step};
 use rv_isa::Instr;
 
 /// The accesses so far that missed the data cache.
-#[derive(Clone, Copy, Debug, PartialEq, Eq)]
+#[derive(Clone, Copy)]
 pub(crate) struct Misses {
     /// What a hit costs.
     pub(crate) hit: u32,

@@ -1,5 +1,5 @@
 /// How long a run may be, and what its report shows.
-#[derive(Clone, Copy, Debug, PartialEq, Eq)]
+#[derive(Clone, Copy)]
 pub struct Options {
     /// Whether a report of the core begins with a line for each step. The reference's has none.
     pub trace: bool,

@@ -1,10 +1,10 @@
 ghost use Rattle.std.specs.Prelude.{◌≡◌};
-ghost use Rattle.rv_report.specs.Rows.{stamp_text, issued_in, broadcast_in, passage_text, written_text, row_line, step_line, trace_lines};
+ghost use Rattle.rv_report.specs.Rows.{broadcast_in, entry_text, interrupt_line, issued_in, passage_text, place_text, result_text, row_line, stamp_text, step_line, trace_lines, trap_line, written_text};
 ghost use Rattle.rv_text.specs.Written.{IsWritten};
 
 use itoa::Buffer;
 use rv_hardware::{Row, Step};
-use rv_isa::Reg;
+use rv_isa::{Cause, Reg};
 use rv_text::{ReportError, hexadecimal, put, put_all};
 use std::io::Write;
 
@@ -36,42 +36,49 @@ fn broadcast(row: &Row) -> Option<u64>
     }
 }
 
-// Where an instruction stood, and when it passed through the hardware.
-#[tactic(auto, unfolding(crate::specs::Rows::passage_text))]
-fn write_passage<W: Write>(writer: &mut W, row: &Row) -> Result<(), ReportError>
-    ensures { IsWritten result (W.contents writer.old) (W.contents writer.new) (passage_text row.now) }
+// Where an instruction stood.
+#[tactic(auto, unfolding(crate::specs::Rows::place_text))]
+fn write_place<W: Write>(writer: &mut W, row: &Row) -> Result<(), ReportError>
+    ensures { IsWritten result (W.contents writer.old) (W.contents writer.new) (place_text row.now) }
 {
     let pc = hexadecimal(row.pc);
     let word = hexadecimal(row.word);
+    put_all(writer, &[b"R ", pc.as_slice(), b" ", word.as_slice()])
+}
+
+// When it entered the hardware, and its reorder buffer.
+#[tactic(auto, unfolding(crate::specs::Rows::entry_text))]
+fn write_entry<W: Write>(writer: &mut W, row: &Row) -> Result<(), ReportError>
+    ensures { IsWritten result (W.contents writer.old) (W.contents writer.new) (entry_text row.now) }
+{
     let mut at_fetch = Buffer::new();
     let fetched = at_fetch.format(row.fetched).as_bytes();
     let mut at_dispatch = Buffer::new();
     let dispatched = at_dispatch.format(row.dispatched).as_bytes();
+    put_all(writer, &[b" F", fetched, b" D", dispatched])
+}
+
+// When its result came about, and when it retired.
+#[tactic(auto, unfolding(crate::specs::Rows::result_text))]
+fn write_result<W: Write>(writer: &mut W, row: &Row) -> Result<(), ReportError>
+    ensures { IsWritten result (W.contents writer.old) (W.contents writer.new) (result_text row.now) }
+{
     let mut at_issue = Buffer::new();
     let issued = stamp_text(&mut at_issue, issued(row));
     let mut at_broadcast = Buffer::new();
     let broadcast = stamp_text(&mut at_broadcast, broadcast(row));
     let mut at_retirement = Buffer::new();
     let retired = at_retirement.format(row.retired).as_bytes();
-    put_all(
-        writer,
-        &[
-            b"R ",
-            pc.as_slice(),
-            b" ",
-            word.as_slice(),
-            b" F",
-            fetched,
-            b" D",
-            dispatched,
-            b" I",
-            issued,
-            b" B",
-            broadcast,
-            b" C",
-            retired,
-        ],
-    )
+    put_all(writer, &[b" I", issued, b" B", broadcast, b" C", retired])
+}
+
+// Where an instruction stood, and when it passed through the hardware.
+fn write_passage<W: Write>(writer: &mut W, row: &Row) -> Result<(), ReportError>
+    ensures { IsWritten result (W.contents writer.old) (W.contents writer.new) (passage_text row.now) }
+{
+    write_place(writer, row)?;
+    write_entry(writer, row)?;
+    write_result(writer, row)
 }
 
 // What an instruction wrote.
@@ -98,6 +105,64 @@ fn write_row<W: Write>(writer: &mut W, row: &Row) -> Result<(), ReportError>
     write_written(writer, row.written)
 }
 
+#[tactic(auto, unfolding(crate::specs::Rows::trap_line))]
+fn write_trap<W: Write>(
+    writer: &mut W,
+    pc: u32,
+    cause: Cause,
+    value: u32,
+    cycle: u64,
+) -> Result<(), ReportError>
+    ensures { IsWritten result (W.contents writer.old) (W.contents writer.new) (trap_line pc cause value cycle) }
+{
+    let pc = hexadecimal(pc);
+    let code = hexadecimal(cause.code());
+    let value = hexadecimal(value);
+    let mut buffer = Buffer::new();
+    let stamp = buffer.format(cycle).as_bytes();
+    put_all(
+        writer,
+        &[
+            b"T ",
+            pc.as_slice(),
+            b" ",
+            code.as_slice(),
+            b" ",
+            value.as_slice(),
+            b" C",
+            stamp,
+            b"\n",
+        ],
+    )
+}
+
+#[tactic(auto, unfolding(crate::specs::Rows::interrupt_line))]
+fn write_interrupt<W: Write>(
+    writer: &mut W,
+    pc: u32,
+    cause: u32,
+    cycle: u64,
+) -> Result<(), ReportError>
+    ensures { IsWritten result (W.contents writer.old) (W.contents writer.new) (interrupt_line pc cause cycle) }
+{
+    let pc = hexadecimal(pc);
+    let code = hexadecimal(cause);
+    let mut buffer = Buffer::new();
+    let stamp = buffer.format(cycle).as_bytes();
+    put_all(
+        writer,
+        &[
+            b"N ",
+            pc.as_slice(),
+            b" ",
+            code.as_slice(),
+            b" C",
+            stamp,
+            b"\n",
+        ],
+    )
+}
+
 #[tactic(auto, unfolding(crate::specs::Rows::step_line))]
 fn write_step<W: Write>(writer: &mut W, step: &Step) -> Result<(), ReportError>
     ensures { IsWritten result (W.contents writer.old) (W.contents writer.new) (step_line step.now) }
@@ -109,45 +174,8 @@ fn write_step<W: Write>(writer: &mut W, step: &Step) -> Result<(), ReportError>
             cause,
             value,
             cycle,
-        } => {
-            let pc = hexadecimal(pc);
-            let code = hexadecimal(cause.code());
-            let value = hexadecimal(value);
-            let mut buffer = Buffer::new();
-            let stamp = buffer.format(cycle).as_bytes();
-            put_all(
-                writer,
-                &[
-                    b"T ",
-                    pc.as_slice(),
-                    b" ",
-                    code.as_slice(),
-                    b" ",
-                    value.as_slice(),
-                    b" C",
-                    stamp,
-                    b"\n",
-                ],
-            )
-        }
-        Step::Interrupt { pc, cause, cycle } => {
-            let pc = hexadecimal(pc);
-            let code = hexadecimal(cause);
-            let mut buffer = Buffer::new();
-            let stamp = buffer.format(cycle).as_bytes();
-            put_all(
-                writer,
-                &[
-                    b"N ",
-                    pc.as_slice(),
-                    b" ",
-                    code.as_slice(),
-                    b" C",
-                    stamp,
-                    b"\n",
-                ],
-            )
-        }
+        } => write_trap(writer, pc, cause, value, cycle),
+        Step::Interrupt { pc, cause, cycle } => write_interrupt(writer, pc, cause, cycle),
     }
 }
 

@@ -1,5 +1,5 @@
 ghost use Rattle.rv_hardware.specs.Seen.{seen};
-ghost use Rattle.rv_report.specs.Totals.{total_lines};
+ghost use Rattle.rv_report.specs.Totals.{cycle_lines, stall_lines, total_lines};
 ghost use Rattle.rv_report.specs.RunReport.{end_lines, end_of, trace_of, report_of};
 ghost use Rattle.rv_text.specs.Written.{IsWritten};
 
@@ -9,14 +9,14 @@ use crate::rows::write_steps;
 use crate::state::{write_state, write_stop};
 use crate::totals::Totals;
 use rv_core::{Core, Outcome, Pipeline};
-use rv_hardware::Step;
+use rv_hardware::{StallCounts, Step};
 use rv_text::{Field, ReportError, Value, write_fields};
 use std::io::Write;
 
-// The counts of a run.
-#[tactic(auto, unfolding(crate::specs::Totals::total_lines, crate::specs::Totals::stall_lines, rv_text::specs::Line::count_line))]
-fn write_counts<W: Write>(writer: &mut W, totals: &Totals) -> Result<(), ReportError>
-    ensures { IsWritten result (W.contents writer.old) (W.contents writer.new) (total_lines totals.now) }
+// The cycles of a run, and its steps by their sort.
+#[tactic(auto, unfolding(crate::specs::Totals::cycle_lines, rv_text::specs::Line::count_line))]
+fn write_cycles<W: Write>(writer: &mut W, totals: &Totals) -> Result<(), ReportError>
+    ensures { IsWritten result (W.contents writer.old) (W.contents writer.new) (cycle_lines totals.now) }
 {
     write_fields(
         writer,
@@ -52,28 +52,48 @@ fn write_counts<W: Write>(writer: &mut W, totals: &Totals) -> Result<(), ReportE
                 name: "busy",
                 value: Value::Count(totals.busy),
             },
+        ],
+    )
+}
+
+// The cycles that dispatched nothing, by the reason.
+#[tactic(auto, unfolding(crate::specs::Totals::stall_lines, rv_text::specs::Line::count_line))]
+fn write_stalls<W: Write>(writer: &mut W, stalls: &StallCounts) -> Result<(), ReportError>
+    ensures { IsWritten result (W.contents writer.old) (W.contents writer.new) (stall_lines stalls.now) }
+{
+    write_fields(
+        writer,
+        &[
             Field {
                 name: "stall fetch",
-                value: Value::Count(totals.stalls.fetch),
+                value: Value::Count(stalls.fetch),
             },
             Field {
                 name: "stall serial",
-                value: Value::Count(totals.stalls.serial),
+                value: Value::Count(stalls.serial),
             },
             Field {
                 name: "stall rob",
-                value: Value::Count(totals.stalls.rob),
+                value: Value::Count(stalls.rob),
             },
             Field {
                 name: "stall station",
-                value: Value::Count(totals.stalls.station),
+                value: Value::Count(stalls.station),
             },
             Field {
                 name: "stall store",
-                value: Value::Count(totals.stalls.store),
+                value: Value::Count(stalls.store),
             },
         ],
     )
+}
+
+// The counts of a run.
+fn write_counts<W: Write>(writer: &mut W, totals: &Totals) -> Result<(), ReportError>
+    ensures { IsWritten result (W.contents writer.old) (W.contents writer.new) (total_lines totals.now) }
+{
+    write_cycles(writer, totals)?;
+    write_stalls(writer, &totals.stalls)
 }
 
 // Why a run ended, its counts, and the state that it left, but for memory.

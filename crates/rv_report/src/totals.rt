@@ -7,7 +7,7 @@ use rv_core::{Outcome, Progress};
 use rv_hardware::{StallCounts, Step};
 
 /// How many steps there were of each sort.
-#[derive(Clone, Copy, Debug, Default, PartialEq, Eq)]
+#[derive(Clone, Copy, Default)]
 pub struct StepCounts {
     pub retired: u64,
     /// Breakpoints included.
@@ -56,7 +56,7 @@ pub fn count_steps(steps: &[Step]) -> StepCounts
 }
 
 /// What a run of the core came to.
-#[derive(Clone, Copy, Debug, PartialEq, Eq)]
+#[derive(Clone, Copy)]
 pub struct Totals {
     /// Why the run ended.
     pub stop: Stop,

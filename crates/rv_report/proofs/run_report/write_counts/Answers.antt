@@ -1,25 +1,12 @@
-use Rattle.std.proofs.Common.{List, ℕ, ◌++◌, ap, append-nil, codes}
-use Rattle.rv_text.specs.Line.{count_line, line_of, ratio_text}
-use Rattle.rv_report.specs.Totals.{total_lines, stall_lines}
-use Rattle.rv_report.specs.declared.totals.Totals.{Totals}
-use Rattle.rv_text.proofs.Writing.{written_same}
+use Rattle.rv_report.specs.Totals.{total_lines}
+use Rattle.rv_text.proofs.Writing.{beginning-longer, handed_on, written_behind}
 use Rattle.rv_report.proofs.run_report.write_counts.Goals as goal
 
--- the lines of the counts, with what comes after them
-abbrev lines_before : Totals → List ℕ → List ℕ
-lines_before t rest =
-    count_line (codes "cycles") t.cycles ++
-    (count_line (codes "retired") t.steps.retired ++
-    (count_line (codes "traps") t.steps.traps ++
-    (count_line (codes "interrupts") t.steps.interrupts ++
-    (line_of (codes "cpi") (ratio_text t.cycles t.steps.retired) ++
-    (count_line (codes "longest_gap") t.longest_gap ++
-    (count_line (codes "busy") t.busy ++
-    (count_line (codes "stall fetch") t.stalls.fetch ++
-    (count_line (codes "stall serial") t.stalls.serial ++
-    (count_line (codes "stall rob") t.stalls.rob ++
-    (count_line (codes "stall station") t.stalls.station ++ rest))))))))))
+pub returns-in_err-write_cycles : goal.returns-in_err-write_cycles
+unfolding total_lines
+returns-in_err-write_cycles g c =
+    handed_on _ _ _ _ _ c.from_residual.ensures.1 (beginning-longer _ _ _ _ c.in_err-write_cycles.ensures)
 
 pub returns : goal.returns
-unfolding total_lines stall_lines count_line
-returns g c = written_same _ _ _ _ _ (ap (lines_before c.args.totals.now) (append-nil _)) c.write_fields.ensures
+unfolding total_lines
+returns g c = written_behind _ _ _ _ _ _ c.in_ok-write_cycles.ensures c.write_stalls.ensures
