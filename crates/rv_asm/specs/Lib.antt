@@ -1,6 +1,7 @@
 pub mod Answer
 pub mod Directive
 pub mod Emitted
+pub mod FaultName
 pub mod Faults
 pub mod Kept
 pub mod Layout

@@ -63,3 +63,12 @@ reach_before end (line ∷ others) = line.place.reach
 abbrev pub words_in : Section → Reach → List Kept → List (Option source.Line)
 words_in part end [] = []
 words_in part end (line ∷ others) = replicate (words_between part line.place.reach (reach_before end others)) (Some (shown line.number line.bytes)) ++ words_in part end others
+
+-- the words of the image, from the lines that the program keeps
+abbrev pub words_of_kept : Reach → List Kept → List (Option source.Line)
+words_of_kept end lines =
+    words_in Text end lines ++ lines_behind_text end.text_size end.data_size (words_in Data end lines)
+
+-- the listing of a text at a base, from the lines that the program keeps
+abbrev pub listing_of_kept : ℕ → Reach → List Kept → Listed
+listing_of_kept base end lines = record { base = base; words = words_of_kept end lines }

@@ -29,7 +29,7 @@ bare_instruction Ebreak = instr.Ebreak
 bare_instruction Mret = instr.Mret
 bare_instruction Wfi = instr.Wfi
 
--- what each mnemonic does whose operands have one shape, and the places that they fill
+-- what each instruction does whose operands have one shape, and the places that they fill
 unfoldable pub instructions : List (List ℕ × (Operation × Place × Place × Place))
 instructions =
     -- RV32I
@@ -96,7 +96,11 @@ instructions =
     -- machine mode
     (codes "mret", (Bare Mret, Empty, Empty, Empty)) ∷
     (codes "wfi", (Bare Wfi, Empty, Empty, Empty)) ∷
-    -- pseudo-instructions
+    []
+
+-- what each pseudo-instruction does, and the places that its operands fill
+unfoldable pub pseudo_instructions : List (List ℕ × (Operation × Place × Place × Place))
+pseudo_instructions =
     (codes "nop", (OpImmediate immediate.Addi, Empty, Empty, Empty)) ∷
     (codes "mv", (OpImmediate immediate.Addi, Rd, Rs1, Empty)) ∷
     (codes "not", (OpImmediate immediate.Xori, Rd, Rs1, MinusOne)) ∷
@@ -153,6 +157,10 @@ others =
     (codes ".ascii", Bytes (Characters 0) Text) ∷
     []
 
+-- what a name of one shape does
+abbrev pub shape_named : List ℕ → Option (Operation × Place × Place × Place)
+shape_named name = option_or (named instructions name) (named pseudo_instructions name)
+
 -- what a name names
 abbrev pub form_named : List ℕ → Option Form
-form_named name = option_or (option_map (λ shape. Instruction shape.0 shape.1 shape.2 shape.3) (named instructions name)) (named others name)
+form_named name = option_or (option_map (λ shape. Instruction shape.0 shape.1 shape.2 shape.3) (shape_named name)) (named others name)

@@ -1,42 +1,67 @@
 ghost use Rattle.std.specs.Prelude.{◌≡◌, ◌≢◌};
+ghost use Rattle.rv_asm.specs.FaultName.{name_of};
 
 use std::alloc::{AllocError, AllocFailed};
-use thiserror::Error;
+use std::error::Error;
+use std::fmt;
 
 /// What is wrong with a text, in the order of the two passes.
-#[derive(Clone, Copy, Debug, PartialEq, Eq, Error)]
+#[derive(Clone, Copy, Debug, PartialEq, Eq)]
 pub enum AsmFault {
     /// Bytes that are no token.
-    #[error("BadToken")]
     BadToken,
     /// A statement that begins with no mnemonic or directive.
-    #[error("UnknownMnemonic")]
     UnknownMnemonic,
     /// A count or a shape of operands that the statement does not have.
-    #[error("BadOperands")]
     BadOperands,
     /// A name in a register's place that is no register.
-    #[error("BadRegister")]
     BadRegister,
     /// A symbol that was defined before.
-    #[error("DuplicateSymbol")]
     DuplicateSymbol,
     /// More text and data than `LIMIT` bytes.
-    #[error("TooLarge")]
     TooLarge,
     /// A symbol that the text does not define.
-    #[error("UnknownSymbol")]
     UnknownSymbol,
     /// A value or a distance outside its field's range.
-    #[error("OutOfRange")]
     OutOfRange,
     /// An instruction or a start at no multiple of 4, or an odd distance.
-    #[error("Misaligned")]
     Misaligned,
     /// Memory was refused.
-    #[error("Memory")]
     Memory,
 }
+
+impl AsmFault {
+    // The fault's name, as it is printed.
+    #[tactic(auto, unfolding(crate::specs::FaultName::name_of))]
+    fn name(self) -> &'static str
+        ensures { result.now ≡ name_of self }
+    {
+        match self {
+            AsmFault::BadToken => "BadToken",
+            AsmFault::UnknownMnemonic => "UnknownMnemonic",
+            AsmFault::BadOperands => "BadOperands",
+            AsmFault::BadRegister => "BadRegister",
+            AsmFault::DuplicateSymbol => "DuplicateSymbol",
+            AsmFault::TooLarge => "TooLarge",
+            AsmFault::UnknownSymbol => "UnknownSymbol",
+            AsmFault::OutOfRange => "OutOfRange",
+            AsmFault::Misaligned => "Misaligned",
+            AsmFault::Memory => "Memory",
+        }
+    }
+}
+
+impl fmt::Display for AsmFault {
+    ghost use Rattle.std.specs.Prelude.{Some};
+
+    ghost output = { λ fault. Some (name_of fault) };
+
+    fn fmt<W: fmt::Write>(&self, f: &mut fmt::Formatter<W>) -> fmt::Result {
+        f.write_str(self.name())
+    }
+}
+
+impl Error for AsmFault {}
 
 impl From<AllocError> for AsmFault {
     ghost use Rattle.rv_asm.specs.declared.fault.AsmFault.{AsmFault};

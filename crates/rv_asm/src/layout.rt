@@ -1,11 +1,12 @@
 ghost use Rattle.std.specs.Prelude.{◌≡◌, ◌∷◌, ◌++◌, ◌==◌, ◌<◌, ◌≤◌, [], None, IfOk, IfErr, IfSome, Ok, length};
 ghost use Rattle.std.specs.List.{position_or_len, slice_split};
+ghost use Rattle.std.specs.Option.{option_copied};
 ghost use Rattle.rv_asm.specs.Answer.{Follows, RefusedBy, RefusedAt};
-ghost use Rattle.rv_asm.specs.Faults.{body_fault, first_fault, first_fault_of, moved};
-ghost use Rattle.rv_asm.specs.Layout.{behind, extended, layout, unlaid, lines_of, statement_in, line_in};
+ghost use Rattle.rv_asm.specs.Faults.{body_fault, first_fault, first_fault_of, is_unmet, moved};
+ghost use Rattle.rv_asm.specs.Layout.{advance, behind, extended, layout, unlaid, unless_too_large, lines_of, statement_in, line_in};
 ghost use Rattle.rv_asm.specs.Kept.{keep, kept, lines_left, says_nothing};
 ghost use Rattle.rv_asm.specs.Placed.{place, place_body};
-ghost use Rattle.rv_asm.specs.Read.{operands_in, tokens_in};
+ghost use Rattle.rv_asm.specs.Read.{operands_in, statement_of, tokens_in};
 ghost use Rattle.rv_asm.specs.Statement.{statement};
 ghost use Rattle.rv_asm.specs.Symbols.{found};
 
@@ -55,6 +56,16 @@ pub fn first_line(text: &[u8]) -> (&[u8], Option<&[u8]>)
     (&text[..size], Some(rest))
 }
 
+/// Whether a symbol is needed that is no `.equ` of an earlier line.
+fn is_unmet<'a>(symbols: &Symbols<'a>, needed: Option<&'a [u8]>) -> bool
+    ensures { result ≡ is_unmet (found symbols.now) (option_copied needed.entry) }
+{
+    match needed {
+        Some(name) => symbols.constant(name).is_none(),
+        None => false,
+    }
+}
+
 impl<'a> Layout<'a> {
     ghost use Rattle.rv_asm.specs.Symbols.{layout_of, kept_in};
 
@@ -70,6 +81,26 @@ impl<'a> Layout<'a> {
         }
     }
 
+    /// Adds a statement. The answer is whether it has no effect.
+    fn add_statement(
+        &mut self,
+        statement: &Statement<'a>,
+        operands: &[Operand<'a>],
+    ) -> Result<bool, AsmFault>
+        ensures moved { Follows (λ _. self.new.reach) result (unless_too_large
+            (advance (found self.old.symbols) (statement_of (operands_in operands.now) statement.now) self.old.reach)) }
+        ensures layout { IfOk result (λ _. layout_of self.new
+            ≡ behind (found self.old.symbols) self.old.reach (Ok (statement_of (operands_in operands.now) statement.now))) }
+        ensures idle { IfOk result (λ idle. idle ≡ says_nothing (Ok (statement_of (operands_in operands.now) statement.now))) }
+        ensures records { self.new.records ≡ self.old.records }
+    {
+        self.reach = advance(&self.symbols, statement, operands, self.reach)?;
+        if let Statement::Constant(name, number) = *statement {
+            self.symbols.define(name, Definition::Constant(number))?;
+        }
+        Ok(matches!(statement, Statement::Nothing))
+    }
+
     /// Adds a form with its operands. The answer is whether its statement has no effect.
     fn add_form(&mut self, form: Form, operands: &[Operand<'a>]) -> Result<bool, AsmFault>
         ensures moved { Follows (λ _. self.new.reach) result
@@ -79,20 +110,13 @@ impl<'a> Layout<'a> {
         ensures idle { IfOk result (λ idle. idle ≡ says_nothing (statement form (operands_in operands.now))) }
         ensures records { self.new.records ≡ self.old.records }
     {
-        if let Some(name) = needed(form, operands) {
-            if self.symbols.constant(name).is_none() {
-                return Err(AsmFault::BadOperands);
-            }
+        if is_unmet(&self.symbols, needed(form, operands)) {
+            return Err(AsmFault::BadOperands);
         }
-        let statement = match make_statement(form, operands) {
-            Ok(statement) => statement,
-            Err(fault) => return Err(fault),
-        };
-        self.reach = advance(&self.symbols, &statement, operands, self.reach)?;
-        if let Statement::Constant(name, number) = statement {
-            self.symbols.define(name, Definition::Constant(number))?;
+        match make_statement(form, operands) {
+            Ok(statement) => self.add_statement(&statement, operands),
+            Err(fault) => Err(fault),
         }
-        Ok(matches!(statement, Statement::Nothing))
     }
 
     /// Adds what stands after the labels of a line.

@@ -2,10 +2,10 @@ ghost use Rattle.std.specs.Prelude.{◌≡◌, ◌-◌, ◌++◌, Some, None, If
 ghost use Rattle.rv_asm.specs.Answer.{RefusedAt};
 ghost use Rattle.rv_asm.specs.Faults.{fault_of};
 ghost use Rattle.rv_asm.specs.Layout.{layout, lines_of};
-ghost use Rattle.rv_asm.specs.Listing.{lines_behind_text, listing_of, reach_before, shown, word_count};
-ghost use Rattle.rv_asm.specs.Listing.{words_between, words_in};
+ghost use Rattle.rv_asm.specs.Listing.{listing_of, listing_of_kept, reach_before, shown, word_count};
+ghost use Rattle.rv_asm.specs.Listing.{words_between, words_in, words_of_kept};
 ghost use Rattle.rv_asm.specs.Meaning.{Spells, image_parts, round_up, start_address};
-ghost use Rattle.rv_asm.specs.Symbols.{kept_in};
+ghost use Rattle.rv_asm.specs.Symbols.{cells_in, fault_in, kept_in, layout_of};
 
 use crate::assembler::image_of;
 use crate::fault::{AsmError, AsmFault};
@@ -97,23 +97,30 @@ fn push_section(
     Ok(())
 }
 
-/// The listing of a layout at a base.
-fn listing_of(alloc: Global, layout: &Layout<'_>, base: u32) -> Result<Listing, AllocError>
-    ensures { IfOk result (λ listing. listing ≡ record {
-      base = base;
-      words =
-          words_in Section.Text layout.now.reach (kept_in layout.now.records.items)
-          ++ lines_behind_text layout.now.reach.text_size layout.now.reach.data_size
-          (words_in Section.Data layout.now.reach (kept_in layout.now.records.items));
+/// Appends the words of both sections, and of the zero bytes between them.
+fn push_sections(
+    alloc: Global,
+    layout: &Layout<'_>,
+    listing: &mut Listing,
+) -> Result<(), AllocError>
+    ensures { IfOk result (λ _. listing.new ≡ record listing.old {
+      words = listing.old.words ++ words_of_kept layout.now.reach (kept_in layout.now.records.items);
     }) }
 {
-    let mut listing = Listing::new(alloc, base);
-    push_section(alloc, layout, Section::Text, &mut listing)?;
+    push_section(alloc, layout, Section::Text, listing)?;
     if layout.reach.data_size == 0 {
-        return Ok(listing);
+        return Ok(());
     }
     listing.push_gap(words_of_gap(layout.reach.text_size))?;
-    push_section(alloc, layout, Section::Data, &mut listing)?;
+    push_section(alloc, layout, Section::Data, listing)
+}
+
+/// The listing of a layout at a base.
+fn listing_of(alloc: Global, layout: &Layout<'_>, base: u32) -> Result<Listing, AllocError>
+    ensures { IfOk result (λ listing. listing ≡ listing_of_kept base layout.now.reach (kept_in layout.now.records.items)) }
+{
+    let mut listing = Listing::new(alloc, base);
+    push_sections(alloc, layout, &mut listing)?;
     Ok(listing)
 }
 
@@ -122,6 +129,25 @@ fn listing_of(alloc: Global, layout: &Layout<'_>, base: u32) -> Result<Listing, 
 pub struct ListedImage {
     pub image: Image,
     pub listing: Listing,
+}
+
+/// The image of a program with the lines of its words, or its first fault in the second pass.
+fn listed_image(alloc: Global, program: &Program<'_, '_>) -> Result<ListedImage, AsmError>
+    ensures clean { IfOk result (λ _. fault_in program.now ≡ None) }
+    ensures base { IfOk result (λ listed. listed.image.base ≡ program.now.base) }
+    ensures bytes { IfOk result (λ listed. Spells (cells_in program.now) listed.image.bytes) }
+    ensures start { IfOk result (λ listed.
+        listed.image.start ≡ start_address program.now.base (layout_of program.now.layout.now)) }
+    ensures listing { IfOk result (λ listed. listed.listing ≡ listing_of_kept program.now.base
+        program.now.layout.now.reach (kept_in program.now.layout.now.records.items)) }
+    ensures refused { RefusedAt (fault_in program.now) result }
+    ensures memory { IfErr result (λ error. error.fault ≡ AsmFault.Memory → error.line ≡ 0) }
+{
+    let image = image_of(alloc, program)?;
+    match listing_of(alloc, program.layout, program.base) {
+        Ok(listing) => Ok(ListedImage { image, listing }),
+        Err(_) => Err(AsmError::at(AsmFault::Memory, 0)),
+    }
 }
 
 /// The image of an assembly text as `assemble` gives it, with the lines of its words; or the text's first fault.
@@ -139,9 +165,8 @@ pub fn assemble_listed(alloc: Global, text: &[u8], base: u32) -> Result<ListedIm
         layout: &layout,
         base,
     };
-    let image = image_of(alloc, &program)?;
-    match listing_of(alloc, &layout, base) {
-        Ok(listing) => Ok(ListedImage { image, listing }),
-        Err(_) => Err(AsmError::at(AsmFault::Memory, 0)),
+    match listed_image(alloc, &program) {
+        Ok(listed) => Ok(listed),
+        Err(error) => Err(error),
     }
 }

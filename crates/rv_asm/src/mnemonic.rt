@@ -1,5 +1,6 @@
 ghost use Rattle.std.specs.Prelude.{◌≡◌};
-ghost use Rattle.rv_asm.specs.Mnemonic.{bare_instruction, form_named};
+ghost use Rattle.rv_asm.specs.Mnemonic.{bare_instruction, form_named, instructions, others, pseudo_instructions, shape_named};
+ghost use Rattle.rv_asm.specs.Names.{named};
 
 use self::BareInstruction::{Ebreak, Ecall, Fence, FenceI, Mret, Wfi};
 use crate::directive::Directive::{Align, Characters, Zeros};
@@ -50,8 +51,8 @@ impl BareInstruction {
 /// What an instruction or a pseudo-instruction does, and where its operands go.
 type Shape = (Operation, Place, Place, Place);
 
-/// The mnemonics whose operands have one shape.
-static INSTRUCTIONS: [(&[u8], Shape); 89] = [
+/// The mnemonics of instructions whose operands have one shape.
+static INSTRUCTIONS: [(&[u8], Shape); 58] = [
     // RV32I
     (b"lui", (Lui, Rd, Value, Empty)),
     (b"auipc", (Auipc, Rd, Value, Empty)),
@@ -116,7 +117,10 @@ static INSTRUCTIONS: [(&[u8], Shape); 89] = [
     // machine mode
     (b"mret", (Bare(Mret), Empty, Empty, Empty)),
     (b"wfi", (Bare(Wfi), Empty, Empty, Empty)),
-    // pseudo-instructions
+];
+
+/// The pseudo-instructions.
+static PSEUDO_INSTRUCTIONS: [(&[u8], Shape); 31] = [
     (b"nop", (OpImmediate(Addi), Empty, Empty, Empty)),
     (b"mv", (OpImmediate(Addi), Rd, Rs1, Empty)),
     (b"not", (OpImmediate(Xori), Rd, Rs1, MinusOne)),
@@ -172,14 +176,45 @@ static OTHERS: [(&[u8], Form); 17] = [
     (b".ascii", Bytes(Characters(0), Text)),
 ];
 
+/// What the mnemonic of an instruction names.
+fn instruction_named(name: &[u8]) -> Option<Shape>
+    ensures { result ≡ named instructions name.now }
+{
+    lookup(&INSTRUCTIONS, name)
+}
+
+/// What the mnemonic of a pseudo-instruction names.
+fn pseudo_instruction_named(name: &[u8]) -> Option<Shape>
+    ensures { result ≡ named pseudo_instructions name.now }
+{
+    lookup(&PSEUDO_INSTRUCTIONS, name)
+}
+
+/// What a mnemonic names whose operands have one shape.
+fn shape_named(name: &[u8]) -> Option<Shape>
+    ensures { result ≡ shape_named name.now }
+{
+    match instruction_named(name) {
+        Some(shape) => Some(shape),
+        None => pseudo_instruction_named(name),
+    }
+}
+
+/// What a directive names, or a mnemonic whose operands have several shapes.
+fn other_named(name: &[u8]) -> Option<Form>
+    ensures { result ≡ named others name.now }
+{
+    lookup(&OTHERS, name)
+}
+
 /// What a mnemonic or a directive names.
 pub fn form_named(name: &[u8]) -> Option<Form>
     ensures { result ≡ form_named name.now }
 {
-    match lookup(&INSTRUCTIONS, name) {
+    match shape_named(name) {
         Some((operation, first, second, third)) => {
             Some(Instruction(operation, first, second, third))
         }
-        None => lookup(&OTHERS, name),
+        None => other_named(name),
     }
 }

@@ -2,7 +2,7 @@ ghost use Rattle.std.specs.Prelude.{◌≡◌, ◌≢◌, ◌<◌, ◌≤◌, �
 ghost use Rattle.std.specs.List.{slice_split};
 ghost use Rattle.std.specs.Option.{option_map};
 ghost use Rattle.rv_asm.specs.Answer.{Follows};
-ghost use Rattle.rv_asm.specs.Operand.{Indirect, Value, expression, based, operand, operands_of, is_comma};
+ghost use Rattle.rv_asm.specs.Operand.{Indirect, Value, expression, based, operand, operands_of, is_comma, operands_in as operands_spelled};
 ghost use Rattle.rv_asm.specs.Read.{expression_of, operand_of, operands_in, token_of, tokens_in};
 ghost use Rattle.rv_asm.specs.Token.{LeftParenthesis, Name, RightParenthesis};
 
@@ -117,6 +117,22 @@ fn pieces<'t, 'a>(
     tokens.split(|token| token.is_comma()).collect(alloc)
 }
 
+/// The operands that pieces spell, one each.
+fn read_pieces<'a>(alloc: Global, pieces: &[&[Token<'a>]]) -> Result<Vec<Operand<'a>>, AsmFault>
+    ensures { Follows (λ v. operands_in v.items) result
+        (ok_or (operands_spelled (map (λ piece. tokens_in piece.now) pieces.now)) AsmFault.BadOperands) }
+{
+    // A growing list would take room for four operands at once, and the first pass keeps each line's.
+    let mut operands = Vec::with_capacity(alloc, pieces.len())?;
+    for piece in pieces {
+        let Some(operand) = read_operand(piece) else {
+            return Err(AsmFault::BadOperands);
+        };
+        operands.push(operand)?;
+    }
+    Ok(operands)
+}
+
 /// The operands of a statement, separated by commas.
 pub fn read_operands<'a>(alloc: Global, tokens: &[Token<'a>]) -> Result<Vec<Operand<'a>>, AsmFault>
     ensures { Follows (λ v. operands_in v.items) result
@@ -126,13 +142,5 @@ pub fn read_operands<'a>(alloc: Global, tokens: &[Token<'a>]) -> Result<Vec<Oper
         return Ok(Vec::new(alloc));
     }
     let pieces = pieces(alloc, tokens)?;
-    // A growing list would take room for four operands at once, and the first pass keeps each line's.
-    let mut operands = Vec::with_capacity(alloc, pieces.len())?;
-    for piece in &pieces {
-        let Some(operand) = read_operand(piece) else {
-            return Err(AsmFault::BadOperands);
-        };
-        operands.push(operand)?;
-    }
-    Ok(operands)
+    read_pieces(alloc, pieces.as_slice())
 }

@@ -1,29 +1,9 @@
-use Rattle.std.proofs.Common.{◌<◌, ◌∙◌, None, map, length, ap, sym, arith, ok_or}
+use Rattle.std.proofs.Common.{◌<◌, length, arith}
 use Rattle.std.proofs.lemmas.Bool.Decides.{nat_tests}
-use Rattle.std.proofs.lemmas.List.{drop_more, drop_all}
-use Rattle.rv_asm.proofs.Joined.{joined, joined-nil, joined-end}
-use Rattle.rv_asm.proofs.Operands.{operands_of-pieces, joined-found, joined-operand}
-use Rattle.rv_asm.specs.Operand.{operands_in}
-use Rattle.rv_asm.specs.Read.{operand_of, token_of}
-use Rattle.rv_asm.specs.declared.fault.AsmFault.TheVariants.{BadOperands}
+use Rattle.rv_asm.proofs.Operands.{operands_of-pieces}
 use Rattle.rv_asm.proofs.operand.read_operands.Goals as goal
-
-pub loop-piece-init : goal.loop-piece-init
-loop-piece-init c =
-    let some_tokens : 0 < length c.args.tokens.now = grind (arith, nat_tests, c.if-is_empty.ensures, c.if-is_empty.false, c.is_empty.ensures) in
-    rw c.in_ok-operands.ensures.items (joined-nil operand_of _ ∙ ap operands_in (ap (map (λ piece. map token_of piece.now)) c.deref-piece-items.ensures.value ∙ c.in_ok-pieces.ensures) ∙ sym (operands_of-pieces c.args.tokens.now some_tokens))
-
-pub loop-piece-preserved : goal.loop-piece-preserved
-loop-piece-preserved c =
-    let left = ap (map (λ piece. map token_of piece.now)) (drop_more c.deref-piece-items.result.now c.loop-piece.piece-index _ c.loop-piece-test.true) in
-    rw c.in_ok-push.ensures.items (joined-operand _ _ _ _ c.loop-piece.operands.items c.loop-piece.invariant left c.in-Some.operand c.in-Some.ensures)
-
-pub returns-in_default : goal.returns-in_default
-returns-in_default c = λ _.
-    let left = ap (map (λ piece. map token_of piece.now)) (drop_more c.deref-piece-items.result.now c.loop-piece.piece-index _ c.loop-piece-test.true) in
-    ap (λ o. ok_or o BadOperands) (sym (joined-found _ _ _ _ c.loop-piece.operands.items c.loop-piece.invariant left None c.in_default.ensures))
 
 pub returns : goal.returns
 returns c =
-    let none_left = ap (map (λ piece. map token_of piece.now)) (drop_all c.loop-piece.piece-index c.deref-piece-items.result.now (omega (arith, c.loop-piece-test.false))) in
-    ap (λ o. ok_or o BadOperands) (sym c.loop-piece.invariant ∙ ap (λ l. joined operand_of c.loop-piece.operands.items (operands_in l)) none_left ∙ joined-end operand_of _)
+    let some_tokens : 0 < length c.args.tokens.now = grind (arith, nat_tests, c.if-is_empty.ensures, c.if-is_empty.false, c.is_empty.ensures) in
+    rw (operands_of-pieces c.args.tokens.now some_tokens, ← c.in_ok-pieces.ensures, ← c.as_slice.ensures.value) c.read_pieces.ensures
