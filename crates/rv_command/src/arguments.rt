@@ -6,7 +6,7 @@ ghost use Rattle.rv_command.specs.Arguments.{limited_arguments, number_rule, pic
 ghost use Rattle.rv_command.specs.Arguments.{bare_arguments, bare_picture_arguments, told_arguments, told_from_arguments};
 
 use crate::command::{LAST_CYCLE, MOST_CYCLES_SHOWN, MOST_CYCLES_TOLD, MOST_STEPS};
-use crate::help::{self, CommandHelp};
+use crate::help::{self, CommandHelp, LimitedHelp};
 use clap::builder::ValueParser;
 use clap::{Arg, ArgAction, Command};
 use std::alloc::{AllocError, Global};
@@ -51,7 +51,7 @@ fn limit_argument<'a>(alloc: Global, help: &'a str) -> Arg<'a>
 }
 
 // A command with the texts of its help, and no option yet.
-fn described<'a>(alloc: Global, name: &'a str, texts: CommandHelp) -> Command<'a>
+fn described<'a>(alloc: Global, name: &'a str, texts: &'static CommandHelp) -> Command<'a>
     ensures arguments { IsParserOf (new_app name.entry.now) result }
 {
     Command::new(alloc, name)
@@ -80,7 +80,7 @@ fn run_command<'a>(alloc: Global) -> Result<Command<'a>, AllocError>
     ensures arguments { IfOk result (IsParserOf run_arguments) }
 {
     let traced = with_argument(
-        Ok(described(alloc, "run", help::RUN)),
+        Ok(described(alloc, "run", &help::RUN)),
         flag_argument(
             alloc,
             "trace",
@@ -97,18 +97,32 @@ fn run_command<'a>(alloc: Global) -> Result<Command<'a>, AllocError>
 fn limited_command<'a>(
     alloc: Global,
     name: &'a str,
-    texts: CommandHelp,
-    help: &'a str,
+    help: &'static LimitedHelp,
 ) -> Result<Command<'a>, AllocError>
     ensures arguments { IfOk result (IsParserOf (limited_arguments name.entry.now)) }
 {
-    described(alloc, name, texts).arg(limit_argument(alloc, help))
+    described(alloc, name, &help.texts).arg(limit_argument(alloc, help.limit))
 }
 
 fn check_command<'a>(alloc: Global) -> Command<'a>
     ensures arguments { IsParserOf check_arguments result }
 {
-    described(alloc, "check", help::CHECK)
+    described(alloc, "check", &help::CHECK)
+}
+
+// The option of the first cycle of a window.
+fn from_argument<'a>(alloc: Global) -> Arg<'a>
+    ensures rule { rule_of result ≡ from_rule }
+    ensures local { result.global ≡ false }
+{
+    number_argument(
+        alloc,
+        "from",
+        0,
+        LAST_CYCLE,
+        "0",
+        "The first cycle, 0 to 999999",
+    )
 }
 
 // `picture` with its flags, and no number yet.
@@ -116,7 +130,7 @@ fn bare_picture_command<'a>(alloc: Global) -> Result<Command<'a>, AllocError>
     ensures arguments { IfOk result (IsParserOf bare_picture_arguments) }
 {
     let with_text = with_argument(
-        Ok(described(alloc, "picture", help::PICTURE)),
+        Ok(described(alloc, "picture", &help::PICTURE)),
         flag_argument(alloc, "text", "Draws in characters, and not as SVG"),
     );
     with_argument(
@@ -132,17 +146,7 @@ fn bare_picture_command<'a>(alloc: Global) -> Result<Command<'a>, AllocError>
 fn picture_command<'a>(alloc: Global) -> Result<Command<'a>, AllocError>
     ensures arguments { IfOk result (IsParserOf picture_arguments) }
 {
-    let with_from = with_argument(
-        bare_picture_command(alloc),
-        number_argument(
-            alloc,
-            "from",
-            0,
-            LAST_CYCLE,
-            "0",
-            "The first cycle, 0 to 999999",
-        ),
-    );
+    let with_from = with_argument(bare_picture_command(alloc), from_argument(alloc));
     with_argument(
         with_from,
         number_argument(
@@ -160,25 +164,18 @@ fn picture_command<'a>(alloc: Global) -> Result<Command<'a>, AllocError>
 fn told_from_command<'a>(
     alloc: Global,
     name: &'a str,
-    texts: CommandHelp,
+    texts: &'static CommandHelp,
 ) -> Result<Command<'a>, AllocError>
     ensures arguments { IfOk result (IsParserOf (told_from_arguments name.entry.now)) }
 {
-    described(alloc, name, texts).arg(number_argument(
-        alloc,
-        "from",
-        0,
-        LAST_CYCLE,
-        "0",
-        "The first cycle, 0 to 999999",
-    ))
+    described(alloc, name, texts).arg(from_argument(alloc))
 }
 
 // A command that takes the first of some cycles, and how many they are.
 fn told_command<'a>(
     alloc: Global,
     name: &'a str,
-    texts: CommandHelp,
+    texts: &'static CommandHelp,
 ) -> Result<Command<'a>, AllocError>
     ensures arguments { IfOk result (IsParserOf (told_arguments name.entry.now)) }
 {
@@ -199,7 +196,7 @@ fn told_command<'a>(
 fn program<'a>(alloc: Global) -> Result<Command<'a>, AllocError>
     ensures arguments { IfOk result (IsParserOf bare_arguments) }
 {
-    described(alloc, "rv_sim", help::PROGRAM)
+    described(alloc, "rv_sim", &help::PROGRAM)
         .version(VERSION)
         .subcommand_required(true)
         .bin_name("rv_sim")
@@ -232,29 +229,17 @@ fn with_command<'a>(
 pub(crate) fn parser<'a>(alloc: Global) -> Result<Command<'a>, AllocError>
     ensures arguments { IfOk result (IsParserOf program_arguments) }
 {
-    const CYCLES: &str = "The most cycles, 1 to 1000000";
-    const STEPS: &str = "The most steps, 1 to 1000000";
-    const CYCLES_OF_EACH: &str = "The most cycles of each run, 1 to 1000000";
     let program = with_command(program(alloc), run_command(alloc));
     let program = with_command(
         program,
-        limited_command(alloc, "reference", help::REFERENCE, STEPS),
+        limited_command(alloc, "reference", &help::REFERENCE),
     );
     let program = with_command(program, Ok(check_command(alloc)));
     let program = with_command(program, picture_command(alloc));
-    let program = with_command(program, limited_command(alloc, "log", help::LOG, CYCLES));
-    let program = with_command(program, told_command(alloc, "states", help::STATES));
-    let program = with_command(program, told_command(alloc, "page", help::PAGE));
-    let program = with_command(
-        program,
-        limited_command(alloc, "explain", help::EXPLAIN, CYCLES),
-    );
-    let program = with_command(
-        program,
-        limited_command(alloc, "profile", help::PROFILE, CYCLES),
-    );
-    with_command(
-        program,
-        limited_command(alloc, "compare", help::COMPARE, CYCLES_OF_EACH),
-    )
+    let program = with_command(program, limited_command(alloc, "log", &help::LOG));
+    let program = with_command(program, told_command(alloc, "states", &help::STATES));
+    let program = with_command(program, told_command(alloc, "page", &help::PAGE));
+    let program = with_command(program, limited_command(alloc, "explain", &help::EXPLAIN));
+    let program = with_command(program, limited_command(alloc, "profile", &help::PROFILE));
+    with_command(program, limited_command(alloc, "compare", &help::COMPARE))
 }

@@ -2,11 +2,22 @@
 
 /// What help says of a command: in a line what it does, and at the end what it reads, an example and the exit
 /// statuses.
-#[derive(Clone, Copy)]
 pub(crate) struct CommandHelp {
     pub(crate) about: &'static str,
     pub(crate) ending: &'static str,
 }
+
+/// What help says of a command that takes a limit and nothing else, and of the limit.
+pub(crate) struct LimitedHelp {
+    pub(crate) texts: CommandHelp,
+    pub(crate) limit: &'static str,
+}
+
+const STEPS: &str = "The most steps, 1 to 1000000";
+
+const CYCLES: &str = "The most cycles, 1 to 1000000";
+
+const CYCLES_OF_EACH: &str = "The most cycles of each run, 1 to 1000000";
 
 // The end of the help of a command that runs a job.
 macro_rules! ending_of_run {
@@ -26,7 +37,7 @@ Exit status:
     };
 }
 
-pub(crate) const PROGRAM: CommandHelp = CommandHelp {
+pub(crate) static PROGRAM: CommandHelp = CommandHelp {
     about: "Simulates a RISC-V core",
     ending: "A job is a program in assembly; or a description of the machine in TOML, a line %%, and a program;
 or a description, %%, interrupt arrivals in TOML, %%, and a program.
@@ -35,17 +46,20 @@ Example:
   printf 'addi x1,x0,5\\nebreak\\n' | rv_sim run --trace",
 };
 
-pub(crate) const RUN: CommandHelp = CommandHelp {
+pub(crate) static RUN: CommandHelp = CommandHelp {
     about: "Runs the text on standard input on the core, cycle by cycle",
     ending: ending_of_run!("rv_sim run --trace < FILE"),
 };
 
-pub(crate) const REFERENCE: CommandHelp = CommandHelp {
-    about: "Runs the text on standard input, one step at a time",
-    ending: ending_of_run!("rv_sim reference < FILE"),
+pub(crate) static REFERENCE: LimitedHelp = LimitedHelp {
+    texts: CommandHelp {
+        about: "Runs the text on standard input, one step at a time",
+        ending: ending_of_run!("rv_sim reference < FILE"),
+    },
+    limit: STEPS,
 };
 
-pub(crate) const CHECK: CommandHelp = CommandHelp {
+pub(crate) static CHECK: CommandHelp = CommandHelp {
     about: "Assembles the text on standard input",
     ending: "Reads a job from standard input, and of it not the arrivals, as in:
   rv_sim check < FILE
@@ -58,7 +72,7 @@ Exit status:
   5  out of memory",
 };
 
-pub(crate) const PICTURE: CommandHelp = CommandHelp {
+pub(crate) static PICTURE: CommandHelp = CommandHelp {
     about: "Draws some cycles of a run of the text on standard input",
     ending: "Reads a job from standard input, runs it up to the last of those cycles, and draws a column for each
 of them and a row for each instruction that was in the core then, as in:
@@ -74,9 +88,12 @@ Exit status:
   5  out of memory",
 };
 
-pub(crate) const LOG: CommandHelp = CommandHelp {
-    about: "Writes a run of the text on standard input as a log for pipeline viewers (Konata)",
-    ending: ending_of_run!("rv_sim log < FILE > FILE.log"),
+pub(crate) static LOG: LimitedHelp = LimitedHelp {
+    texts: CommandHelp {
+        about: "Writes a run of the text on standard input as a log for pipeline viewers (Konata)",
+        ending: ending_of_run!("rv_sim log < FILE > FILE.log"),
+    },
+    limit: CYCLES,
 };
 
 // The end of the help of a command that tells of some cycles.
@@ -99,7 +116,7 @@ Exit status:
     };
 }
 
-pub(crate) const STATES: CommandHelp = CommandHelp {
+pub(crate) static STATES: CommandHelp = CommandHelp {
     about: "Writes the hardware in some cycles of a run of the text on standard input, as lines of JSON",
     ending: ending_of_states!(
         "writes a line for each of them:
@@ -108,7 +125,7 @@ what happened in it, and the whole hardware after it",
     ),
 };
 
-pub(crate) const PAGE: CommandHelp = CommandHelp {
+pub(crate) static PAGE: CommandHelp = CommandHelp {
     about: "Makes a page of some cycles of a run of the text on standard input, to step through in a browser",
     ending: ending_of_states!(
         "writes one file, which a browser
@@ -117,19 +134,26 @@ opens from disk: the states of those cycles and a viewer of them",
     ),
 };
 
-pub(crate) const EXPLAIN: CommandHelp = CommandHelp {
-    about: "Says in sentences how a run of the text on standard input went",
-    ending: ending_of_run!("rv_sim explain < FILE"),
+pub(crate) static EXPLAIN: LimitedHelp = LimitedHelp {
+    texts: CommandHelp {
+        about: "Says in sentences how a run of the text on standard input went",
+        ending: ending_of_run!("rv_sim explain < FILE"),
+    },
+    limit: CYCLES,
 };
 
-pub(crate) const PROFILE: CommandHelp = CommandHelp {
-    about: "Writes a table of what each line of the text on standard input cost in a run",
-    ending: ending_of_run!("rv_sim profile < FILE"),
+pub(crate) static PROFILE: LimitedHelp = LimitedHelp {
+    texts: CommandHelp {
+        about: "Writes a table of what each line of the text on standard input cost in a run",
+        ending: ending_of_run!("rv_sim profile < FILE"),
+    },
+    limit: CYCLES,
 };
 
-pub(crate) const COMPARE: CommandHelp = CommandHelp {
-    about: "Runs one program on several machines, and compares their totals",
-    ending: "Reads from standard input up to 64 descriptions of machines in TOML, a line %% after each, and a program,
+pub(crate) static COMPARE: LimitedHelp = LimitedHelp {
+    texts: CommandHelp {
+        about: "Runs one program on several machines, and compares their totals",
+        ending: "Reads from standard input up to 64 descriptions of machines in TOML, a line %% after each, and a program,
 as in:
   rv_sim compare < FILE
 
@@ -142,4 +166,6 @@ Exit status:
   2  wrong usage
   4  standard input or output failed
   5  out of memory",
+    },
+    limit: CYCLES_OF_EACH,
 };
