@@ -1,7 +1,7 @@
 use rv_isa::Reg;
 
 /// An instruction in flight that writes a register. Its sequence number is the tag of operands that wait for it.
-#[derive(Clone, Copy, Debug, PartialEq, Eq)]
+#[derive(Clone, Copy)]
 pub struct Producer {
     /// The register that it writes.
     pub register: Reg,

@@ -94,9 +94,14 @@ impl StoreQueue {
     pub fn can_drain(&self) -> bool
         ensures { IsTrue result ↔ IsSome (oldest_to_drain self.now.stores) }
     {
-        self.ring
-            .front()
-            .is_some_and(|store| store.access_to_drain().is_some())
+        self.oldest_to_drain().is_some()
+    }
+
+    // What the oldest store writes, where it is committed and not draining.
+    fn oldest_to_drain(&self) -> Option<StoreAccess>
+        ensures { result ≡ oldest_to_drain self.now.stores }
+    {
+        self.ring.front()?.access_to_drain()
     }
 
     /// Whether the oldest store's access to the cache is under way.
@@ -183,7 +188,7 @@ impl StoreQueue {
         ensures access { oldest_to_drain self.old.stores ≡ Some result }
         ensures stores { self.new ≡ record self.old { stores = with_oldest_draining self.old.stores } }
     {
-        let Some(access) = self.ring.front().and_then(|store| store.access_to_drain()) else {
+        let Some(access) = self.oldest_to_drain() else {
             unreachable!();
         };
         self.drain_oldest();
@@ -204,7 +209,7 @@ impl StoreQueue {
     pub fn end_drain(&mut self)
         ensures { self.new ≡ record self.old { stores = without_drained self.old.stores } }
     {
-        if self.ring.front().is_some_and(|store| store.is_draining()) {
+        if self.is_draining() {
             self.ring.pop_front();
         }
     }

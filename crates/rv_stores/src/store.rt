@@ -4,7 +4,7 @@ ghost use Rattle.rv_stores.specs.Store.{answered, byte_at, draining, is_committe
 use rv_isa::StoreAccess;
 
 /// How far a filled store has come on its way to the cache.
-#[derive(Clone, Copy, Debug, PartialEq, Eq)]
+#[derive(Clone, Copy)]
 pub enum StorePhase {
     /// It has not retired, and may still be squashed.
     Speculative,
@@ -15,7 +15,7 @@ pub enum StorePhase {
 }
 
 /// What is known of a store.
-#[derive(Clone, Copy, Debug, PartialEq, Eq)]
+#[derive(Clone, Copy)]
 pub enum StoreState {
     /// Its result has not been broadcast: address and data are unknown.
     Waiting,
@@ -69,7 +69,7 @@ impl StoreState {
 }
 
 /// A store of the queue.
-#[derive(Clone, Copy, Debug, PartialEq, Eq)]
+#[derive(Clone, Copy)]
 pub struct Store {
     /// The instruction's sequence number.
     pub seq: u64,

@@ -6,7 +6,7 @@ use std::alloc::{AllocError, Global};
 use std::marker::Model;
 
 /// The units of one kind. Squashed executions hold theirs to the end.
-#[derive(Debug, Drop)]
+#[derive(Drop)]
 pub struct UnitPool {
     units: usize,
     is_pipelined: bool,

@@ -8,7 +8,7 @@ use std::alloc::{AllocError, Global};
 use std::marker::Model;
 
 /// The functional units of the four kinds.
-#[derive(Debug, Drop)]
+#[derive(Drop)]
 pub struct Units {
     pools: PerKind<UnitPool>,
 }
