@@ -12,14 +12,11 @@ unfoldable pub correction_text : Option ℕ → List ℕ
 correction_text None = []
 correction_text (Some next) = codes ", but went on at " ++ word_text next
 
--- a tip begins with the predicted pc
-unfoldable pub predicted_begin : ℕ → List ℕ
-predicted_begin predicted = codes "<title>predicted " ++ word_text predicted
-
 -- a prediction, where there was one
 unfoldable pub predicted_title : Option ℕ → Option ℕ → List ℕ
 predicted_title None correction = []
-predicted_title (Some predicted) correction = predicted_begin predicted ++ (correction_text correction ++ codes "</title>\n")
+predicted_title (Some predicted) correction =
+    codes "<title>predicted " ++ (word_text predicted ++ (correction_text correction ++ codes "</title>\n"))
 
 -- that of a branch or a jump
 unfoldable pub prediction_title : Passage → List ℕ

@@ -5,7 +5,7 @@ use crate::window::Window;
 use rv_passage::{Ending, Passage};
 
 /// What the hardware did with an instruction in a cycle.
-#[derive(Clone, Copy, Debug, PartialEq, Eq)]
+#[derive(Clone, Copy)]
 pub(crate) enum Cell {
     Fetch,
     Dispatch,

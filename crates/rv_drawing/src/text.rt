@@ -1,5 +1,7 @@
 ghost use Rattle.std.specs.Prelude.{◌≡◌, ◌+◌, ◌<◌, ◌^◌, ◌++◌, codes};
 ghost use Rattle.std.specs.List.{flat_map};
+ghost use Rattle.rv_drawing.specs.ColumnText.{column_text};
+ghost use Rattle.rv_drawing.specs.Columns.{columns};
 ghost use Rattle.rv_drawing.specs.TextPicture.{scale_at, scale_line, statement_field, room_behind, written_field, outcome_field, cell_text, cell_at, row_line, shown_line, interrupt_at, mark_line, interrupt_line, text_picture};
 ghost use Rattle.rv_drawing.specs.Label.{statement_of, written_by};
 ghost use Rattle.rv_drawing.specs.Stopped.{is_stopped};
@@ -38,24 +40,33 @@ pub(crate) fn write_scale_column<W: Write>(
     }
 }
 
+// A line of the columns of a window, after a heading.
+fn write_line<W: Write>(
+    writer: &mut W,
+    heading: &[u8],
+    window: Window,
+    shown: Columns<'_>,
+) -> Result<(), ReportError>
+    requires { window.first + window.cycles < 2 ^ 64 }
+    ensures { IsWritten result (W.contents writer.old) (W.contents writer.new) (heading.now ++ (columns window (column_text shown.entry window) ++ codes "\n")) }
+{
+    put(writer, heading)?;
+    write_columns(writer, window, shown)?;
+    put(writer, b"\n")
+}
+
 // The cycle numbers.
+#[tactic(auto, unfolding(crate::specs::TextPicture::scale_line))]
 fn write_scale<W: Write>(writer: &mut W, window: Window) -> Result<(), ReportError>
     requires { window.first + window.cycles < 2 ^ 64 }
     ensures { IsWritten result (W.contents writer.old) (W.contents writer.new) (scale_line window) }
 {
-    put(
+    write_line(
         writer,
         b"                                                           ",
-    )?;
-    write_columns(writer, window, Columns::Scale)?;
-    put(writer, b"\n")
-}
-
-fn write_statement_field<W: Write>(writer: &mut W, statement: &[u8]) -> Result<(), ReportError>
-    ensures { IsWritten result (W.contents writer.old) (W.contents writer.new) (statement_field statement.now) }
-{
-    write_plain(writer, statement)?;
-    write_blanks(writer, 33, statement.len())
+        window,
+        Columns::Scale,
+    )
 }
 
 fn write_statement<W: Write>(
@@ -67,7 +78,9 @@ fn write_statement<W: Write>(
 {
     let mut buffer = [0; 8];
     let mut room = ArrayVec::new();
-    write_statement_field(writer, statement(&mut buffer, &mut room, listing, row))
+    let text = statement(&mut buffer, &mut room, listing, row);
+    write_plain(writer, text)?;
+    write_blanks(writer, 33, text.len())
 }
 
 // The columns that a register and its value leave free.
@@ -149,8 +162,7 @@ fn write_row<W: Write>(
     write_pc(writer, row.pc)?;
     write_statement(writer, listing, row)?;
     write_outcome_field(writer, window, row)?;
-    write_columns(writer, window, Columns::Letters(row))?;
-    put(writer, b"\n")
+    write_line(writer, b"", window, Columns::Letters(row))
 }
 
 #[tactic(auto, unfolding(crate::specs::TextPicture::shown_line))]
@@ -202,6 +214,7 @@ pub(crate) fn write_interrupt_column<W: Write>(
     }
 }
 
+#[tactic(auto, unfolding(crate::specs::TextPicture::mark_line))]
 fn write_mark_line<W: Write>(
     writer: &mut W,
     window: Window,
@@ -210,12 +223,12 @@ fn write_mark_line<W: Write>(
     requires { window.first + window.cycles < 2 ^ 64 }
     ensures { IsWritten result (W.contents writer.old) (W.contents writer.new) (mark_line window interrupts.now) }
 {
-    put(
+    write_line(
         writer,
         b"interrupts                                                 ",
-    )?;
-    write_columns(writer, window, Columns::Marks(interrupts))?;
-    put(writer, b"\n")
+        window,
+        Columns::Marks(interrupts),
+    )
 }
 
 #[tactic(auto, unfolding(crate::specs::TextPicture::interrupt_line))]

@@ -1,7 +1,8 @@
-ghost use Rattle.std.specs.Prelude.{◌≡◌, ◌++◌, codes};
+ghost use Rattle.std.specs.Prelude.{◌++◌};
 ghost use Rattle.rv_isa.specs.Cause.{code_of};
-ghost use Rattle.rv_drawing.specs.Title.{correction_text, predicted_begin, predicted_title, prediction_title, row_end, row_title, stale_title, title_of_row, trap_title};
+ghost use Rattle.rv_drawing.specs.Title.{correction_text, predicted_title, prediction_title, row_end, row_title, stale_title, title_of_row, trap_title};
 ghost use Rattle.rv_drawing.specs.Stopped.{is_stopped};
+ghost use Rattle.rv_text.specs.Line.{word_text};
 ghost use Rattle.rv_text.specs.Written.{IsWritten};
 
 use crate::window::Window;
@@ -11,41 +12,34 @@ use rv_passage::{Ending, Passage};
 use rv_text::{ReportError, hexadecimal, put, put_all};
 use std::io::Write;
 
-/// Writes where the program went on after a branch or a jump, if not where that was predicted.
+/// Writes what was predicted after a branch or a jump between two texts, and where the program went on, if not there.
 #[tactic(auto, unfolding(crate::specs::Title::correction_text))]
 pub fn write_correction<W: Write>(
     writer: &mut W,
+    before: &[u8],
+    predicted: u32,
     correction: Option<u32>,
+    after: &[u8],
 ) -> Result<(), ReportError>
-    ensures { IsWritten result (W.contents writer.old) (W.contents writer.new) (correction_text correction) }
+    ensures { IsWritten result (W.contents writer.old) (W.contents writer.new) (before.now ++ (word_text predicted ++ (correction_text correction ++ after.now))) }
 {
+    let predicted = hexadecimal(predicted);
     match correction {
         Some(next) => {
             let next = hexadecimal(next);
-            put_all(writer, &[b", but went on at ", next.as_slice()])
+            put_all(
+                writer,
+                &[
+                    before,
+                    predicted.as_slice(),
+                    b", but went on at ",
+                    next.as_slice(),
+                    after,
+                ],
+            )
         }
-        None => Ok(()),
+        None => put_all(writer, &[before, predicted.as_slice(), after]),
     }
-}
-
-#[tactic(auto, unfolding(crate::specs::Title::predicted_begin))]
-fn write_predicted_begin<W: Write>(writer: &mut W, predicted: u32) -> Result<(), ReportError>
-    ensures { IsWritten result (W.contents writer.old) (W.contents writer.new) (predicted_begin predicted) }
-{
-    let predicted = hexadecimal(predicted);
-    put_all(writer, &[b"<title>predicted ", predicted.as_slice()])
-}
-
-fn write_right_or_wrong<W: Write>(
-    writer: &mut W,
-    predicted: u32,
-    correction: Option<u32>,
-) -> Result<(), ReportError>
-    ensures { IsWritten result (W.contents writer.old) (W.contents writer.new) (predicted_begin predicted ++ (correction_text correction ++ codes "</title>\n")) }
-{
-    write_predicted_begin(writer, predicted)?;
-    write_correction(writer, correction)?;
-    put(writer, b"</title>\n")
 }
 
 #[tactic(auto, unfolding(crate::specs::Title::predicted_title))]
@@ -57,7 +51,13 @@ fn write_predicted<W: Write>(
     ensures { IsWritten result (W.contents writer.old) (W.contents writer.new) (predicted_title predicted correction) }
 {
     match predicted {
-        Some(predicted) => write_right_or_wrong(writer, predicted, correction),
+        Some(predicted) => write_correction(
+            writer,
+            b"<title>predicted ",
+            predicted,
+            correction,
+            b"</title>\n",
+        ),
         None => Ok(()),
     }
 }
@@ -82,10 +82,10 @@ fn write_title<W: Write>(writer: &mut W, row: &Passage) -> Result<(), ReportErro
     ensures { IsWritten result (W.contents writer.old) (W.contents writer.new) (row_title row.now.ending row.now) }
 {
     match row.ending {
-        Ending::InFlight => write_prediction(writer, row),
-        Ending::Retired { .. } => write_prediction(writer, row),
         Ending::Trapped { cause, .. } => write_trap(writer, cause),
-        Ending::Squashed { .. } => write_prediction(writer, row),
+        Ending::InFlight | Ending::Retired { .. } | Ending::Squashed { .. } => {
+            write_prediction(writer, row)
+        }
     }
 }
 

@@ -5,7 +5,7 @@ ghost use Rattle.rv_drawing.specs.Stopped.{is_number, is_stopped};
 use rv_passage::Passage;
 
 /// The cycles that a picture shows.
-#[derive(Clone, Copy, Debug, PartialEq, Eq)]
+#[derive(Clone, Copy)]
 pub struct Window {
     /// The number of the first of them.
     pub first: u64,

@@ -11,11 +11,11 @@ use Rattle.rv_passage.specs.declared.passage.Ending.TheVariants.{InFlight, Retir
 use Rattle.rv_text.specs.Line.{word_text}
 use Rattle.rv_log.specs.Waited.{waited_text}
 
--- the register that was written, with its value
+-- that it retired, and the register that it wrote, with its value
 unfoldable pub written_text : Option (ℕ × ℕ) → List ℕ
-written_text None = []
+written_text None = codes "retired"
 written_text (Some written) =
-    codes ", x" ++ (decimal written.0 ++ (codes " (" ++ (register_name written.0 ++ (codes ") = " ++ word_text written.1))))
+    codes "retired, x" ++ (decimal written.0 ++ (codes " (" ++ (register_name written.0 ++ (codes ") = " ++ word_text written.1))))
 
 -- the cause of its trap
 unfoldable pub cause_text : Cause → List ℕ
@@ -24,14 +24,14 @@ cause_text cause = codes "trapped, cause " ++ decimal (code_of cause)
 -- how it ended
 unfoldable pub ending_text : Ending → List ℕ
 ending_text InFlight = []
-ending_text (Retired order cycle written next) = codes "retired" ++ written_text written
+ending_text (Retired order cycle written next) = written_text written
 ending_text (Trapped cycle cause) = cause_text cause
 ending_text (Squashed cycle) = codes "squashed"
 
 -- the prediction after an instruction
 unfoldable pub predicted_text : Option ℕ → Option ℕ → List ℕ
 predicted_text None correction = []
-predicted_text (Some predicted) correction = (codes ", predicted " ++ word_text predicted) ++ correction_text correction
+predicted_text (Some predicted) correction = codes ", predicted " ++ (word_text predicted ++ correction_text correction)
 
 -- that of a branch or a jump
 unfoldable pub prediction_text : Passage → List ℕ

@@ -1,7 +1,5 @@
 ghost use Rattle.std.specs.Prelude.{◌≡◌, ◌++◌, codes, decimal};
 ghost use Rattle.rv_log.specs.Details.{written_text, cause_text, ending_text, cost_text, details_line, predicted_text, prediction_text};
-ghost use Rattle.rv_drawing.specs.Title.{correction_text};
-ghost use Rattle.rv_text.specs.Line.{word_text};
 ghost use Rattle.rv_text.specs.Written.{IsWritten};
 
 use crate::waited::write_waited;
@@ -13,7 +11,7 @@ use rv_text::{ReportError, hexadecimal, put, put_all};
 use std::io::Write;
 
 #[tactic(auto, unfolding(crate::specs::Details::written_text))]
-fn write_written<W: Write>(writer: &mut W, written: Option<(Reg, u32)>) -> Result<(), ReportError>
+fn write_retired<W: Write>(writer: &mut W, written: Option<(Reg, u32)>) -> Result<(), ReportError>
     ensures { IsWritten result (W.contents writer.old) (W.contents writer.new) (written_text written) }
 {
     match written {
@@ -24,18 +22,18 @@ fn write_written<W: Write>(writer: &mut W, written: Option<(Reg, u32)>) -> Resul
             let value = hexadecimal(word);
             put_all(
                 writer,
-                &[b", x", number, b" (", name, b") = ", value.as_slice()],
+                &[
+                    b"retired, x",
+                    number,
+                    b" (",
+                    name,
+                    b") = ",
+                    value.as_slice(),
+                ],
             )
         }
-        None => Ok(()),
+        None => put(writer, b"retired"),
     }
-}
-
-fn write_retired<W: Write>(writer: &mut W, written: Option<(Reg, u32)>) -> Result<(), ReportError>
-    ensures { IsWritten result (W.contents writer.old) (W.contents writer.new) (codes "retired" ++ written_text written) }
-{
-    put(writer, b"retired")?;
-    write_written(writer, written)
 }
 
 fn write_cause<W: Write>(writer: &mut W, cause: Cause) -> Result<(), ReportError>
@@ -72,24 +70,6 @@ fn write_cost<W: Write>(writer: &mut W, issue: Option<Issue>) -> Result<(), Repo
     }
 }
 
-fn write_predicted_pc<W: Write>(writer: &mut W, predicted: u32) -> Result<(), ReportError>
-    ensures { IsWritten result (W.contents writer.old) (W.contents writer.new) (codes ", predicted " ++ word_text predicted) }
-{
-    let predicted = hexadecimal(predicted);
-    put_all(writer, &[b", predicted ", predicted.as_slice()])
-}
-
-fn write_right_or_wrong<W: Write>(
-    writer: &mut W,
-    predicted: u32,
-    correction: Option<u32>,
-) -> Result<(), ReportError>
-    ensures { IsWritten result (W.contents writer.old) (W.contents writer.new) ((codes ", predicted " ++ word_text predicted) ++ correction_text correction) }
-{
-    write_predicted_pc(writer, predicted)?;
-    write_correction(writer, correction)
-}
-
 #[tactic(auto, unfolding(crate::specs::Details::predicted_text))]
 fn write_predicted<W: Write>(
     writer: &mut W,
@@ -99,7 +79,7 @@ fn write_predicted<W: Write>(
     ensures { IsWritten result (W.contents writer.old) (W.contents writer.new) (predicted_text predicted correction) }
 {
     match predicted {
-        Some(predicted) => write_right_or_wrong(writer, predicted, correction),
+        Some(predicted) => write_correction(writer, b", predicted ", predicted, correction, b""),
         None => Ok(()),
     }
 }

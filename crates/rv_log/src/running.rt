@@ -18,7 +18,7 @@ use std::convert::Infallible;
 use std::io::Write;
 
 /// Why a run ended, and whether its log was written.
-#[derive(Clone, Copy, Debug)]
+#[derive(Clone, Copy)]
 pub(crate) struct Logged {
     pub(crate) stop: Stop,
     pub(crate) written: Result<(), ReportError>,

@@ -21,8 +21,7 @@ fn write_operand<W: Write>(writer: &mut W, producer: &Producer) -> Result<(), Re
 fn write_unit<W: Write>(writer: &mut W, kind: Option<Kind>) -> Result<(), ReportError>
     ensures { IsWritten result (W.contents writer.old) (W.contents writer.new) (codes "for " ++ unit_text kind) }
 {
-    put(writer, b"for ")?;
-    put(writer, unit_name(kind))
+    put_all(writer, &[b"for ", unit_name(kind)])
 }
 
 // Writes what an instruction waits for.

@@ -17,12 +17,7 @@ unfolding row_line
 returns-in_err-write_outcome_field g c =
     handed_on _ _ _ _ _ c.from_residual-in_err-write_outcome_field.ensures.1 (beginning-both _ _ _ _ _ c.in_ok-write_pc.ensures (beginning-both _ _ _ _ _ c.in_ok-write_statement.ensures (beginning-longer _ _ _ _ c.in_err-write_outcome_field.ensures)))
 
-pub returns-in_err-write_columns : goal.returns-in_err-write_columns
-unfolding row_line
-returns-in_err-write_columns g c =
-    handed_on _ _ _ _ _ c.from_residual-in_err-write_columns.ensures.1 (beginning-both _ _ _ _ _ c.in_ok-write_pc.ensures (beginning-both _ _ _ _ _ c.in_ok-write_statement.ensures (beginning-both _ _ _ _ _ c.in_ok-write_outcome_field.ensures (beginning-longer _ _ _ _ c.in_err-write_columns.ensures))))
-
 pub returns : goal.returns
 unfolding row_line
 returns g c =
-    written_behind _ _ _ _ _ _ c.in_ok-write_pc.ensures (written_behind _ _ _ _ _ _ c.in_ok-write_statement.ensures (written_behind _ _ _ _ _ _ c.in_ok-write_outcome_field.ensures (written_behind _ _ _ _ _ _ c.in_ok-write_columns.ensures c.put.ensures)))
+    written_behind _ _ _ _ _ _ c.in_ok-write_pc.ensures (written_behind _ _ _ _ _ _ c.in_ok-write_statement.ensures (written_behind _ _ _ _ _ _ c.in_ok-write_outcome_field.ensures c.write_line.ensures))

@@ -5,4 +5,4 @@ use Rattle.rv_drawing.proofs.title.write_predicted.Goals as goal
 
 pub returns-in-Some : goal.returns-in-Some
 unfolding predicted_title
-returns-in-Some g c = written_same _ _ _ _ _ (ap (λ p. predicted_title p c.args.correction) (sym c.in-Some.is)) c.write_right_or_wrong.ensures
+returns-in-Some g c = written_same _ _ _ _ _ (ap (λ p. predicted_title p c.args.correction) (sym c.in-Some.is)) c.write_correction.ensures
