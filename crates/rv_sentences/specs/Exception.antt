@@ -67,28 +67,28 @@ handler_text e = went_on e.mtvec ++ (word_text e.next_pc ++ codes "\n")
 unfoldable pub taken_text : List ℕ → Listed → Exception → List ℕ
 taken_text which listing e = which ++ (cause_text e ++ (place_text listing e.pc ++ handler_text e))
 
--- a count, in a column of its own
-unfoldable pub counted_text : ℕ → List ℕ
-counted_text count = indent (codes "       ") (decimal count) ++ decimal count
-
--- the cycles of the first and the last of some exceptions
-unfoldable pub cycles_text : ℕ → ℕ → List ℕ
-cycles_text first last =
-    if first == last then codes " in cycle " ++ decimal first
-    else codes " in cycles " ++ (decimal first ++ (codes " to " ++ decimal last))
+-- a count, in a column of its own, and a text
+unfoldable pub counted_text : ℕ → List ℕ → List ℕ
+counted_text count text = indent (codes "       ") (decimal count) ++ (decimal count ++ text)
 
 -- a cause, after which its place stands
 unfoldable pub at_text : Cause → List ℕ
 at_text cause = codes ": " ++ (cause_name cause ++ codes ", at ")
 
+-- the cycles of the first and the last of some exceptions of a cause
+unfoldable pub cycles_text : ℕ → ℕ → Cause → List ℕ
+cycles_text first last cause =
+    if first == last then codes " in cycle " ++ (decimal first ++ at_text cause)
+    else codes " in cycles " ++ (decimal first ++ (codes " to " ++ (decimal last ++ at_text cause)))
+
 -- how many exceptions of a kind there were, in which cycles, their cause and their place
 unfoldable pub kind_text : Listed → Series Exception → List ℕ
 kind_text listing kind =
-    counted_text kind.count ++ (cycles_text kind.first.cycle kind.last.cycle ++ (at_text kind.first.cause ++ place_text listing kind.first.pc))
+    counted_text kind.count [] ++ (cycles_text kind.first.cycle kind.last.cycle kind.first.cause ++ place_text listing kind.first.pc)
 
 -- those that are of none of some kinds
 unfoldable pub others_text : ℕ → List ℕ
-others_text count = if count == 0 then [] else counted_text count ++ codes " of other causes or at other places\n"
+others_text count = if count == 0 then [] else counted_text count (codes " of other causes or at other places\n")
 
 -- so many exceptions by cause and place
 unfoldable pub kinds_text : Listed → ℕ → List (Series Exception) → List ℕ

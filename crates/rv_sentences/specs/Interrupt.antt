@@ -65,25 +65,22 @@ pub record AreCountable (interrupts : Interrupts) : Type 0 where
   pub timer : IfSome interrupts.timer (λ series. series.count + 1 < 2 ^ 64)
   pub external : IfSome interrupts.external (λ series. series.count + 1 < 2 ^ 64)
 
--- the cycle of an interrupt, after which the instruction stands that it came before
-unfoldable pub before_text : ℕ → List ℕ
-before_text cycle = codes "in cycle " ++ (decimal cycle ++ codes ", before ")
-
--- when an interrupt came, and before which instruction
-unfoldable pub moment_text : Listed → Interruption → List ℕ
-moment_text listing i = before_text i.cycle ++ place_text listing i.pc
+-- the cycle of the last interrupt, after which the instruction stands that it came before
+unfoldable pub last_cycle : ℕ → List ℕ
+last_cycle cycle = codes "The last came in cycle " ++ (decimal cycle ++ codes ", before ")
 
 -- the last of several interrupts
 unfoldable pub last_text : Listed → Series Interruption → List ℕ
-last_text listing series = if series.count == 1 then [] else codes "The last came " ++ moment_text listing series.last
+last_text listing series = if series.count == 1 then [] else last_cycle series.last.cycle ++ place_text listing series.last.pc
 
--- what some interrupts are called, and how many there were, after which the first stands
-unfoldable pub first_text : List ℕ → ℕ → List ℕ
-first_text name count = name ++ (decimal count ++ codes ", the first ")
+-- what some interrupts are called, how many there were, and the cycle of the first, after which the instruction stands that it came before
+unfoldable pub first_text : List ℕ → ℕ → ℕ → List ℕ
+first_text name count cycle = name ++ (decimal count ++ (codes ", the first in cycle " ++ (decimal cycle ++ codes ", before ")))
 
 -- some interrupts
 unfoldable pub series_text : List ℕ → Listed → Series Interruption → List ℕ
-series_text name listing series = first_text name series.count ++ (moment_text listing series.first ++ last_text listing series)
+series_text name listing series =
+    first_text name series.count series.first.cycle ++ (place_text listing series.first.pc ++ last_text listing series)
 
 -- the interrupts of a line, if there was one
 unfoldable pub line_text : List ℕ → Listed → Option (Series Interruption) → List ℕ

@@ -6,7 +6,7 @@ use rv_text::{ReportError, put_all};
 use std::io::Write;
 
 /// How many accesses to memory there were.
-#[derive(Clone, Copy, Debug, PartialEq, Eq)]
+#[derive(Clone, Copy)]
 pub struct Accesses {
     pub all: u64,
     /// Those that did not miss.

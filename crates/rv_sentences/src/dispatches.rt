@@ -8,7 +8,7 @@ use rv_text::{ReportError, put_all};
 use std::io::Write;
 
 /// The cycles that dispatched something that retired.
-#[derive(Clone, Copy, Debug, PartialEq, Eq)]
+#[derive(Clone, Copy)]
 pub struct Dispatches {
     pub cycles: u64,
     /// The last of them.

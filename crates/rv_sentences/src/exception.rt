@@ -1,7 +1,7 @@
 use rv_isa::Cause;
 
 /// A trap that is no breakpoint.
-#[derive(Clone, Copy, Debug, PartialEq, Eq)]
+#[derive(Clone, Copy)]
 pub struct Exception {
     pub pc: u32,
     pub cause: Cause,

@@ -1,5 +1,5 @@
 ghost use Rattle.std.specs.Prelude.{◌≡◌, None, Some};
-ghost use Rattle.rv_sentences.specs.Interrupt.{before_text, first_text, interrupts_text, last_text, line_text, moment_text, series_text};
+ghost use Rattle.rv_sentences.specs.Interrupt.{first_text, interrupts_text, last_cycle, last_text, line_text, series_text};
 ghost use Rattle.rv_text.specs.Written.{IsWritten};
 
 use crate::interruption::Interruption;
@@ -8,28 +8,17 @@ use crate::place::write_place;
 use crate::series::Series;
 use itoa::Buffer;
 use rv_source::Listing;
-use rv_text::{ReportError, put, put_all};
+use rv_text::{ReportError, put_all};
 use std::io::Write;
 
-// The cycle of an interrupt, after which the instruction stands that it came before.
-#[tactic(auto, unfolding(crate::specs::Interrupt::before_text))]
-fn write_before<W: Write>(writer: &mut W, cycle: u64) -> Result<(), ReportError>
-    ensures { IsWritten result (W.contents writer.old) (W.contents writer.new) (before_text cycle) }
+// The cycle of the last interrupt, after which the instruction stands that it came before.
+#[tactic(auto, unfolding(crate::specs::Interrupt::last_cycle))]
+fn write_last_cycle<W: Write>(writer: &mut W, cycle: u64) -> Result<(), ReportError>
+    ensures { IsWritten result (W.contents writer.old) (W.contents writer.new) (last_cycle cycle) }
 {
     let mut buffer = Buffer::new();
     let digits = buffer.format(cycle).as_bytes();
-    put_all(writer, &[b"in cycle ", digits, b", before "])
-}
-
-fn write_moment<W: Write>(
-    writer: &mut W,
-    listing: &Listing,
-    interruption: &Interruption,
-) -> Result<(), ReportError>
-    ensures { IsWritten result (W.contents writer.old) (W.contents writer.new) (moment_text listing.now interruption.now) }
-{
-    write_before(writer, interruption.cycle)?;
-    write_place(writer, listing, interruption.pc)
+    put_all(writer, &[b"The last came in cycle ", digits, b", before "])
 }
 
 #[tactic(auto, unfolding(crate::specs::Interrupt::last_text))]
@@ -43,18 +32,28 @@ fn write_last<W: Write>(
     if series.count == 1 {
         return Ok(());
     }
-    put(writer, b"The last came ")?;
-    write_moment(writer, listing, &series.last)
+    write_last_cycle(writer, series.last.cycle)?;
+    write_place(writer, listing, series.last.pc)
 }
 
-// What some interrupts are called, and how many there were, after which the first stands.
+// What some interrupts are called, how many there were, and the cycle of the first.
 #[tactic(auto, unfolding(crate::specs::Interrupt::first_text))]
-fn write_first<W: Write>(writer: &mut W, name: &[u8], count: u64) -> Result<(), ReportError>
-    ensures { IsWritten result (W.contents writer.old) (W.contents writer.new) (first_text name.now count) }
+fn write_first<W: Write>(
+    writer: &mut W,
+    name: &[u8],
+    count: u64,
+    cycle: u64,
+) -> Result<(), ReportError>
+    ensures { IsWritten result (W.contents writer.old) (W.contents writer.new) (first_text name.now count cycle) }
 {
-    let mut buffer = Buffer::new();
-    let digits = buffer.format(count).as_bytes();
-    put_all(writer, &[name, digits, b", the first "])
+    let mut count_buffer = Buffer::new();
+    let count = count_buffer.format(count).as_bytes();
+    let mut cycle_buffer = Buffer::new();
+    let cycle = cycle_buffer.format(cycle).as_bytes();
+    put_all(
+        writer,
+        &[name, count, b", the first in cycle ", cycle, b", before "],
+    )
 }
 
 fn write_series<W: Write>(
@@ -65,8 +64,8 @@ fn write_series<W: Write>(
 ) -> Result<(), ReportError>
     ensures { IsWritten result (W.contents writer.old) (W.contents writer.new) (series_text name.now listing.now series.now) }
 {
-    write_first(writer, name, series.count)?;
-    write_moment(writer, listing, &series.first)?;
+    write_first(writer, name, series.count, series.first.cycle)?;
+    write_place(writer, listing, series.first.pc)?;
     write_last(writer, listing, series)
 }
 

@@ -1,5 +1,5 @@
 /// An interrupt that was taken.
-#[derive(Clone, Copy, Debug, PartialEq, Eq)]
+#[derive(Clone, Copy)]
 pub struct Interruption {
     /// The address of the instruction that it came before.
     pub pc: u32,

@@ -13,7 +13,7 @@ const MACHINE_TIMER: u32 = 0x8000_0007;
 const MACHINE_EXTERNAL: u32 = 0x8000_000b;
 
 /// What is kept of a run's interrupts: those of each line.
-#[derive(Clone, Copy, Debug, PartialEq, Eq)]
+#[derive(Clone, Copy)]
 pub struct Interrupts {
     pub software: Option<Series<Interruption>>,
     pub timer: Option<Series<Interruption>>,

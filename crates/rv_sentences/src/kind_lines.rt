@@ -1,6 +1,6 @@
 ghost use Rattle.std.specs.Prelude.{◌≡◌, ◌-◌, None, Some};
 ghost use Rattle.std.specs.List.{flat_map};
-ghost use Rattle.rv_sentences.specs.Exception.{at_text, counted_text, cycles_text, exceptions_text, kind_text, kinds_text, others_text, several_text};
+ghost use Rattle.rv_sentences.specs.Exception.{counted_text, cycles_text, exceptions_text, kind_text, kinds_text, others_text, several_text};
 ghost use Rattle.rv_sentences.specs.Kinds.{others};
 ghost use Rattle.rv_text.specs.Written.{IsWritten};
 
@@ -17,36 +17,36 @@ use rv_text::{ReportError, put, put_all};
 use std::io::Write;
 
 #[tactic(auto, unfolding(crate::specs::Exception::counted_text))]
-fn write_counted<W: Write>(writer: &mut W, count: u64) -> Result<(), ReportError>
-    ensures { IsWritten result (W.contents writer.old) (W.contents writer.new) (counted_text count) }
+fn write_counted<W: Write>(writer: &mut W, count: u64, text: &[u8]) -> Result<(), ReportError>
+    ensures { IsWritten result (W.contents writer.old) (W.contents writer.new) (counted_text count text.now) }
 {
     let mut buffer = Buffer::new();
     let digits = buffer.format(count).as_bytes();
     let indent = behind(b"       ", digits.len());
-    put_all(writer, &[indent, digits])
+    put_all(writer, &[indent, digits, text])
 }
 
-#[tactic(auto, unfolding(crate::specs::Exception::cycles_text))]
-fn write_cycles<W: Write>(writer: &mut W, first: u64, last: u64) -> Result<(), ReportError>
-    ensures { IsWritten result (W.contents writer.old) (W.contents writer.new) (cycles_text first last) }
+#[tactic(auto, unfolding(crate::specs::Exception::cycles_text, crate::specs::Exception::at_text))]
+fn write_cycles<W: Write>(
+    writer: &mut W,
+    first: u64,
+    last: u64,
+    cause: Cause,
+) -> Result<(), ReportError>
+    ensures { IsWritten result (W.contents writer.old) (W.contents writer.new) (cycles_text first last cause) }
 {
+    let name = cause_name(cause);
     let mut first_buffer = Buffer::new();
     let from = first_buffer.format(first).as_bytes();
     if first == last {
-        return put_all(writer, &[b" in cycle ", from]);
+        return put_all(writer, &[b" in cycle ", from, b": ", name, b", at "]);
     }
     let mut last_buffer = Buffer::new();
     let to = last_buffer.format(last).as_bytes();
-    put_all(writer, &[b" in cycles ", from, b" to ", to])
-}
-
-// A cause, after which its place stands.
-#[tactic(auto, unfolding(crate::specs::Exception::at_text))]
-fn write_at<W: Write>(writer: &mut W, cause: Cause) -> Result<(), ReportError>
-    ensures { IsWritten result (W.contents writer.old) (W.contents writer.new) (at_text cause) }
-{
-    let name = cause_name(cause);
-    put_all(writer, &[b": ", name, b", at "])
+    put_all(
+        writer,
+        &[b" in cycles ", from, b" to ", to, b": ", name, b", at "],
+    )
 }
 
 fn write_kind<W: Write>(
@@ -56,9 +56,8 @@ fn write_kind<W: Write>(
 ) -> Result<(), ReportError>
     ensures { IsWritten result (W.contents writer.old) (W.contents writer.new) (kind_text listing.now kind.now) }
 {
-    write_counted(writer, kind.count)?;
-    write_cycles(writer, kind.first.cycle, kind.last.cycle)?;
-    write_at(writer, kind.first.cause)?;
+    write_counted(writer, kind.count, b"")?;
+    write_cycles(writer, kind.first.cycle, kind.last.cycle, kind.first.cause)?;
     write_place(writer, listing, kind.first.pc)
 }
 
@@ -92,8 +91,7 @@ fn write_others<W: Write>(writer: &mut W, count: u64) -> Result<(), ReportError>
     if count == 0 {
         return Ok(());
     }
-    write_counted(writer, count)?;
-    put(writer, b" of other causes or at other places\n")
+    write_counted(writer, count, b" of other causes or at other places\n")
 }
 
 fn write_kinds<W: Write>(

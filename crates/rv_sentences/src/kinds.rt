@@ -11,7 +11,7 @@ use std::marker::Model;
 const MOST_KINDS: usize = 8;
 
 /// What is kept of a run's exceptions.
-#[derive(Debug, Drop)]
+#[derive(Drop)]
 pub struct Exceptions {
     all: Option<Series<Exception>>,
     kinds: Vec<Series<Exception>>,

@@ -35,7 +35,13 @@ pub fn is_quick(costs: &LoadCosts, passage: &Passage) -> bool
 fn count_quick(costs: &LoadCosts, rows: &[Passage]) -> usize
     ensures { result ≡ count_by (λ p. is_hit costs.now (retired_load_cost p)) rows.now }
 {
-    rows.iter().filter(|row| is_quick(costs, row)).count()
+    let mut quick = 0;
+    for row in rows {
+        if is_quick(costs, row) {
+            quick += 1;
+        }
+    }
+    quick
 }
 
 /// Counts the loads that retired among more instructions.

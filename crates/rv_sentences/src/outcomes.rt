@@ -12,7 +12,7 @@ use rv_counts::LoadCosts;
 use rv_passage::Passage;
 
 /// The loads in a word that retired, by what they cost.
-#[derive(Clone, Copy, Debug, PartialEq, Eq)]
+#[derive(Clone, Copy)]
 pub struct Outcomes {
     /// At the cost of a hit or of forwarding.
     pub hits: u64,

@@ -2,7 +2,7 @@ ghost use Rattle.std.specs.Prelude.{◌≡◌, ◌+◌, ◌<◌, ◌^◌, [], If
 ghost use Rattle.rv_sentences.specs.Series.{continued, series_from, series_with};
 
 /// Events of one kind.
-#[derive(Clone, Copy, Debug, PartialEq, Eq)]
+#[derive(Clone, Copy)]
 pub struct Series<E> {
     /// How many there were, one at least.
     pub count: u64,

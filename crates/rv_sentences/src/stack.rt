@@ -103,7 +103,7 @@ pub fn write_counts<W: Write>(writer: &mut W, cycles: u64, retired: u64) -> Resu
 }
 
 // A part of a run's cycles.
-#[derive(Clone, Copy, Debug)]
+#[derive(Clone, Copy)]
 struct Share<'a> {
     name: &'a str,
     count: u64,

@@ -1,5 +1,5 @@
 /// A store that retired.
-#[derive(Clone, Copy, Debug, PartialEq, Eq)]
+#[derive(Clone, Copy)]
 pub struct Stored {
     /// Its own address.
     pub pc: u32,

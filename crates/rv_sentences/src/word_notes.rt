@@ -11,7 +11,7 @@ use std::alloc::{AllocError, Global};
 use std::marker::Model;
 
 /// What is kept of each word of RAM.
-#[derive(Debug, Drop)]
+#[derive(Drop)]
 pub struct WordNotes<X> {
     // The number of the first word.
     first: u32,

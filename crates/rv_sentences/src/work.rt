@@ -16,7 +16,7 @@ use rv_text::{ReportError, put, put_all};
 use std::io::Write;
 
 /// What became of the instructions that left the hardware.
-#[derive(Clone, Copy, Debug, PartialEq, Eq)]
+#[derive(Clone, Copy)]
 pub struct Work {
     /// How many left it.
     pub left: u64,
@@ -49,7 +49,7 @@ fn is_mispredicted_branch(passage: &Passage) -> bool
 }
 
 /// A class of fetched words, by what became of them.
-#[derive(Clone, Copy, Debug, PartialEq, Eq)]
+#[derive(Clone, Copy)]
 pub enum Class {
     /// Those that left the hardware.
     Left,
@@ -79,7 +79,13 @@ fn is_of(class: Class, passage: &Passage) -> bool
 pub fn count(rows: &[Passage], class: Class) -> usize
     ensures { result ≡ count_by (is_of class) rows.now }
 {
-    rows.iter().filter(|row| is_of(class, row)).count()
+    let mut found = 0;
+    for row in rows {
+        if is_of(class, row) {
+            found += 1;
+        }
+    }
+    found
 }
 
 // The word of RAM that a fetched word is, if it is of a class.

@@ -3,13 +3,13 @@ use Rattle.rv_text.proofs.Writing.{handed_on, written_behind, written_same, begi
 use Rattle.rv_sentences.proofs.Cases.{otherwise}
 use Rattle.rv_sentences.proofs.interrupt_lines.write_last.Goals as goal
 
-pub returns-in_err-put : goal.returns-in_err-put
+pub returns-in_err-write_last_cycle : goal.returns-in_err-write_last_cycle
 unfolding last_text
-returns-in_err-put g c =
+returns-in_err-write_last_cycle g c =
     handed_on _ _ _ _ _ c.from_residual.ensures.1
-    (beginning-same _ _ _ _ (otherwise c.args.series.now.count 1 _ _ c.if-series-eq1.false) (beginning-longer _ _ _ _ c.in_err-put.ensures))
+    (beginning-same _ _ _ _ (otherwise c.args.series.now.count 1 _ _ c.if-series-eq1.false) (beginning-longer _ _ _ _ c.in_err-write_last_cycle.ensures))
 
 pub returns : goal.returns
 unfolding last_text
 returns g c =
-    written_same _ _ _ _ _ (otherwise c.args.series.now.count 1 _ _ c.if-series-eq1.false) (written_behind _ _ _ _ _ _ c.in_ok-put.ensures c.write_moment.ensures)
+    written_same _ _ _ _ _ (otherwise c.args.series.now.count 1 _ _ c.if-series-eq1.false) (written_behind _ _ _ _ _ _ c.in_ok-write_last_cycle.ensures c.write_place.ensures)

@@ -7,11 +7,11 @@ unfolding series_text
 returns-in_err-write_first g c =
     handed_on _ _ _ _ _ c.from_residual.ensures.1 (beginning-longer _ _ _ _ c.in_err-write_first.ensures)
 
-pub returns-in_err-write_moment : goal.returns-in_err-write_moment
+pub returns-in_err-write_place : goal.returns-in_err-write_place
 unfolding series_text
-returns-in_err-write_moment g c =
-    handed_on _ _ _ _ _ c.from_residual-in_err-write_moment.ensures.1 (beginning-both _ _ _ _ _ c.in_ok-write_first.ensures (beginning-longer _ _ _ _ c.in_err-write_moment.ensures))
+returns-in_err-write_place g c =
+    handed_on _ _ _ _ _ c.from_residual-in_err-write_place.ensures.1 (beginning-both _ _ _ _ _ c.in_ok-write_first.ensures (beginning-longer _ _ _ _ c.in_err-write_place.ensures))
 
 pub returns : goal.returns
 unfolding series_text
-returns g c = written_behind _ _ _ _ _ _ c.in_ok-write_first.ensures (written_behind _ _ _ _ _ _ c.in_ok-write_moment.ensures c.write_last.ensures)
+returns g c = written_behind _ _ _ _ _ _ c.in_ok-write_first.ensures (written_behind _ _ _ _ _ _ c.in_ok-write_place.ensures c.write_last.ensures)

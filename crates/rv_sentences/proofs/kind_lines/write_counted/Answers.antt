@@ -9,5 +9,4 @@ unfolding counted_text indent
 returns g c =
     let digits = c.as_bytes-digits.ensures.value ∙ c.format.ensures.text in
     let indented = c.behind-indent.ensures ∙ ap (λ (n : ℕ). drop n (codes "       ")) (ap length digits) in
-    let last = append-nil c.as_bytes-digits.result.now ∙ digits in
-    written_same _ _ _ _ _ (λ i. indented i ++ last i) c.put_all.ensures
+    written_same _ _ _ _ _ (λ i. indented i ++ (digits i ++ append-nil c.args.text.now i)) c.put_all.ensures

@@ -12,11 +12,6 @@ unfolding kind_text
 returns-in_err-write_cycles g c =
     handed_on _ _ _ _ _ c.from_residual-in_err-write_cycles.ensures.1 (beginning-both _ _ _ _ _ c.in_ok-write_counted.ensures (beginning-longer _ _ _ _ c.in_err-write_cycles.ensures))
 
-pub returns-in_err-write_at : goal.returns-in_err-write_at
-unfolding kind_text
-returns-in_err-write_at g c =
-    handed_on _ _ _ _ _ c.from_residual-in_err-write_at.ensures.1 (beginning-both _ _ _ _ _ c.in_ok-write_counted.ensures (beginning-both _ _ _ _ _ c.in_ok-write_cycles.ensures (beginning-longer _ _ _ _ c.in_err-write_at.ensures)))
-
 pub returns : goal.returns
 unfolding kind_text
-returns g c = written_behind _ _ _ _ _ _ c.in_ok-write_counted.ensures (written_behind _ _ _ _ _ _ c.in_ok-write_cycles.ensures (written_behind _ _ _ _ _ _ c.in_ok-write_at.ensures c.write_place.ensures))
+returns g c = written_behind _ _ _ _ _ _ c.in_ok-write_counted.ensures (written_behind _ _ _ _ _ _ c.in_ok-write_cycles.ensures c.write_place.ensures)
