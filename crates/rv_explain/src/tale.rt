@@ -20,7 +20,7 @@ use rv_sentences::{
 use std::alloc::{AllocError, Global};
 
 /// What is kept of a run so far.
-#[derive(Debug, Drop)]
+#[derive(Drop)]
 pub(crate) struct Tale {
     pub(crate) retired: u64,
     pub(crate) exceptions: Exceptions,
@@ -51,10 +51,13 @@ pub(crate) struct Tale {
 fn count_retired(steps: &[Step]) -> usize
     ensures { result ≡ count_by is_retirement steps.now }
 {
-    steps
-        .iter()
-        .filter(|step| matches!(step, Step::Retired(_)))
-        .count()
+    let mut retired = 0;
+    for step in steps {
+        if matches!(step, Step::Retired(_)) {
+            retired += 1;
+        }
+    }
+    retired
 }
 
 impl Tale {
