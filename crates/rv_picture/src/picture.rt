@@ -1,7 +1,7 @@
 use rv_arch::Stop;
 
 /// How a picture is written.
-#[derive(Clone, Copy, Debug, PartialEq, Eq)]
+#[derive(Clone, Copy)]
 pub enum Form {
     /// Lines of characters, for a terminal.
     Text,
@@ -10,7 +10,7 @@ pub enum Form {
 }
 
 /// Which instructions have a row in a picture, of those that were in the core.
-#[derive(Clone, Copy, Debug, PartialEq, Eq)]
+#[derive(Clone, Copy)]
 pub enum Rows {
     /// All.
     All,
@@ -19,7 +19,7 @@ pub enum Rows {
 }
 
 /// What a picture shows of a run, and how it is written.
-#[derive(Clone, Copy, Debug, PartialEq, Eq)]
+#[derive(Clone, Copy)]
 pub struct View {
     /// How it is written.
     pub form: Form,
@@ -32,7 +32,7 @@ pub struct View {
 }
 
 /// How the run of a picture ended.
-#[derive(Clone, Copy, Debug, PartialEq, Eq)]
+#[derive(Clone, Copy)]
 pub struct RunEnd {
     /// Why it ended.
     pub stop: Stop,

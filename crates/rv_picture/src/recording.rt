@@ -35,7 +35,7 @@ pub(crate) struct Recording {
 }
 
 // The watcher of the cycles that no picture shows.
-#[derive(Clone, Copy, Debug)]
+#[derive(Clone, Copy)]
 struct Nobody;
 
 impl Watcher for Nobody {
