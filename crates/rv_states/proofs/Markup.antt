@@ -26,7 +26,7 @@ use Rattle.rv_json.specs.Step.{step_json}
 use Rattle.rv_json.proofs.Markup.{AllPlain, array_of, beginning, both, chosen, counted, each, each_plain, in_quotes, member, number, otherwise, plain}
 use Rattle.rv_json.proofs.Parts.{entry_plain, fetched_plain, header_plain, instruction_plain, listing_plain, next_fetch_plain, observed_plain, operand_plain, set_plain, step_plain, stop_plain, store_plain, units_plain, word_plain}
 use Rattle.rv_states.specs.Counts.{counts_json, counts_text, stall_text}
-use Rattle.rv_states.specs.Cycle.{cycle_line, start_line}
+use Rattle.rv_states.specs.Cycle.{cycle_line, rest_text, start_line}
 use Rattle.rv_states.specs.Entries.{entries_json, entry_json}
 use Rattle.rv_states.specs.Memory.{memory_line, memory_lines, word_if, word_seen}
 use Rattle.rv_states.specs.Operands.{operand_text, operands_of, operands_text}
@@ -76,15 +76,19 @@ state h =
     let parts : HasNoMarkup (parts_text h) = both (member _ refl (units_plain _)) (both (member _ refl (array_of _ (each_plain store_json store_plain _))) (counted _ refl _)) in
     both (observed_plain _ _ _ _) (both in_flight (both parts (plain refl)))
 
+rest : (h : Hardware) (p : Progress) → HasNoMarkup (rest_text h p)
+unfolding rest_text
+rest h p = both (counts p) (both (member _ refl (state h)) (plain refl))
+
 start : (rows : List Passage) (h : Hardware) (p : Progress) → HasNoMarkup (start_line rows h p)
 unfolding start_line
-start rows h p = both (beginning _ refl (number _)) (both (member _ refl (array_of _ (each_plain instruction_json instruction_plain rows))) (both (counts p) (both (member _ refl (state h)) (plain refl))))
+start rows h p = both (beginning _ refl (number _)) (both (member _ refl (array_of _ (each_plain instruction_json instruction_plain rows))) (rest h p))
 
 cycle : (n : ℕ) (rows : List Passage) (steps : List Step) (h : Hardware) (p : Progress) → HasNoMarkup (cycle_line n rows steps h p)
 unfolding cycle_line
 cycle n rows steps h p =
     both (beginning _ refl (number _)) (both (member _ refl (array_of _ (each_plain instruction_json instruction_plain rows)))
-    (both (member _ refl (array_of _ (each_plain step_json step_plain steps))) (both (counts p) (both (member _ refl (state h)) (plain refl)))))
+    (both (member _ refl (array_of _ (each_plain step_json step_plain steps))) (rest h p)))
 
 word : (address : ℕ) (stale : Bool) (w : Option ℕ) → HasNoMarkup (word_if address stale w)
 word address stale None = plain refl

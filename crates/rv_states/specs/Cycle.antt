@@ -10,14 +10,15 @@ use Rattle.rv_json.specs.Json.{also, array, begins}
 use Rattle.rv_states.specs.State.{state_json}
 use Rattle.rv_json.specs.Step.{step_json}
 
+-- the counts so far, and the hardware, up to the end of a line
+unfoldable pub rest_text : Hardware → Progress → List ℕ
+rest_text h progress = counts_text progress ++ (also (codes "state") (state_json h) ++ codes "}\n")
+
 -- the number of the next cycle, what is in flight before it, the counts so far, and the hardware
 unfoldable pub start_line : List Passage → Hardware → Progress → List ℕ
 start_line rows h progress =
     begins (codes "start") (decimal h.cycle) ++
-    (also (codes "instructions") (array (map instruction_json rows)) ++
-    (counts_text progress ++
-    (also (codes "state") (state_json h) ++
-    codes "}\n")))
+    (also (codes "instructions") (array (map instruction_json rows)) ++ rest_text h progress)
 
 -- The number of a cycle, the instructions that are in flight at its end or left the hardware in it, in order of fetch, its steps,
 -- the counts of the cycles so far, and the hardware after it.
@@ -25,7 +26,4 @@ unfoldable pub cycle_line : ℕ → List Passage → List Step → Hardware → 
 cycle_line cycle rows steps h progress =
     begins (codes "cycle") (decimal cycle) ++
     (also (codes "instructions") (array (map instruction_json rows)) ++
-    (also (codes "steps") (array (map step_json steps)) ++
-    (counts_text progress ++
-    (also (codes "state") (state_json h) ++
-    codes "}\n"))))
+    (also (codes "steps") (array (map step_json steps)) ++ rest_text h progress))

@@ -45,30 +45,12 @@ fn write_count_object<W: Write>(writer: &mut W, progress: &Progress) -> Result<(
         "cycles",
         progress.cycles,
         &[
-            Member {
-                name: "busy",
-                value: Value::Number(progress.busy),
-            },
-            Member {
-                name: "fetch",
-                value: Value::Number(progress.stalls.fetch),
-            },
-            Member {
-                name: "serial",
-                value: Value::Number(progress.stalls.serial),
-            },
-            Member {
-                name: "rob",
-                value: Value::Number(progress.stalls.rob),
-            },
-            Member {
-                name: "station",
-                value: Value::Number(progress.stalls.station),
-            },
-            Member {
-                name: "store",
-                value: Value::Number(progress.stalls.store),
-            },
+            Member::number("busy", progress.busy),
+            Member::number("fetch", progress.stalls.fetch),
+            Member::number("serial", progress.stalls.serial),
+            Member::number("rob", progress.stalls.rob),
+            Member::number("station", progress.stalls.station),
+            Member::number("store", progress.stalls.store),
         ],
     )
 }

@@ -1,5 +1,5 @@
 ghost use Rattle.std.specs.Prelude.{codes, decimal};
-ghost use Rattle.rv_states.specs.Cycle.{cycle_line, start_line};
+ghost use Rattle.rv_states.specs.Cycle.{cycle_line, rest_text, start_line};
 ghost use Rattle.rv_json.specs.Json.{begins};
 ghost use Rattle.rv_text.specs.Written.{IsWritten};
 
@@ -18,6 +18,19 @@ fn write_next_cycle<W: Write>(writer: &mut W, pipeline: &Pipeline) -> Result<(),
     write_begin(writer, "start", pipeline.cycles_done())
 }
 
+// The counts so far, and the hardware, up to the end of a line.
+fn write_rest<W: Write>(
+    writer: &mut W,
+    pipeline: &Pipeline,
+    progress: &Progress,
+) -> Result<(), ReportError>
+    ensures { IsWritten result (W.contents writer.old) (W.contents writer.new) (rest_text pipeline.now progress.now) }
+{
+    write_counts(writer, progress)?;
+    write_state(writer, pipeline)?;
+    put(writer, b"}\n")
+}
+
 /// Writes the line of the hardware before the window's first cycle: the number of the cycle, what is in flight, the hardware,
 /// and the counts of the cycles so far.
 pub fn write_start<W: Write>(
@@ -30,9 +43,7 @@ pub fn write_start<W: Write>(
 {
     write_next_cycle(writer, pipeline)?;
     write_array_member(writer, "instructions", &Instructions { rows })?;
-    write_counts(writer, progress)?;
-    write_state(writer, pipeline)?;
-    put(writer, b"}\n")
+    write_rest(writer, pipeline, progress)
 }
 
 /// Writes the line of a cycle: its number, the instructions that are in flight at its end or left the hardware in it, in order
@@ -50,7 +61,5 @@ pub fn write_cycle<W: Write>(
     write_begin(writer, "cycle", cycle)?;
     write_array_member(writer, "instructions", &Instructions { rows })?;
     write_array_member(writer, "steps", &Steps { steps })?;
-    write_counts(writer, progress)?;
-    write_state(writer, pipeline)?;
-    put(writer, b"}\n")
+    write_rest(writer, pipeline, progress)
 }

@@ -1,5 +1,5 @@
 /// How the states of a run are written.
-#[derive(Clone, Copy, Debug, PartialEq, Eq)]
+#[derive(Clone, Copy)]
 pub enum Form {
     /// Lines of JSON.
     Lines,

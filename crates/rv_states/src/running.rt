@@ -20,7 +20,7 @@ use std::convert::Infallible;
 use std::io::Write;
 
 /// Why a run ended, and whether its states were written.
-#[derive(Clone, Copy, Debug)]
+#[derive(Clone, Copy)]
 pub(crate) struct Shown {
     pub(crate) stop: Stop,
     pub(crate) written: Result<(), ReportError>,

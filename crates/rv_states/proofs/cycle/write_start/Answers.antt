@@ -12,17 +12,7 @@ unfolding start_line
 returns-in_err-write_array_member g c =
     handed_on _ _ _ _ _ c.from_residual-in_err-write_array_member.ensures.1 (beginning-both _ _ _ _ _ c.in_ok-write_next_cycle.ensures (beginning-longer _ _ _ _ c.in_err-write_array_member.ensures))
 
-pub returns-in_err-write_counts : goal.returns-in_err-write_counts
-unfolding start_line
-returns-in_err-write_counts g c =
-    handed_on _ _ _ _ _ c.from_residual-in_err-write_counts.ensures.1 (beginning-both _ _ _ _ _ c.in_ok-write_next_cycle.ensures (beginning-both _ _ _ _ _ c.in_ok-write_array_member.ensures (beginning-longer _ _ _ _ c.in_err-write_counts.ensures)))
-
-pub returns-in_err-write_state : goal.returns-in_err-write_state
-unfolding start_line
-returns-in_err-write_state g c =
-    handed_on _ _ _ _ _ c.from_residual-in_err-write_state.ensures.1 (beginning-both _ _ _ _ _ c.in_ok-write_next_cycle.ensures (beginning-both _ _ _ _ _ c.in_ok-write_array_member.ensures (beginning-both _ _ _ _ _ c.in_ok-write_counts.ensures (beginning-longer _ _ _ _ c.in_err-write_state.ensures))))
-
 pub returns : goal.returns
 unfolding start_line
 returns g c =
-    written_behind _ _ _ _ _ _ c.in_ok-write_next_cycle.ensures (written_behind _ _ _ _ _ _ c.in_ok-write_array_member.ensures (written_behind _ _ _ _ _ _ c.in_ok-write_counts.ensures (written_behind _ _ _ _ _ _ c.in_ok-write_state.ensures c.put.ensures)))
+    written_behind _ _ _ _ _ _ c.in_ok-write_next_cycle.ensures (written_behind _ _ _ _ _ _ c.in_ok-write_array_member.ensures c.write_rest.ensures)
