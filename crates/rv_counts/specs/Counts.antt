@@ -48,6 +48,15 @@ nothing_at address = counts_at (record { hit = 0; forward = 0; clean_miss = 0 })
 abbrev pub one_more : Bool → ℕ → ℕ
 one_more is count = if is then count + 1 else count
 
+-- with the waits of one more that retired
+abbrev pub with_waits : Passage → WordCounts → WordCounts
+with_waits p counts = record counts {
+  dispatch = with_wait (dispatch_wait p) counts.dispatch;
+  issue = with_wait (issue_wait p) counts.issue;
+  broadcast = with_wait (broadcast_wait p) counts.broadcast;
+  retirement = with_wait (retirement_wait p) counts.retirement;
+}
+
 -- with one more that retired
 abbrev pub with_retired : LoadCosts → Passage → WordCounts → WordCounts
 with_retired costs p counts = record counts {

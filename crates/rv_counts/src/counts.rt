@@ -1,5 +1,5 @@
 ghost use Rattle.std.specs.Prelude.{◌≡◌, ◌+◌, ◌<◌, ◌^◌};
-ghost use Rattle.rv_counts.specs.Counts.{CanCount, added, nothing_at, once_more_at_head, one_more, with_retired};
+ghost use Rattle.rv_counts.specs.Counts.{CanCount, added, nothing_at, once_more_at_head, one_more, with_retired, with_waits};
 
 use crate::loads::LoadCosts;
 use crate::passing::{broadcast_wait, dispatch_wait, issue_wait, retirement_wait};
@@ -8,7 +8,7 @@ use rv_passage::{Ending, Passage};
 
 /// What became of the instructions that were fetched at an address. The waits, the hits, the misses and the wrong
 /// predictions are those of the instructions that retired.
-#[derive(Debug, Drop)]
+#[derive(Drop)]
 pub struct WordCounts {
     pub address: u32,
     pub fetched: u64,
@@ -61,16 +61,24 @@ impl WordCounts {
         }
     }
 
+    // Counts what an instruction that retired waited for.
+    fn add_waits(&mut self, passage: &Passage)
+        requires room { CanCount self.old }
+        ensures { self.new ≡ with_waits passage.now self.old }
+    {
+        self.dispatch.add(dispatch_wait(passage));
+        self.issue.add(issue_wait(passage));
+        self.broadcast.add(broadcast_wait(passage));
+        self.retirement.add(retirement_wait(passage));
+    }
+
     // Counts an instruction that retired, beyond its fetch.
     fn add_retired(&mut self, costs: &LoadCosts, passage: &Passage)
         requires room { CanCount self.old }
         ensures { self.new ≡ with_retired costs.now passage.now self.old }
     {
+        self.add_waits(passage);
         self.retired += 1;
-        self.dispatch.add(dispatch_wait(passage));
-        self.issue.add(issue_wait(passage));
-        self.broadcast.add(broadcast_wait(passage));
-        self.retirement.add(retirement_wait(passage));
         self.hits = one_more(costs.is_hit(passage), self.hits);
         self.misses = one_more(costs.is_miss(passage), self.misses);
         self.mispredicted = one_more(passage.is_mispredicted(), self.mispredicted);

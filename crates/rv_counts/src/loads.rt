@@ -5,7 +5,7 @@ use rv_isa::{Description, Instr};
 use rv_passage::Passage;
 
 /// What a load costs, in cycles.
-#[derive(Clone, Copy, Debug, PartialEq, Eq)]
+#[derive(Clone, Copy)]
 pub struct LoadCosts {
     /// Of a load that need not go to memory.
     pub hit: u32,

@@ -16,7 +16,7 @@ use std::marker::Model;
 const MOST_IN_CYCLE: usize = 577;
 
 /// The counts of each address that was fetched in a run, in order of address.
-#[derive(Debug, Drop)]
+#[derive(Drop)]
 pub struct Profile {
     costs: LoadCosts,
     words: Vec<WordCounts>,

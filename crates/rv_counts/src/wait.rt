@@ -4,7 +4,7 @@ ghost use Rattle.rv_counts.specs.Wait.{with_wait};
 use std::marker::Model;
 
 /// The waits of instructions between two stages, in cycles.
-#[derive(Debug, Drop)]
+#[derive(Drop)]
 pub struct Wait {
     count: u64,
     total: u128,
