@@ -16,14 +16,14 @@ use std::io;
 use std::io::Write;
 
 /// Why a run ended, and the counts of its instructions.
-#[derive(Debug, Drop)]
+#[derive(Drop)]
 pub(crate) struct Counted {
     pub(crate) stop: Stop,
     pub(crate) profile: Profile,
 }
 
 // The watcher that counts: what is in flight, and the counts of what left the hardware.
-#[derive(Debug, Drop)]
+#[derive(Drop)]
 struct Profiler {
     table: Table,
     profile: Profile,

@@ -11,7 +11,7 @@ use std::alloc::Global;
 use std::io::Write;
 
 /// Of which cycles of a run the states are written, and how.
-#[derive(Clone, Copy, Debug, PartialEq, Eq)]
+#[derive(Clone, Copy)]
 pub struct Stretch {
     /// How they are written.
     pub form: Form,
