@@ -1,4 +1,6 @@
-ghost use Rattle.std.specs.Prelude.{◌≡◌};
+ghost use Rattle.std.specs.Prelude.{◌≡◌, Some, codes, option_and_then, option_map, pos};
+ghost use Rattle.std.specs.Option.{option_map_or};
+ghost use Rattle.toml.specs.Data.{as_integer, as_str, get};
 ghost use Rattle.toml.specs.View.{view};
 ghost use Rattle.rv_describe.specs.Entries.{arrival_of, arrival_with, cycle_of, has_unknown_field, level_of, line_named, reading_of};
 
@@ -6,18 +8,40 @@ use crate::unknown::has_other_name;
 use rv_isa::{Arrival, LAST_CYCLE, Line};
 use toml::Value;
 
-/// What an entry says: `None` where it is no table, lacks a field, or a field has another type, and
-/// `Some(None)` where a field has a value that is not allowed. A `level` that is missing is 1.
-pub fn reading_of(entry: &Value) -> Option<Option<Arrival>>
-    ensures { result ≡ reading_of (view entry.now) }
+/// The cycle that an entry has, if it is a number, and then if it is a legal one.
+pub fn cycle_in(entry: &Value) -> Option<Option<u64>>
+    ensures { result ≡ option_map cycle_of (option_and_then as_integer (get (codes "cycle") (view entry.now))) }
 {
-    let cycle = entry.get("cycle")?.as_integer()?;
-    let line = entry.get("line")?.as_str()?;
+    Some(cycle_of(entry.get("cycle")?.as_integer()?))
+}
+
+/// The line that an entry has, if it is a text, and then if it is a name of one.
+pub fn line_in(entry: &Value) -> Option<Option<Line>>
+    ensures { result ≡ option_map line_named (option_and_then as_str (get (codes "line") (view entry.now))) }
+{
+    match entry.get("line")?.as_str() {
+        Some(name) => Some(line_named(name)),
+        None => None,
+    }
+}
+
+/// The level that an entry has, if it is a number, and then if it is a legal one. A `level` that is missing is 1.
+pub fn level_in(entry: &Value) -> Option<Option<bool>>
+    ensures { result ≡ option_map level_of (option_map_or as_integer (get (codes "level") (view entry.now)) (Some (pos 1))) }
+{
     let level = match entry.get("level") {
         Some(value) => value.as_integer()?,
         None => 1,
     };
-    Some(arrival_with(cycle_of(cycle), line_named(line), level_of(level)))
+    Some(level_of(level))
+}
+
+/// What an entry says: `None` where it is no table, lacks a field, or a field has another type, and
+/// `Some(None)` where a field has a value that is not allowed.
+pub fn reading_of(entry: &Value) -> Option<Option<Arrival>>
+    ensures { result ≡ reading_of (view entry.now) }
+{
+    Some(arrival_with(cycle_in(entry)?, line_in(entry)?, level_in(entry)?))
 }
 
 /// The arrival of an entry, where each field has a value that is allowed.

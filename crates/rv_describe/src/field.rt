@@ -1,16 +1,14 @@
-ghost use Rattle.std.specs.Prelude.{◌≡◌, IfOk, Some, codes, map, option_and_then, option_map, pos};
-ghost use Rattle.std.specs.{List.slice_get, Option.option_map_or};
-ghost use Rattle.toml.specs.Data.{as_integer, as_str, get};
+ghost use Rattle.std.specs.Prelude.{◌≡◌, IfOk, map, option_and_then, option_map};
+ghost use Rattle.std.specs.{List.slice_get};
 ghost use Rattle.toml.specs.View.{table_view, view};
-ghost use Rattle.rv_describe.specs.Entries.{cycle_of, level_of, line_named};
 ghost use Rattle.rv_describe.specs.Field.{HasField, entry_at, field_at_fault, field_fault, field_in, field_with};
 
 use crate::arrivals_error::ArrivalsError;
 use crate::document::document;
-use crate::entry::{cycle_of, level_of, line_named};
+use crate::entry::{cycle_in, level_in, line_in};
 use crate::faults::{ValueFault, choice_fault, is_fault};
 use crate::held::get;
-use rv_isa::{Line, MOST_ARRIVALS};
+use rv_isa::MOST_ARRIVALS;
 use std::alloc::{AllocError, Global};
 use toml::{Table, Value};
 
@@ -23,31 +21,6 @@ pub enum Field {
     Line,
     /// `level`, which the line has from then on.
     Level,
-}
-
-// The cycle that an entry has, if it is a number, and then if it is a legal one.
-fn cycle_in(entry: &Value) -> Option<Option<u64>>
-    ensures { result ≡ option_map cycle_of (option_and_then as_integer (get (codes "cycle") (view entry.now))) }
-{
-    Some(cycle_of(entry.get("cycle")?.as_integer()?))
-}
-
-// The line that an entry has, if it is a text, and then if it is a name of one.
-fn line_in(entry: &Value) -> Option<Option<Line>>
-    ensures { result ≡ option_map line_named (option_and_then as_str (get (codes "line") (view entry.now))) }
-{
-    Some(line_named(entry.get("line")?.as_str()?))
-}
-
-// The level that an entry has, if it is a number, and then if it is a legal one.
-fn level_in(entry: &Value) -> Option<Option<bool>>
-    ensures { result ≡ option_map level_of (option_map_or as_integer (get (codes "level") (view entry.now)) (Some (pos 1))) }
-{
-    let level = match entry.get("level") {
-        Some(value) => value.as_integer()?,
-        None => 1,
-    };
-    Some(level_of(level))
 }
 
 // What is wrong with a field of an entry.

@@ -61,12 +61,47 @@ fn kind_values(table: &Table, kind: Kind) -> KindValues
     }
 }
 
-/// The values that a table gives, where the standard ones are the defaults.
+// The values of the data cache.
+fn cache_values(table: &Table) -> CacheValues
+    ensures { result ≡ (values_of (table_view table.now)).cache }
+{
+    CacheValues {
+        sets: number(table, NumberKey::CacheSets),
+        ways: number(table, NumberKey::CacheWays),
+        line: number(table, NumberKey::CacheLine),
+        hit: number(table, NumberKey::CacheHit),
+        miss: number(table, NumberKey::CacheMiss),
+        write_back: number(table, NumberKey::CacheWriteBack),
+    }
+}
+
+// When wrong predictions are mended.
 #[tactic(auto, unfolding(crate::specs::Setting::choice))]
+fn recovery(table: &Table) -> Recovery
+    ensures { result ≡ (values_of (table_view table.now)).recovery }
+{
+    name_at(table, Key::Recovery)
+        .and_then(Recovery::named)
+        .unwrap_or(Values::standard().recovery)
+}
+
+// The values of the branch predictor.
+#[tactic(auto, unfolding(crate::specs::Setting::choice))]
+fn predictor_values(table: &Table) -> PredictorValues
+    ensures { result ≡ (values_of (table_view table.now)).predictor }
+{
+    PredictorValues {
+        kind: name_at(table, Key::PredictorKind)
+            .and_then(PredictorKind::named)
+            .unwrap_or(Values::standard().predictor.kind),
+        entries: number(table, NumberKey::PredictorEntries),
+    }
+}
+
+/// The values that a table gives, where the standard ones are the defaults.
 pub fn values(table: &Table) -> Values
     ensures { result ≡ values_of (table_view table.now) }
 {
-    let standard = Values::standard();
     Values {
         ram_base: number(table, NumberKey::RamBase),
         ram_size: number(table, NumberKey::RamSize),
@@ -79,29 +114,15 @@ pub fn values(table: &Table) -> Values
         rob: number(table, NumberKey::Rob),
         store_queue: number(table, NumberKey::StoreQueue),
         forward: number(table, NumberKey::Forward),
-        recovery: name_at(table, Key::Recovery)
-            .and_then(Recovery::named)
-            .unwrap_or(standard.recovery),
+        recovery: recovery(table),
         kinds: PerKind {
             alu: kind_values(table, Kind::Alu),
             mul: kind_values(table, Kind::Mul),
             div: kind_values(table, Kind::Div),
             mem: kind_values(table, Kind::Mem),
         },
-        cache: CacheValues {
-            sets: number(table, NumberKey::CacheSets),
-            ways: number(table, NumberKey::CacheWays),
-            line: number(table, NumberKey::CacheLine),
-            hit: number(table, NumberKey::CacheHit),
-            miss: number(table, NumberKey::CacheMiss),
-            write_back: number(table, NumberKey::CacheWriteBack),
-        },
-        predictor: PredictorValues {
-            kind: name_at(table, Key::PredictorKind)
-                .and_then(PredictorKind::named)
-                .unwrap_or(standard.predictor.kind),
-            entries: number(table, NumberKey::PredictorEntries),
-        },
+        cache: cache_values(table),
+        predictor: predictor_values(table),
         report: ReportValues {
             dump_address: number(table, NumberKey::ReportDumpAddress),
             dump_words: number(table, NumberKey::ReportDumpWords),
