@@ -1,7 +1,9 @@
-ghost use Rattle.std.specs.Prelude.{◌≡◌, ◌≤◌, length, vec_capacity, IfOk};
+ghost use Rattle.std.specs.Prelude.{◌≡◌, ◌≤◌, [], length, vec_capacity, IfOk};
 ghost use Rattle.rv_hardware.specs.Guided.{guided};
 ghost use Rattle.rv_passage.specs.Table.{HasRoom, passages_of, table_at};
 ghost use Rattle.rv_counts.specs.Head.{head_of};
+ghost use Rattle.rv_counts.specs.Load.{costs_of};
+ghost use Rattle.rv_isa.specs.declared.values.Values.{Values};
 ghost use Rattle.rv_profile.specs.Run.{IsCounted};
 
 use rv_arch::Stop;
@@ -82,6 +84,40 @@ fn begin(alloc: Global, pipeline: &Pipeline) -> Result<Table, AllocError>
     Table::begin(alloc, pipeline.reorder_buffer(), pipeline.front())
 }
 
+// Runs a pipeline up to so many cycles, and counts what leaves the hardware in them and what is in flight at their end.
+fn count_run(
+    alloc: Global,
+    pipeline: &mut Pipeline,
+    predictor: &mut dyn Predictor,
+    arrivals: &Arrivals,
+    limit: u64,
+    profiler: &mut Profiler,
+) -> Result<Stop, AllocError>
+    requires begun { passages_of profiler.old.table ≡ table_at pipeline.old }
+    requires room { HasRoom profiler.old.table }
+    requires rows { 576 ≤ vec_capacity profiler.old.table.rows }
+    requires interrupts { 8 ≤ vec_capacity profiler.old.table.interrupts }
+    requires few { length (passages_of profiler.old.table).rows ≤ 288 }
+    requires nothing { profiler.old.profile.words ≡ [] }
+    ensures { IfOk result (λ stop. (values : Values) → profiler.old.profile.costs ≡ costs_of values → IsCounted arrivals.now limit values (guided pipeline.old (known predictor.old)) (guided pipeline.new (known predictor.new)) stop profiler.new.profile.words) }
+{
+    let steps = Vec::with_capacity(alloc, 8)?;
+    let ended = watch(
+        pipeline,
+        predictor,
+        arrivals,
+        limit,
+        steps,
+        profiler,
+        &mut io::sink(),
+    );
+    let stop = ended.stop?;
+    // It counts so many cycles at most, and so the counts can go on.
+    let _ = pipeline.is_exhausted();
+    profiler.profile.finish(profiler.table.rows())?;
+    Ok(stop)
+}
+
 /// Runs a pipeline that a predictor guides up to so many cycles, and counts what becomes of its instructions. The description
 /// says what loads cost. The only error is out of memory, which may come in the middle of the run.
 pub(crate) fn run_profiled(
@@ -95,22 +131,9 @@ pub(crate) fn run_profiled(
     ensures { IfOk result (λ counted. IsCounted arrivals.now limit description.now (guided pipeline.old (known predictor.old)) (guided pipeline.new (known predictor.new)) counted.stop counted.profile.words) }
 {
     let table = begin(alloc, pipeline)?;
-    let steps = Vec::with_capacity(alloc, 8)?;
     let profile = Profile::new(alloc, description);
     let mut profiler = Profiler { table, profile };
-    let ended = watch(
-        pipeline,
-        predictor,
-        arrivals,
-        limit,
-        steps,
-        &mut profiler,
-        &mut io::sink(),
-    );
-    let stop = ended.stop?;
-    // It counts so many cycles at most, and so the counts can go on.
-    let _ = pipeline.is_exhausted();
-    let Profiler { table, mut profile } = profiler;
-    profile.finish(table.rows())?;
+    let stop = count_run(alloc, pipeline, predictor, arrivals, limit, &mut profiler)?;
+    let Profiler { profile, .. } = profiler;
     Ok(Counted { stop, profile })
 }
