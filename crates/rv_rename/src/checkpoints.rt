@@ -24,5 +24,10 @@ pub(crate) fn remove(numbers: &mut Vec<u64>, seq: u64)
 pub(crate) fn all_below(numbers: &[u64], seq: u64) -> bool
     ensures { IsTrue result ↔ AreBelow (λ n. n) seq numbers.now }
 {
-    numbers.iter().all(|&number| number < seq)
+    for number in numbers {
+        if *number >= seq {
+            return false;
+        }
+    }
+    true
 }
