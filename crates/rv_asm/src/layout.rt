@@ -91,7 +91,8 @@ impl<'a> Layout<'a> {
             (advance (found self.old.symbols) (statement_of (operands_in operands.now) statement.now) self.old.reach)) }
         ensures layout { IfOk result (λ _. layout_of self.new
             ≡ behind (found self.old.symbols) self.old.reach (Ok (statement_of (operands_in operands.now) statement.now))) }
-        ensures idle { IfOk result (λ idle. idle ≡ says_nothing (Ok (statement_of (operands_in operands.now) statement.now))) }
+        ensures idle { IfOk result (λ idle. idle
+            ≡ says_nothing (Ok (statement_of (operands_in operands.now) statement.now))) }
         ensures records { self.new.records ≡ self.old.records }
     {
         self.reach = advance(&self.symbols, statement, operands, self.reach)?;

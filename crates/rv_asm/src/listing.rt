@@ -117,7 +117,8 @@ fn push_sections(
 
 /// The listing of a layout at a base.
 fn listing_of(alloc: Global, layout: &Layout<'_>, base: u32) -> Result<Listing, AllocError>
-    ensures { IfOk result (λ listing. listing ≡ listing_of_kept base layout.now.reach (kept_in layout.now.records.items)) }
+    ensures { IfOk result (λ listing. listing
+        ≡ listing_of_kept base layout.now.reach (kept_in layout.now.records.items)) }
 {
     let mut listing = Listing::new(alloc, base);
     push_sections(alloc, layout, &mut listing)?;
