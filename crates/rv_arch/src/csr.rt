@@ -5,7 +5,7 @@ use std::error::Error;
 use std::fmt;
 
 /// The source of a CSR instruction.
-#[derive(Clone, Copy, Debug, PartialEq, Eq)]
+#[derive(Clone, Copy, PartialEq, Eq)]
 pub struct CsrOperand {
     /// The value of the register, or the immediate.
     pub value: u32,

@@ -17,7 +17,7 @@ use std::alloc::{AllocError, Global};
 use std::marker::Model;
 
 /// The machine that takes one step at a time, against which the out-of-order core is held.
-#[derive(Debug, Drop)]
+#[derive(Drop)]
 pub struct Reference {
     pc: u32,
     registers: [u32; 32],

@@ -1,5 +1,5 @@
 /// An interrupt line of the hart (Privileged Architecture 20211203, 3.1.9).
-#[derive(Clone, Copy, Debug, PartialEq, Eq)]
+#[derive(Clone, Copy, PartialEq, Eq)]
 pub enum Line {
     Software,
     Timer,
@@ -15,7 +15,7 @@ pub struct Lines {
 }
 
 /// A change of one interrupt line.
-#[derive(Clone, Copy, Debug, PartialEq, Eq)]
+#[derive(Clone, Copy, PartialEq, Eq)]
 pub struct Arrival {
     /// The first cycle in which the line has the level; a step number on the one-at-a-time machine.
     pub cycle: u64,
