@@ -1,6 +1,6 @@
 -- How a task ends.
-use Rattle.std.proofs.Common.{◌≡◌, ℕ, List, Option, Some, inr, refl, subst}
-use Rattle.std.specs.Prelude.{Err, Result}
+use Rattle.std.proofs.Common.{◌≡◌, ℕ, List, Option, Some, inr, refl, subst, sym}
+use Rattle.std.specs.Prelude.{Err, Ok, Result}
 use Rattle.rv_front.specs.declared.predictors.DescribedPredictor.{DescribedPredictor}
 use Rattle.rv_job.specs.FaultStream.{FaultStream}
 use Rattle.rv_job.specs.declared.errors.SimError.{SimError}
@@ -11,7 +11,7 @@ use Rattle.rv_sim.specs.CoreReport.{untaught_of}
 use Rattle.rv_sim.specs.Ended.{ReportsEnding, exit_status}
 use Rattle.rv_sim.specs.Output.{PassesOn}
 use Rattle.rv_sim.specs.Program.{EndsWithin}
-use Rattle.rv_sim.specs.Task.{AsksForMemory, Ends, Shows, predictor_of}
+use Rattle.rv_sim.specs.Task.{AsksForMemory, Ends, Shows, ended_after, predictor_of}
 use Rattle.rv_sim.specs.declared.{ended.Ended.Ended, task.Task.Task}
 use Rattle.rv_sim.proofs.Answered.{Keeps-same}
 use Rattle.rv_sim.proofs.PassedOn.{ended_behind}
@@ -23,6 +23,15 @@ pub Ends-by_error : {T : Type 0} (task : Task) (predictor : Option DescribedPred
 Ends-by_error task predictor Is ended Memory old new asks shows nothing = (asks, Keeps-same old new nothing)
 Ends-by_error task predictor Is ended WriteFailed old new asks shows (answer, text, is, beginning) = (text, ended answer, shows answer text is, beginning)
 Ends-by_error task predictor Is ended _ old new asks shows never = absurd never
+
+-- by whatever its call answered
+pub Ends-after : {T : Type 0} (task : Task) (predictor : Option DescribedPredictor) (Is : T → List ℕ → Type 0) (ended : T → Ended) (answer : Result T SimError) {result : Result Ended SimError} (old new : Option (List ℕ))
+    → AsksForMemory task → ((a : T) (text : List ℕ) → Is a text → Shows task predictor text (ended a)) → IsAnswer Is answer old new → result ≡ ended_after ended answer
+    → Ends task predictor old new result
+Ends-after task predictor Is ended (Ok a) old new asks shows (text, is, appended) same =
+    subst (Ends task predictor old new) (sym same) (text, shows a text is, appended)
+Ends-after task predictor Is ended (Err error) old new asks shows holds same =
+    subst (Ends task predictor old new) (sym same) (Ends-by_error task predictor Is ended error old new asks shows holds)
 
 -- by a write that failed, of the text that the task has
 pub Ends-by_write : (task : Task) (predictor : Option DescribedPredictor) (ended : Ended) (text : List ℕ) (old new : Option (List ℕ))

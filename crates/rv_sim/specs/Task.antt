@@ -114,6 +114,11 @@ ended_by stop over = record { status = stop_status stop; over = over }
 abbrev pub done : Ended
 done = record { status = 0; over = None }
 
+-- how a task ended, or its error, after what its call answered
+abbrev pub ended_after : {T : Type 0} → (T → Ended) → Result T SimError → Result Ended SimError
+ended_after ended (Ok answer) = Ok (ended answer)
+ended_after ended (Err error) = Err error
+
 -- the text of a task that was done with a predictor, and how that ended
 abbrev pub Shows : Task → Option DescribedPredictor → List ℕ → Ended → Type 0
 Shows (Run job options) predictor text ended =

@@ -3,7 +3,7 @@ ghost use Rattle.rv_isa.specs.Description.{IsLegalPredictor};
 ghost use Rattle.rv_job.specs.Fault.{fault_line, fault_status};
 ghost use Rattle.rv_job.specs.FaultStream.{Tells};
 ghost use Rattle.rv_job.specs.JobRefusal.{RefusesJob};
-ghost use Rattle.rv_sim.specs.Task.{Asks, AsksForStates, Refuses, Ends, asked, ended_by, form_of, predictor_of, rows_of, stop_status};
+ghost use Rattle.rv_sim.specs.Task.{Asks, AsksForStates, Refuses, Ends, asked, done, ended_after, ended_by, form_of, predictor_of, rows_of, stop_status};
 
 use crate::boxed_predictor::BoxedPredictor;
 use crate::compare::compare;
@@ -22,7 +22,7 @@ use rv_job::{
     Comparison, DescribedImage, FaultLines, Job, ListedJob, SimError, read_comparison,
     read_image_text, read_job, read_listed_job, write_image_line,
 };
-use rv_picture::{Form, Rows, View};
+use rv_picture::{Form, Rows, RunEnd, View};
 use rv_report::Options;
 use rv_states::Form as StatesForm;
 use std::alloc::Global;
@@ -224,12 +224,48 @@ fn stop_status(stop: Stop) -> u8
     }
 }
 
+// How a task ended that has no run of its own.
+const DONE: Ended = Ended {
+    status: 0,
+    over: None,
+};
+
 // How a task ended whose run ended for a reason, and after so many cycles, where that was before those of a picture.
 fn ended_by(stop: Stop, over: Option<u64>) -> Ended
     ensures { result ≡ ended_by stop over }
 {
     let status = stop_status(stop);
     Ended { status, over }
+}
+
+// How a task ended, or why it failed, after its run.
+fn ended(run: Result<Stop, SimError>) -> Result<Ended, SimError>
+    ensures { result ≡ ended_after (λ stop. ended_by stop None) run }
+{
+    match run {
+        Ok(stop) => Ok(ended_by(stop, None)),
+        Err(error) => Err(error),
+    }
+}
+
+// How a picture ended, or why it failed, after its run.
+fn ended_picture(run: Result<RunEnd, SimError>) -> Result<Ended, SimError>
+    ensures { result ≡ ended_after (λ end. ended_by end.stop end.over) run }
+{
+    match run {
+        Ok(end) => Ok(ended_by(end.stop, end.over)),
+        Err(error) => Err(error),
+    }
+}
+
+// How a comparison ended, or why it failed, after its table.
+fn ended_table(table: Result<(), SimError>) -> Result<Ended, SimError>
+    ensures { result ≡ ended_after (λ _. done) table }
+{
+    match table {
+        Ok(()) => Ok(DONE),
+        Err(error) => Err(error),
+    }
 }
 
 /// Does the task: writes its report, picture, log, states, sentences or table, or the line that says which image
@@ -245,47 +281,27 @@ pub fn finish<W: Write>(
     ensures { Ends task.now (known predictor.predictor) (W.contents output.old) (W.contents output.new) result }
 {
     match task {
-        Task::Run { job, options } => {
-            let stop = simulate(alloc, job, predictor, options, output)?;
-            Ok(ended_by(stop, None))
-        }
-        Task::Reference { job, options } => {
-            let stop = reference(alloc, job, options, output)?;
-            Ok(ended_by(stop, None))
-        }
+        Task::Run { job, options } => { ended(simulate(alloc, job, predictor, options, output)) }
+        Task::Reference { job, options } => { ended(reference(alloc, job, options, output)) }
         Task::Check { made } => {
             write_image_line(output, &made.image)?;
-            Ok(Ended {
-                status: 0,
-                over: None,
-            })
+            Ok(DONE)
         }
         Task::Picture { listed, view } => {
-            let end = picture(alloc, listed, predictor, view, output)?;
-            Ok(ended_by(end.stop, end.over))
+            ended_picture(picture(alloc, listed, predictor, view, output))
         }
-        Task::Log { listed, limit } => {
-            let stop = log(alloc, listed, predictor, *limit, output)?;
-            Ok(ended_by(stop, None))
-        }
+        Task::Log { listed, limit } => { ended(log(alloc, listed, predictor, *limit, output)) }
         Task::States { listed, stretch } => {
-            let stop = states(alloc, listed, predictor, stretch, output)?;
-            Ok(ended_by(stop, None))
+            ended(states(alloc, listed, predictor, stretch, output))
         }
         Task::Explain { listed, limit } => {
-            let stop = explain(alloc, listed, predictor, *limit, output)?;
-            Ok(ended_by(stop, None))
+            ended(explain(alloc, listed, predictor, *limit, output))
         }
         Task::Profile { listed, limit } => {
-            let stop = profile(alloc, listed, predictor, *limit, output)?;
-            Ok(ended_by(stop, None))
+            ended(profile(alloc, listed, predictor, *limit, output))
         }
         Task::Compare { comparison, limit } => {
-            compare(alloc, comparison, *limit, output)?;
-            Ok(Ended {
-                status: 0,
-                over: None,
-            })
+            ended_table(compare(alloc, comparison, *limit, output))
         }
     }
 }
