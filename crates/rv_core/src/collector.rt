@@ -8,7 +8,7 @@ use std::alloc::{AllocError, Global};
 use std::io::Write;
 
 /// The watcher that collects the steps of a run.
-#[derive(Debug, Drop)]
+#[derive(Drop)]
 pub(crate) struct Collector {
     /// The steps so far, in program order.
     pub(crate) steps: Vec<Step>,

@@ -20,7 +20,7 @@ pub(crate) enum HeadTurn {
 }
 
 /// What a head does when its turn comes.
-#[derive(Clone, Copy, Debug, PartialEq, Eq)]
+#[derive(Clone, Copy)]
 pub(crate) enum Role {
     FenceInstructions,
     CsrAccess(CsrAccess),
@@ -29,7 +29,7 @@ pub(crate) enum Role {
 }
 
 /// A CSR instruction.
-#[derive(Clone, Copy, Debug, PartialEq, Eq)]
+#[derive(Clone, Copy)]
 pub(crate) struct CsrAccess {
     pub(crate) op: CsrOp,
     pub(crate) rd: Reg,

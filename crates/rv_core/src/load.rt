@@ -15,7 +15,7 @@ use rv_stations::{Operand, Ready, Waiting};
 use rv_stores::StoreQueue;
 
 /// Where a load takes its bytes from.
-#[derive(Clone, Copy, Debug, PartialEq, Eq)]
+#[derive(Clone, Copy)]
 enum Path {
     /// It faults.
     Without(Cause),
@@ -149,7 +149,7 @@ impl Path {
 }
 
 /// What an execution gives, how many cycles it takes, and from when on the port is idle.
-#[derive(Clone, Copy, Debug, PartialEq, Eq)]
+#[derive(Clone, Copy)]
 pub(crate) struct Executed {
     pub(crate) message: Message,
     pub(crate) cost: u32,
@@ -157,7 +157,7 @@ pub(crate) struct Executed {
 }
 
 /// What the time of an execution depends on.
-#[derive(Clone, Copy, Debug, PartialEq, Eq)]
+#[derive(Clone, Copy)]
 pub(crate) struct Times {
     /// The cycles of the unit, and those of a load to which stores forward all bytes.
     pub(crate) latency: u32,

@@ -16,7 +16,7 @@ pub struct CycleReport {
 }
 
 /// What a cycle did beside its steps.
-#[derive(Clone, Copy, Debug, PartialEq, Eq)]
+#[derive(Clone, Copy)]
 pub(crate) struct CycleEnd {
     pub(crate) dispatched: u32,
     pub(crate) stall: Option<Stall>,

@@ -1,7 +1,20 @@
 -- The drain phase on the queue is that on the retired stores: what is in flight stays after them.
-use Rattle.rv_core.proofs.Words.{◌≡◌, ℕ, ◌+◌, ◌<◌, Bool, true, false, List, [], ◌∷◌, ◌++◌, if◌then◌else◌, Some, None, All, refl, subst, arith, All-cons, All-head, All-tail, StoreAccess, Values, oldest_to_drain, with_oldest_draining, without_drained, access_to_drain, draining, is_draining, Store as QueuedStore, Committed, Draining, Speculative, StoreState, Entry, stores_of, AreBelow, is_oldest_draining, IsLegalAccess, IsRetiredStore}
+use Rattle.rv_core.proofs.Words.{◌≡◌, ℕ, ◌+◌, ◌<◌, Bool, true, false, List, [], ◌∷◌, ◌++◌, if◌then◌else◌, Some, None, All, Option, refl, subst, arith, All-cons, All-head, All-tail, is_store, Message, StoreAccess, Values, oldest_to_drain, with_oldest_draining, without_drained, access_to_drain, draining, is_draining, Store as QueuedStore, Committed, Draining, Speculative, StoreState, Entry, broadcast_of, store_of_broadcast, store_of_message, stores_of, AreBelow, is_oldest_draining, IsLegalAccess, IsRetiredStore}
 use Rattle.rv_stores.specs.declared.store.StoreState.TheVariants as store
 use Rattle.rv_core.proofs.Retired.Stores.{AreRetired}
+
+-- a store in flight does not drain, and has nothing to drain
+told : (seq : ℕ) (written : Option StoreAccess) →
+    (is_draining (record { seq = seq; state = store_of_message written }) ≡ false)
+    × (access_to_drain (record { seq = seq; state = store_of_message written }) ≡ None)
+told seq None = (refl, refl)
+told seq (Some access) = (refl, refl)
+
+in_flight : (seq : ℕ) (message : Option Message) →
+    (is_draining (record { seq = seq; state = store_of_broadcast message }) ≡ false)
+    × (access_to_drain (record { seq = seq; state = store_of_broadcast message }) ≡ None)
+in_flight seq None = (refl, refl)
+in_flight seq (Some message) = told seq message.store
 
 -- among the stores in flight none drains
 pub record NoneDrains (flight : List QueuedStore) : Type 0 where
@@ -9,12 +22,17 @@ pub record NoneDrains (flight : List QueuedStore) : Type 0 where
   pub idle : oldest_to_drain flight ≡ None
   pub rests : is_oldest_draining flight ≡ false
 
+first_idle : (seq : ℕ) (is_store : Bool) (message : Option Message) (ss : List QueuedStore) → NoneDrains ss →
+    NoneDrains (if is_store then record { seq = seq; state = store_of_broadcast message } ∷ ss else ss)
+first_idle seq false message ss none = none
+first_idle seq true message ss none =
+    record { stays = rw ((in_flight seq message).0) refl; idle = (in_flight seq message).1; rests = (in_flight seq message).0 }
+
 -- no store of an instruction in flight drains
 pub none_drains : (seq : ℕ) (es : List Entry) → NoneDrains (stores_of seq es)
 none_drains seq [] = record { stays = refl; idle = refl; rests = refl }
 none_drains seq (e ∷ es) =
-    let none = none_drains (seq + 1) es in
-    record { stays = grind (arith, none.stays); idle = grind (arith, none.idle); rests = grind (arith, none.rests) }
+    first_idle seq (is_store e.instruction) (broadcast_of e.stage) (stores_of (seq + 1) es) (none_drains (seq + 1) es)
 
 -- the whole queue
 

@@ -76,7 +76,6 @@ committed_more start h old new more done left rest before told turn next another
 
 -- after all turns
 pub committed_all : (start h : Hardware) (old new : List Step) (done left : ℕ) (before : AreCommitted start h old new done left) →
-    left ≡ 0 → before.steps ≡ (commit set.contains start).steps
+    left ≡ 0 → committing h before.steps ≡ commit set.contains start
 committed_all start h old new done left before none =
-    ap (λ (c : Committing). c.steps)
-    (ap (λ n. repeated (commit_turn set.contains) n (committing h before.steps)) (sym none) ∙ before.to_come)
+    ap (λ n. repeated (commit_turn set.contains) n (committing h before.steps)) (sym none) ∙ before.to_come

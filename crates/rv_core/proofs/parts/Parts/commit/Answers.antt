@@ -74,12 +74,32 @@ returns-in-Ends-clause-taught g c =
     c.commit_head.ensures.turn.learns (commit set.contains c.args.self.now).steps
     (ap (λ (x : Committing). x.steps) (ends g (goal.at.returns-in-Ends-clause-taught g c).In-Ends))
 
+pub returns-clause-hardware : goal.returns-clause-hardware
+returns-clause-hardware g c =
+    ap (λ (x : Committing). x.hardware)
+    (committed_all c.args.self.now c.loop.self c.args.steps.now.items c.loop.steps.items c.loop.counter
+    (c.self.inside.values.commit_width - c.loop.counter) c.loop.invariant.0 (omega (arith, c.loop-test.false)))
+
+pub returns-clause-steps : goal.returns-clause-steps
+returns-clause-steps g c =
+    c.loop.invariant.0.appended
+    ∙ ap (λ (x : Committing). c.args.steps.now.items ++ x.steps)
+    (committed_all c.args.self.now c.loop.self c.args.steps.now.items c.loop.steps.items c.loop.counter
+    (c.self.inside.values.commit_width - c.loop.counter) c.loop.invariant.0 (omega (arith, c.loop-test.false)))
+
+pub returns-clause-stop : goal.returns-clause-stop
+returns-clause-stop g c =
+    ap (λ (x : Committing). x.stop)
+    (committed_all c.args.self.now c.loop.self c.args.steps.now.items c.loop.steps.items c.loop.counter
+    (c.self.inside.values.commit_width - c.loop.counter) c.loop.invariant.0 (omega (arith, c.loop-test.false)))
+
 pub returns-clause-taught : goal.returns-clause-taught
 returns-clause-taught g c =
     taught_all c.args.self.now c.loop.self c.loop.invariant.0.steps _ _ c.loop.invariant.2
     (commit set.contains c.args.self.now).steps
+    (ap (λ (x : Committing). x.steps)
     (committed_all c.args.self.now c.loop.self c.args.steps.now.items c.loop.steps.items c.loop.counter
-    (c.self.inside.values.commit_width - c.loop.counter) c.loop.invariant.0 (omega (arith, c.loop-test.false)))
+    (c.self.inside.values.commit_width - c.loop.counter) c.loop.invariant.0 (omega (arith, c.loop-test.false))))
 
 pub loop-preserved : goal.loop-preserved
 unfolding committed_more
