@@ -7,8 +7,9 @@ use Rattle.rv_isa.specs.declared.{causes.Cause.Cause, instructions.Instr.Instr, 
 use Rattle.rv_isa.specs.declared.causes.Cause.TheVariants.{LoadAddressMisaligned, LoadAccessFault, StoreAddressMisaligned, StoreAccessFault}
 use Rattle.rv_isa.specs.declared.instructions.Instr.TheVariants.{Load}
 use Rattle.rv_isa.specs.declared.operations.Kind.TheVariants.{Alu, Mul, Div, Mem}
-use Rattle.rv_memory.specs.Memory.{Layout, is_aligned, is_in_ram, is_writable}
-use Rattle.rv_stores.specs.Queue.{first_unknown, forwarded, older_than}
+use Rattle.rv_cache.specs.Cache.{Contents}
+use Rattle.rv_memory.specs.Memory.{Layout, Memory, is_aligned, is_in_ram, is_writable}
+use Rattle.rv_stores.specs.Queue.{Queue, first_unknown, forwarded, older_than}
 use Rattle.rv_stores.specs.declared.store.Store.{Store}
 use Rattle.rv_stations.specs.declared.waiting.{Operand.Operand, Waiting.Waiting}
 use Rattle.rv_stations.specs.declared.waiting.Operand.TheVariants.{Value}
@@ -86,3 +87,7 @@ goes Alu layout stores port_idle w = true
 goes Mul layout stores port_idle w = true
 goes Div layout stores port_idle w = true
 goes Mem layout stores port_idle w = may_go layout stores (first_unknown stores) port_idle w
+
+-- the same over a cache and a store queue
+abbrev pub goes_over : Kind → Contents Memory → Queue → Bool → Waiting → Bool
+goes_over kind cache queue port_idle w = goes kind cache.backing.layout queue.stores port_idle w

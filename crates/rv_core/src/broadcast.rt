@@ -76,8 +76,12 @@ impl Parts {
     // Squashes everything younger than a branch or a jump, and begins to fetch anew where it goes on.
     fn recover(&mut self, seq: u64, next_pc: u32)
         requires early { mends_early self.old.values.recovery ≡ true }
-        requires jump { (e : EntryOf) × (entry_of seq self.old.rob.retired self.old.rob.entries ≡ Some e) × (is_branch_or_jump e.instruction ≡ true) }
-        ensures { self.new ≡ record self.old { rob = cut_from (seq + 1) (changed (predicting next_pc) seq self.old.rob); front = redirected next_pc self.old.front } }
+        requires jump { (e : EntryOf) × (entry_of seq self.old.rob.retired self.old.rob.entries ≡ Some e)
+            × (is_branch_or_jump e.instruction ≡ true) }
+        ensures { self.new ≡ record self.old {
+          rob = cut_from (seq + 1) (changed (predicting next_pc) seq self.old.rob);
+          front = redirected next_pc self.old.front;
+        } }
     {
         self.rob.correct_prediction(seq, next_pc);
         let from = seq + 1;
@@ -109,9 +113,12 @@ fn send(
     recovery: Recovery,
     seq: u64,
 ) -> Option<u32>
-    ensures carried { (e : EntryOf) (issue : IssueOf) (message : MessageOf) → IsRunning seq rob.now e issue message → stations.new ≡ for_each (woken_pool seq message.value) stations.old }
-    ensures stored { (e : EntryOf) (issue : IssueOf) (message : MessageOf) → IsRunning seq rob.now e issue message → stores.new ≡ record stores.old { stores = map (answered seq (store_of_message message.store)) stores.old.stores } }
-    ensures goes_on { (e : EntryOf) (issue : IssueOf) (message : MessageOf) → IsRunning seq rob.now e issue message → result ≡ (if mends_early recovery && is_mispredicted e message then Some message.next_pc else None) }
+    ensures carried { (e : EntryOf) (issue : IssueOf) (message : MessageOf) → IsRunning seq rob.now e issue message →
+        stations.new ≡ for_each (woken_pool seq message.value) stations.old }
+    ensures stored { (e : EntryOf) (issue : IssueOf) (message : MessageOf) → IsRunning seq rob.now e issue message →
+        stores.new ≡ record stores.old { stores = map (answered seq (store_of_message message.store)) stores.old.stores } }
+    ensures goes_on { (e : EntryOf) (issue : IssueOf) (message : MessageOf) → IsRunning seq rob.now e issue message →
+        result ≡ (if mends_early recovery && is_mispredicted e message then Some message.next_pc else None) }
 {
     let Some(entry) = rob.get(seq) else {
         return None;

@@ -1,11 +1,11 @@
-ghost use Rattle.std.specs.Prelude.{◌≡◌, ◌+◌, ◌^◌, ◌<◌, ◌≤◌, IsTrue, true, false, is_some, length, IfSome, option_and_then};
+ghost use Rattle.std.specs.Prelude.{◌≡◌, ◌+◌, ◌^◌, ◌<◌, ◌≤◌, IsTrue, true, false, is_some, length, IfSome};
 ghost use Rattle.rv_isa.specs.PerKind.{at_kind, with_kind};
 ghost use Rattle.rv_stations.specs.Pool.{issued as taken_from};
-ghost use Rattle.rv_stations.specs.Waiting.{ArePassedBy, ready_of, ready_taken, oldest_ready};
+ghost use Rattle.rv_stations.specs.Waiting.{ArePassedBy, next_ready, ready_taken};
 ghost use Rattle.rv_units.specs.Bus.{holds, with_result};
 ghost use Rattle.rv_units.specs.Pool.{is_free, started as started_unit};
 ghost use Rattle.rv_core.specs.Access.{IsExecuted, IsOverRam, cache_after, cost_by, path_of_ready, port_free_by};
-ghost use Rattle.rv_core.specs.Load.{goes};
+ghost use Rattle.rv_core.specs.Load.{goes_over};
 
 use crate::execute::result_of;
 use crate::load::{Executed, Times, load, may_go};
@@ -126,10 +126,10 @@ fn take_ready(
     queue: &StoreQueue,
     port_idle: bool,
 ) -> Option<Taken>
-    requires { ArePassedBy (goes kind cache.now.backing.layout queue.now.stores port_idle) passed (at_kind kind stations.old).waiting }
-    ensures oldest { ready_taken result ≡ option_and_then ready_of (oldest_ready (goes kind cache.now.backing.layout queue.now.stores port_idle) (at_kind kind stations.old).waiting) }
-    ensures others { stations.new ≡ with_kind kind (taken_from (goes kind cache.now.backing.layout queue.now.stores port_idle) (at_kind kind stations.old)) stations.old }
-    ensures passed { IfSome result (λ taken. ArePassedBy (goes kind cache.now.backing.layout queue.now.stores port_idle) taken.passed (at_kind kind stations.new).waiting) }
+    requires { ArePassedBy (goes_over kind cache.now queue.now port_idle) passed (at_kind kind stations.old).waiting }
+    ensures oldest { ready_taken result ≡ next_ready (goes_over kind cache.now queue.now port_idle) (at_kind kind stations.old).waiting }
+    ensures others { stations.new ≡ with_kind kind (taken_from (goes_over kind cache.now queue.now port_idle) (at_kind kind stations.old)) stations.old }
+    ensures passed { IfSome result (λ taken. ArePassedBy (goes_over kind cache.now queue.now port_idle) taken.passed (at_kind kind stations.new).waiting) }
 {
     if kind == Kind::Mem {
         let first_unknown = queue.first_unknown();

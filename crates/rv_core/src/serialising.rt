@@ -65,7 +65,8 @@ impl Parts {
     fn access_csr(&mut self, entry: &Entry, access: CsrAccess) -> Option<Step>
         requires head { IsHead self.old entry.now }
         requires room { self.old.rob.retired < 8 * self.old.cycle + 8 }
-        ensures turn { (steps : List Step) → PhaseEnds (execute_head entry.now (instruction_of_access access) (committing self.old steps)) ≡ turn_ended self.new steps result }
+        ensures turn { (steps : List Step) → PhaseEnds (execute_head entry.now (instruction_of_access access) (committing self.old steps))
+            ≡ turn_ended self.new steps result }
         ensures kept { IsKept self.old self.new }
     {
         let operand = CsrOperand::new(access.source, &self.registers);
@@ -85,7 +86,8 @@ impl Parts {
     fn return_from_trap(&mut self, entry: &Entry) -> Option<Step>
         requires head { IsHead self.old entry.now }
         requires room { self.old.rob.retired < 8 * self.old.cycle + 8 }
-        ensures turn { (steps : List Step) → PhaseEnds (execute_head entry.now instr.Mret (committing self.old steps)) ≡ turn_ended self.new steps result }
+        ensures turn { (steps : List Step) → PhaseEnds (execute_head entry.now instr.Mret (committing self.old steps))
+            ≡ turn_ended self.new steps result }
         ensures kept { IsKept self.old self.new }
     {
         let next = self.csrs.mret();
@@ -96,7 +98,11 @@ impl Parts {
     fn serialise(&mut self, entry: &Entry, written: Option<(Reg, u32)>, next: u32) -> Option<Step>
         requires head { IsHead self.old entry.now }
         requires room { self.old.rob.retired < 8 * self.old.cycle + 8 }
-        ensures hardware { self.new ≡ flushed (record self.old { pc = next; registers = registers_with written self.old.registers; rob = head_retired self.old.rob }) }
+        ensures hardware { self.new ≡ flushed (record self.old {
+          pc = next;
+          registers = registers_with written self.old.registers;
+          rob = head_retired self.old.rob;
+        }) }
         ensures step { result ≡ Some (row_of entry.now written self.old.cycle) }
     {
         let step = row_of(entry, written, self.cycle);
@@ -119,7 +125,8 @@ impl Parts {
         requires head { IsHead self.old entry.now }
         requires fence { entry.now.instruction ≡ Some instr.FenceI }
         requires room { self.old.rob.retired < 8 * self.old.cycle + 8 }
-        ensures turn { (steps : List Step) → PhaseEnds (fence_instructions entry.now (committing self.old steps)) ≡ turn_ended self.new steps result }
+        ensures turn { (steps : List Step) → PhaseEnds (fence_instructions entry.now (committing self.old steps))
+            ≡ turn_ended self.new steps result }
         ensures kept { IsKept self.old self.new }
     {
         if !self.stores.is_empty() || !self.is_port_idle() {

@@ -1,5 +1,5 @@
 -- Instructions that wait for their operands, in order of their sequence numbers.
-use Rattle.std.specs.Prelude.{◌≡◌, ℕ, ◌^◌, ◌<◌, Bool, true, false, ◌&&◌, ◌==◌, List, [], ◌∷◌, take, Option, Some, None, if◌then◌else◌}
+use Rattle.std.specs.Prelude.{◌≡◌, ℕ, ◌^◌, ◌<◌, Bool, true, false, ◌&&◌, ◌==◌, List, [], ◌∷◌, take, option_and_then, Option, Some, None, if◌then◌else◌}
 use Rattle.rv_stations.specs.declared.waiting.{Operand.Operand, Ready.Ready, Taken.Taken, Waiting.Waiting}
 use Rattle.std.specs.Option.{option_map}
 use Rattle.rv_stations.specs.declared.waiting.Operand.TheVariants.{Value, Tag}
@@ -45,6 +45,10 @@ woken seq value w = record w { first = woken_operand seq value w.first; second =
 abbrev pub oldest_ready : (Waiting → Bool) → List Waiting → Option Waiting
 oldest_ready test [] = None
 oldest_ready test (w ∷ ws) = if is_ready w && test w then Some w else oldest_ready test ws
+
+-- what issues of the oldest instruction that is ready and passes a test
+abbrev pub next_ready : (Waiting → Bool) → List Waiting → Option Ready
+next_ready test ws = option_and_then ready_of (oldest_ready test ws)
 
 -- the others
 abbrev pub without_oldest_ready : (Waiting → Bool) → List Waiting → List Waiting

@@ -1,7 +1,7 @@
 ghost use Rattle.std.specs.Prelude.{◌≡◌, ◌<◌, ◌≤◌, ◌↔◌, Bool, [], Some, length, take, nat_le, slice_get, IsTrue, IfOk, IfSome, option_and_then, true};
 ghost use Rattle.rv_isa.specs.Description.{Within};
 ghost use Rattle.rv_isa.specs.Numbered.{AreBelow, IsInOrder, below};
-ghost use Rattle.rv_stations.specs.Waiting.{seq_of, ArePassedBy, IsOperand, is_ready, ready_of, ready_taken, oldest_ready};
+ghost use Rattle.rv_stations.specs.Waiting.{seq_of, ArePassedBy, IsOperand, is_ready, next_ready, ready_taken, oldest_ready};
 ghost use Rattle.std.specs.Option.{option_map};
 
 use crate::column::OperandColumn;
@@ -51,7 +51,7 @@ const NOTHING: Dispatched = Dispatched {
 };
 
 impl StationPool {
-    ghost use Rattle.rv_stations.specs.Pool.{Answers, empty_pool, with_waiting, woken_pool, issued, squashed, without_place};
+    ghost use Rattle.rv_stations.specs.Pool.{Searches, empty_pool, with_waiting, woken_pool, issued, squashed, without_place};
 
     /// The stations that a description gives a kind, with nothing in them.
     pub fn new(alloc: Global, kind: KindValues) -> Result<Self, AllocError>
@@ -168,9 +168,12 @@ impl StationPool {
         requires { F.IsAlwaysCallable filter.now }
         ensures within { IfSome result (λ at. at < length self.now.waiting) }
         ensures ready { IfSome result (λ at. option_map is_ready (slice_get self.now.waiting at) ≡ Some true) }
-        ensures oldest { (test : Waiting → Bool) → Answers F.Fn filter.now test → ArePassedBy test passed self.now.waiting → oldest_ready test self.now.waiting ≡ option_and_then (slice_get self.now.waiting) result }
-        ensures others { (test : Waiting → Bool) → Answers F.Fn filter.now test → ArePassedBy test passed self.now.waiting → issued test self.now ≡ without_place result self.now }
-        ensures passed { (test : Waiting → Bool) → Answers F.Fn filter.now test → ArePassedBy test passed self.now.waiting → IfSome result (λ at. ArePassedBy test at self.now.waiting) }
+        ensures oldest { (test : Waiting → Bool) → Searches F.Fn filter.now test passed self.now →
+            oldest_ready test self.now.waiting ≡ option_and_then (slice_get self.now.waiting) result }
+        ensures others { (test : Waiting → Bool) → Searches F.Fn filter.now test passed self.now →
+            issued test self.now ≡ without_place result self.now }
+        ensures passed { (test : Waiting → Bool) → Searches F.Fn filter.now test passed self.now →
+            IfSome result (λ at. ArePassedBy test at self.now.waiting) }
         ensures in_order { IsInOrder seq_of self.now.waiting }
     {
         let waiting = self.first.waiting() | self.second.waiting();
@@ -206,9 +209,12 @@ impl StationPool {
         filter: F,
     ) -> Option<Taken>
         requires { F.IsAlwaysCallable filter }
-        ensures oldest { (test : Waiting → Bool) → Answers F.Fn filter test → ArePassedBy test passed self.old.waiting → ready_taken result ≡ option_and_then ready_of (oldest_ready test self.old.waiting) }
-        ensures others { (test : Waiting → Bool) → Answers F.Fn filter test → ArePassedBy test passed self.old.waiting → self.new ≡ issued test self.old }
-        ensures passed { (test : Waiting → Bool) → Answers F.Fn filter test → ArePassedBy test passed self.old.waiting → IfSome result (λ taken. ArePassedBy test taken.passed self.new.waiting) }
+        ensures oldest { (test : Waiting → Bool) → Searches F.Fn filter test passed self.old →
+            ready_taken result ≡ next_ready test self.old.waiting }
+        ensures others { (test : Waiting → Bool) → Searches F.Fn filter test passed self.old →
+            self.new ≡ issued test self.old }
+        ensures passed { (test : Waiting → Bool) → Searches F.Fn filter test passed self.old →
+            IfSome result (λ taken. ArePassedBy test taken.passed self.new.waiting) }
         ensures in_order { IsInOrder seq_of self.old.waiting }
     {
         let at = self.place_of_oldest_ready(passed, &filter)?;

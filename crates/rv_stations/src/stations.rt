@@ -1,8 +1,8 @@
-ghost use Rattle.std.specs.Prelude.{◌≡◌, ◌<◌, ◌≤◌, ◌↔◌, Bool, [], length, nat_le, IsTrue, IfOk, IfSome, option_and_then};
+ghost use Rattle.std.specs.Prelude.{◌≡◌, ◌<◌, ◌≤◌, ◌↔◌, Bool, [], length, nat_le, IsTrue, IfOk, IfSome};
 ghost use Rattle.rv_isa.specs.Numbered.{AreBelow, IsInOrder};
-ghost use Rattle.rv_stations.specs.Waiting.{seq_of, ArePassedBy, IsOperand, ready_of, ready_taken, oldest_ready};
+ghost use Rattle.rv_stations.specs.Waiting.{seq_of, ArePassedBy, IsOperand, next_ready, ready_taken};
 ghost use Rattle.rv_isa.specs.PerKind.{at_kind, with_kind, for_each};
-ghost use Rattle.rv_stations.specs.Pool.{Answers, empty_pool, with_waiting, woken_pool, issued, squashed};
+ghost use Rattle.rv_stations.specs.Pool.{Searches, empty_pool, with_waiting, woken_pool, issued, squashed};
 
 use crate::pool::StationPool;
 use crate::waiting::{Taken, Waiting};
@@ -97,9 +97,12 @@ impl Stations {
         filter: F,
     ) -> Option<Taken>
         requires { F.IsAlwaysCallable filter }
-        ensures oldest { (test : Waiting → Bool) → Answers F.Fn filter test → ArePassedBy test passed (at_kind kind self.old).waiting → ready_taken result ≡ option_and_then ready_of (oldest_ready test (at_kind kind self.old).waiting) }
-        ensures others { (test : Waiting → Bool) → Answers F.Fn filter test → ArePassedBy test passed (at_kind kind self.old).waiting → self.new ≡ with_kind kind (issued test (at_kind kind self.old)) self.old }
-        ensures passed { (test : Waiting → Bool) → Answers F.Fn filter test → ArePassedBy test passed (at_kind kind self.old).waiting → IfSome result (λ taken. ArePassedBy test taken.passed (at_kind kind self.new).waiting) }
+        ensures oldest { (test : Waiting → Bool) → Searches F.Fn filter test passed (at_kind kind self.old) →
+            ready_taken result ≡ next_ready test (at_kind kind self.old).waiting }
+        ensures others { (test : Waiting → Bool) → Searches F.Fn filter test passed (at_kind kind self.old) →
+            self.new ≡ with_kind kind (issued test (at_kind kind self.old)) self.old }
+        ensures passed { (test : Waiting → Bool) → Searches F.Fn filter test passed (at_kind kind self.old) →
+            IfSome result (λ taken. ArePassedBy test taken.passed (at_kind kind self.new).waiting) }
         ensures in_order { IsInOrder seq_of (at_kind kind self.old).waiting }
     {
         self.pools.get_mut(kind).take_oldest_ready(passed, filter)

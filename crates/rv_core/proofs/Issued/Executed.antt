@@ -29,7 +29,7 @@ cost_bound : (values : CacheValues) → IsLegalCost values → (is_hit : Bool) (
     cost_of_access values is_hit dropped ≤ 2016
 cost_bound values legal is_hit dropped = grind (arith, legal.hit.1, legal.miss, legal.write_back)
 
--- what the execution of an instruction gives: its message, its cost, and the port and the cache behind it
+-- what the execution of an instruction gives: its message, its cost, and the port and the cache after it
 pub record Execution (h : Hardware) (kind : Kind) (queue : Queue) (ready : Ready) : Type 0 where
   pub message : Message
   pub cost : ℕ

@@ -4,7 +4,7 @@ use Rattle.std.proofs.lemmas.List.{get_or-take, length-take}
 use Rattle.std.proofs.lemmas.List.Elements.{All-take}
 use Rattle.rv_rob.proofs.Places.{entries_below-take}
 
--- the entry of a number is the first one, or stands behind it
+-- the entry of a number is the first one, or stands after it
 pub data IsHeld (n s : ℕ) (d : Entry) (es : List Entry) (e : Entry) : Type 0 where
   at_head : (n == s) ≡ true → n ≡ s → d ≡ e → IsHeld n s d es e
   in_tail : (n == s) ≡ false → entry_of n (s + 1) es ≡ Some e → IsHeld n s d es e

@@ -1,11 +1,10 @@
 use Rattle.std.proofs.Common.{◌≡◌, Bool, length}
 use Rattle.rv_stations.specs.declared.waiting.Waiting.{Waiting}
-use Rattle.rv_stations.specs.Pool.{Answers}
-use Rattle.rv_stations.specs.Waiting.{ArePassedBy}
+use Rattle.rv_stations.specs.Pool.{Searches}
 use Rattle.rv_stations.proofs.SearchLemmas.{Searching}
 use Rattle.rv_stations.proofs.pool.StationPool.place_of_oldest_ready.Given as goal
 
 abbrev pub invariant-loop-at : goal.invariant-loop-at
 invariant-loop-at g l =
     (l.at-end ≡ length l.self.waiting)
-    × ((test : Waiting → Bool) → Answers g.F.Fn l.filter test → ArePassedBy test l.fn.passed l.self.waiting → Searching test l.self.waiting l.at)
+    × ((test : Waiting → Bool) → Searches g.F.Fn l.filter test l.fn.passed l.self → Searching test l.self.waiting l.at)
