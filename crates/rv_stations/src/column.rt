@@ -12,7 +12,7 @@ use std::alloc::{AllocError, Global};
 use std::marker::Model;
 
 /// An operand of each place of a kind's stations, the tags and the values in lists of their own.
-#[derive(Debug, Drop)]
+#[derive(Drop)]
 pub struct OperandColumn {
     tags: Vec<u64>,
     values: Vec<u64>,

@@ -12,7 +12,7 @@ use std::alloc::{AllocError, Global};
 use std::marker::Model;
 
 /// What was dispatched: an instruction and its address.
-#[derive(Clone, Copy, Debug, PartialEq, Eq)]
+#[derive(Clone, Copy)]
 pub struct Dispatched {
     pub pc: u32,
     pub instruction: Instr,
@@ -20,7 +20,7 @@ pub struct Dispatched {
 
 /// The reservation stations of one kind. An instruction lies still in its place; sequence numbers,
 /// instructions and operands stand in lists of their own.
-#[derive(Debug, Drop)]
+#[derive(Drop)]
 pub struct StationPool {
     /// The places, first those whose instructions wait, oldest first, then the free ones.
     places: Vec<u8>,

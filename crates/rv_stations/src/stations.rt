@@ -11,7 +11,7 @@ use std::alloc::{AllocError, Global};
 use std::marker::Model;
 
 /// The reservation stations of the four kinds.
-#[derive(Debug, Drop)]
+#[derive(Drop)]
 pub struct Stations {
     pools: PerKind<StationPool>,
 }

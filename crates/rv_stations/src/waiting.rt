@@ -3,7 +3,7 @@ ghost use Rattle.std.specs.Prelude.{◌≡◌};
 use rv_isa::Instr;
 
 /// An operand of a waiting instruction.
-#[derive(Clone, Copy, Debug, PartialEq, Eq)]
+#[derive(Clone, Copy)]
 pub enum Operand {
     /// The operand's value. An instruction that has no such operand has the value 0 in its place.
     Value(u32),
@@ -23,7 +23,7 @@ impl Operand {
 }
 
 /// An instruction that waits in a reservation station.
-#[derive(Clone, Copy, Debug, PartialEq, Eq)]
+#[derive(Clone, Copy)]
 pub struct Waiting {
     /// Its sequence number.
     pub seq: u64,
@@ -38,7 +38,7 @@ pub struct Waiting {
 }
 
 /// An instruction that leaves its reservation station, with the values of its operands.
-#[derive(Clone, Copy, Debug, PartialEq, Eq)]
+#[derive(Clone, Copy)]
 pub struct Ready {
     /// Its sequence number.
     pub seq: u64,
@@ -53,7 +53,7 @@ pub struct Ready {
 }
 
 /// What a search took out of its station.
-#[derive(Clone, Copy, Debug, PartialEq, Eq)]
+#[derive(Clone, Copy)]
 pub struct Taken {
     /// The instruction.
     pub ready: Ready,
