@@ -4,7 +4,7 @@ use Rattle.std.specs.{List.flat_map, List.slice_split, Option.option_map_or, Str
 use Rattle.rv_isa.specs.Csr as csr
 use Rattle.rv_isa.specs.Csr.{row_of}
 use Rattle.rv_asm.specs.Layout.{body_of, labels_of}
-use Rattle.rv_asm.specs.Mnemonic.{form_named, instructions, others}
+use Rattle.rv_asm.specs.Mnemonic.{form_named, instructions, others, pseudo_instructions}
 use Rattle.rv_asm.specs.Names.{register_names}
 use Rattle.rv_asm.specs.Token.{Token, tokens_of}
 use Rattle.rv_asm.specs.Token as token
@@ -17,7 +17,7 @@ use Rattle.rv_refusal.specs.Statement.{first_name}
 
 -- the mnemonics and directives
 abbrev pub mnemonics : List (List ℕ)
-mnemonics = map (λ row. row.0) instructions ++ map (λ row. row.0) others
+mnemonics = map (λ row. row.0) instructions ++ (map (λ row. row.0) pseudo_instructions ++ map (λ row. row.0) others)
 
 -- the registers' names
 abbrev pub registers : List (List ℕ)

@@ -46,7 +46,7 @@ static CSRS: [&[u8]; 15] = [
 ];
 
 /// The mnemonics and directives that the assembler knows.
-#[tactic(auto, unfolding(rv_asm::specs::Mnemonic::instructions, rv_asm::specs::Mnemonic::others))]
+#[tactic(auto, unfolding(rv_asm::specs::Mnemonic::instructions, rv_asm::specs::Mnemonic::pseudo_instructions, rv_asm::specs::Mnemonic::others))]
 pub(crate) fn mnemonics() -> &'static [&'static [u8]]
     ensures { map (λ name. name.now) result.now ≡ mnemonics }
 {
