@@ -4,12 +4,12 @@ ghost use Rattle.rv_job.specs.ReadParts.{parts_in};
 ghost use Rattle.rv_refusal.specs.Arrivals.{arrival_expected, arrival_names, arrivals_lines, entry_line_text, entry_lines, entry_text, field_line, field_lines, field_name, in_entry_text, line_of_field, part_lines, unknown_line, unknown_lines};
 ghost use Rattle.rv_refusal.specs.EntryLine.{entry_line};
 
-use crate::caret::add_caret_below;
+use crate::caret::add_marked_line;
 use crate::entry_line::{EntryLine, Sought, first_sought};
 use crate::lines::line_feeds;
 use crate::near::add_nearest;
-use crate::place::{add_line, add_line_place};
-use itoa::Buffer;
+use crate::place::add_line_place;
+use crate::text::add_number;
 use rv_describe::{ArrivalsError, Field, field_at_fault};
 use rv_job::Parts;
 use std::alloc::{AllocError, Global};
@@ -22,9 +22,8 @@ fn add_in_entry(out: &mut Vec<u8>, entry: usize) -> Result<(), AllocError>
     if entry == 0 {
         return Ok(());
     }
-    let mut buffer = Buffer::new();
     out.extend_from_slice(b", entry ")?;
-    out.extend_from_slice(buffer.format(entry).as_bytes())
+    add_number(out, entry)
 }
 
 // Appends a line at fault that so many lines of the job stand before, with a caret below its name.
@@ -35,8 +34,7 @@ fn add_entry_line(out: &mut Vec<u8>, before: usize, found: EntryLine<'_>) -> Res
     add_line_place(out, b"arrivals", before, found.number)?;
     add_in_entry(out, found.entry)?;
     out.extend_from_slice(b"\n")?;
-    add_line(out, found.line)?;
-    add_caret_below(out, found.before)
+    add_marked_line(out, found.line, found.before)
 }
 
 // Appends an entry that no line is found of.
@@ -44,9 +42,8 @@ fn add_entry_line(out: &mut Vec<u8>, before: usize, found: EntryLine<'_>) -> Res
 fn add_entry(out: &mut Vec<u8>, entry: usize) -> Result<(), AllocError>
     ensures { OnOk result (out.new.items ≡ out.old.items ++ entry_text entry) }
 {
-    let mut buffer = Buffer::new();
     out.extend_from_slice(b"entry ")?;
-    out.extend_from_slice(buffer.format(entry).as_bytes())?;
+    add_number(out, entry)?;
     out.extend_from_slice(b" of the arrivals\n")
 }
 

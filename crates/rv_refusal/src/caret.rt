@@ -1,8 +1,10 @@
 ghost use Rattle.std.specs.Prelude.{◌≡◌, ◌+◌, ◌<◌, ◌≤◌, ◌++◌, None, OnOk, IfOk, IfSome, drop, length, replicate};
 ghost use Rattle.rv_asm.specs.Read.{tokens_in};
+ghost use Rattle.rv_refusal.specs.Place.{shown_line};
 ghost use Rattle.rv_refusal.specs.Caret.{caret_below, caret_line, culprit_place, distance, fault_place, is_of_token, token_place};
 
 use crate::culprit::culprit_on;
+use crate::place::add_line;
 use rv_asm::{AsmFault, Token, first_lexeme, tokenize};
 use std::alloc::{AllocError, Global};
 
@@ -94,14 +96,26 @@ fn add_blanks(out: &mut Vec<u8>, count: usize) -> Result<(), AllocError>
     Ok(())
 }
 
-/// Appends a caret below a byte of a line that is shown.
+// Appends a caret below a byte of a line that is shown.
 #[tactic(auto, unfolding(crate::specs::Caret::caret_below))]
-pub(crate) fn add_caret_below(out: &mut Vec<u8>, place: usize) -> Result<(), AllocError>
+fn add_caret_below(out: &mut Vec<u8>, place: usize) -> Result<(), AllocError>
     ensures { OnOk result (out.new.items ≡ out.old.items ++ caret_below place) }
 {
     out.extend_from_slice(b"    ")?;
     add_blanks(out, place)?;
     out.extend_from_slice(b"^\n")
+}
+
+/// Appends a line in printing characters, with a caret below one of its bytes.
+pub(crate) fn add_marked_line(
+    out: &mut Vec<u8>,
+    line: &[u8],
+    place: usize,
+) -> Result<(), AllocError>
+    ensures { OnOk result (out.new.items ≡ out.old.items ++ (shown_line line.now ++ caret_below place)) }
+{
+    add_line(out, line)?;
+    add_caret_below(out, place)
 }
 
 /// Appends the line with the caret below the token at fault, where there is one.

@@ -5,7 +5,7 @@ ghost use Rattle.rv_asm.specs.Layout.{body_of};
 ghost use Rattle.rv_asm.specs.Meaning.{fits_width};
 ghost use Rattle.rv_asm.specs.Read.{operand_of, tokens_in};
 ghost use Rattle.rv_asm.specs.Statement.{is_implied};
-ghost use Rattle.rv_refusal.specs.Culprit.{culprit_among, culprit_of, culprit_on, definition_on, defines, has_unknown_register, holds_register, holds_value, is_culprit, is_misfit, is_of_definition, is_of_operands, is_of_register, is_of_shape, is_past_csrs, is_too_wide, is_unnamed, is_wrong_value, marked, may_be_out_of_range, only, operand_at, operand_of_fault, unless_empty};
+ghost use Rattle.rv_refusal.specs.Culprit.{culprit_among, culprit_of, culprit_on, definition_on, defines, has_unknown_register, holds_register, holds_value, is_culprit, is_misfit, is_of_definition, is_of_operands, is_of_register, is_of_shape, is_past_csrs, is_too_wide, is_unnamed, is_wrong_value, marked, may_be_out_of_range, only, operand_at, operand_of_fault, operands_on, unless_empty};
 
 use crate::operand_tokens::{from_register, operand_at, operands_on};
 use crate::statement::behind_labels;
@@ -212,6 +212,32 @@ fn only<'t, 'a>(operands: &[&'t [Token<'a>]]) -> Option<&'t [Token<'a>]>
     }
 }
 
+// The operand of a jump with a target for which a fault is reported.
+#[tactic(auto, unfolding(crate::specs::Culprit::culprit_of))]
+fn culprit_of_jal<'t, 'a>(fault: AsmFault, operands: &[&'t [Token<'a>]]) -> Option<&'t [Token<'a>]>
+    ensures { option_map (λ from. tokens_in from.now) result ≡ culprit_of fault Form.Jal (map (λ from. tokens_in from.now) operands.now) }
+{
+    match operands {
+        [_] => culprit_among(fault, &[Place::Target], None, operands),
+        _ => culprit_among(fault, &[Place::Rd, Place::Target], None, operands),
+    }
+}
+
+// The operand of a jump to a register for which a fault is reported.
+#[tactic(auto, unfolding(crate::specs::Culprit::culprit_of))]
+fn culprit_of_jalr<'t, 'a>(fault: AsmFault, operands: &[&'t [Token<'a>]]) -> Option<&'t [Token<'a>]>
+    ensures { option_map (λ from. tokens_in from.now) result ≡ culprit_of fault Form.Jalr (map (λ from. tokens_in from.now) operands.now) }
+{
+    match operands {
+        [_] => culprit_among(fault, &[Place::Rs1], None, operands),
+        [_, _] => culprit_among(fault, &[Place::Rd, Place::Base], None, operands),
+        _ => {
+            let places = [Place::Rd, Place::Rs1, Place::Value];
+            culprit_among(fault, &places, None, operands)
+        }
+    }
+}
+
 // The operand of a form for which a fault is reported, from its first token on.
 #[tactic(auto, unfolding(crate::specs::Culprit::culprit_of))]
 fn culprit_of<'t, 'a>(
@@ -225,18 +251,8 @@ fn culprit_of<'t, 'a>(
         Form::Instruction(_, first, second, third) => {
             culprit_among(fault, &[first, second, third], None, operands)
         }
-        Form::Jal => match operands {
-            [_] => culprit_among(fault, &[Place::Target], None, operands),
-            _ => culprit_among(fault, &[Place::Rd, Place::Target], None, operands),
-        },
-        Form::Jalr => match operands {
-            [_] => culprit_among(fault, &[Place::Rs1], None, operands),
-            [_, _] => culprit_among(fault, &[Place::Rd, Place::Base], None, operands),
-            _ => {
-                let places = [Place::Rd, Place::Rs1, Place::Value];
-                culprit_among(fault, &places, None, operands)
-            }
-        },
+        Form::Jal => culprit_of_jal(fault, operands),
+        Form::Jalr => culprit_of_jalr(fault, operands),
         Form::Global => culprit_among(fault, &[Place::Target], None, operands),
         Form::Constant => culprit_among(fault, &[Place::Target, Place::Value], None, operands),
         Form::Values(width) => match wrong_value(fault, width, operands) {
@@ -289,6 +305,23 @@ fn marked<'t, 'a>(fault: AsmFault, tokens: &'t [Token<'a>]) -> &'t [Token<'a>]
     tokens
 }
 
+// The operand of a form with these tokens after its name for which a fault is reported, from its token at fault on.
+fn marked_among<'t, 'a>(
+    alloc: Global,
+    fault: AsmFault,
+    form: Form,
+    tokens: &'t [Token<'a>],
+) -> Result<Option<&'t [Token<'a>]>, AllocError>
+    ensures { IfOk result (λ operand. option_map (λ from. tokens_in from.now) operand
+        ≡ option_map (marked fault) (culprit_of fault form (operands_on (tokens_in tokens.entry.now)))) }
+{
+    let operands = operands_on(alloc, tokens)?;
+    match culprit_of(fault, form, operands.as_slice()) {
+        Some(operand) => Ok(Some(marked(fault, operand))),
+        None => Ok(None),
+    }
+}
+
 /// The operand of a statement for which a fault is reported, from its token at fault on.
 #[tactic(auto, unfolding(crate::specs::Culprit::operand_of_fault))]
 pub(crate) fn operand_of_fault<'t, 'a>(
@@ -304,12 +337,8 @@ pub(crate) fn operand_of_fault<'t, 'a>(
     if !is_of_operands(fault) {
         return Ok(None);
     }
-    let Some(form) = form_named(name) else {
-        return Ok(None);
-    };
-    let operands = operands_on(alloc, rest)?;
-    match culprit_of(fault, form, operands.as_slice()) {
-        Some(operand) => Ok(Some(marked(fault, operand))),
+    match form_named(name) {
+        Some(form) => marked_among(alloc, fault, form, rest),
         None => Ok(None),
     }
 }

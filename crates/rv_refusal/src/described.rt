@@ -4,12 +4,12 @@ ghost use Rattle.rv_isa.specs.Key.{key_place};
 ghost use Rattle.rv_refusal.specs.Described.{described_place, description_lines, key_at, key_line_text, known_expected, known_lines, line_of_key, unknown_among, unknown_line, unknown_lines, value_lines};
 ghost use Rattle.rv_refusal.specs.KeyLine.{key_line};
 
-use crate::caret::add_caret_below;
+use crate::caret::add_marked_line;
 use crate::key_line::{KeyLine, Wanted, first_named};
 use crate::key_names::{key_names, text_of};
 use crate::key_range::add_values_line;
 use crate::near::add_nearest;
-use crate::place::{add_line, add_line_place};
+use crate::place::add_line_place;
 use rv_describe::DescriptionError;
 use rv_isa::{Key, all_keys};
 use std::alloc::{AllocError, Global};
@@ -29,8 +29,7 @@ fn add_key_line(out: &mut Vec<u8>, found: &KeyLine<'_>) -> Result<(), AllocError
     ensures { OnOk result (out.new.items ≡ out.old.items ++ key_line_text (key_line found.now)) }
 {
     add_described_place(out, found.number)?;
-    add_line(out, found.line)?;
-    add_caret_below(out, found.before)
+    add_marked_line(out, found.line, found.before)
 }
 
 // The key at a place, from 1.

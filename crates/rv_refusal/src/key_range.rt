@@ -1,29 +1,20 @@
-ghost use Rattle.std.specs.Prelude.{◌≡◌, ◌++◌, OnOk, Some, decimal};
+ghost use Rattle.std.specs.Prelude.{◌≡◌, ◌++◌, OnOk, Some};
 ghost use Rattle.rv_isa.specs.Choice.{predictor_named, recovery_named};
 ghost use Rattle.rv_refusal.specs.KeyRange.{bounds_text, default_mark, default_words, key_default, key_range, key_words, predictor_word, predictors, quoted, range_text, recoveries, recovery_word, truth_word, values_line};
 
 use crate::key_names::text_of;
-use crate::text::add_all;
-use itoa::Buffer;
+use crate::text::{add_all, add_number};
 use rv_isa::{Bounds, Key, PredictorKind, Recovery, Values};
 use std::alloc::AllocError;
-
-// Appends a number.
-fn add_number(out: &mut Vec<u8>, number: u32) -> Result<(), AllocError>
-    ensures { OnOk result (out.new.items ≡ out.old.items ++ decimal number) }
-{
-    let mut buffer = Buffer::new();
-    out.extend_from_slice(buffer.format(number).as_bytes())
-}
 
 // Appends a range of numbers after a word.
 fn add_range(out: &mut Vec<u8>, word: &[u8], low: u32, high: u32) -> Result<(), AllocError>
     ensures { OnOk result (out.new.items ≡ out.old.items ++ range_text word.now low high) }
 {
     add_all(out, &[word, b" from "])?;
-    add_number(out, low)?;
+    add_number(out, low as usize)?;
     out.extend_from_slice(b" to ")?;
-    add_number(out, high)
+    add_number(out, high as usize)
 }
 
 // Appends the numbers of bounds.
@@ -119,7 +110,7 @@ fn add_key_default(out: &mut Vec<u8>, key: Key) -> Result<(), AllocError>
 {
     let standard = Values::standard();
     match key {
-        Key::Number(key) => add_number(out, standard.number(key)),
+        Key::Number(key) => add_number(out, standard.number(key) as usize),
         Key::Recovery => add_quoted(out, recovery_word(standard.recovery)),
         Key::Pipelined(kind) => {
             out.extend_from_slice(truth_word(standard.kinds.get(kind).pipelined))

@@ -1,9 +1,9 @@
 ghost use Rattle.std.specs.Prelude.{◌≡◌, ◌++◌, OnOk, codes};
 ghost use Rattle.rv_refusal.specs.Operands.{operand_example, operand_list, operand_word, place_limit, place_word, shape_line, shape_lines};
 
-use crate::text::add_all;
-use itoa::Buffer;
+use crate::text::{add_all, add_number};
 use rv_asm::{Form, Place};
+use rv_isa::Width;
 use std::alloc::AllocError;
 
 // What may stand at a place, without its limit.
@@ -33,10 +33,7 @@ fn add_limit(out: &mut Vec<u8>, place: Place) -> Result<(), AllocError>
     ensures { OnOk result (out.new.items ≡ out.old.items ++ place_limit place) }
 {
     match place {
-        Place::UpTo(greatest) => {
-            let mut buffer = Buffer::new();
-            out.extend_from_slice(buffer.format(greatest).as_bytes())
-        }
+        Place::UpTo(greatest) => add_number(out, greatest as usize),
         _ => Ok(()),
     }
 }
@@ -109,6 +106,34 @@ fn add_shape(out: &mut Vec<u8>, name: &[u8], places: &[Place]) -> Result<(), All
     out.extend_from_slice(b"'\n")
 }
 
+// Appends the lines on the shapes of a jump with a target.
+#[tactic(auto, unfolding(crate::specs::Operands::shape_lines))]
+fn add_jal_shapes(out: &mut Vec<u8>, name: &[u8]) -> Result<(), AllocError>
+    ensures { OnOk result (out.new.items ≡ out.old.items ++ shape_lines name.now Form.Jal) }
+{
+    add_shape(out, name, &[Place::Target])?;
+    add_shape(out, name, &[Place::Rd, Place::Target])
+}
+
+// Appends the lines on the shapes of a jump to a register.
+#[tactic(auto, unfolding(crate::specs::Operands::shape_lines))]
+fn add_jalr_shapes(out: &mut Vec<u8>, name: &[u8]) -> Result<(), AllocError>
+    ensures { OnOk result (out.new.items ≡ out.old.items ++ shape_lines name.now Form.Jalr) }
+{
+    add_shape(out, name, &[Place::Rs1])?;
+    add_shape(out, name, &[Place::Rd, Place::Base])?;
+    add_shape(out, name, &[Place::Rd, Place::Rs1, Place::Value])
+}
+
+// Appends the lines on the shapes of data.
+#[tactic(auto, unfolding(crate::specs::Operands::shape_lines))]
+fn add_data_shapes(out: &mut Vec<u8>, name: &[u8], width: Width) -> Result<(), AllocError>
+    ensures { OnOk result (out.new.items ≡ out.old.items ++ shape_lines name.now (Form.Values width)) }
+{
+    add_shape(out, name, &[Place::Value])?;
+    add_shape(out, name, &[Place::Value, Place::Value])
+}
+
 /// Appends the lines on the shapes of a statement with a name: what may stand at each place, and an example.
 #[tactic(auto, unfolding(crate::specs::Operands::shape_lines))]
 pub(crate) fn add_shapes(out: &mut Vec<u8>, name: &[u8], form: Form) -> Result<(), AllocError>
@@ -119,22 +144,12 @@ pub(crate) fn add_shapes(out: &mut Vec<u8>, name: &[u8], form: Form) -> Result<(
         Form::Instruction(_, first, second, third) => {
             add_shape(out, name, &[first, second, third])
         }
-        Form::Jal => {
-            add_shape(out, name, &[Place::Target])?;
-            add_shape(out, name, &[Place::Rd, Place::Target])
-        }
-        Form::Jalr => {
-            add_shape(out, name, &[Place::Rs1])?;
-            add_shape(out, name, &[Place::Rd, Place::Base])?;
-            add_shape(out, name, &[Place::Rd, Place::Rs1, Place::Value])
-        }
+        Form::Jal => add_jal_shapes(out, name),
+        Form::Jalr => add_jalr_shapes(out, name),
         Form::Choice(_) => add_shape(out, name, &[]),
         Form::Global => add_shape(out, name, &[Place::Target]),
         Form::Constant => add_shape(out, name, &[Place::Target, Place::Value]),
-        Form::Values(_) => {
-            add_shape(out, name, &[Place::Value])?;
-            add_shape(out, name, &[Place::Value, Place::Value])
-        }
+        Form::Values(width) => add_data_shapes(out, name, width),
         Form::Bytes(_, place) => add_shape(out, name, &[place]),
     }
 }

@@ -1,4 +1,4 @@
-ghost use Rattle.std.specs.Prelude.{◌≡◌, IfOk};
+ghost use Rattle.std.specs.Prelude.{◌≡◌, ◌++◌, IfOk, OnOk};
 ghost use Rattle.rv_refusal.specs.Refusal.{refusal_text};
 ghost use Rattle.rv_text.specs.IsText.{IsText};
 
@@ -12,31 +12,37 @@ use rv_text::{ReportError, TextError, put};
 use std::alloc::{AllocError, Global};
 use std::io::Write;
 
-// Why a job is refused.
+// Appends why a job is refused.
 #[tactic(auto, unfolding(crate::specs::Refusal::refusal_text))]
+fn add_refusal(
+    alloc: Global,
+    out: &mut Vec<u8>,
+    text: &[u8],
+    error: SimError,
+) -> Result<(), AllocError>
+    ensures { OnOk result (out.new.items ≡ out.old.items ++ refusal_text text.now error) }
+{
+    match error {
+        SimError::TooLong => out.extend_from_slice(b"expected: at most 33554432 bytes\n"),
+        SimError::Description(error) => {
+            add_description(alloc, out, cut_into_parts(text).description, error)
+        }
+        SimError::Arrivals(error) => add_arrivals(alloc, out, cut_into_parts(text), error),
+        SimError::Assembly(error) => {
+            let assembly = cut_into_parts(text).assembly;
+            add_assembly(alloc, out, lines_before(text, assembly), assembly, error)
+        }
+        SimError::ImageDoesNotFit => add_unfit(alloc, out, text),
+        _ => Ok(()),
+    }
+}
+
+// Why a job is refused.
 fn refusal(alloc: Global, text: &[u8], error: SimError) -> Result<Vec<u8>, AllocError>
     ensures { IfOk result (λ out. out.items ≡ refusal_text text.now error) }
 {
     let mut out = Vec::new(alloc);
-    match error {
-        SimError::TooLong => {
-            out.extend_from_slice(b"expected: at most 33554432 bytes\n")?;
-        }
-        SimError::Description(error) => {
-            let description = cut_into_parts(text).description;
-            add_description(alloc, &mut out, description, error)?;
-        }
-        SimError::Arrivals(error) => {
-            add_arrivals(alloc, &mut out, cut_into_parts(text), error)?;
-        }
-        SimError::Assembly(error) => {
-            let assembly = cut_into_parts(text).assembly;
-            let before = lines_before(text, assembly);
-            add_assembly(alloc, &mut out, before, assembly, error)?;
-        }
-        SimError::ImageDoesNotFit => add_unfit(alloc, &mut out, text)?,
-        _ => {}
-    }
+    add_refusal(alloc, &mut out, text, error)?;
     Ok(out)
 }
 

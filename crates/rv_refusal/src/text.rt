@@ -1,7 +1,8 @@
-ghost use Rattle.std.specs.Prelude.{◌≡◌, ◌++◌, OnOk};
+ghost use Rattle.std.specs.Prelude.{◌≡◌, ◌++◌, OnOk, decimal};
 ghost use Rattle.std.specs.List.{flat_map};
 ghost use Rattle.rv_text.specs.Plain.{plain_text};
 
+use itoa::Buffer;
 use rv_text::write_plain;
 use std::alloc::AllocError;
 
@@ -13,6 +14,14 @@ pub(crate) fn add_all(out: &mut Vec<u8>, texts: &[&[u8]]) -> Result<(), AllocErr
         out.extend_from_slice(text)?;
     }
     Ok(())
+}
+
+/// Appends a number.
+pub(crate) fn add_number(out: &mut Vec<u8>, number: usize) -> Result<(), AllocError>
+    ensures { OnOk result (out.new.items ≡ out.old.items ++ decimal number) }
+{
+    let mut buffer = Buffer::new();
+    out.extend_from_slice(buffer.format(number).as_bytes())
 }
 
 /// Appends a text of a user's in printing characters.
