@@ -166,8 +166,5 @@ pub fn assemble_listed(alloc: Global, text: &[u8], base: u32) -> Result<ListedIm
         layout: &layout,
         base,
     };
-    match listed_image(alloc, &program) {
-        Ok(listed) => Ok(listed),
-        Err(error) => Err(error),
-    }
+    listed_image(alloc, &program)
 }

@@ -19,10 +19,7 @@ pub fn cycle_in(entry: &Value) -> Option<Option<u64>>
 pub fn line_in(entry: &Value) -> Option<Option<Line>>
     ensures { result ≡ option_map line_named (option_and_then as_str (get (codes "line") (view entry.now))) }
 {
-    match entry.get("line")?.as_str() {
-        Some(name) => Some(line_named(name)),
-        None => None,
-    }
+    Some(line_named(entry.get("line")?.as_str()?))
 }
 
 /// The level that an entry has, if it is a number, and then if it is a legal one. A `level` that is missing is 1.

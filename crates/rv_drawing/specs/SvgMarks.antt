@@ -4,16 +4,15 @@ use Rattle.rv_drawing.specs.Columns.{columns}
 use Rattle.rv_drawing.specs.Places.{column_x, row_y}
 use Rattle.rv_drawing.specs.declared.window.Window.{Window}
 
--- a line in front of a column, down to the last row, with its cycle as a tip and a label
-unfoldable pub line_down : List ℕ → List ℕ → List ℕ → List ℕ → List ℕ → List ℕ → List ℕ → List ℕ
-line_down begin top label_begin label x cycle bottom =
-    begin ++ (x ++ (codes " 0)'><title>cycle " ++ (cycle ++ (top ++ (bottom ++
-    (codes "'/>" ++ (label_begin ++ (label ++ codes "</text></g>\n"))))))))
+-- a line in front of a column, down to the last row, with its cycle as a tip
+unfoldable pub line_down : List ℕ → List ℕ → List ℕ → List ℕ → List ℕ → List ℕ
+line_down begin top x cycle bottom = begin ++ (x ++ (codes " 0)'><title>cycle " ++ (cycle ++ (top ++ (bottom ++ codes "'/>")))))
 
 -- the number of a tenth cycle, over such a line
 unfoldable pub tenth_mark : List ℕ → List ℕ → List ℕ → List ℕ
 tenth_mark x bottom cycle =
-    line_down (codes "<g class='n' transform='translate(") (codes "</title><path d='M0 20V") (codes "<text x='3' y='16'>") cycle x cycle bottom
+    line_down (codes "<g class='n' transform='translate(") (codes "</title><path d='M0 20V") x cycle bottom ++
+    (codes "<text x='3' y='16'>" ++ (cycle ++ codes "</text></g>\n"))
 
 -- the mark of a column, over so many rows
 unfoldable pub tenth_at : Window → ℕ → ℕ → List ℕ
@@ -42,9 +41,8 @@ numbers_again window place = if place % 40 == 0 && not (place == 0) then numbers
 -- a line in front of the cycle of an interrupt
 unfoldable pub interrupt_mark : List ℕ → List ℕ → List ℕ → List ℕ
 interrupt_mark x cycle bottom =
-    line_down
-    (codes "<g class='v' transform='translate(") (codes ", interrupt</title><path d='M0 38V") (codes "<text x='7' y='34'>") (codes "!")
-    x cycle bottom
+    line_down (codes "<g class='v' transform='translate(") (codes ", interrupt</title><path d='M0 38V") x cycle bottom ++
+    codes "<text x='7' y='34'>!</text></g>\n"
 
 -- those in the window, across so many rows
 unfoldable pub interrupt_in : Window → ℕ → ℕ → List ℕ

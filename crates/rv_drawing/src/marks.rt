@@ -11,18 +11,16 @@ use itoa::Buffer;
 use rv_text::{ReportError, put, put_all};
 use std::io::Write;
 
-// A line down in front of a column, from a height to the last of so many rows, with the cycle as its tip and a label.
-fn write_line_down<'a, W: Write>(
+// A line down in front of a column, from a height to the last of so many rows, with the cycle as its tip.
+fn write_line_down<W: Write>(
     writer: &mut W,
-    begin: &'a [u8],
-    top: &'a [u8],
-    label_begin: &'a [u8],
-    label: &'a [u8],
+    begin: &[u8],
+    top: &[u8],
     rows: usize,
     column: u64,
     cycle: u64,
 ) -> Result<(), ReportError>
-    ensures { IsWritten result (W.contents writer.old) (W.contents writer.new) (line_down begin.now top.now label_begin.now label.now (decimal (column_x column)) (decimal cycle) (decimal (row_y rows))) }
+    ensures { IsWritten result (W.contents writer.old) (W.contents writer.new) (line_down begin.now top.now (decimal (column_x column)) (decimal cycle) (decimal (row_y rows))) }
 {
     let mut at_column = Buffer::new();
     let x = digits(&mut at_column, column_x(column));
@@ -32,18 +30,7 @@ fn write_line_down<'a, W: Write>(
     let bottom = digits(&mut at_bottom, row_y(rows));
     put_all(
         writer,
-        &[
-            begin,
-            x,
-            b" 0)'><title>cycle ",
-            cycle,
-            top,
-            bottom,
-            b"'/>",
-            label_begin,
-            label,
-            b"</text></g>\n",
-        ],
+        &[begin, x, b" 0)'><title>cycle ", cycle, top, bottom, b"'/>"],
     )
 }
 
@@ -55,18 +42,17 @@ fn write_tenth_mark<W: Write>(
 ) -> Result<(), ReportError>
     ensures { IsWritten result (W.contents writer.old) (W.contents writer.new) (tenth_mark (decimal (column_x column)) (decimal (row_y rows)) (decimal cycle)) }
 {
-    let mut buffer = Buffer::new();
-    let label = digits(&mut buffer, u128::from(cycle));
     write_line_down(
         writer,
         b"<g class='n' transform='translate(",
         b"</title><path d='M0 20V",
-        b"<text x='3' y='16'>",
-        label,
         rows,
         column,
         cycle,
-    )
+    )?;
+    let mut buffer = Buffer::new();
+    let cycle = digits(&mut buffer, u128::from(cycle));
+    put_all(writer, &[b"<text x='3' y='16'>", cycle, b"</text></g>\n"])
 }
 
 #[tactic(auto, unfolding(crate::specs::SvgMarks::tenth_at))]
@@ -140,7 +126,6 @@ pub(crate) fn write_numbers_again<W: Write>(
     }
 }
 
-#[tactic(auto, unfolding(crate::specs::SvgMarks::interrupt_mark))]
 fn write_interrupt_mark<W: Write>(
     writer: &mut W,
     rows: usize,
@@ -153,12 +138,11 @@ fn write_interrupt_mark<W: Write>(
         writer,
         b"<g class='v' transform='translate(",
         b", interrupt</title><path d='M0 38V",
-        b"<text x='7' y='34'>",
-        b"!",
         rows,
         column,
         cycle,
-    )
+    )?;
+    put(writer, b"<text x='7' y='34'>!</text></g>\n")
 }
 
 #[tactic(auto, unfolding(crate::specs::SvgMarks::interrupt_in))]

@@ -96,19 +96,13 @@ fn write_kind<W: Write>(writer: &mut W, entry: &Entry) -> Result<(), ReportError
 fn issued(stage: &Stage) -> Option<u64>
     ensures { result ≡ issued_in stage.now }
 {
-    match stage.issue() {
-        Some(issue) => Some(issue.cycle),
-        None => None,
-    }
+    Some(stage.issue()?.cycle)
 }
 
 fn cost(stage: &Stage) -> Option<u64>
     ensures { result ≡ cost_of stage.now }
 {
-    match stage.issue() {
-        Some(issue) => Some(u64::from(issue.cost)),
-        None => None,
-    }
+    Some(u64::from(stage.issue()?.cost))
 }
 
 // The value that its result has.
@@ -143,20 +137,14 @@ fn fault(stage: &Stage) -> Option<Fault>
 fn cause(stage: &Stage) -> Option<u64>
     ensures { result ≡ cause_of stage.now }
 {
-    match fault(stage) {
-        Some(fault) => Some(u64::from(fault.cause.code())),
-        None => None,
-    }
+    Some(u64::from(fault(stage)?.cause.code()))
 }
 
 // The word that a fault gives mtval.
 fn fault_value(stage: &Stage) -> Option<u64>
     ensures { result ≡ fault_value_of stage.now }
 {
-    match fault(stage) {
-        Some(fault) => Some(u64::from(fault.value)),
-        None => None,
-    }
+    Some(u64::from(fault(stage)?.value))
 }
 
 #[tactic(auto, unfolding(crate::specs::Entry::stage_text))]

@@ -13,10 +13,7 @@ use std::io::Write;
 fn cost(row: &Passage) -> Option<u64>
     ensures { result ≡ cost_of row.now }
 {
-    match row.issue {
-        Some(issue) => Some(u64::from(issue.cost)),
-        None => None,
-    }
+    Some(u64::from(row.issue?.cost))
 }
 
 #[tactic(auto, unfolding(crate::specs::Instruction::passage_text))]

@@ -10,4 +10,4 @@ returns g c =
     let x = c.digits-x.ensures ∙ ap decimal c.column_x.ensures in
     let cycle = c.digits-cycle.ensures ∙ ap decimal c.from.ensures in
     let bottom = c.digits-bottom.ensures ∙ ap decimal c.row_y.ensures in
-    written_same _ _ _ _ _ (λ i. line_down c.args.begin.now c.args.top.now c.args.label_begin.now c.args.label.now (x i) (cycle i) (bottom i)) c.put_all.ensures
+    written_same _ _ _ _ _ (λ i. line_down c.args.begin.now c.args.top.now (x i) (cycle i) (bottom i)) c.put_all.ensures

@@ -1,12 +1,17 @@
-use Rattle.std.proofs.Common.{◌∙◌, ap}
+use Rattle.std.proofs.Common.{◌∙◌, ap, ◌++◌}
 use Rattle.std.specs.Prelude.{decimal, codes}
-use Rattle.rv_drawing.specs.Places.{column_x, row_y}
-use Rattle.rv_drawing.specs.SvgMarks.{line_down, tenth_mark}
-use Rattle.rv_text.proofs.Writing.{written_same}
+use Rattle.rv_drawing.specs.SvgMarks.{tenth_mark}
+use Rattle.rv_text.proofs.Writing.{handed_on, beginning-longer, written_behind, written_same}
 use Rattle.rv_drawing.proofs.marks.write_tenth_mark.Goals as goal
+
+pub returns-in_err-write_line_down : goal.returns-in_err-write_line_down
+unfolding tenth_mark
+returns-in_err-write_line_down g c =
+    handed_on _ _ _ _ _ c.from_residual.ensures.1 (beginning-longer _ _ _ _ c.in_err-write_line_down.ensures)
 
 pub returns : goal.returns
 unfolding tenth_mark
 returns g c =
-    let label = c.digits-label.ensures ∙ ap decimal c.from.ensures in
-    written_same _ _ _ _ _ (λ i. line_down (codes "<g class='n' transform='translate(") (codes "</title><path d='M0 20V") (codes "<text x='3' y='16'>") (label i) (decimal (column_x c.args.column)) (decimal c.args.cycle) (decimal (row_y c.args.rows))) c.write_line_down.ensures
+    let cycle = c.digits-cycle.ensures ∙ ap decimal c.from.ensures in
+    written_behind _ _ _ _ _ _ c.in_ok-write_line_down.ensures
+    (written_same _ _ _ _ _ (λ i. codes "<text x='3' y='16'>" ++ (cycle i ++ codes "</text></g>\n")) c.put_all.ensures)
