@@ -1,4 +1,4 @@
-pub mod Blanks
+pub mod Appended
 pub mod Distance
 pub mod Faulty
 pub mod Named

@@ -9,7 +9,8 @@ use crate::entry_line::{EntryLine, Sought, first_sought};
 use crate::lines::line_feeds;
 use crate::near::add_nearest;
 use crate::place::add_line_place;
-use crate::text::add_number;
+use crate::text::{add_all, add_number};
+use itoa::Buffer;
 use rv_describe::{ArrivalsError, Field, field_at_fault};
 use rv_job::Parts;
 use std::alloc::{AllocError, Global};
@@ -42,9 +43,9 @@ fn add_entry_line(out: &mut Vec<u8>, before: usize, found: EntryLine<'_>) -> Res
 fn add_entry(out: &mut Vec<u8>, entry: usize) -> Result<(), AllocError>
     ensures { OnOk result (out.new.items ≡ out.old.items ++ entry_text entry) }
 {
-    out.extend_from_slice(b"entry ")?;
-    add_number(out, entry)?;
-    out.extend_from_slice(b" of the arrivals\n")
+    let mut buffer = Buffer::new();
+    let entry = buffer.format(entry).as_bytes();
+    add_all(out, &[b"entry ", entry, b" of the arrivals\n"])
 }
 
 #[tactic(auto, unfolding(crate::specs::Arrivals::field_name))]

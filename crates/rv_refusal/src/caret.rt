@@ -86,7 +86,6 @@ fn fault_place(alloc: Global, fault: AsmFault, line: &[u8]) -> Result<Option<usi
 }
 
 // Appends so many blanks.
-#[tactic(auto, using(crate::proofs::Blanks::blanks_more))]
 fn add_blanks(out: &mut Vec<u8>, count: usize) -> Result<(), AllocError>
     ensures { OnOk result (out.new.items ≡ out.old.items ++ replicate count 32) }
 {

@@ -7,7 +7,7 @@ ghost use Rattle.rv_asm.specs.Read.{operand_of, tokens_in};
 ghost use Rattle.rv_asm.specs.Statement.{is_implied};
 ghost use Rattle.rv_refusal.specs.Culprit.{culprit_among, culprit_of, culprit_on, definition_on, defines, has_unknown_register, holds_register, holds_value, is_culprit, is_misfit, is_of_definition, is_of_operands, is_of_register, is_of_shape, is_past_csrs, is_too_wide, is_unnamed, is_wrong_value, marked, may_be_out_of_range, only, operand_at, operand_of_fault, operands_on, unless_empty};
 
-use crate::operand_tokens::{from_register, operand_at, operands_on};
+use crate::operand_tokens::{add_operands, from_register, operand_at};
 use crate::statement::behind_labels;
 use rv_asm::{AsmFault, Expression, Form, Operand, Place, Token, form_named, register_named};
 use rv_isa::Width;
@@ -315,7 +315,8 @@ fn marked_among<'t, 'a>(
     ensures { IfOk result (λ operand. option_map (λ from. tokens_in from.now) operand
         ≡ option_map (marked fault) (culprit_of fault form (operands_on (tokens_in tokens.entry.now)))) }
 {
-    let operands = operands_on(alloc, tokens)?;
+    let mut operands = Vec::new(alloc);
+    add_operands(&mut operands, tokens)?;
     match culprit_of(fault, form, operands.as_slice()) {
         Some(operand) => Ok(Some(marked(fault, operand))),
         None => Ok(None),

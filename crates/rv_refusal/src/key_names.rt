@@ -1,4 +1,4 @@
-ghost use Rattle.std.specs.Prelude.{◌≡◌, IfOk, None, map, option_copied};
+ghost use Rattle.std.specs.Prelude.{◌≡◌, ◌++◌, IfOk, None, OnOk, map, option_copied};
 ghost use Rattle.std.specs.Option.{option_to_list};
 ghost use Rattle.rv_isa.specs.Key.{text_of};
 ghost use Rattle.rv_describe.specs.Unknown.{same_table};
@@ -24,15 +24,15 @@ pub(crate) fn text_of(key: Key) -> &'static [u8]
     key.place().text.as_bytes()
 }
 
-// The keys, each with its table's name before it.
-fn keys_of(alloc: Global, keys: &[Key]) -> Result<Vec<&'static [u8]>, AllocError>
-    ensures { IfOk result (λ names. map (λ name. name.now) names.items ≡ map text_of keys.now) }
+// Adds keys, each with its table's name before it.
+fn add_keys<'a>(names: &mut Vec<&'a [u8]>, keys: &[Key]) -> Result<(), AllocError>
+    ensures { OnOk result (map (λ name. name.now) names.new.items
+        ≡ map (λ name. name.now) names.old.items ++ map text_of keys.now) }
 {
-    let mut names = Vec::new(alloc);
     for key in keys {
         names.push(text_of(*key))?;
     }
-    Ok(names)
+    Ok(())
 }
 
 // The table of a key, but for that of the key before.
@@ -48,11 +48,11 @@ fn new_table(table: Option<&'static str>, last: Option<&'static str>) -> Option<
     }
 }
 
-// The tables of keys, but for those of the key before.
-fn tables_of(alloc: Global, keys: &[Key]) -> Result<Vec<&'static [u8]>, AllocError>
-    ensures { IfOk result (λ names. map (λ name. name.now) names.items ≡ tables_from None keys.now) }
+// Adds the tables of keys, but for those of the key before.
+fn add_tables<'a>(names: &mut Vec<&'a [u8]>, keys: &[Key]) -> Result<(), AllocError>
+    ensures { OnOk result (map (λ name. name.now) names.new.items
+        ≡ map (λ name. name.now) names.old.items ++ tables_from None keys.now) }
 {
-    let mut names = Vec::new(alloc);
     let mut last = None;
     for key in keys {
         let table = key.place().table;
@@ -61,15 +61,15 @@ fn tables_of(alloc: Global, keys: &[Key]) -> Result<Vec<&'static [u8]>, AllocErr
         }
         last = table;
     }
-    Ok(names)
+    Ok(())
 }
 
 /// The names that a description may have: its keys with their tables' names before them, and then its tables.
 pub(crate) fn key_names(alloc: Global) -> Result<Vec<&'static [u8]>, AllocError>
     ensures { IfOk result (λ names. map (λ name. name.now) names.items ≡ key_names) }
 {
-    let mut names = keys_of(alloc, all_keys())?;
-    let tables = tables_of(alloc, all_keys())?;
-    names.extend_from_slice(tables.as_slice())?;
+    let mut names = Vec::new(alloc);
+    add_keys(&mut names, all_keys())?;
+    add_tables(&mut names, all_keys())?;
     Ok(names)
 }

@@ -1,9 +1,10 @@
 ghost use Rattle.std.specs.Prelude.{◌≡◌, ◌++◌, OnOk, Some};
 ghost use Rattle.rv_isa.specs.Choice.{predictor_named, recovery_named};
-ghost use Rattle.rv_refusal.specs.KeyRange.{bounds_text, default_mark, default_words, key_default, key_range, key_words, predictor_word, predictors, quoted, range_text, recoveries, recovery_word, truth_word, values_line};
+ghost use Rattle.rv_refusal.specs.KeyRange.{bounds_text, default_mark, default_words, key_default, key_range, key_words, predictor_word, quoted, range_text, recovery_word, truth_word, values_line};
 
 use crate::key_names::text_of;
 use crate::text::{add_all, add_number};
+use itoa::Buffer;
 use rv_isa::{Bounds, Key, PredictorKind, Recovery, Values};
 use std::alloc::AllocError;
 
@@ -11,10 +12,11 @@ use std::alloc::AllocError;
 fn add_range(out: &mut Vec<u8>, word: &[u8], low: u32, high: u32) -> Result<(), AllocError>
     ensures { OnOk result (out.new.items ≡ out.old.items ++ range_text word.now low high) }
 {
-    add_all(out, &[word, b" from "])?;
-    add_number(out, low as usize)?;
-    out.extend_from_slice(b" to ")?;
-    add_number(out, high as usize)
+    let mut of_low = Buffer::new();
+    let low = of_low.format(low).as_bytes();
+    let mut of_high = Buffer::new();
+    let high = of_high.format(high).as_bytes();
+    add_all(out, &[word, b" from ", low, b" to ", high])
 }
 
 // Appends the numbers of bounds.
@@ -70,36 +72,18 @@ fn add_quoted(out: &mut Vec<u8>, word: &[u8]) -> Result<(), AllocError>
     add_all(out, &[b"\"", word, b"\""])
 }
 
-// Appends the words of the ways to mend wrong predictions.
-fn add_recoveries(out: &mut Vec<u8>) -> Result<(), AllocError>
-    ensures { OnOk result (out.new.items ≡ out.old.items ++ recoveries) }
-{
-    add_quoted(out, recovery_word(Recovery::Commit))?;
-    out.extend_from_slice(b" or ")?;
-    add_quoted(out, recovery_word(Recovery::Early))
-}
-
-// Appends the words of the predictors.
-fn add_predictors(out: &mut Vec<u8>) -> Result<(), AllocError>
-    ensures { OnOk result (out.new.items ≡ out.old.items ++ predictors) }
-{
-    add_quoted(out, predictor_word(PredictorKind::NotTaken))?;
-    out.extend_from_slice(b", ")?;
-    add_quoted(out, predictor_word(PredictorKind::BackwardTaken))?;
-    out.extend_from_slice(b" or ")?;
-    add_quoted(out, predictor_word(PredictorKind::Bimodal))
-}
-
 // Appends the values that a key takes.
-#[tactic(auto, unfolding(crate::specs::KeyRange::key_range))]
+#[tactic(auto, unfolding(crate::specs::KeyRange::key_range, crate::specs::KeyRange::recovery_word, crate::specs::KeyRange::predictor_word))]
 fn add_key_range(out: &mut Vec<u8>, key: Key) -> Result<(), AllocError>
     ensures { OnOk result (out.new.items ≡ out.old.items ++ key_range key) }
 {
     match key {
         Key::Number(key) => add_bounds(out, key.bounds()),
-        Key::Recovery => add_recoveries(out),
+        Key::Recovery => out.extend_from_slice(b"\"commit\" or \"early\""),
         Key::Pipelined(_) => out.extend_from_slice(b"true or false"),
-        Key::PredictorKind => add_predictors(out),
+        Key::PredictorKind => {
+            out.extend_from_slice(b"\"not_taken\", \"backward_taken\" or \"bimodal\"")
+        }
     }
 }
 
@@ -124,9 +108,7 @@ fn add_key_default(out: &mut Vec<u8>, key: Key) -> Result<(), AllocError>
 fn add_key_words(out: &mut Vec<u8>, key: Key) -> Result<(), AllocError>
     ensures { OnOk result (out.new.items ≡ out.old.items ++ key_words key) }
 {
-    out.extend_from_slice(b"expected: ")?;
-    out.extend_from_slice(text_of(key))?;
-    out.extend_from_slice(b" is ")
+    add_all(out, &[b"expected: ", text_of(key), b" is "])
 }
 
 #[tactic(auto, unfolding(crate::specs::KeyRange::default_mark))]

@@ -1,19 +1,30 @@
-ghost use Rattle.std.specs.Prelude.{◌≡◌, map};
+ghost use Rattle.std.specs.Prelude.{◌≡◌, ◌++◌, OnOk, map};
+ghost use Rattle.rv_asm.specs.Mnemonic.{instructions, others, pseudo_instructions};
 ghost use Rattle.rv_refusal.specs.Names.{csrs, mnemonics, registers};
 
-// The mnemonics and directives, in the order of the assembler's tables.
-static MNEMONICS: [&[u8]; 106] = [
+use std::alloc::AllocError;
+
+// The mnemonics of instructions, in the order of the assembler's table.
+static INSTRUCTIONS: [&[u8]; 58] = [
     b"lui", b"auipc", b"beq", b"bne", b"blt", b"bge", b"bltu", b"bgeu", b"lb", b"lh", b"lw",
     b"lbu", b"lhu", b"sb", b"sh", b"sw", b"addi", b"slti", b"sltiu", b"xori", b"ori", b"andi",
     b"slli", b"srli", b"srai", b"add", b"sub", b"sll", b"slt", b"sltu", b"xor", b"srl", b"sra",
     b"or", b"and", b"ecall", b"ebreak", b"fence", b"fence.i", b"csrrw", b"csrrs", b"csrrc",
     b"csrrwi", b"csrrsi", b"csrrci", b"mul", b"mulh", b"mulhsu", b"mulhu", b"div", b"divu", b"rem",
-    b"remu", b"sh1add", b"sh2add", b"sh3add", b"mret", b"wfi", b"nop", b"mv", b"not", b"neg",
-    b"seqz", b"snez", b"sltz", b"sgtz", b"beqz", b"bnez", b"bltz", b"bgez", b"bgtz", b"blez",
-    b"bgt", b"ble", b"bgtu", b"bleu", b"j", b"call", b"jr", b"ret", b"csrr", b"csrw", b"csrs",
-    b"csrc", b"csrwi", b"csrsi", b"csrci", b"li", b"la", b"jal", b"jalr", b".text", b".data",
-    b".globl", b".global", b".equ", b".word", b".half", b".byte", b".zero", b".space", b".skip",
-    b".balign", b".asciz", b".string", b".ascii",
+    b"remu", b"sh1add", b"sh2add", b"sh3add", b"mret", b"wfi",
+];
+
+// Those of pseudo-instructions.
+static PSEUDO_INSTRUCTIONS: [&[u8]; 31] = [
+    b"nop", b"mv", b"not", b"neg", b"seqz", b"snez", b"sltz", b"sgtz", b"beqz", b"bnez", b"bltz",
+    b"bgez", b"bgtz", b"blez", b"bgt", b"ble", b"bgtu", b"bleu", b"j", b"call", b"jr", b"ret",
+    b"csrr", b"csrw", b"csrs", b"csrc", b"csrwi", b"csrsi", b"csrci", b"li", b"la",
+];
+
+// The other mnemonics, and the directives.
+static OTHERS: [&[u8]; 17] = [
+    b"jal", b"jalr", b".text", b".data", b".globl", b".global", b".equ", b".word", b".half",
+    b".byte", b".zero", b".space", b".skip", b".balign", b".asciz", b".string", b".ascii",
 ];
 
 // The registers' names.
@@ -45,12 +56,34 @@ static CSRS: [&[u8]; 15] = [
     b"mconfigptr",
 ];
 
-/// The mnemonics and directives that the assembler knows.
-#[tactic(auto, unfolding(rv_asm::specs::Mnemonic::instructions, rv_asm::specs::Mnemonic::pseudo_instructions, rv_asm::specs::Mnemonic::others))]
-pub(crate) fn mnemonics() -> &'static [&'static [u8]]
-    ensures { map (λ name. name.now) result.now ≡ mnemonics }
+#[tactic(auto, unfolding(rv_asm::specs::Mnemonic::instructions))]
+fn instructions() -> &'static [&'static [u8]]
+    ensures { map (λ name. name.now) result.now ≡ map (λ row. row.0) instructions }
 {
-    &MNEMONICS
+    &INSTRUCTIONS
+}
+
+#[tactic(auto, unfolding(rv_asm::specs::Mnemonic::pseudo_instructions))]
+fn pseudo_instructions() -> &'static [&'static [u8]]
+    ensures { map (λ name. name.now) result.now ≡ map (λ row. row.0) pseudo_instructions }
+{
+    &PSEUDO_INSTRUCTIONS
+}
+
+#[tactic(auto, unfolding(rv_asm::specs::Mnemonic::others))]
+fn others() -> &'static [&'static [u8]]
+    ensures { map (λ name. name.now) result.now ≡ map (λ row. row.0) others }
+{
+    &OTHERS
+}
+
+/// Adds the mnemonics and directives that the assembler knows.
+pub(crate) fn add_mnemonics<'a>(names: &mut Vec<&'a [u8]>) -> Result<(), AllocError>
+    ensures { OnOk result (map (λ name. name.now) names.new.items ≡ map (λ name. name.now) names.old.items ++ mnemonics) }
+{
+    names.extend_from_slice(instructions())?;
+    names.extend_from_slice(pseudo_instructions())?;
+    names.extend_from_slice(others())
 }
 
 /// The names of registers.

@@ -1,4 +1,4 @@
-ghost use Rattle.std.specs.Prelude.{◌≡◌, ◌≤◌, IfOk, false, length, map, option_map};
+ghost use Rattle.std.specs.Prelude.{◌≡◌, ◌≤◌, ◌++◌, OnOk, false, length, map, option_map};
 ghost use Rattle.std.specs.List.{before_first, position_or_len};
 ghost use Rattle.std.specs.Option.{option_map_or};
 ghost use Rattle.rv_asm.specs.Operand.{is_comma};
@@ -6,7 +6,7 @@ ghost use Rattle.rv_asm.specs.Read.{operand_of, token_of, tokens_in};
 ghost use Rattle.rv_refusal.specs.Culprit.{from_register, has_base, operand_at, operands_on};
 
 use rv_asm::{Operand, Token, read_operand};
-use std::alloc::{AllocError, Global};
+use std::alloc::AllocError;
 
 fn is_comma(token: &Token<'_>) -> bool
     ensures { result ≡ is_comma (token_of token.now) }
@@ -14,16 +14,16 @@ fn is_comma(token: &Token<'_>) -> bool
     matches!(*token, Token::Comma)
 }
 
-/// The tokens from each operand on.
-pub(crate) fn operands_on<'t, 'a>(
-    alloc: Global,
+/// Adds the tokens from each operand on.
+pub(crate) fn add_operands<'t, 'a>(
+    operands: &mut Vec<&'t [Token<'a>]>,
     tokens: &'t [Token<'a>],
-) -> Result<Vec<&'t [Token<'a>]>, AllocError>
-    ensures { IfOk result (λ operands. map (λ operand. tokens_in operand.now) operands.items ≡ operands_on (tokens_in tokens.entry.now)) }
+) -> Result<(), AllocError>
+    ensures { OnOk result (map (λ operand. tokens_in operand.now) operands.new.items
+        ≡ map (λ operand. tokens_in operand.now) operands.old.items ++ operands_on (tokens_in tokens.entry.now)) }
 {
-    let mut operands = Vec::new(alloc);
     if tokens.is_empty() {
-        return Ok(operands);
+        return Ok(());
     }
     operands.push(tokens)?;
     let mut rest = tokens;
@@ -33,7 +33,7 @@ pub(crate) fn operands_on<'t, 'a>(
         }
         rest = others;
     }
-    Ok(operands)
+    Ok(())
 }
 
 // How many tokens stand before the first comma.

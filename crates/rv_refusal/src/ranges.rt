@@ -1,7 +1,6 @@
 ghost use Rattle.std.specs.Prelude.{◌≡◌, ◌++◌, OnOk, Some, not, ℤ};
-ghost use Rattle.std.specs.Fmt.{signed_decimal};
 ghost use Rattle.rv_asm.specs.Meaning.{fits_width};
-ghost use Rattle.rv_refusal.specs.Range.{HasRanges, csr_line, csr_range, data_line, is_outside, operation_line, range_line, range_words, target_words, value_line, value_part, value_range, value_words, width_range};
+ghost use Rattle.rv_refusal.specs.Range.{HasRanges, csr_line, csr_range, data_line, is_outside, operation_line, range_line, range_words, value_line, value_part, value_range, value_words, width_range};
 
 use crate::text::add_all;
 use itoa::Buffer;
@@ -68,31 +67,16 @@ fn width_range(width: Width) -> Range
     }
 }
 
-// Appends a number.
-fn add_number(out: &mut Vec<u8>, number: i64) -> Result<(), AllocError>
-    ensures { OnOk result (out.new.items ≡ out.old.items ++ signed_decimal number) }
-{
-    let mut buffer = Buffer::new();
-    out.extend_from_slice(buffer.format(number).as_bytes())
-}
-
-// Appends a range after a word.
+// Appends a range between words.
 #[tactic(auto, unfolding(crate::specs::Range::range_words))]
-fn add_range(out: &mut Vec<u8>, word: &[u8], range: Range) -> Result<(), AllocError>
-    ensures { OnOk result (out.new.items ≡ out.old.items ++ range_words word.now range) }
+fn add_range(out: &mut Vec<u8>, word: &[u8], range: Range, after: &[u8]) -> Result<(), AllocError>
+    ensures { OnOk result (out.new.items ≡ out.old.items ++ (range_words word.now range ++ after.now)) }
 {
-    add_all(out, &[word, b" from "])?;
-    add_number(out, range.least)?;
-    out.extend_from_slice(b" to ")?;
-    add_number(out, range.greatest)
-}
-
-// Appends the range of a distance.
-fn add_target(out: &mut Vec<u8>, range: Range) -> Result<(), AllocError>
-    ensures { OnOk result (out.new.items ≡ out.old.items ++ target_words range) }
-{
-    add_range(out, b"a target", range)?;
-    out.extend_from_slice(b" bytes away")
+    let mut of_least = Buffer::new();
+    let least = of_least.format(range.least).as_bytes();
+    let mut of_greatest = Buffer::new();
+    let greatest = of_greatest.format(range.greatest).as_bytes();
+    add_all(out, &[word, b" from ", least, b" to ", greatest, after])
 }
 
 // Appends the range of an operation's value.
@@ -101,8 +85,8 @@ fn add_value(out: &mut Vec<u8>, operation: Operation, range: Range) -> Result<()
     ensures { OnOk result (out.new.items ≡ out.old.items ++ value_words operation range) }
 {
     match operation {
-        Operation::Jal | Operation::Branch(_) => add_target(out, range),
-        _ => add_range(out, b"a value", range),
+        Operation::Jal | Operation::Branch(_) => add_range(out, b"a target", range, b" bytes away"),
+        _ => add_range(out, b"a value", range, b""),
     }
 }
 
@@ -124,7 +108,7 @@ fn add_csr_line(out: &mut Vec<u8>, operation: Operation, range: Range) -> Result
     ensures { OnOk result (out.new.items ≡ out.old.items ++ csr_line operation range) }
 {
     out.extend_from_slice(b"expected: ")?;
-    add_range(out, b"a CSR", range)?;
+    add_range(out, b"a CSR", range, b"")?;
     add_value_part(out, b", and ", operation)?;
     out.extend_from_slice(b"\n")
 }
@@ -159,8 +143,7 @@ fn add_operation_line(out: &mut Vec<u8>, operation: Operation) -> Result<(), All
 fn add_data_line(out: &mut Vec<u8>, range: Range) -> Result<(), AllocError>
     ensures { OnOk result (out.new.items ≡ out.old.items ++ data_line range) }
 {
-    add_range(out, b"expected: values", range)?;
-    out.extend_from_slice(b"\n")
+    add_range(out, b"expected: values", range, b"\n")
 }
 
 /// Appends the line on the values that a statement of a form takes.

@@ -1,4 +1,4 @@
-ghost use Rattle.std.specs.Prelude.{◌≡◌, [], IfOk, map, option_copied};
+ghost use Rattle.std.specs.Prelude.{◌≡◌, ◌++◌, [], OnOk, map, option_copied};
 ghost use Rattle.std.specs.Option.{option_map_or, option_to_list};
 ghost use Rattle.rv_asm.specs.Layout.{labels_of};
 ghost use Rattle.rv_asm.specs.Read.{tokens_in};
@@ -21,61 +21,62 @@ fn constant_of<'a>(body: &[Token<'a>]) -> Option<&'a [u8]>
     }
 }
 
-// The labels at the front of a line.
-fn labels_of<'a>(alloc: Global, tokens: &[Token<'a>]) -> Result<Vec<&'a [u8]>, AllocError>
-    ensures { IfOk result (λ labels. map (λ name. name.now) labels.items ≡ labels_of (tokens_in tokens.now)) }
+// Adds the labels at the front of a line.
+fn add_labels<'a>(symbols: &mut Vec<&'a [u8]>, tokens: &[Token<'a>]) -> Result<(), AllocError>
+    ensures { OnOk result (map (λ name. name.now) symbols.new.items
+        ≡ map (λ name. name.now) symbols.old.items ++ labels_of (tokens_in tokens.now)) }
 {
-    let mut labels = Vec::new(alloc);
     let mut rest = tokens;
-    loop {
-        match rest {
-            [Token::Name(label), Token::Colon, others @ ..] => {
-                labels.push(*label)?;
-                rest = others;
-            }
-            _ => return Ok(labels),
-        }
+    while let [Token::Name(label), Token::Colon, others @ ..] = rest {
+        symbols.push(*label)?;
+        rest = others;
     }
+    Ok(())
 }
 
-// The symbols that tokens of a line define.
-fn symbols_in<'a>(alloc: Global, tokens: &[Token<'a>]) -> Result<Vec<&'a [u8]>, AllocError>
-    ensures { IfOk result (λ symbols. map (λ name. name.now) symbols.items ≡ symbols_on (tokens_in tokens.now)) }
+// Adds the symbols that tokens of a line define.
+fn add_symbols_in<'a>(symbols: &mut Vec<&'a [u8]>, tokens: &[Token<'a>]) -> Result<(), AllocError>
+    ensures { OnOk result (map (λ name. name.now) symbols.new.items
+        ≡ map (λ name. name.now) symbols.old.items ++ symbols_on (tokens_in tokens.now)) }
 {
-    let mut symbols = labels_of(alloc, tokens)?;
-    match constant_of(behind_labels(tokens)) {
-        Some(symbol) => {
-            symbols.push(symbol)?;
-            Ok(symbols)
-        }
-        None => Ok(symbols),
+    add_labels(symbols, tokens)?;
+    if let Some(symbol) = constant_of(behind_labels(tokens)) {
+        symbols.push(symbol)?;
     }
+    Ok(())
 }
 
-// The symbols that a line defines; a line that has no tokens defines none.
-fn symbols_on(alloc: Global, line: &[u8]) -> Result<Vec<&[u8]>, AllocError>
-    ensures { IfOk result (λ symbols. map (λ name. name.now) symbols.items
-        ≡ option_map_or symbols_on (tokens_of line.entry.now) []) }
+// Adds the symbols that a line defines; a line that has no tokens defines none.
+fn add_symbols_on<'a>(
+    alloc: Global,
+    symbols: &mut Vec<&'a [u8]>,
+    line: &'a [u8],
+) -> Result<(), AllocError>
+    ensures { OnOk result (map (λ name. name.now) symbols.new.items
+        ≡ map (λ name. name.now) symbols.old.items ++ option_map_or symbols_on (tokens_of line.entry.now) []) }
 {
     match tokenize(alloc, line) {
-        Ok(tokens) => symbols_in(alloc, tokens.as_slice()),
+        Ok(tokens) => add_symbols_in(symbols, tokens.as_slice()),
         Err(AsmFault::Memory) => Err(AllocError),
-        Err(_) => Ok(Vec::new(alloc)),
+        Err(_) => Ok(()),
     }
 }
 
-/// The symbols that the lines of a text define.
+/// Adds the symbols that the lines of a text define.
 #[tactic(auto, unfolding(crate::specs::Names::symbols_of))]
-pub(crate) fn symbols_of(alloc: Global, text: &[u8]) -> Result<Vec<&[u8]>, AllocError>
-    ensures { IfOk result (λ symbols. map (λ name. name.now) symbols.items ≡ symbols_of text.entry.now) }
+pub(crate) fn add_symbols<'a>(
+    alloc: Global,
+    symbols: &mut Vec<&'a [u8]>,
+    text: &'a [u8],
+) -> Result<(), AllocError>
+    ensures { OnOk result (map (λ name. name.now) symbols.new.items
+        ≡ map (λ name. name.now) symbols.old.items ++ symbols_of text.entry.now) }
 {
-    let mut symbols = Vec::new(alloc);
     let mut rest = Some(text);
     while let Some(unread) = rest {
         let (line, behind) = first_line(unread);
-        let defined = symbols_on(alloc, line)?;
-        symbols.extend_from_slice(defined.as_slice())?;
+        add_symbols_on(alloc, symbols, line)?;
         rest = behind;
     }
-    Ok(symbols)
+    Ok(())
 }

@@ -1,4 +1,4 @@
-ghost use Rattle.std.specs.Prelude.{◌≡◌, ◌++◌, IfOk, OnOk, option_and_then, option_copied};
+ghost use Rattle.std.specs.Prelude.{◌≡◌, ◌++◌, IfOk, OnOk, map, option_and_then, option_copied};
 ghost use Rattle.rv_asm.specs.Layout.{body_of};
 ghost use Rattle.rv_asm.specs.Read.{tokens_in};
 ghost use Rattle.rv_asm.specs.Token.{tokens_of};
@@ -8,10 +8,10 @@ ghost use Rattle.rv_refusal.specs.Near.{names_line, nearest, nearest_line};
 ghost use Rattle.rv_refusal.specs.Statement.{first_name};
 
 use crate::culprit::{is_of_shape, operand_of_fault};
-use crate::names::{csrs, mnemonics, registers};
+use crate::names::{add_mnemonics, csrs, registers};
 use crate::near::add_nearest;
 use crate::statement::{behind_labels, first_name};
-use crate::symbols::symbols_of;
+use crate::symbols::add_symbols;
 use rv_asm::{AsmFault, Form, Operation, Token, form_named, tokenize};
 use std::alloc::{AllocError, Global};
 
@@ -88,8 +88,27 @@ fn unknown_on(alloc: Global, fault: AsmFault, line: &[u8]) -> Result<Option<&[u8
     }
 }
 
+// Adds the names that may stand where a fault of an assembly is reported.
+#[tactic(auto, unfolding(crate::specs::Names::known_names))]
+fn add_known_names<'a>(
+    alloc: Global,
+    names: &mut Vec<&'a [u8]>,
+    fault: AsmFault,
+    assembly: &'a [u8],
+) -> Result<(), AllocError>
+    ensures { OnOk result (map (λ name. name.now) names.new.items
+        ≡ map (λ name. name.now) names.old.items ++ known_names fault assembly.entry.now) }
+{
+    match fault {
+        AsmFault::UnknownMnemonic => add_mnemonics(names),
+        AsmFault::BadRegister => names.extend_from_slice(registers()),
+        AsmFault::BadOperands => names.extend_from_slice(csrs()),
+        AsmFault::UnknownSymbol => add_symbols(alloc, names, assembly),
+        _ => Ok(()),
+    }
+}
+
 // Appends the line on the names that are nearest to one and may stand where a fault of an assembly is reported.
-#[tactic(auto, unfolding(crate::specs::Names::known_names, crate::specs::Near::names_line))]
 fn add_known(
     alloc: Global,
     out: &mut Vec<u8>,
@@ -99,16 +118,9 @@ fn add_known(
 ) -> Result<(), AllocError>
     ensures { OnOk result (out.new.items ≡ out.old.items ++ names_line (nearest name.now (known_names fault assembly.now))) }
 {
-    match fault {
-        AsmFault::UnknownMnemonic => add_nearest(alloc, out, name, mnemonics()),
-        AsmFault::BadRegister => add_nearest(alloc, out, name, registers()),
-        AsmFault::BadOperands => add_nearest(alloc, out, name, csrs()),
-        AsmFault::UnknownSymbol => {
-            let symbols = symbols_of(alloc, assembly)?;
-            add_nearest(alloc, out, name, symbols.as_slice())
-        }
-        _ => Ok(()),
-    }
+    let mut known = Vec::new(alloc);
+    add_known_names(alloc, &mut known, fault, assembly)?;
+    add_nearest(alloc, out, name, known.as_slice())
 }
 
 /// Appends the line on the known names that are nearest to the unknown one of a line at fault, where its fault is one of a name.
