@@ -31,16 +31,19 @@ fn a_word_of_the_program_has_its_address_and_its_line(rt: HostRuntime) {
 }
 
 #[test]
-fn a_line_of_two_words_stands_at_both_addresses(rt: HostRuntime) {
+fn a_line_of_two_words_stands_at_both_addresses_in_ram(rt: HostRuntime) {
     let alloc = rt.alloc();
     let mut listing = Listing::new(alloc, 0x8000_0000);
-    let line = b"li x1,5000".to_vec(alloc).expect(&rt, "a line");
-    let pushed = listing.push_line(SourceLine::new(3, line), 2);
-    assert!(&rt; pushed.is_ok());
+    for (number, text) in [(3, "li x1,5000"), (4, "li x2,5000")] {
+        let line = text.as_bytes().to_vec(alloc).expect(&rt, "a line");
+        let pushed = listing.push_line(SourceLine::new(number, line), 2);
+        assert!(&rt; pushed.is_ok());
+    }
     let mut text = Vec::new(alloc);
     let written = write_listing(&mut text, &listing, &three_words());
     let expected = b"{\"address\":2147483648,\"line\":3,\"text\":\"li x1,5000\"}\n\
-{\"address\":2147483652,\"line\":3,\"text\":\"li x1,5000\"}\n";
+{\"address\":2147483652,\"line\":3,\"text\":\"li x1,5000\"}\n\
+{\"address\":2147483656,\"line\":4,\"text\":\"li x2,5000\"}\n";
     expect_text(&rt, written, &text, expected);
 }
 

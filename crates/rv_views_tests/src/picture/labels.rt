@@ -19,8 +19,8 @@ const CASES: [(&str, &str); 8] = [
         "a_label_of_twenty___: addi x1,x0 ",
     ),
     (
-        "a_label_of_twenty_one: addi x1,x0",
-        "a_label_of_twenty_..: addi x1,x0 ",
+        "A_label_of_twenty_one: addi x1,x0",
+        "A_label_of_twenty_..: addi x1,x0 ",
     ),
     (
         "label_of_thirty_two_bytes_in_all: ebreak",

@@ -16,12 +16,16 @@ const WINDOW: Window = Window {
     stopped: None,
 };
 
-// beq x5,x6,8; addi x1,x0,5; add x8,x5,x6; lw x7,0(x5); csrrw x0,mscratch,x0; mret.
+// beq x5,x6,8; addi x1,x0,5; add x8,x5,x6; mul x8,x5,x6; div x8,x5,x6; lw x7,0(x5); csrrw x0,mscratch,x0; mret.
 const BRANCH: u32 = 0x0062_8463;
 
 const ADDITION: u32 = 0x0050_0093;
 
 const SUM: u32 = 0x0062_8433;
+
+const PRODUCT: u32 = 0x0262_8433;
+
+const QUOTIENT: u32 = 0x0262_c433;
 
 const LOAD: u32 = 0x0002_a383;
 
@@ -129,7 +133,7 @@ const STALLS: [Option<Stall>; 10] = [
     None,
     Some(Stall::Station),
     None,
-    None,
+    Some(Stall::Fetch),
 ];
 
 // What the tips of a word say that is fetched in cycle 10 and dispatched in cycle 16, while it is the oldest.
@@ -144,12 +148,13 @@ const ROOMS: [(&str, u32); 7] = [
 ];
 
 // What those of a younger one say besides.
-const TURNS: [(&str, u32); 5] = [
+const TURNS: [(&str, u32); 6] = [
     ("wait for older ones to dispatch", 12),
     ("wait for older ones to dispatch", 15),
     ("wait for room or its turn to dispatch", 16),
     ("wait for a station of its kind", 17),
     ("wait for room or its turn to dispatch", 18),
+    ("wait for room or its turn to dispatch", 19),
 ];
 
 fn oldest() -> Passage {
@@ -225,6 +230,8 @@ fn what_waits_for_no_result_waits_for_what_its_kind_needs(rt: HostRuntime) -> Re
             dispatched(LOAD),
             "wait for a unit, the port or older stores",
         ),
+        (dispatched(PRODUCT), "wait for a unit"),
+        (dispatched(QUOTIENT), "wait for a unit"),
         (dispatched(CSR), "wait for the head"),
         (before, "wait for operands, a unit or the head"),
         (in_first, "wait for a unit"),
