@@ -1,4 +1,4 @@
-ghost use Rattle.std.specs.Prelude.{◌≡◌, ◌≢◌, IfOk, map, take};
+ghost use Rattle.std.specs.Prelude.{◌≡◌, ◌≢◌, IfOk, IfSome, map, take};
 ghost use Rattle.std.specs.List.{filter_map, list_any, position};
 ghost use Rattle.toml.specs.View.{view};
 ghost use Rattle.rv_describe.specs.Entries.{arrival_of, entries_meaning, entry_fault, first_fall, has_unknown_field, reading_of};
@@ -11,10 +11,11 @@ use rv_isa::{Arrival, Arrivals, MOST_ARRIVALS};
 use std::alloc::{AllocError, Global};
 use toml::Value;
 
-/// The arrivals of the entries, or their fault.
+/// The arrivals of the entries, or their fault. One that an entry has by itself is answered where memory runs out too.
 #[tactic(auto, unfolding(crate::specs::Entries::entries_meaning))]
 pub fn read_entries(alloc: Global, entries: &[Value]) -> Result<Arrivals, ArrivalsError>
-    ensures { result ≢ Err ArrivalsError.Memory → result ≡ entries_meaning (map view entries.now) }
+    ensures read { result ≢ Err ArrivalsError.Memory → result ≡ entries_meaning (map view entries.now) }
+    ensures alone { IfSome (entry_fault (map view entries.now)) (λ error. result ≡ Err error) }
 {
     if let Some(error) = entry_fault(entries) {
         return Err(error);

@@ -19,4 +19,4 @@ returns-in-Some-as_array-clause-read c =
     let found = sym (rw c.in-Some.is at c.get.ensures) in
     let array = sym (rw c.in-Some-as_array.is at c.as_array.ensures) in
     let same = item_list-items_of (map view c.in-Some-as_array.entries.now.items) in
-    λ memory. rw c.as_slice.ensures.value at (c.read_entries.ensures memory) ∙ sym (rw (known, found, array, same))
+    λ memory. rw c.as_slice.ensures.value at (c.read_entries.ensures.read memory) ∙ sym (rw (known, found, array, same))

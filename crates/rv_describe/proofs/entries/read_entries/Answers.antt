@@ -11,9 +11,9 @@ use Rattle.rv_describe.proofs.entries.read_entries.Goals as goal
 few : (entries : List Value) → length entries ≤ 100000 → nat_lt 100000 (length (map view entries)) ≡ false
 few entries le = simp length-map (grind (arith, nat_tests))
 
-pub returns-in-Some-first_fall : goal.returns-in-Some-first_fall
+pub returns-in-Some-first_fall-clause-read : goal.returns-in-Some-first_fall-clause-read
 unfolding entries_meaning
-returns-in-Some-first_fall c =
+returns-in-Some-first_fall-clause-read c =
     let same : c.in-Ok.arrivals.items ≡ arrivals_of (map view c.args.entries.now) = c.in-Ok.ensures ∙ sym (filter_map-map view arrival_of c.args.entries.now) in
     let falling = ap (first_fall 1 0) (sym (c.as_slice.ensures.value ∙ same)) ∙ sym c.first_fall.ensures ∙ c.in-Some-first_fall.is in
     λ memory. rw (sym c.entry_fault.ensures ∙ c.in_default.is, few c.args.entries.now c.if-entries-gt-MOST_ARRIVALS.false, falling)
@@ -24,9 +24,9 @@ unwrap-requires c =
     let sorted = ap (first_fall 1 0) (sym (c.as_slice.ensures.value ∙ same)) ∙ sym c.first_fall.ensures ∙ c.in-None.is in
     c.new.ensures.legal.1 (rw same (legal (map view c.args.entries.now) (simp length-map c.if-entries-gt-MOST_ARRIVALS.false) sorted))
 
-pub returns-in-None : goal.returns-in-None
+pub returns-in-None-clause-read : goal.returns-in-None-clause-read
 unfolding entries_meaning
-returns-in-None c =
+returns-in-None-clause-read c =
     let same : c.in-Ok.arrivals.items ≡ arrivals_of (map view c.args.entries.now) = c.in-Ok.ensures ∙ sym (filter_map-map view arrival_of c.args.entries.now) in
     let sorted = ap (first_fall 1 0) (sym (c.as_slice.ensures.value ∙ same)) ∙ sym c.first_fall.ensures ∙ c.in-None.is in
     λ memory. ap Ok (rw c.unwrap.ensures at c.new.ensures.arrivals ∙ same) ∙ sym (rw (sym c.entry_fault.ensures ∙ c.in_default.is, few c.args.entries.now c.if-entries-gt-MOST_ARRIVALS.false, sorted))
