@@ -1,12 +1,14 @@
 -- What is appended, one part after another.
-use Rattle.std.proofs.Common.{◌≡◌, ◌∙◌, ◌+◌, ◌-◌, ◌<◌, ℕ, List, [], ◌∷◌, ◌++◌, map, take, drop, get_or, length, Result, Ok, Err, OnOk, sym, refl, ap, arith, append_assoc}
+use Rattle.std.proofs.Common.{◌≡◌, ◌∙◌, ◌+◌, ◌-◌, ◌<◌, ℕ, List, [], ◌∷◌, ◌++◌, map, take, drop, get_or, length, Result, Ok, Err, IfOk, OnOk, sym, refl, ap, arith, append_assoc}
 use Rattle.std.specs.Prelude.{replicate}
 use Rattle.std.proofs.lemmas.List.{append-nil, drop_more, take_all}
 use Rattle.std.specs.Int.{to_le_bytes, w32}
 use Rattle.rv_asm.specs.Emitted.{Appends, Emits, EmitsOrRefuses}
-use Rattle.rv_asm.specs.Meaning.{Cell, Byte', Word', Spells, nothing, byte, word, IsWordOf}
+use Rattle.rv_asm.specs.Meaning.{Cell, Byte', Word', Spells, nothing, byte, word, parts_in, IsWordOf}
 use Rattle.rv_asm.specs.Statement.{and_then}
 use Rattle.rv_asm.specs.declared.fault.AsmFault.{AsmFault}
+use Rattle.rv_asm.specs.declared.operation.Section.{Section}
+use Rattle.rv_asm.specs.declared.operation.Section.TheVariants.{Text, Data}
 use Rattle.rv_isa.specs.declared.instructions.Instr.{Instr}
 
 pub spells_append : {p q : List Cell} {x y : List ℕ} → Spells p x → Spells q y → Spells (p ++ q) (x ++ y)
@@ -20,10 +22,19 @@ appends_more {a = a} r s = record { bytes = r.bytes ++ s.bytes; spells = spells_
 pub appends_nothing : (a : List ℕ) → Appends [] a a
 appends_nothing a = record { bytes = []; spells = nothing; appended = sym (append-nil a) }
 
--- to the other section a line adds nothing
-pub nothing_added : {T : Type 0} (r : Result T AsmFault) (parts : List Cell) (a : List ℕ) → parts ≡ [] → OnOk r (Appends parts a a)
-nothing_added (Ok x) parts a none = rw none (appends_nothing a)
-nothing_added (Err fault) parts a none = tt
+added : {T : Type 0} (section : Section) (r : Result T AsmFault) (meaning : Result (List Cell) AsmFault) (a b : List ℕ) → IfOk r (λ _. Emits meaning a b) → OnOk r (Appends (parts_in section section meaning) a b)
+added Text (Ok x) meaning a b put = rw put.means put.appends
+added Data (Ok x) meaning a b put = rw put.means put.appends
+added section (Err fault) meaning a b put = tt
+
+-- a line adds what it means to the section that it stands in
+pub added_here : {T : Type 0} (section own : Section) (r : Result T AsmFault) (meaning : Result (List Cell) AsmFault) (a b : List ℕ) → own ≡ section → IfOk r (λ _. Emits meaning a b) → OnOk r (Appends (parts_in section own meaning) a b)
+added_here section own r meaning a b is put = rw is (added section r meaning a b put)
+
+-- to another section a line adds nothing
+pub nothing_added : {T : Type 0} (part section own : Section) (r : Result T AsmFault) (meaning : Result (List Cell) AsmFault) (a : List ℕ) → own ≡ section → parts_in part section meaning ≡ [] → OnOk r (Appends (parts_in part own meaning) a a)
+nothing_added part section own (Ok x) meaning a is none = rw (is, none) (appends_nothing a)
+nothing_added part section own (Err fault) meaning a is none = tt
 
 pub emits_nothing : (meaning : Result (List Cell) AsmFault) (a : List ℕ) → meaning ≡ Ok [] → Emits meaning a a
 emits_nothing meaning a means = record { parts = []; means = means; appends = appends_nothing a }

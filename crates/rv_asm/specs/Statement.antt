@@ -1,5 +1,5 @@
 -- What a line says after its labels.
-use Rattle.std.specs.Prelude.{ℕ, ℤ, pos, negsuc, List, [], ◌∷◌, Bool, true, false, ◌&&◌, ◌||◌, if◌then◌else◌, Option, Some, None, Result, Ok, Err, int_le, is_some, ok_or, unwrap_or, ◌==◌}
+use Rattle.std.specs.Prelude.{ℕ, ℤ, pos, negsuc, List, [], ◌∷◌, Bool, true, false, ◌&&◌, ◌||◌, if◌then◌else◌, length, Option, Some, None, Result, Ok, Err, int_le, is_some, ok_or, unwrap_or, ◌==◌}
 use Rattle.std.specs.{List.list_all, Option.option_map}
 use Rattle.rv_isa.specs.declared.operations.Width.{Width}
 use Rattle.rv_asm.specs.Mnemonic.{form_named}
@@ -84,7 +84,7 @@ csr_in (Value (Symbol name)) = ok_or (option_map (λ address. pos address) (csr_
 csr_in _ = Err BadOperands
 
 -- the field that an operand fills at its place, if it fills one
-abbrev pub put : Place → Operand → Fields → Result Fields AsmFault
+unfoldable pub put : Place → Operand → Fields → Result Fields AsmFault
 put place.Rd operand fields = and_then (register_in operand) (λ register. Ok (record fields { rd = register }))
 put place.Rs1 operand fields = and_then (register_in operand) (λ register. Ok (record fields { rs1 = register }))
 put place.Rs2 operand fields = and_then (register_in operand) (λ register. Ok (record fields { rs2 = register }))
@@ -94,13 +94,13 @@ put place.Csr operand fields = and_then (csr_in operand) (λ address. Ok (record
 put _ operand fields = Ok fields
 
 -- the field that a place without an operand fills; x1 holds return addresses
-abbrev pub imply : Place → Fields → Fields
+unfoldable pub imply : Place → Fields → Fields
 imply place.Link fields = record fields { rd = 1 }
 imply place.Return fields = record fields { rs1 = 1 }
 imply _ fields = fields
 
 -- the expression that stands at a place, if one does
-abbrev pub value_at : Place → Operand → Option Expression
+unfoldable pub value_at : Place → Operand → Option Expression
 value_at place.Value operand = Some (expression_in operand)
 value_at place.Known operand = Some (expression_in operand)
 value_at place.Target operand = Some (expression_in operand)
@@ -109,13 +109,13 @@ value_at place.Base operand = Some (expression_in operand)
 value_at _ operand = None
 
 -- the number that a place without an operand means, if it means one
-abbrev pub implied_value : Place → Option Expression
+unfoldable pub implied_value : Place → Option Expression
 implied_value place.One = Some (Number (pos 1))
 implied_value place.MinusOne = Some (Number (negsuc 0))
 implied_value _ = None
 
 -- what the operands fill at their places, if they have their shapes, one each: fields, and the first expression, or 0
-abbrev pub fill : List Place → List Operand → Fields → Result (Fields × Expression) AsmFault
+unfoldable pub fill : List Place → List Operand → Fields → Result (Fields × Expression) AsmFault
 fill [] [] fields = Ok (fields, Number (pos 0))
 fill [] (operand ∷ operands) fields = Err BadOperands
 fill (place ∷ places) [] fields = if is_implied place then and_then (fill places [] fields) (λ filled. Ok (imply place filled.0, unwrap_or (implied_value place) filled.1)) else Err BadOperands
@@ -125,18 +125,26 @@ fill (place ∷ places) (operand ∷ operands) fields =
     else Err BadOperands)
 
 -- the instruction with its operands; a field that none fills is x0 or 0
-abbrev pub instruction : Operation → List Place → List Operand → Result Statement AsmFault
+unfoldable pub instruction : Operation → List Place → List Operand → Result Statement AsmFault
 instruction operation places operands = and_then (fill places operands (record { rd = 0; rs1 = 0; rs2 = 0; csr = pos 0 })) (λ filled. Ok (Instruction operation filled.0 filled.1))
 
+-- the places of so many operands of jal: with or without its register
+abbrev pub jal_places : ℕ → List Place
+jal_places count = if count == 1 then place.Link ∷ place.Target ∷ [] else place.Rd ∷ place.Target ∷ []
+
+-- the places of so many operands of jalr: with its register alone, with an offset before it in parentheses, or with one after it
+abbrev pub jalr_places : ℕ → List Place
+jalr_places count =
+    if count == 1 then place.Link ∷ place.Rs1 ∷ []
+    else (if count == 2 then place.Rd ∷ place.Base ∷ []
+    else place.Rd ∷ place.Rs1 ∷ place.Value ∷ [])
+
 -- the statement of a form with its operands
-abbrev pub statement : Form → List Operand → Result Statement AsmFault
+unfoldable pub statement : Form → List Operand → Result Statement AsmFault
 statement form.Nothing [] = Ok Nothing
 statement (form.Instruction operation first second third) operands = instruction operation (first ∷ second ∷ third ∷ []) operands
-statement form.Jal (target ∷ []) = instruction operation.Jal (place.Link ∷ place.Target ∷ []) (target ∷ [])
-statement form.Jal operands = instruction operation.Jal (place.Rd ∷ place.Target ∷ []) operands
-statement form.Jalr (register ∷ []) = instruction operation.Jalr (place.Link ∷ place.Rs1 ∷ []) (register ∷ [])
-statement form.Jalr (register ∷ base ∷ []) = instruction operation.Jalr (place.Rd ∷ place.Base ∷ []) (register ∷ base ∷ [])
-statement form.Jalr operands = instruction operation.Jalr (place.Rd ∷ place.Rs1 ∷ place.Value ∷ []) operands
+statement form.Jal operands = instruction operation.Jal (jal_places (length operands)) operands
+statement form.Jalr operands = instruction operation.Jalr (jalr_places (length operands)) operands
 statement (form.Choice section) [] = Ok (Choice section)
 statement form.Global (Value (Symbol name) ∷ []) = Ok Nothing
 statement form.Constant (Value (Symbol name) ∷ Value (Number number) ∷ []) = Ok (Constant name number)
@@ -145,7 +153,7 @@ statement (form.Bytes directive place) (operand ∷ []) = if takes place operand
 statement _ operands = Err BadOperands
 
 -- the symbol that li takes, which an earlier .equ has to define
-abbrev pub needed : Form → List Operand → Option (List ℕ)
+unfoldable pub needed : Form → List Operand → Option (List ℕ)
 needed (form.Instruction operation.LoadNumber first second third) (register ∷ Value (Symbol name) ∷ []) = Some name
 needed _ operands = None
 

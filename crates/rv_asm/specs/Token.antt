@@ -88,19 +88,25 @@ pub record Lexeme : Type 0 where
   pub token : Option Token
   pub size : ℕ
 
--- what a line begins with, whose first byte is given; none where that is no token. A word, that is a name or a
--- number, takes all the bytes of names that stand together
+-- a word, that is a name or a number, takes all the bytes of names that stand together
+unfoldable pub word_lexeme : ℕ → List ℕ → Option Lexeme
+word_lexeme first line =
+    let word = take_while is_name_byte line in
+    if begins_name first then Some (record { token = Some (Name word); size = length word })
+    else option_map (λ n. record { token = Some (Number n); size = length word }) (number_of word)
+
+-- a quote begins a string, and another ends it
+unfoldable pub string_lexeme : List ℕ → Option Lexeme
+string_lexeme others = option_map (λ n. record { token = Some (Text (unescaped (take n others))); size = n + 2 }) (quoted_length others)
+
+-- what a line begins with, whose first byte is given; none where that is no token
 unfoldable pub first_lexeme : ℕ → List ℕ → Option Lexeme
 first_lexeme first line =
-    let word = take_while is_name_byte line in
-    let others = drop 1 line in
     if is_separator first then Some (record { token = None; size = 1 })
     -- # begins a comment
     else (if first == 35 then Some (record { token = None; size = length line })
-    else (if is_name_byte first then (if begins_name first then Some (record { token = Some (Name word); size = length word })
-    else option_map (λ n. record { token = Some (Number n); size = length word }) (number_of word))
-    -- a quote begins a string, and another ends it
-    else (if first == 34 then option_map (λ n. record { token = Some (Text (unescaped (take n others))); size = n + 2 }) (quoted_length others)
+    else (if is_name_byte first then word_lexeme first line
+    else (if first == 34 then string_lexeme (drop 1 line)
     else option_map (λ mark. record { token = Some mark; size = 1 }) (mark_of first))))
 
 -- the tokens of the bytes after so many, which belong to the token before

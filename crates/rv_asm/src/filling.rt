@@ -48,6 +48,7 @@ fn csr_in(operand: Operand<'_>) -> Result<i64, AsmFault>
 }
 
 /// Fills the field of an operand at its place, if it has one.
+#[tactic(auto, unfolding(crate::specs::Statement::put))]
 fn put(place: Place, operand: Operand<'_>, fields: &mut Fields) -> Result<(), AsmFault>
     ensures { result_map_both (λ _. fields.new) (λ fault. fault) result ≡ put place (operand_of operand.entry) fields.old }
 {
@@ -69,6 +70,7 @@ fn link_register() -> Reg
 }
 
 /// Fills the field of a place without an operand, if it has one.
+#[tactic(auto, unfolding(crate::specs::Statement::imply))]
 fn imply(place: Place, fields: &mut Fields)
     ensures { fields.new ≡ imply place fields.old }
 {
@@ -80,6 +82,7 @@ fn imply(place: Place, fields: &mut Fields)
 }
 
 /// The expression that stands at a place, if one does.
+#[tactic(auto, unfolding(crate::specs::Statement::value_at))]
 fn value_at<'a>(place: Place, operand: Operand<'a>) -> Option<Expression<'a>>
     ensures { option_map expression_of result ≡ value_at place (operand_of operand.entry) }
 {
@@ -92,6 +95,7 @@ fn value_at<'a>(place: Place, operand: Operand<'a>) -> Option<Expression<'a>>
 }
 
 /// The expression that a place without an operand means, if it means one.
+#[tactic(auto, unfolding(crate::specs::Statement::implied_value))]
 fn implied_value<'a>(place: Place) -> Option<Expression<'a>>
     ensures { option_map expression_of result ≡ implied_value place }
 {
@@ -104,6 +108,7 @@ fn implied_value<'a>(place: Place) -> Option<Expression<'a>>
 
 /// Fills the fields of the operands at their places, if they have their shapes, one each. The answer
 /// is their expression, or 0.
+#[tactic(auto, unfolding(crate::specs::Statement::fill))]
 pub fn fill<'a>(
     places: &[Place],
     operands: &[Operand<'a>],

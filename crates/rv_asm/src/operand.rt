@@ -82,7 +82,7 @@ fn direct<'a>(tokens: &[Token<'a>]) -> Option<Operand<'a>>
 {
     match tokens {
         [Token::Text(raw)] => Some(Operand::Text(raw)),
-        _ => read_expression(tokens).map(Operand::Value),
+        _ => Some(Operand::Value(read_expression(tokens)?)),
     }
 }
 

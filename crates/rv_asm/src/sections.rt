@@ -68,7 +68,6 @@ pub struct Sections {
 
 impl Sections {
     /// Appends what a line means to the section that it stands in.
-    #[tactic(auto, using(crate::proofs::Emitted::nothing_added))]
     fn add<'a>(&mut self, program: &Program<'_, 'a>, line: &Record<'a>) -> Result<(), AsmFault>
         ensures text { OnOk result (Appends (parts_in Section.Text line.now.reach.section
             (line_cells program.now.base (layout_of program.now.layout.now) (placed_of line.now)))

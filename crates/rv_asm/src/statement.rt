@@ -4,7 +4,7 @@ ghost use Rattle.std.specs.Option.{option_copied};
 ghost use Rattle.std.specs.Result.{result_map_both};
 ghost use Rattle.rv_asm.specs.Answer.{Follows};
 ghost use Rattle.rv_asm.specs.Read.{operands_in, statement_of, tokens_in};
-ghost use Rattle.rv_asm.specs.Statement.{instruction, needed, reading, statement, takes};
+ghost use Rattle.rv_asm.specs.Statement.{instruction, jal_places, jalr_places, needed, reading, statement, takes};
 
 use crate::directive::Directive;
 use crate::fault::AsmFault;
@@ -31,6 +31,7 @@ pub enum Statement<'a> {
 }
 
 /// The instruction with its operands.
+#[tactic(auto, unfolding(crate::specs::Statement::instruction))]
 fn instruction<'a>(
     operation: Operation,
     places: &[Place],
@@ -61,7 +62,73 @@ fn are_values(operands: &[Operand<'_>]) -> bool
     true
 }
 
+/// The places of so many operands of `jal`: with or without its register.
+fn jal_places(count: usize) -> &'static [Place]
+    ensures { result.now ≡ jal_places count }
+{
+    match count {
+        1 => &[Link, Target],
+        _ => &[Rd, Target],
+    }
+}
+
+/// The places of so many operands of `jalr`: with its register alone, with an offset before it in
+/// parentheses, or with one after it.
+fn jalr_places(count: usize) -> &'static [Place]
+    ensures { result.now ≡ jalr_places count }
+{
+    match count {
+        1 => &[Link, Rs1],
+        2 => &[Rd, Base],
+        _ => &[Rd, Rs1, Value],
+    }
+}
+
+/// The statement of `.globl`.
+#[tactic(auto, unfolding(crate::specs::Statement::statement))]
+fn global<'a>(operands: &[Operand<'a>]) -> Result<Statement<'a>, AsmFault>
+    ensures { result_map_both (statement_of (operands_in operands.now)) (λ fault. fault) result
+        ≡ statement Form.Global (operands_in operands.now) }
+{
+    match operands {
+        [Operand::Value(Expression::Symbol(_))] => Ok(Statement::Nothing),
+        _ => Err(AsmFault::BadOperands),
+    }
+}
+
+/// The statement of `.equ`.
+#[tactic(auto, unfolding(crate::specs::Statement::statement))]
+fn constant<'a>(operands: &[Operand<'a>]) -> Result<Statement<'a>, AsmFault>
+    ensures { result_map_both (statement_of (operands_in operands.now)) (λ fault. fault) result
+        ≡ statement Form.Constant (operands_in operands.now) }
+{
+    match operands {
+        [
+            Operand::Value(Expression::Symbol(name)),
+            Operand::Value(Expression::Number(number)),
+        ] => Ok(Statement::Constant(name, *number)),
+        _ => Err(AsmFault::BadOperands),
+    }
+}
+
+/// The statement of a directive that lays down bytes by its one operand.
+#[tactic(auto, unfolding(crate::specs::Statement::statement))]
+fn bytes<'a>(
+    directive: Directive,
+    place: Place,
+    operands: &[Operand<'a>],
+) -> Result<Statement<'a>, AsmFault>
+    ensures { result_map_both (statement_of (operands_in operands.now)) (λ fault. fault) result
+        ≡ statement (Form.Bytes directive place) (operands_in operands.now) }
+{
+    match operands {
+        [operand] if place.takes(*operand) => Ok(Statement::Bytes(directive, *operand)),
+        _ => Err(AsmFault::BadOperands),
+    }
+}
+
 /// The statement of a form with its operands.
+#[tactic(auto, unfolding(crate::specs::Statement::statement))]
 pub fn make_statement<'a>(form: Form, operands: &[Operand<'a>]) -> Result<Statement<'a>, AsmFault>
     ensures { result_map_both (statement_of (operands_in operands.now)) (λ fault. fault) result
         ≡ statement form (operands_in operands.now) }
@@ -71,41 +138,21 @@ pub fn make_statement<'a>(form: Form, operands: &[Operand<'a>]) -> Result<Statem
         Form::Instruction(operation, first, second, third) => {
             instruction(operation, &[first, second, third], operands)
         }
-        // with or without its register
-        Form::Jal => match operands {
-            [_] => instruction(Operation::Jal, &[Link, Target], operands),
-            _ => instruction(Operation::Jal, &[Rd, Target], operands),
-        },
-        // with its register alone, with an offset before it in parentheses, or with one after it
-        Form::Jalr => match operands {
-            [_] => instruction(Operation::Jalr, &[Link, Rs1], operands),
-            [_, _] => instruction(Operation::Jalr, &[Rd, Base], operands),
-            _ => instruction(Operation::Jalr, &[Rd, Rs1, Value], operands),
-        },
+        Form::Jal => instruction(Operation::Jal, jal_places(operands.len()), operands),
+        Form::Jalr => instruction(Operation::Jalr, jalr_places(operands.len()), operands),
         Form::Choice(section) if operands.is_empty() => Ok(Statement::Choice(section)),
-        Form::Global => match operands {
-            [Operand::Value(Expression::Symbol(_))] => Ok(Statement::Nothing),
-            _ => Err(AsmFault::BadOperands),
-        },
-        Form::Constant => match operands {
-            [
-                Operand::Value(Expression::Symbol(name)),
-                Operand::Value(Expression::Number(number)),
-            ] => Ok(Statement::Constant(name, *number)),
-            _ => Err(AsmFault::BadOperands),
-        },
+        Form::Global => global(operands),
+        Form::Constant => constant(operands),
         Form::Values(width) if !operands.is_empty() && are_values(operands) => {
             Ok(Statement::Values(width))
         }
-        Form::Bytes(directive, place) => match operands {
-            [operand] if place.takes(*operand) => Ok(Statement::Bytes(directive, *operand)),
-            _ => Err(AsmFault::BadOperands),
-        },
+        Form::Bytes(directive, place) => bytes(directive, place, operands),
         _ => Err(AsmFault::BadOperands),
     }
 }
 
 /// The symbol that `li` takes, which an earlier `.equ` has to define.
+#[tactic(auto, unfolding(crate::specs::Statement::needed))]
 pub fn needed<'a>(form: Form, operands: &[Operand<'a>]) -> Option<&'a [u8]>
     ensures { option_copied result ≡ needed form (operands_in operands.now) }
 {

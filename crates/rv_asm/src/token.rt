@@ -1,9 +1,9 @@
-ghost use Rattle.std.specs.Prelude.{get_or, [], None, ◌≡◌, ◌<◌, ◌≤◌, ◌∷◌, ◌++◌, length, ok_or, OnOk, IfSome};
+ghost use Rattle.std.specs.Prelude.{get_or, [], None, true, ◌≡◌, ◌+◌, ◌<◌, ◌≤◌, ◌∷◌, ◌++◌, length, ok_or, OnOk, IfSome};
 ghost use Rattle.std.specs.List.{prefix_len};
 ghost use Rattle.std.specs.Option.{option_map};
 ghost use Rattle.rv_asm.specs.Answer.{Follows};
 ghost use Rattle.rv_asm.specs.Read.{lexeme_of, token_of, tokens_in};
-ghost use Rattle.rv_asm.specs.Token.{escape_of, quoted_length, unescaped, first_lexeme, tokens_of};
+ghost use Rattle.rv_asm.specs.Token.{escape_of, quoted_length, unescaped, first_lexeme, string_lexeme, tokens_of, word_lexeme};
 ghost use Rattle.rv_asm.specs.Token.{is_separator, begins_name, is_name_byte, mark_of, number_in, number_of};
 
 use crate::fault::AsmFault;
@@ -135,6 +135,40 @@ fn quoted_length(bytes: &[u8]) -> Option<usize>
     }
 }
 
+// The name or the number that a line begins with, whose first byte is one of names.
+#[tactic(auto, unfolding(crate::specs::Token::word_lexeme))]
+fn word(line: &[u8]) -> Option<Lexeme<'_>>
+    requires some { 0 < length line.now }
+    requires begins { is_name_byte (get_or line.now 0 0) ≡ true }
+    ensures lexeme { option_map lexeme_of result ≡ word_lexeme (get_or line.now 0 0) line.now }
+    ensures size { IfSome result (λ found. (0 < found.size) × (found.size ≤ length line.now)) }
+{
+    let size = word_length(line);
+    let word = &line[..size];
+    let token = if begins_name(line[0]) {
+        Token::Name(word)
+    } else {
+        Token::Number(number(word)?)
+    };
+    Some(Lexeme {
+        token: Some(token),
+        size,
+    })
+}
+
+// The string whose first quote stands before the bytes.
+#[tactic(auto, unfolding(crate::specs::Token::string_lexeme))]
+fn string(others: &[u8]) -> Option<Lexeme<'_>>
+    ensures lexeme { option_map lexeme_of result ≡ string_lexeme others.now }
+    ensures size { IfSome result (λ found. (0 < found.size) × (found.size ≤ length others.now + 1)) }
+{
+    let length = quoted_length(others)?;
+    Some(Lexeme {
+        token: Some(Token::Text(&others[..length])),
+        size: length + 2,
+    })
+}
+
 /// What a line begins with, or `None` where that is no token.
 #[tactic(auto, unfolding(crate::specs::Token::first_lexeme))]
 pub fn first_lexeme(line: &[u8]) -> Option<Lexeme<'_>>
@@ -156,25 +190,11 @@ pub fn first_lexeme(line: &[u8]) -> Option<Lexeme<'_>>
         });
     }
     if is_name_byte(first) {
-        let size = word_length(line);
-        let word = &line[..size];
-        let token = if begins_name(first) {
-            Token::Name(word)
-        } else {
-            Token::Number(number(word)?)
-        };
-        return Some(Lexeme {
-            token: Some(token),
-            size,
-        });
+        return word(line);
     }
     if first == b'"' {
         let (_, others) = line.split_at(1);
-        let length = quoted_length(others)?;
-        return Some(Lexeme {
-            token: Some(Token::Text(&others[..length])),
-            size: length + 2,
-        });
+        return string(others);
     }
     Some(Lexeme {
         token: Some(mark(first)?),
