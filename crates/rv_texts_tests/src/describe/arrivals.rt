@@ -93,22 +93,65 @@ fn lower_faults_of_later_entries_come_first(rt: HostRuntime) {
     expect_faults(&rt, rt.alloc(), &CASES);
 }
 
-// The fault, if any, of a list that has so many entries.
-fn fault_of_list(alloc: Global, count: usize) -> Result<Option<ArrivalsError>, Fail> {
+// A list of an entry so many times between a first text and a last one.
+pub(crate) fn long_list(
+    alloc: Global,
+    first: &str,
+    entry: &str,
+    count: usize,
+    last: &str,
+) -> Result<String, Fail> {
     let mut text = String::new(alloc);
     text.push_str("arrival = [")?;
+    text.push_str(first)?;
     for _ in 0..count {
-        text.push_str("{cycle=7,line='timer'},")?;
+        text.push_str(entry)?;
     }
+    text.push_str(last)?;
     text.push_str("]")?;
+    Ok(text)
+}
+
+// The fault, if any, of a list of a hundred thousand times an entry between a first text and a last one.
+fn fault_of_list(
+    alloc: Global,
+    first: &str,
+    entry: &str,
+    last: &str,
+) -> Result<Option<ArrivalsError>, Fail> {
+    let text = long_list(alloc, first, entry, 100_000, last)?;
     Ok(fault_of(alloc, text.as_str()))
 }
 
+const ENTRY: &str = "{cycle=7,line='timer'},";
+
+#[test]
+fn a_list_may_have_a_hundred_thousand_entries(rt: HostRuntime) -> Result<(), Fail> {
+    assert_eq!(rt; fault_of_list(rt.alloc(), "", ENTRY, "")?, None);
+    Ok(())
+}
+
+// The fault names the entry after the last one that there may be. Before it comes neither a falling cycle nor a value after that entry.
 #[test]
 fn a_list_has_at_most_a_hundred_thousand_entries(rt: HostRuntime) -> Result<(), Fail> {
-    // The fault names the entry after the last one that there may be.
     let fault = Some(OutOfRange { entry: 100_001 });
-    assert_eq!(rt; fault_of_list(rt.alloc(), 100_001)?, fault);
+    let first = "{cycle=8,line='timer'},";
+    let last = "{cycle=7,line='x'}";
+    assert_eq!(rt; fault_of_list(rt.alloc(), first, ENTRY, last)?, fault);
+    Ok(())
+}
+
+#[test]
+fn a_wrong_type_of_an_entry_too_many_comes_first(rt: HostRuntime) -> Result<(), Fail> {
+    let fault = fault_of_list(rt.alloc(), "", "{cycle=7,line=''},", "7")?;
+    assert_eq!(rt; fault, Some(WrongKind { entry: 100_001 }));
+    Ok(())
+}
+
+#[test]
+fn an_unknown_field_of_an_entry_too_many_comes_first(rt: HostRuntime) -> Result<(), Fail> {
+    let fault = fault_of_list(rt.alloc(), "", "7,", "{x=1}")?;
+    assert_eq!(rt; fault, Some(UnknownKey));
     Ok(())
 }
 
