@@ -84,20 +84,14 @@ csr_in (Value (Symbol name)) = ok_or (option_map (λ address. pos address) (csr_
 csr_in _ = Err BadOperands
 
 -- the field that an operand fills at its place, if it fills one
-unfoldable pub put : Place → Operand → Fields → Result Fields AsmFault
-put place.Rd operand fields = and_then (register_in operand) (λ register. Ok (record fields { rd = register }))
-put place.Rs1 operand fields = and_then (register_in operand) (λ register. Ok (record fields { rs1 = register }))
-put place.Rs2 operand fields = and_then (register_in operand) (λ register. Ok (record fields { rs2 = register }))
-put place.Address operand fields = and_then (register_in operand) (λ register. Ok (record fields { rs1 = register }))
-put place.Base operand fields = and_then (register_in operand) (λ register. Ok (record fields { rs1 = register }))
-put place.Csr operand fields = and_then (csr_in operand) (λ address. Ok (record fields { csr = address }))
-put _ operand fields = Ok fields
-
--- the field that a place without an operand fills; x1 holds return addresses
-unfoldable pub imply : Place → Fields → Fields
-imply place.Link fields = record fields { rd = 1 }
-imply place.Return fields = record fields { rs1 = 1 }
-imply _ fields = fields
+abbrev pub field_at : Place → Operand → Fields → Result Fields AsmFault
+field_at place.Rd operand fields = and_then (register_in operand) (λ register. Ok (record fields { rd = register }))
+field_at place.Rs1 operand fields = and_then (register_in operand) (λ register. Ok (record fields { rs1 = register }))
+field_at place.Rs2 operand fields = and_then (register_in operand) (λ register. Ok (record fields { rs2 = register }))
+field_at place.Address operand fields = and_then (register_in operand) (λ register. Ok (record fields { rs1 = register }))
+field_at place.Base operand fields = and_then (register_in operand) (λ register. Ok (record fields { rs1 = register }))
+field_at place.Csr operand fields = and_then (csr_in operand) (λ address. Ok (record fields { csr = address }))
+field_at _ operand fields = Ok fields
 
 -- the expression that stands at a place, if one does
 unfoldable pub value_at : Place → Operand → Option Expression
@@ -108,20 +102,26 @@ value_at place.Address operand = Some (expression_in operand)
 value_at place.Base operand = Some (expression_in operand)
 value_at _ operand = None
 
--- the number that a place without an operand means, if it means one
-unfoldable pub implied_value : Place → Option Expression
-implied_value place.One = Some (Number (pos 1))
-implied_value place.MinusOne = Some (Number (negsuc 0))
-implied_value _ = None
+-- fields and an expression with those of an operand at its place, if it has one there
+unfoldable pub put : Place → Operand → Fields × Expression → Result (Fields × Expression) AsmFault
+put place operand filled = and_then (field_at place operand filled.0) (λ fields. Ok (fields, unwrap_or (value_at place operand) filled.1))
+
+-- fields and an expression with those of a place without an operand, if it means one; x1 holds return addresses
+unfoldable pub imply : Place → Fields × Expression → Fields × Expression
+imply place.Link filled = (record filled.0 { rd = 1 }, filled.1)
+imply place.Return filled = (record filled.0 { rs1 = 1 }, filled.1)
+imply place.One filled = (filled.0, Number (pos 1))
+imply place.MinusOne filled = (filled.0, Number (negsuc 0))
+imply _ filled = filled
 
 -- what the operands fill at their places, if they have their shapes, one each: fields, and the first expression, or 0
 unfoldable pub fill : List Place → List Operand → Fields → Result (Fields × Expression) AsmFault
 fill [] [] fields = Ok (fields, Number (pos 0))
 fill [] (operand ∷ operands) fields = Err BadOperands
-fill (place ∷ places) [] fields = if is_implied place then and_then (fill places [] fields) (λ filled. Ok (imply place filled.0, unwrap_or (implied_value place) filled.1)) else Err BadOperands
+fill (place ∷ places) [] fields = if is_implied place then and_then (fill places [] fields) (λ filled. Ok (imply place filled)) else Err BadOperands
 fill (place ∷ places) (operand ∷ operands) fields =
-    if is_implied place then and_then (fill places (operand ∷ operands) fields) (λ filled. Ok (imply place filled.0, unwrap_or (implied_value place) filled.1))
-    else (if takes place operand then and_then (fill places operands fields) (λ filled. and_then (put place operand filled.0) (λ fields. Ok (fields, unwrap_or (value_at place operand) filled.1)))
+    if is_implied place then and_then (fill places (operand ∷ operands) fields) (λ filled. Ok (imply place filled))
+    else (if takes place operand then and_then (fill places operands fields) (put place operand)
     else Err BadOperands)
 
 -- the instruction with its operands; a field that none fills is x0 or 0

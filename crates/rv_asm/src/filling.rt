@@ -2,7 +2,6 @@ ghost use Rattle.std.specs.Prelude.{◌≡◌};
 ghost use Rattle.std.specs.Option.{option_map};
 ghost use Rattle.std.specs.Result.{result_map_both};
 ghost use Rattle.rv_asm.specs.Read.{expression_of, operand_of, operands_in};
-ghost use Rattle.rv_asm.specs.Statement.{implied_value};
 ghost use Rattle.rv_asm.specs.Statement.{register_in, expression_in, csr_in, put, imply, fill, value_at};
 
 use crate::fault::AsmFault;
@@ -47,40 +46,6 @@ fn csr_in(operand: Operand<'_>) -> Result<i64, AsmFault>
     }
 }
 
-/// Fills the field of an operand at its place, if it has one.
-#[tactic(auto, unfolding(crate::specs::Statement::put))]
-fn put(place: Place, operand: Operand<'_>, fields: &mut Fields) -> Result<(), AsmFault>
-    ensures { result_map_both (λ _. fields.new) (λ fault. fault) result ≡ put place (operand_of operand.entry) fields.old }
-{
-    match place {
-        Place::Rd => fields.rd = register_in(operand)?,
-        Place::Rs1 | Place::Address | Place::Base => fields.rs1 = register_in(operand)?,
-        Place::Rs2 => fields.rs2 = register_in(operand)?,
-        Place::Csr => fields.csr = csr_in(operand)?,
-        _ => {}
-    }
-    Ok(())
-}
-
-/// x1, which holds return addresses.
-fn link_register() -> Reg
-    ensures { result ≡ 1 }
-{
-    Reg::new(1).unwrap()
-}
-
-/// Fills the field of a place without an operand, if it has one.
-#[tactic(auto, unfolding(crate::specs::Statement::imply))]
-fn imply(place: Place, fields: &mut Fields)
-    ensures { fields.new ≡ imply place fields.old }
-{
-    match place {
-        Place::Link => fields.rd = link_register(),
-        Place::Return => fields.rs1 = link_register(),
-        _ => {}
-    }
-}
-
 /// The expression that stands at a place, if one does.
 #[tactic(auto, unfolding(crate::specs::Statement::value_at))]
 fn value_at<'a>(place: Place, operand: Operand<'a>) -> Option<Expression<'a>>
@@ -94,16 +59,49 @@ fn value_at<'a>(place: Place, operand: Operand<'a>) -> Option<Expression<'a>>
     }
 }
 
-/// The expression that a place without an operand means, if it means one.
-#[tactic(auto, unfolding(crate::specs::Statement::implied_value))]
-fn implied_value<'a>(place: Place) -> Option<Expression<'a>>
-    ensures { option_map expression_of result ≡ implied_value place }
+/// Fills the field of an operand at its place, if it has one. The answer is the expression that
+/// stands there, or the value of the places after it.
+#[tactic(auto, unfolding(crate::specs::Statement::put))]
+fn put<'a>(
+    place: Place,
+    operand: Operand<'a>,
+    value: Expression<'a>,
+    fields: &mut Fields,
+) -> Result<Expression<'a>, AsmFault>
+    ensures { result_map_both (λ value. (fields.new, expression_of value)) (λ fault. fault) result
+        ≡ put place (operand_of operand.entry) (fields.old, expression_of value.entry) }
 {
     match place {
-        Place::One => Some(Expression::Number(1)),
-        Place::MinusOne => Some(Expression::Number(-1)),
-        _ => None,
+        Place::Rd => fields.rd = register_in(operand)?,
+        Place::Rs1 | Place::Address | Place::Base => fields.rs1 = register_in(operand)?,
+        Place::Rs2 => fields.rs2 = register_in(operand)?,
+        Place::Csr => fields.csr = csr_in(operand)?,
+        _ => {}
     }
+    Ok(value_at(place, operand).unwrap_or(value))
+}
+
+/// x1, which holds return addresses.
+fn link_register() -> Reg
+    ensures { result ≡ 1 }
+{
+    Reg::new(1).unwrap()
+}
+
+/// Fills the field of a place without an operand, if it has one. The answer is the expression that
+/// the place means, or the value of the places after it.
+#[tactic(auto, unfolding(crate::specs::Statement::imply))]
+fn imply<'a>(place: Place, value: Expression<'a>, fields: &mut Fields) -> Expression<'a>
+    ensures { (fields.new, expression_of result) ≡ imply place (fields.old, expression_of value.entry) }
+{
+    match place {
+        Place::Link => fields.rd = link_register(),
+        Place::Return => fields.rs1 = link_register(),
+        Place::One => return Expression::Number(1),
+        Place::MinusOne => return Expression::Number(-1),
+        _ => {}
+    }
+    value
 }
 
 /// Fills the fields of the operands at their places, if they have their shapes, one each. The answer
@@ -125,14 +123,12 @@ pub fn fill<'a>(
     };
     if place.is_implied() {
         let value = fill(others, operands, fields)?;
-        imply(*place, fields);
-        return Ok(implied_value(*place).unwrap_or(value));
+        return Ok(imply(*place, value, fields));
     }
     match operands.split_first() {
         Some((operand, rest)) if place.takes(*operand) => {
             let value = fill(others, rest, fields)?;
-            put(*place, *operand, fields)?;
-            Ok(value_at(*place, *operand).unwrap_or(value))
+            put(*place, *operand, value, fields)
         }
         _ => Err(AsmFault::BadOperands),
     }
