@@ -126,13 +126,13 @@ fn culprit_among<'t, 'a>(
     ensures { option_map (λ from. tokens_in from.now) result ≡ culprit_among fault places.now
         (option_map (λ from. tokens_in from.now) last.entry) (map (λ from. tokens_in from.now) operands.now) }
 {
-    let Some((operand, others)) = operands.split_first() else {
+    let [operand, others @ ..] = operands else {
         if are_implied(places) {
             return last;
         }
         return None;
     };
-    let Some((place, later)) = places.split_first() else {
+    let [place, later @ ..] = places else {
         return Some(*operand);
     };
     if place.is_implied() {

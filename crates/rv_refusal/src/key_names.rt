@@ -25,7 +25,7 @@ pub(crate) fn text_of(key: Key) -> &'static [u8]
 }
 
 // Adds keys, each with its table's name before it.
-fn add_keys<'a>(names: &mut Vec<&'a [u8]>, keys: &[Key]) -> Result<(), AllocError>
+fn add_keys(names: &mut Vec<&[u8]>, keys: &[Key]) -> Result<(), AllocError>
     ensures { OnOk result (map (λ name. name.now) names.new.items
         ≡ map (λ name. name.now) names.old.items ++ map text_of keys.now) }
 {
@@ -49,7 +49,7 @@ fn new_table(table: Option<&'static str>, last: Option<&'static str>) -> Option<
 }
 
 // Adds the tables of keys, but for those of the key before.
-fn add_tables<'a>(names: &mut Vec<&'a [u8]>, keys: &[Key]) -> Result<(), AllocError>
+fn add_tables(names: &mut Vec<&[u8]>, keys: &[Key]) -> Result<(), AllocError>
     ensures { OnOk result (map (λ name. name.now) names.new.items
         ≡ map (λ name. name.now) names.old.items ++ tables_from None keys.now) }
 {

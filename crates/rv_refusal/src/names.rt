@@ -78,7 +78,7 @@ fn others() -> &'static [&'static [u8]]
 }
 
 /// Adds the mnemonics and directives that the assembler knows.
-pub(crate) fn add_mnemonics<'a>(names: &mut Vec<&'a [u8]>) -> Result<(), AllocError>
+pub(crate) fn add_mnemonics(names: &mut Vec<&[u8]>) -> Result<(), AllocError>
     ensures { OnOk result (map (λ name. name.now) names.new.items ≡ map (λ name. name.now) names.old.items ++ mnemonics) }
 {
     names.extend_from_slice(instructions())?;

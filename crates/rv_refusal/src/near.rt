@@ -66,7 +66,7 @@ fn add_others(out: &mut Vec<u8>, names: &[&[u8]]) -> Result<(), AllocError>
 fn add_names_line(out: &mut Vec<u8>, names: &[&[u8]]) -> Result<(), AllocError>
     ensures { OnOk result (out.new.items ≡ out.old.items ++ names_line (map (λ name. name.now) names.now)) }
 {
-    let Some((first, others)) = names.split_first() else {
+    let [first, others @ ..] = names else {
         return Ok(());
     };
     add_all(out, &[b"nearest: ", first])?;

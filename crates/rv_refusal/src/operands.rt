@@ -68,7 +68,7 @@ fn example(place: Place) -> &'static [u8]
 fn add_words(out: &mut Vec<u8>, mark: &[u8], places: &[Place]) -> Result<(), AllocError>
     ensures { OnOk result (out.new.items ≡ out.old.items ++ operand_list operand_word mark.now places.now) }
 {
-    let Some((place, others)) = places.split_first() else {
+    let [place, others @ ..] = places else {
         return Ok(());
     };
     if place.is_implied() {
@@ -83,7 +83,7 @@ fn add_words(out: &mut Vec<u8>, mark: &[u8], places: &[Place]) -> Result<(), All
 fn add_examples(out: &mut Vec<u8>, mark: &[u8], places: &[Place]) -> Result<(), AllocError>
     ensures { OnOk result (out.new.items ≡ out.old.items ++ operand_list operand_example mark.now places.now) }
 {
-    let Some((place, others)) = places.split_first() else {
+    let [place, others @ ..] = places else {
         return Ok(());
     };
     if place.is_implied() {

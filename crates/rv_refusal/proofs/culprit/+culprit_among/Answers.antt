@@ -1,0 +1,12 @@
+use Rattle.std.proofs.Common.{arith}
+use Rattle.std.proofs.lemmas.Grind.{common_steps}
+use Rattle.rv_refusal.proofs.culprit.+culprit_among.Goals as goal
+
+pub returns-then-is_implied : goal.returns-then-is_implied
+returns-then-is_implied t c = grind (arith, common_steps)
+
+pub returns-then-is_culprit : goal.returns-then-is_culprit
+returns-then-is_culprit t c = grind (arith, common_steps)
+
+pub returns : goal.returns
+returns t c = grind (arith, common_steps)
