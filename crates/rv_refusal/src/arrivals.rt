@@ -9,7 +9,7 @@ use crate::entry_line::{EntryLine, Sought, first_sought};
 use crate::lines::line_feeds;
 use crate::near::add_nearest;
 use crate::place::add_line_place;
-use crate::text::{add_all, add_number};
+use crate::text::{add_all, add_number, add_text};
 use itoa::Buffer;
 use rv_describe::{ArrivalsError, Field, field_at_fault};
 use rv_job::Parts;
@@ -23,7 +23,7 @@ fn add_in_entry(out: &mut Vec<u8>, entry: usize) -> Result<(), AllocError>
     if entry == 0 {
         return Ok(());
     }
-    out.extend_from_slice(b", entry ")?;
+    add_text(out, b", entry ")?;
     add_number(out, entry)
 }
 
@@ -34,7 +34,7 @@ fn add_entry_line(out: &mut Vec<u8>, before: usize, found: EntryLine<'_>) -> Res
 {
     add_line_place(out, b"arrivals", before, found.number)?;
     add_in_entry(out, found.entry)?;
-    out.extend_from_slice(b"\n")?;
+    add_text(out, b"\n")?;
     add_marked_line(out, found.line, found.before)
 }
 
@@ -113,7 +113,7 @@ fn add_field_lines(
     ensures { OnOk result (out.new.items ≡ out.old.items ++ field_lines before part.now entry field) }
 {
     add_line_of_field(out, before, part, entry, field)?;
-    out.extend_from_slice(field_line(field))
+    add_text(out, field_line(field))
 }
 
 // Appends why arrivals are refused by an entry: by the first field with this fault, or by the list.
@@ -129,7 +129,7 @@ fn add_entry_lines(
 {
     match field_at_fault(alloc, part, error)? {
         Some(field) => add_field_lines(out, before, part, error.entry(), field),
-        None => out.extend_from_slice(b"expected: at most 100000 entries [[arrival]]\n"),
+        None => add_text(out, b"expected: at most 100000 entries [[arrival]]\n"),
     }
 }
 
@@ -162,7 +162,7 @@ fn add_unknown_line(
     ensures { OnOk result (out.new.items ≡ out.old.items ++ unknown_line before (entry_line found.entry)) }
 {
     add_entry_line(out, before, found)?;
-    out.extend_from_slice(arrival_expected())?;
+    add_text(out, arrival_expected())?;
     add_nearest(alloc, out, found.name, arrival_names())
 }
 
@@ -178,7 +178,7 @@ fn add_unknown_lines(
 {
     match first_sought(Sought::Unknown(arrival_names()), part) {
         Some(found) => add_unknown_line(alloc, out, before, found),
-        None => out.extend_from_slice(arrival_expected()),
+        None => add_text(out, arrival_expected()),
     }
 }
 
@@ -195,7 +195,7 @@ fn add_part(
 {
     match error {
         ArrivalsError::NotToml => {
-            out.extend_from_slice(b"expected: a TOML document, as in '[[arrival]]'\n")
+            add_text(out, b"expected: a TOML document, as in '[[arrival]]'\n")
         }
         ArrivalsError::UnknownKey => add_unknown_lines(alloc, out, before, part),
         ArrivalsError::Memory => Ok(()),

@@ -5,6 +5,7 @@ ghost use Rattle.rv_refusal.specs.Caret.{caret_below, caret_line, culprit_place,
 
 use crate::culprit::culprit_on;
 use crate::place::add_line;
+use crate::text::add_text;
 use rv_asm::{AsmFault, Token, first_lexeme, tokenize};
 use std::alloc::{AllocError, Global};
 
@@ -100,9 +101,9 @@ fn add_blanks(out: &mut Vec<u8>, count: usize) -> Result<(), AllocError>
 fn add_caret_below(out: &mut Vec<u8>, place: usize) -> Result<(), AllocError>
     ensures { OnOk result (out.new.items ≡ out.old.items ++ caret_below place) }
 {
-    out.extend_from_slice(b"    ")?;
+    add_text(out, b"    ")?;
     add_blanks(out, place)?;
-    out.extend_from_slice(b"^\n")
+    add_text(out, b"^\n")
 }
 
 /// Appends a line in printing characters, with a caret below one of its bytes.

@@ -10,6 +10,7 @@ use crate::key_names::{key_names, text_of};
 use crate::key_range::add_values_line;
 use crate::near::add_nearest;
 use crate::place::add_line_place;
+use crate::text::add_text;
 use rv_describe::DescriptionError;
 use rv_isa::{Key, all_keys};
 use std::alloc::{AllocError, Global};
@@ -20,7 +21,7 @@ fn add_described_place(out: &mut Vec<u8>, number: usize) -> Result<(), AllocErro
     ensures { OnOk result (out.new.items ≡ out.old.items ++ described_place number) }
 {
     add_line_place(out, b"description", 0, number)?;
-    out.extend_from_slice(b"\n")
+    add_text(out, b"\n")
 }
 
 // Appends a line at fault, with a caret below its name.
@@ -112,7 +113,7 @@ fn add_known_lines(
     ensures { OnOk result (out.new.items
         ≡ out.old.items ++ known_lines (map (λ name. name.now) known.now) name.now) }
 {
-    out.extend_from_slice(known_expected())?;
+    add_text(out, known_expected())?;
     add_nearest(alloc, out, name, known)
 }
 
@@ -143,7 +144,7 @@ fn add_unknown_among(
 {
     match first_named(alloc, Wanted::Unknown(known), part)? {
         Some(found) => add_unknown_line(alloc, out, known, &found),
-        None => out.extend_from_slice(b"expected: keys and tables of a description\n"),
+        None => add_text(out, b"expected: keys and tables of a description\n"),
     }
 }
 
@@ -167,7 +168,7 @@ pub(crate) fn add_description(
 {
     match error {
         DescriptionError::NotToml => {
-            out.extend_from_slice(b"expected: a TOML document, as in 'rob = 8'\n")
+            add_text(out, b"expected: a TOML document, as in 'rob = 8'\n")
         }
         DescriptionError::UnknownKey => add_unknown_lines(alloc, out, part),
         DescriptionError::WrongKind { .. }

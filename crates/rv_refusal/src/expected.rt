@@ -4,6 +4,7 @@ ghost use Rattle.rv_refusal.specs.Expected.{expected, form_lines, general_line, 
 use crate::operands::add_shapes;
 use crate::ranges::add_range_line;
 use crate::statement::name_on;
+use crate::text::add_text;
 use rv_asm::{AsmFault, Form, form_named};
 use std::alloc::{AllocError, Global};
 
@@ -69,7 +70,7 @@ pub(crate) fn add_expected(
 ) -> Result<(), AllocError>
     ensures { OnOk result (out.new.items ≡ out.old.items ++ expected fault line.now) }
 {
-    out.extend_from_slice(general_line(fault))?;
+    add_text(out, general_line(fault))?;
     match name_on(alloc, line)? {
         Some(name) => add_statement_lines(out, fault, name),
         None => Ok(()),

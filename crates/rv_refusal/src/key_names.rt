@@ -1,5 +1,4 @@
 ghost use Rattle.std.specs.Prelude.{◌≡◌, ◌++◌, IfOk, None, OnOk, map, option_copied};
-ghost use Rattle.std.specs.Option.{option_to_list};
 ghost use Rattle.rv_isa.specs.Key.{text_of};
 ghost use Rattle.rv_describe.specs.Unknown.{same_table};
 ghost use Rattle.rv_refusal.specs.KeyNames.{key_names, new_table, tables_from};
@@ -35,17 +34,22 @@ fn add_keys(names: &mut Vec<&[u8]>, keys: &[Key]) -> Result<(), AllocError>
     Ok(())
 }
 
-// The table of a key, but for that of the key before.
-fn new_table(table: Option<&'static str>, last: Option<&'static str>) -> Option<&'static [u8]>
-    ensures { option_to_list (option_copied result) ≡ new_table (option_copied table.entry) (option_copied last.entry) }
+// Adds the table of a key, but for that of the key before.
+fn add_new_table(
+    names: &mut Vec<&[u8]>,
+    table: Option<&'static str>,
+    last: Option<&'static str>,
+) -> Result<(), AllocError>
+    ensures { OnOk result (map (λ name. name.now) names.new.items
+        ≡ map (λ name. name.now) names.old.items ++ new_table (option_copied table.entry) (option_copied last.entry)) }
 {
     if same_table(table, last) {
-        return None;
+        return Ok(());
     }
-    match table {
-        Some(name) => Some(name.as_bytes()),
-        None => None,
+    if let Some(name) = table {
+        names.push(name.as_bytes())?;
     }
+    Ok(())
 }
 
 // Adds the tables of keys, but for those of the key before.
@@ -56,9 +60,7 @@ fn add_tables(names: &mut Vec<&[u8]>, keys: &[Key]) -> Result<(), AllocError>
     let mut last = None;
     for key in keys {
         let table = key.place().table;
-        if let Some(name) = new_table(table, last) {
-            names.push(name)?;
-        }
+        add_new_table(names, table, last)?;
         last = table;
     }
     Ok(())

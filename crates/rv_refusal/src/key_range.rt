@@ -3,7 +3,7 @@ ghost use Rattle.rv_isa.specs.Choice.{predictor_named, recovery_named};
 ghost use Rattle.rv_refusal.specs.KeyRange.{bounds_text, default_mark, default_words, key_default, key_range, key_words, predictor_word, quoted, range_text, recovery_word, truth_word, values_line};
 
 use crate::key_names::text_of;
-use crate::text::{add_all, add_number};
+use crate::text::{add_all, add_number, add_text};
 use itoa::Buffer;
 use rv_isa::{Bounds, Key, PredictorKind, Recovery, Values};
 use std::alloc::AllocError;
@@ -28,8 +28,8 @@ fn add_bounds(out: &mut Vec<u8>, bounds: Bounds) -> Result<(), AllocError>
         Bounds::Whole(low, high) => add_range(out, b"a number", low, high),
         Bounds::Pages(low, high) => add_range(out, b"a multiple of 4096", low, high),
         Bounds::Powers(low, high) => add_range(out, b"a power of two", low, high),
-        Bounds::Words => out.extend_from_slice(b"a multiple of 4 from 0 to 4294967292"),
-        Bounds::Front => out.extend_from_slice(b"a multiple of 4096 from 0 to ram_size"),
+        Bounds::Words => add_text(out, b"a multiple of 4 from 0 to 4294967292"),
+        Bounds::Front => add_text(out, b"a multiple of 4096 from 0 to ram_size"),
     }
 }
 
@@ -79,11 +79,9 @@ fn add_key_range(out: &mut Vec<u8>, key: Key) -> Result<(), AllocError>
 {
     match key {
         Key::Number(key) => add_bounds(out, key.bounds()),
-        Key::Recovery => out.extend_from_slice(b"\"commit\" or \"early\""),
-        Key::Pipelined(_) => out.extend_from_slice(b"true or false"),
-        Key::PredictorKind => {
-            out.extend_from_slice(b"\"not_taken\", \"backward_taken\" or \"bimodal\"")
-        }
+        Key::Recovery => add_text(out, b"\"commit\" or \"early\""),
+        Key::Pipelined(_) => add_text(out, b"true or false"),
+        Key::PredictorKind => { add_text(out, b"\"not_taken\", \"backward_taken\" or \"bimodal\"") }
     }
 }
 
@@ -96,9 +94,7 @@ fn add_key_default(out: &mut Vec<u8>, key: Key) -> Result<(), AllocError>
     match key {
         Key::Number(key) => add_number(out, standard.number(key) as usize),
         Key::Recovery => add_quoted(out, recovery_word(standard.recovery)),
-        Key::Pipelined(kind) => {
-            out.extend_from_slice(truth_word(standard.kinds.get(kind).pipelined))
-        }
+        Key::Pipelined(kind) => { add_text(out, truth_word(standard.kinds.get(kind).pipelined)) }
         Key::PredictorKind => add_quoted(out, predictor_word(standard.predictor.kind)),
     }
 }
@@ -123,9 +119,9 @@ fn default_mark() -> &'static [u8]
 fn add_default_words(out: &mut Vec<u8>, key: Key) -> Result<(), AllocError>
     ensures { OnOk result (out.new.items ≡ out.old.items ++ default_words key) }
 {
-    out.extend_from_slice(default_mark())?;
+    add_text(out, default_mark())?;
     add_key_default(out, key)?;
-    out.extend_from_slice(b"\n")
+    add_text(out, b"\n")
 }
 
 /// Appends the line on the values that a key takes, and the one that it has where it is missing.

@@ -2,7 +2,7 @@ ghost use Rattle.std.specs.Prelude.{◌≡◌, ◌++◌, IfOk, OnOk, map};
 ghost use Rattle.std.specs.List.{filter};
 ghost use Rattle.rv_refusal.specs.Near.{is_near, names_line, nearest, other_names};
 
-use crate::text::add_all;
+use crate::text::{add_all, add_text};
 use std::alloc::{AllocError, Global};
 use strsim::generic_levenshtein;
 
@@ -71,7 +71,7 @@ fn add_names_line(out: &mut Vec<u8>, names: &[&[u8]]) -> Result<(), AllocError>
     };
     add_all(out, &[b"nearest: ", first])?;
     add_others(out, others)?;
-    out.extend_from_slice(b"\n")
+    add_text(out, b"\n")
 }
 
 /// Appends the line on the known names that are nearest to an unknown one, if some are near.

@@ -1,7 +1,7 @@
 ghost use Rattle.std.specs.Prelude.{◌≡◌, ◌++◌, OnOk, codes};
 ghost use Rattle.rv_refusal.specs.Operands.{operand_example, operand_list, operand_word, place_limit, place_word, shape_line, shape_lines};
 
-use crate::text::{add_all, add_number};
+use crate::text::{add_all, add_number, add_text};
 use rv_asm::{Form, Place};
 use rv_isa::Width;
 use std::alloc::AllocError;
@@ -42,7 +42,7 @@ fn add_limit(out: &mut Vec<u8>, place: Place) -> Result<(), AllocError>
 fn add_word(out: &mut Vec<u8>, place: Place) -> Result<(), AllocError>
     ensures { OnOk result (out.new.items ≡ out.old.items ++ operand_word place) }
 {
-    out.extend_from_slice(word(place))?;
+    add_text(out, word(place))?;
     add_limit(out, place)
 }
 
@@ -74,7 +74,7 @@ fn add_words(out: &mut Vec<u8>, mark: &[u8], places: &[Place]) -> Result<(), All
     if place.is_implied() {
         return add_words(out, mark, others);
     }
-    out.extend_from_slice(mark)?;
+    add_text(out, mark)?;
     add_word(out, *place)?;
     add_words(out, b", ", others)
 }
@@ -89,8 +89,8 @@ fn add_examples(out: &mut Vec<u8>, mark: &[u8], places: &[Place]) -> Result<(), 
     if place.is_implied() {
         return add_examples(out, mark, others);
     }
-    out.extend_from_slice(mark)?;
-    out.extend_from_slice(example(*place))?;
+    add_text(out, mark)?;
+    add_text(out, example(*place))?;
     add_examples(out, b", ", others)
 }
 
@@ -103,7 +103,7 @@ fn add_shape(out: &mut Vec<u8>, name: &[u8], places: &[Place]) -> Result<(), All
     add_words(out, b" ", places)?;
     add_all(out, &[b", as in '", name])?;
     add_examples(out, b" ", places)?;
-    out.extend_from_slice(b"'\n")
+    add_text(out, b"'\n")
 }
 
 // Appends the lines on the shapes of a jump with a target.

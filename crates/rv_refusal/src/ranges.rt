@@ -2,7 +2,7 @@ ghost use Rattle.std.specs.Prelude.{◌≡◌, ◌++◌, OnOk, Some, not, ℤ};
 ghost use Rattle.rv_asm.specs.Meaning.{fits_width};
 ghost use Rattle.rv_refusal.specs.Range.{HasRanges, csr_line, csr_range, data_line, is_outside, operation_line, range_line, range_words, value_line, value_part, value_range, value_words, width_range};
 
-use crate::text::add_all;
+use crate::text::{add_all, add_text};
 use itoa::Buffer;
 use rv_asm::{Form, Operation};
 use rv_isa::Width;
@@ -96,7 +96,7 @@ fn add_value_part(out: &mut Vec<u8>, mark: &[u8], operation: Operation) -> Resul
 {
     match value_range(operation) {
         Some(range) => {
-            out.extend_from_slice(mark)?;
+            add_text(out, mark)?;
             add_value(out, operation, range)
         }
         None => Ok(()),
@@ -107,10 +107,10 @@ fn add_value_part(out: &mut Vec<u8>, mark: &[u8], operation: Operation) -> Resul
 fn add_csr_line(out: &mut Vec<u8>, operation: Operation, range: Range) -> Result<(), AllocError>
     ensures { OnOk result (out.new.items ≡ out.old.items ++ csr_line operation range) }
 {
-    out.extend_from_slice(b"expected: ")?;
+    add_text(out, b"expected: ")?;
     add_range(out, b"a CSR", range, b"")?;
     add_value_part(out, b", and ", operation)?;
-    out.extend_from_slice(b"\n")
+    add_text(out, b"\n")
 }
 
 // Appends the line on the range of an operation that has no CSR.
@@ -119,9 +119,9 @@ fn add_value_line(out: &mut Vec<u8>, operation: Operation) -> Result<(), AllocEr
 {
     match value_range(operation) {
         Some(range) => {
-            out.extend_from_slice(b"expected: ")?;
+            add_text(out, b"expected: ")?;
             add_value(out, operation, range)?;
-            out.extend_from_slice(b"\n")
+            add_text(out, b"\n")
         }
         None => Ok(()),
     }

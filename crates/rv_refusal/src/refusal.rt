@@ -6,6 +6,7 @@ use crate::arrivals::add_arrivals;
 use crate::assembly::add_assembly;
 use crate::described::add_description;
 use crate::lines::lines_before;
+use crate::text::add_text;
 use crate::unfit::add_unfit;
 use rv_job::{SimError, cut_into_parts};
 use rv_text::{ReportError, TextError, put};
@@ -23,7 +24,7 @@ fn add_refusal(
     ensures { OnOk result (out.new.items ≡ out.old.items ++ refusal_text text.now error) }
 {
     match error {
-        SimError::TooLong => out.extend_from_slice(b"expected: at most 33554432 bytes\n"),
+        SimError::TooLong => add_text(out, b"expected: at most 33554432 bytes\n"),
         SimError::Description(error) => {
             add_description(alloc, out, cut_into_parts(text).description, error)
         }

@@ -6,12 +6,19 @@ use itoa::Buffer;
 use rv_text::write_plain;
 use std::alloc::AllocError;
 
+/// Appends a text.
+pub(crate) fn add_text(out: &mut Vec<u8>, text: &[u8]) -> Result<(), AllocError>
+    ensures { OnOk result (out.new.items ≡ out.old.items ++ text.now) }
+{
+    out.extend_from_slice(text)
+}
+
 /// Appends texts one after the other.
 pub(crate) fn add_all(out: &mut Vec<u8>, texts: &[&[u8]]) -> Result<(), AllocError>
     ensures { OnOk result (out.new.items ≡ out.old.items ++ flat_map (λ t. t.now) texts.now) }
 {
     for text in texts {
-        out.extend_from_slice(text)?;
+        add_text(out, text)?;
     }
     Ok(())
 }
@@ -21,7 +28,7 @@ pub(crate) fn add_number(out: &mut Vec<u8>, number: usize) -> Result<(), AllocEr
     ensures { OnOk result (out.new.items ≡ out.old.items ++ decimal number) }
 {
     let mut buffer = Buffer::new();
-    out.extend_from_slice(buffer.format(number).as_bytes())
+    add_text(out, buffer.format(number).as_bytes())
 }
 
 /// Appends a text of a user's in printing characters.

@@ -10,9 +10,3 @@ returns-in-Name-2 c = grind (arith, common_steps)
 
 pub returns-in_default : goal.returns-in_default
 returns-in_default c = grind (arith, common_steps)
-
-pub returns-in_default-2 : goal.returns-in_default-2
-returns-in_default-2 c = grind (arith, common_steps)
-
-pub returns-in_default-3 : goal.returns-in_default-3
-returns-in_default-3 c = grind (arith, common_steps)
