@@ -1,5 +1,5 @@
 ghost use Rattle.std.specs.Prelude.{◌≡◌, ◌≢◌};
-ghost use Rattle.rv_asm.specs.FaultName.{name_of};
+ghost use Rattle.rv_asm.specs.FaultName.{fault_name};
 
 use std::alloc::{AllocError, AllocFailed};
 use std::error::Error;
@@ -31,10 +31,10 @@ pub enum AsmFault {
 }
 
 impl AsmFault {
-    // The fault's name, as it is printed.
-    #[tactic(auto, unfolding(crate::specs::FaultName::name_of))]
-    fn name(self) -> &'static str
-        ensures { result.now ≡ name_of self }
+    /// The fault's name, as it is printed.
+    #[tactic(auto, unfolding(crate::specs::FaultName::fault_name))]
+    pub fn name(self) -> &'static str
+        ensures { result.now ≡ fault_name self }
     {
         match self {
             AsmFault::BadToken => "BadToken",
@@ -54,7 +54,7 @@ impl AsmFault {
 impl fmt::Display for AsmFault {
     ghost use Rattle.std.specs.Prelude.{Some};
 
-    ghost output = { λ fault. Some (name_of fault) };
+    ghost output = { λ fault. Some (fault_name fault) };
 
     fn fmt<W: fmt::Write>(&self, f: &mut fmt::Formatter<W>) -> fmt::Result {
         f.write_str(self.name())
@@ -92,7 +92,7 @@ pub struct AsmError {
 }
 
 impl AsmError {
-    /// A fault in a line. Want of memory belongs to no line.
+    /// A fault in a line. Out of memory belongs to no line.
     pub fn at(fault: AsmFault, line: usize) -> Self
         ensures fault { result.fault ≡ fault }
         ensures line { fault ≢ AsmFault.Memory → result.line ≡ line }

@@ -1,7 +1,6 @@
 -- What is reported of a fault, and the status that the program ends with.
 use Rattle.std.specs.Prelude.{ℕ, ◌==◌, if◌then◌else◌, List, [], ◌++◌, codes, decimal}
-use Rattle.rv_asm.specs.declared.fault.AsmFault.{AsmFault}
-use Rattle.rv_asm.specs.declared.fault.AsmFault.TheVariants as asm
+use Rattle.rv_asm.specs.FaultName.{fault_name}
 use Rattle.rv_describe.specs.Entries.{entry_of}
 use Rattle.rv_describe.specs.Fault.{place_of}
 use Rattle.rv_isa.specs.Key.{text_at}
@@ -11,19 +10,6 @@ use Rattle.rv_describe.specs.declared.description_error.DescriptionError.TheVari
 use Rattle.rv_job.specs.declared.{errors.SimError.SimError, input.InputError.InputError}
 use Rattle.rv_job.specs.declared.errors.SimError.TheVariants.{TooLong, TooManyDescriptions, Description, Described, Arrivals, Assembly, ImageDoesNotFit, DoesNotFit, Memory, WriteFailed}
 use Rattle.rv_job.specs.declared.input.InputError.TheVariants as unread
-
--- the name of a fault of a text
-unfoldable pub fault_name : AsmFault → List ℕ
-fault_name asm.BadToken = codes "BadToken"
-fault_name asm.UnknownMnemonic = codes "UnknownMnemonic"
-fault_name asm.BadOperands = codes "BadOperands"
-fault_name asm.BadRegister = codes "BadRegister"
-fault_name asm.DuplicateSymbol = codes "DuplicateSymbol"
-fault_name asm.TooLarge = codes "TooLarge"
-fault_name asm.UnknownSymbol = codes "UnknownSymbol"
-fault_name asm.OutOfRange = codes "OutOfRange"
-fault_name asm.Misaligned = codes "Misaligned"
-fault_name asm.Memory = codes "Memory"
 
 -- the name of a description's fault, and a space where a key stands after it
 unfoldable pub description_kind : DescriptionError → List ℕ

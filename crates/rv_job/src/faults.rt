@@ -1,32 +1,12 @@
 ghost use Rattle.std.specs.Prelude.{◌≡◌};
-ghost use Rattle.rv_job.specs.Fault.{arrivals_kind, arrivals_line, described_line, description_kind, description_line, fault_line, fault_name, fault_status, unfit_line};
+ghost use Rattle.rv_job.specs.Fault.{arrivals_kind, arrivals_line, described_line, description_kind, description_line, fault_line, fault_status, unfit_line};
 ghost use Rattle.rv_text.specs.Written.{IsWritten};
 
 use crate::errors::SimError;
 use itoa::Buffer;
-use rv_asm::AsmFault;
 use rv_describe::{ArrivalsError, DescriptionError, key_name};
 use rv_text::{ReportError, put, put_all};
 use std::io::Write;
-
-/// The name of a fault of assembly.
-#[tactic(auto, unfolding(crate::specs::Fault::fault_name))]
-pub fn fault_name(fault: AsmFault) -> &'static str
-    ensures { result.now ≡ fault_name fault }
-{
-    match fault {
-        AsmFault::BadToken => "BadToken",
-        AsmFault::UnknownMnemonic => "UnknownMnemonic",
-        AsmFault::BadOperands => "BadOperands",
-        AsmFault::BadRegister => "BadRegister",
-        AsmFault::DuplicateSymbol => "DuplicateSymbol",
-        AsmFault::TooLarge => "TooLarge",
-        AsmFault::UnknownSymbol => "UnknownSymbol",
-        AsmFault::OutOfRange => "OutOfRange",
-        AsmFault::Misaligned => "Misaligned",
-        AsmFault::Memory => "Memory",
-    }
-}
 
 #[tactic(auto, unfolding(crate::specs::Fault::description_kind))]
 fn description_kind(error: DescriptionError) -> &'static str
@@ -130,7 +110,7 @@ pub(crate) fn write_fault<W: Write>(writer: &mut W, error: SimError) -> Result<(
         SimError::Assembly(error) => {
             let mut buffer = Buffer::new();
             let line = buffer.format(error.line).as_bytes();
-            let name = fault_name(error.fault).as_bytes();
+            let name = error.fault.name().as_bytes();
             put_all(
                 writer,
                 &[b"error: assembly line ", line, b": ", name, b"\n"],

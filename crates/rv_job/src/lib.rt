@@ -17,7 +17,6 @@ mod parts;
 pub use comparison::{Comparison, read_comparison};
 pub use errors::SimError;
 pub use fault_lines::FaultLines;
-pub use faults::fault_name;
 pub use image_text::{DescribedImage, read_image_text, write_image_line};
 pub use input::{InputError, read_input};
 pub use job::Job;

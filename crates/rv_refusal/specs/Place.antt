@@ -1,7 +1,7 @@
 -- Where a line at fault stands.
 use Rattle.std.specs.Prelude.{ℕ, ◌+◌, List, ◌++◌, codes, decimal}
 use Rattle.rv_asm.specs.declared.fault.AsmFault.{AsmFault}
-use Rattle.rv_job.specs.Fault.{fault_name}
+use Rattle.rv_asm.specs.FaultName.{fault_name}
 use Rattle.rv_text.specs.Plain.{plain_text}
 
 -- where a line stands of a part of the job, which has this name, and that so many lines of the job stand before

@@ -4,7 +4,6 @@ ghost use Rattle.rv_refusal.specs.Place.{line_place, place_line, shown_line};
 use crate::text::{add_all, add_plain};
 use itoa::Buffer;
 use rv_asm::AsmFault;
-use rv_job::fault_name;
 use std::alloc::AllocError;
 
 /// Appends where a line stands of a part of the job, which has this name, and that so many lines of the job stand before.
@@ -45,7 +44,7 @@ pub(crate) fn add_place(
     ensures { OnOk result (out.new.items ≡ out.old.items ++ place_line before number fault) }
 {
     add_line_place(out, b"assembly", before, number)?;
-    add_all(out, &[b": ", fault_name(fault).as_bytes(), b"\n"])
+    add_all(out, &[b": ", fault.name().as_bytes(), b"\n"])
 }
 
 /// Appends a line in printing characters.

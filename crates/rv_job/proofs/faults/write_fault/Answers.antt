@@ -14,7 +14,7 @@ pub returns-in-Assembly : goal.returns-in-Assembly
 unfolding fault_line
 returns-in-Assembly g c =
     let line_is = c.as_bytes-line.ensures.value ∙ c.format.ensures.text in
-    let name_is = c.as_bytes-name.ensures.value ∙ c.fault_name.ensures in
+    let name_is = c.as_bytes-name.ensures.value ∙ c.name.ensures in
     rw (c.in-Assembly.is, ← line_is, ← name_is) c.put_all.ensures
 
 pub returns-in-ImageDoesNotFit : goal.returns-in-ImageDoesNotFit

@@ -6,5 +6,5 @@ use Rattle.rv_refusal.proofs.place.add_place.Goals as goal
 pub returns : goal.returns
 unfolding place_line
 returns c =
-    let name = c.as_bytes.ensures.value ∙ c.fault_name.ensures in
+    let name = c.as_bytes.ensures.value ∙ c.name.ensures in
     grind (arith, common_steps)
