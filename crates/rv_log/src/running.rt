@@ -1,8 +1,8 @@
-ghost use Rattle.std.specs.Prelude.{◌≡◌, ◌≤◌, ◌++◌, ℕ, List, Option, length, vec_capacity};
+ghost use Rattle.std.specs.Prelude.{◌≡◌, ◌≤◌, length, vec_capacity};
 ghost use Rattle.rv_hardware.specs.Guided.{guided};
 ghost use Rattle.rv_log.specs.Log.{WritesLog, cycle_text};
 ghost use Rattle.rv_passage.specs.Table.{HasRoom, passages_of, table_at};
-ghost use Rattle.rv_text.specs.Written.{IsWritten};
+ghost use Rattle.rv_text.specs.Written.{IsContinued};
 
 use crate::cycle::{write_begin, write_cycle};
 use crate::room::Stalled;
@@ -90,7 +90,7 @@ fn write_next<W: Write>(
     stalled: Stalled,
     rows: &[Passage],
 ) -> Result<(), ReportError>
-    ensures { (before : Option (List ℕ)) (text : List ℕ) → IsWritten written before (W.contents writer.old) text → IsWritten result before (W.contents writer.new) (text ++ cycle_text listing.now first cycle stalled rows.now) }
+    ensures { IsContinued written result (W.contents writer.old) (W.contents writer.new) (cycle_text listing.now first cycle stalled rows.now) }
 {
     match written {
         Ok(()) => write_cycle(writer, listing, first, cycle, stalled, rows),

@@ -1,5 +1,5 @@
 -- The passages in order of fetch, and what a cycle makes of them.
-use Rattle.std.specs.Prelude.{ℕ, ◌+◌, ◌-◌, ◌≤◌, ◌<◌, ◌^◌, ◌&&◌, nat_lt, if◌then◌else◌, List, [], ◌∷◌, ◌++◌, length, filter, drop, Option, None, Some, is_some, vec_capacity}
+use Rattle.std.specs.Prelude.{◌≡◌, ℕ, ◌+◌, ◌-◌, ◌≤◌, ◌<◌, ◌^◌, ◌&&◌, nat_lt, if◌then◌else◌, List, [], ◌∷◌, ◌++◌, length, filter, drop, Option, None, Some, is_some, vec_capacity}
 use Rattle.rv_front.specs.FetchBuffer.{FetchBuffer}
 use Rattle.rv_rob.specs.ReorderBuffer.{ReorderBuffer}
 use Rattle.rv_hardware.specs.Hardware.{Hardware}
@@ -76,6 +76,11 @@ abbrev pub moved_on : ℕ → ℕ → List Passage → List Passage → List Pas
 moved_on cycle number older [] now = numbered_from number now
 moved_on cycle number older (p ∷ ps) now =
     moved cycle older now p ∷ moved_on cycle number (older ++ moved cycle older now p ∷ []) ps (left_after cycle now p)
+
+-- rows have moved on to a cycle's end; of what is in flight then, all from a place on is still to be added, numbered from any number
+abbrev pub AreMovedOn : ℕ → List Passage → List Passage → List Passage → ℕ → Type 0
+AreMovedOn cycle now old new place =
+    (number : ℕ) → moved_on cycle number [] old now ≡ new ++ numbered_from number (drop place now)
 
 -- the end of a cycle: as many more were fetched as there are rows more
 abbrev pub at_the_end : ℕ → List Passage → Passages → Passages

@@ -1,7 +1,7 @@
-ghost use Rattle.std.specs.Prelude.{◌≡◌, ◌++◌, ℕ, [], drop};
+ghost use Rattle.std.specs.Prelude.{◌≡◌};
 ghost use Rattle.std.specs.List.{position};
 ghost use Rattle.rv_passage.specs.Passage.{in_buffers, is_in_flight, retired_by, trapped_by};
-ghost use Rattle.rv_passage.specs.Table.{moved_on, numbered_from, with_oldest};
+ghost use Rattle.rv_passage.specs.Table.{AreMovedOn, with_oldest};
 
 use crate::in_flight::passage_at;
 use crate::passage::Passage;
@@ -38,7 +38,7 @@ pub(crate) fn trap_oldest(rows: &mut [Passage], cause: Cause, cycle: u64)
 // What was in flight before a cycle goes on as it stands at the cycle's end, or was squashed in it. Answers the place of the
 // first that was fetched in the cycle, among those in flight.
 pub(crate) fn move_on(rows: &mut [Passage], cycle: u64, rob: &Rob, front: &Front) -> usize
-    ensures { (number : ℕ) → moved_on cycle number [] rows.old (in_buffers rob.now front.now) ≡ rows.new ++ numbered_from number (drop result (in_buffers rob.now front.now)) }
+    ensures { AreMovedOn cycle (in_buffers rob.now front.now) rows.old rows.new result }
 {
     let mut next = 0;
     for place in 0..rows.len() {

@@ -1,8 +1,8 @@
-ghost use Rattle.std.specs.Prelude.{◌≡◌, ℕ, ◌+◌, ◌≤◌, ◌<◌, ◌^◌, ◌++◌, [], ◌∷◌, drop, length, vec_capacity, IfOk};
+ghost use Rattle.std.specs.Prelude.{◌≡◌, ◌+◌, ◌≤◌, ◌<◌, ◌^◌, ◌++◌, [], ◌∷◌, drop, length, vec_capacity, IfOk};
 ghost use Rattle.rv_hardware.specs.Lessons.{first_pc};
 ghost use Rattle.rv_hardware.specs.Step.{pc_of};
 ghost use Rattle.rv_passage.specs.Passage.{in_buffers, numbered};
-ghost use Rattle.rv_passage.specs.Table.{AreShort, CanCount, HasRoom, after_steps, moved_on, numbered_from, passages_of, still_open, table_from, with_step, with_steps, without_squashed};
+ghost use Rattle.rv_passage.specs.Table.{AreMovedOn, AreShort, CanCount, HasRoom, after_steps, numbered_from, passages_of, still_open, table_from, with_step, with_steps, without_squashed};
 
 use crate::in_flight::{MOST_IN_FLIGHT, count_in_flight, present_at};
 use crate::passage::Passage;
@@ -128,7 +128,7 @@ impl Table {
 
     // What was in flight before a cycle goes on, or was squashed in it.
     fn move_rows_on(&mut self, cycle: u64, rob: &Rob, front: &Front) -> usize
-        ensures rows { (number : ℕ) → moved_on cycle number [] self.old.rows.items (in_buffers rob.now front.now) ≡ self.new.rows.items ++ numbered_from number (drop result (in_buffers rob.now front.now)) }
+        ensures rows { AreMovedOn cycle (in_buffers rob.now front.now) self.old.rows.items self.new.rows.items result }
         ensures len { length self.new.rows.items ≡ length self.old.rows.items }
         ensures others { (self.new.interrupts ≡ self.old.interrupts) × (self.new.fetched ≡ self.old.fetched) × (self.new.retired ≡ self.old.retired) }
         ensures capacity { vec_capacity self.new.rows ≡ vec_capacity self.old.rows }

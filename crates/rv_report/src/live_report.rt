@@ -1,9 +1,9 @@
-ghost use Rattle.std.specs.Prelude.{◌≡◌, ◌≤◌, ℕ, List, [], ◌++◌, Option, Ok, length, vec_capacity};
+ghost use Rattle.std.specs.Prelude.{◌≡◌, ◌≤◌, [], Ok, length, vec_capacity};
 ghost use Rattle.rv_hardware.specs.Guided.{guided};
 ghost use Rattle.rv_report.specs.LiveReport.{IsRunReport, IsTraced, Reports};
 ghost use Rattle.rv_report.specs.RunReport.{trace_of};
 ghost use Rattle.rv_report.specs.Totals.{HasRoom, both_counts, counts_of};
-ghost use Rattle.rv_text.specs.Written.{IsWritten};
+ghost use Rattle.rv_text.specs.Written.{IsContinued};
 
 use crate::options::Options;
 use crate::run_report::{write_totals, write_trace};
@@ -43,7 +43,7 @@ impl Trace {
         requires room { HasRoom self.old.counts (length steps.now) }
         ensures same { self.new.is_shown ≡ self.old.is_shown }
         ensures counted { self.new.counts ≡ both_counts self.old.counts (counts_of steps.now) }
-        ensures written { (before : Option (List ℕ)) (text : List ℕ) → IsWritten self.old.written before (W.contents writer.old) text → IsWritten self.new.written before (W.contents writer.new) (text ++ trace_of self.old.is_shown steps.now) }
+        ensures written { IsContinued self.old.written self.new.written (W.contents writer.old) (W.contents writer.new) (trace_of self.old.is_shown steps.now) }
     {
         self.counts.count_all(steps);
         if self.written.is_ok() {

@@ -1,8 +1,9 @@
 -- The instructions in the reorder buffer, as JSON.
 use Rattle.std.specs.Prelude.{ℕ, ◌+◌, List, [], ◌∷◌, ◌++◌, codes}
-use Rattle.rv_core.specs.Ties.{RegisterStatus, status_with}
+use Rattle.rv_core.specs.Ties.{RegisterStatus, status_with, values_in}
 use Rattle.rv_json.specs.Entry.{entry_text}
 use Rattle.rv_json.specs.Json.{Json}
+use Rattle.rv_rob.specs.ReorderBuffer.{ReorderBuffer}
 use Rattle.rv_rob.specs.declared.entry.Entry.{Entry}
 use Rattle.rv_states.specs.Operands.{operands_text}
 
@@ -14,3 +15,7 @@ entry_json status number e = entry_text number e ++ (operands_text status e.stag
 abbrev pub entries_json : RegisterStatus → ℕ → List Entry → List Json
 entries_json status number [] = []
 entries_json status number (e ∷ es) = entry_json status number e ∷ entries_json (status_with status number e) (number + 1) es
+
+-- the instructions of a reorder buffer, over these registers
+abbrev pub buffer_json : List ℕ → ReorderBuffer → List Json
+buffer_json registers buffer = entries_json (values_in registers) buffer.retired buffer.entries

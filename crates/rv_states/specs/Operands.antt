@@ -1,23 +1,31 @@
 -- What an instruction that waits reads, as JSON.
-use Rattle.std.specs.Prelude.{ℕ, List, [], ◌++◌, codes, slice_index_or, Option, Some, None}
+use Rattle.std.specs.Prelude.{ℕ, List, [], ◌++◌, codes, slice_index_or, take, Option, Some, None}
 use Rattle.rv_isa.specs.Operands.{sources_of}
 use Rattle.rv_isa.specs.declared.instructions.Instr.{Instr}
-use Rattle.rv_core.specs.Ties.{RegisterStatus}
+use Rattle.rv_core.specs.Ties.{RegisterStatus, status_behind, values_in}
+use Rattle.rv_rob.specs.ReorderBuffer.{ReorderBuffer}
 use Rattle.rv_rob.specs.declared.entry.{Stage.Stage}
 use Rattle.rv_rob.specs.declared.entry.Stage.TheVariants.{Waiting, Running, Finished}
 use Rattle.rv_json.specs.Json.{also}
 use Rattle.rv_json.specs.Operand.{operand_json}
+
+-- what each register gives after the oldest so many instructions of a reorder buffer
+abbrev pub status_at : List ℕ → ReorderBuffer → ℕ → RegisterStatus
+status_at registers buffer count = status_behind (values_in registers) buffer.retired (take count buffer.entries)
 
 -- an operand, where the instruction has it
 unfoldable pub operand_text : List ℕ → RegisterStatus → Option ℕ → List ℕ
 operand_text name status None = []
 operand_text name status (Some register) = also name (operand_json register (status register))
 
+-- two operands
+abbrev pub both_text : RegisterStatus → Option ℕ → Option ℕ → List ℕ
+both_text status first second = operand_text (codes "first") status first ++ operand_text (codes "second") status second
+
 -- both operands of an instruction
 unfoldable pub operands_of : RegisterStatus → Instr → List ℕ
 operands_of status instruction =
-    operand_text (codes "first") status (slice_index_or (sources_of instruction) 0 None) ++
-    operand_text (codes "second") status (slice_index_or (sources_of instruction) 1 None)
+    both_text status (slice_index_or (sources_of instruction) 0 None) (slice_index_or (sources_of instruction) 1 None)
 
 -- the same of a word, if it is an instruction
 abbrev pub operands_of_word : RegisterStatus → Option Instr → List ℕ

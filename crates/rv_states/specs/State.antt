@@ -1,18 +1,18 @@
 -- The hardware as JSON.
 use Rattle.std.specs.Prelude.{ℕ, List, ◌++◌, codes, decimal, map}
-use Rattle.rv_core.specs.Ties.{queue_of, values_in}
+use Rattle.rv_core.specs.Ties.{queue_of}
 use Rattle.rv_hardware.specs.Hardware.{Hardware}
 use Rattle.rv_json.specs.Fetched.{fetched_json, next_fetch_text}
 use Rattle.rv_json.specs.Json.{Json, also, array}
 use Rattle.rv_json.specs.Observed.{observed_text}
 use Rattle.rv_json.specs.Queue.{store_json}
 use Rattle.rv_json.specs.Units.{units_json}
-use Rattle.rv_states.specs.Entries.{entries_json}
+use Rattle.rv_states.specs.Entries.{buffer_json}
 
 -- what is in flight
 unfoldable pub in_flight_text : Hardware → List ℕ
 in_flight_text h =
-    also (codes "reorder_buffer") (array (entries_json (values_in h.registers) h.rob.retired h.rob.entries)) ++
+    also (codes "reorder_buffer") (array (buffer_json h.registers h.rob)) ++
     (also (codes "fetch_buffer") (array (map fetched_json h.front.entries)) ++ next_fetch_text h.front)
 
 -- the units, the store queue, and the first cycle in which the cache's port is idle

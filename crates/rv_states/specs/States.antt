@@ -52,7 +52,7 @@ shown_text from cycle rows steps after progress =
 abbrev pub begun_text : ℕ → List Passage → Hardware → Progress → List ℕ
 begun_text from rows h progress = if progress.cycles == from then window_text rows h progress else []
 
--- what is told of a cycle
+-- what is shown of a cycle
 unfoldable pub moment_text : ℕ → Moment → List ℕ
 moment_text from moment =
     shown_text from moment.cycle moment.rows moment.steps moment.after moment.progress ++
@@ -62,7 +62,7 @@ moment_text from moment =
 unfoldable pub opening_text : ℕ → Listed → Values → List ℕ
 opening_text from listing values = header_line from values ++ listing_lines listing values
 
--- what is told before the first cycle of a run: the machine and the program, and what stands before the window where it begins here
+-- what is shown before the first cycle of a run: the machine and the program, and what stands before the window where it begins here
 unfoldable pub head_text : ℕ → Listed → List Passage → Hardware → List ℕ
 head_text from listing rows first = opening_text from listing first.values ++ begun_text from rows first (progress_of [])
 

@@ -1,6 +1,6 @@
-ghost use Rattle.std.specs.Prelude.{◌<◌, ◌≤◌, [], get_or, length, take};
-ghost use Rattle.rv_core.specs.Ties.{status_behind, values_in};
-ghost use Rattle.rv_states.specs.Entries.{entries_json, entry_json};
+ghost use Rattle.std.specs.Prelude.{◌<◌, ◌≤◌, [], get_or, length};
+ghost use Rattle.rv_states.specs.Entries.{buffer_json, entry_json};
+ghost use Rattle.rv_states.specs.Operands.{status_at};
 ghost use Rattle.rv_text.specs.Written.{IsWritten};
 
 use crate::operands::{entry_at, number_at, write_operands};
@@ -19,7 +19,7 @@ fn write_entry_with<W: Write>(
     entry: &Entry,
 ) -> Result<(), ReportError>
     requires { place ≤ length buffer.now.entries }
-    ensures { IsWritten result (W.contents writer.old) (W.contents writer.new) (entry_json (status_behind (values_in registers.now) buffer.now.retired (take place buffer.now.entries)) number entry.now) }
+    ensures { IsWritten result (W.contents writer.old) (W.contents writer.new) (entry_json (status_at registers.now buffer.now place) number entry.now) }
 {
     write_entry(writer, number, entry)?;
     write_operands(writer, buffer, registers, place, entry)?;
@@ -34,7 +34,7 @@ fn write_entry_at<W: Write>(
     place: usize,
 ) -> Result<(), ReportError>
     requires { place < length buffer.now.entries }
-    ensures { IsWritten result (W.contents writer.old) (W.contents writer.new) (get_or (entries_json (values_in registers.now) buffer.now.retired buffer.now.entries) place []) }
+    ensures { IsWritten result (W.contents writer.old) (W.contents writer.new) (get_or (buffer_json registers.now buffer.now) place []) }
 {
     let entry = entry_at(buffer, place);
     write_entry_with(
@@ -55,10 +55,9 @@ pub(crate) struct Entries<'a> {
 }
 
 impl Values for Entries<'_> {
-    ghost use Rattle.rv_core.specs.Ties.{values_in};
-    ghost use Rattle.rv_states.specs.Entries.{entries_json};
+    ghost use Rattle.rv_states.specs.Entries.{buffer_json};
 
-    ghost values = { λ e. entries_json (values_in e.registers.now) e.buffer.now.retired e.buffer.now.entries };
+    ghost values = { λ e. buffer_json e.registers.now e.buffer.now };
 
     fn count(&self) -> usize {
         self.buffer.len()

@@ -1,7 +1,7 @@
-ghost use Rattle.std.specs.Prelude.{◌≡◌, ◌+◌, ◌<◌, ◌≤◌, ◌++◌, if◌then◌else◌, codes, length, option_copied, slice_get, take, Some};
-ghost use Rattle.rv_core.specs.Ties.{operand_by, status_behind, values_in};
+ghost use Rattle.std.specs.Prelude.{◌≡◌, ◌+◌, ◌<◌, ◌≤◌, ◌++◌, if◌then◌else◌, length, option_copied, slice_get, Some};
+ghost use Rattle.rv_core.specs.Ties.{operand_by};
 ghost use Rattle.rv_hardware.specs.InFlight.{broadcast_of, writes};
-ghost use Rattle.rv_states.specs.Operands.{operand_text, operands_of, operands_text};
+ghost use Rattle.rv_states.specs.Operands.{both_text, operand_text, operands_of, operands_text, status_at};
 ghost use Rattle.rv_text.specs.Written.{IsWritten};
 
 use rv_isa::{Instr, Reg, sources, target};
@@ -74,9 +74,9 @@ fn given_with(before: Operand, number: u64, entry: &Entry, register: Reg) -> Ope
 }
 
 // What a register gives after so many of the instructions in flight.
-fn operand_behind(buffer: &Rob, registers: &[u32; 32], count: usize, register: Reg) -> Operand
+fn operand_after(buffer: &Rob, registers: &[u32; 32], count: usize, register: Reg) -> Operand
     requires { count ≤ length buffer.now.entries }
-    ensures { result ≡ status_behind (values_in registers.now) buffer.now.retired (take count buffer.now.entries) register }
+    ensures { result ≡ status_at registers.now buffer.now count register }
 {
     let mut operand = Operand::Value(registers[register.index()]);
     for place in 0..count {
@@ -96,11 +96,11 @@ fn write_operand_member<W: Write>(
     register: Option<Reg>,
 ) -> Result<(), ReportError>
     requires { count ≤ length buffer.now.entries }
-    ensures { IsWritten result (W.contents writer.old) (W.contents writer.new) (operand_text name.now (status_behind (values_in registers.now) buffer.now.retired (take count buffer.now.entries)) register) }
+    ensures { IsWritten result (W.contents writer.old) (W.contents writer.new) (operand_text name.now (status_at registers.now buffer.now count) register) }
 {
     match register {
         Some(register) => {
-            let operand = operand_behind(buffer, registers, count, register);
+            let operand = operand_after(buffer, registers, count, register);
             write_operand(writer, name, register, operand)
         }
         None => Ok(()),
@@ -116,7 +116,7 @@ fn write_both<W: Write>(
     second: Option<Reg>,
 ) -> Result<(), ReportError>
     requires { count ≤ length buffer.now.entries }
-    ensures { IsWritten result (W.contents writer.old) (W.contents writer.new) (operand_text (codes "first") (status_behind (values_in registers.now) buffer.now.retired (take count buffer.now.entries)) first ++ operand_text (codes "second") (status_behind (values_in registers.now) buffer.now.retired (take count buffer.now.entries)) second) }
+    ensures { IsWritten result (W.contents writer.old) (W.contents writer.new) (both_text (status_at registers.now buffer.now count) first second) }
 {
     write_operand_member(writer, "first", buffer, registers, count, first)?;
     write_operand_member(writer, "second", buffer, registers, count, second)
@@ -131,7 +131,7 @@ fn write_sources<W: Write>(
     instruction: &Instr,
 ) -> Result<(), ReportError>
     requires { count ≤ length buffer.now.entries }
-    ensures { IsWritten result (W.contents writer.old) (W.contents writer.new) (operands_of (status_behind (values_in registers.now) buffer.now.retired (take count buffer.now.entries)) instruction.now) }
+    ensures { IsWritten result (W.contents writer.old) (W.contents writer.new) (operands_of (status_at registers.now buffer.now count) instruction.now) }
 {
     let sources = sources(instruction);
     write_both(writer, buffer, registers, count, sources[0], sources[1])
@@ -146,7 +146,7 @@ pub(crate) fn write_operands<W: Write>(
     entry: &Entry,
 ) -> Result<(), ReportError>
     requires { count ≤ length buffer.now.entries }
-    ensures { IsWritten result (W.contents writer.old) (W.contents writer.new) (operands_text (status_behind (values_in registers.now) buffer.now.retired (take count buffer.now.entries)) entry.now.stage entry.now.instruction) }
+    ensures { IsWritten result (W.contents writer.old) (W.contents writer.new) (operands_text (status_at registers.now buffer.now count) entry.now.stage entry.now.instruction) }
 {
     match (&entry.stage, &entry.instruction) {
         (Stage::Waiting, Some(instruction)) => {

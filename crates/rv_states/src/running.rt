@@ -1,10 +1,10 @@
-ghost use Rattle.std.specs.Prelude.{◌≡◌, ◌≤◌, ◌++◌, ℕ, List, Option, length, vec_capacity};
+ghost use Rattle.std.specs.Prelude.{◌≡◌, ◌≤◌, ◌++◌, length, vec_capacity};
 ghost use Rattle.rv_hardware.specs.Guided.{guided};
 ghost use Rattle.rv_passage.specs.Table.{HasRoom, passages_of, table_at};
 ghost use Rattle.rv_states.specs.Page.{after_lines};
 ghost use Rattle.rv_states.specs.States.{WritesStates, begun_text, shown_text};
 ghost use Rattle.rv_json.specs.Stop.{stop_line};
-ghost use Rattle.rv_text.specs.Written.{IsWritten};
+ghost use Rattle.rv_text.specs.Written.{IsContinued};
 
 use crate::form::Form;
 use crate::moment::{write_begun, write_end, write_head, write_shown};
@@ -90,7 +90,7 @@ fn show_next<W: Write>(
     pipeline: &Pipeline,
     progress: &Progress,
 ) -> Result<(), ReportError>
-    ensures { (before : Option (List ℕ)) (text : List ℕ) → IsWritten written before (W.contents writer.old) text → IsWritten result before (W.contents writer.new) (text ++ shown_text from cycle rows.now steps.now pipeline.now progress.now) }
+    ensures { IsContinued written result (W.contents writer.old) (W.contents writer.new) (shown_text from cycle rows.now steps.now pipeline.now progress.now) }
 {
     match written {
         Ok(()) => write_shown(writer, from, cycle, rows, steps, pipeline, progress),
@@ -107,7 +107,7 @@ fn begin_next<W: Write>(
     pipeline: &Pipeline,
     progress: &Progress,
 ) -> Result<(), ReportError>
-    ensures { (before : Option (List ℕ)) (text : List ℕ) → IsWritten written before (W.contents writer.old) text → IsWritten result before (W.contents writer.new) (text ++ begun_text from rows.now pipeline.now progress.now) }
+    ensures { IsContinued written result (W.contents writer.old) (W.contents writer.new) (begun_text from rows.now pipeline.now progress.now) }
 {
     match written {
         Ok(()) => write_begun(writer, from, rows, pipeline, progress),
@@ -123,7 +123,7 @@ fn end_next<W: Write>(
     cycles: u64,
     stop: Stop,
 ) -> Result<(), ReportError>
-    ensures { (before : Option (List ℕ)) (text : List ℕ) → IsWritten written before (W.contents writer.old) text → IsWritten result before (W.contents writer.new) (text ++ (stop_line cycles stop ++ after_lines form)) }
+    ensures { IsContinued written result (W.contents writer.old) (W.contents writer.new) (stop_line cycles stop ++ after_lines form) }
 {
     match written {
         Ok(()) => write_end(writer, form, cycles, stop),

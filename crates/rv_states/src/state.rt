@@ -1,11 +1,11 @@
 ghost use Rattle.std.specs.Prelude.{◌++◌, codes, decimal, map};
-ghost use Rattle.rv_core.specs.Ties.{queue_of, values_in};
+ghost use Rattle.rv_core.specs.Ties.{queue_of};
 ghost use Rattle.rv_json.specs.Fetched.{fetched_json, next_fetch_text};
 ghost use Rattle.rv_json.specs.Json.{also, array};
 ghost use Rattle.rv_json.specs.Observed.{observed_text};
 ghost use Rattle.rv_json.specs.Queue.{store_json};
 ghost use Rattle.rv_json.specs.Units.{units_json};
-ghost use Rattle.rv_states.specs.Entries.{entries_json};
+ghost use Rattle.rv_states.specs.Entries.{buffer_json};
 ghost use Rattle.rv_states.specs.State.{in_flight_text, parts_text, state_json};
 ghost use Rattle.rv_text.specs.Written.{IsWritten};
 
@@ -30,13 +30,13 @@ fn write_entries<W: Write>(
     buffer: &Rob,
     registers: &[u32; 32],
 ) -> Result<(), ReportError>
-    ensures { IsWritten result (W.contents writer.old) (W.contents writer.new) (also (codes "reorder_buffer") (array (entries_json (values_in registers.now) buffer.now.retired buffer.now.entries))) }
+    ensures { IsWritten result (W.contents writer.old) (W.contents writer.new) (also (codes "reorder_buffer") (array (buffer_json registers.now buffer.now))) }
 {
     write_array_member(writer, "reorder_buffer", &Entries { buffer, registers })
 }
 
 fn write_reorder_buffer<W: Write>(writer: &mut W, pipeline: &Pipeline) -> Result<(), ReportError>
-    ensures { IsWritten result (W.contents writer.old) (W.contents writer.new) (also (codes "reorder_buffer") (array (entries_json (values_in pipeline.now.registers) pipeline.now.rob.retired pipeline.now.rob.entries))) }
+    ensures { IsWritten result (W.contents writer.old) (W.contents writer.new) (also (codes "reorder_buffer") (array (buffer_json pipeline.now.registers pipeline.now.rob))) }
 {
     let registers = pipeline.observe().regs;
     write_entries(writer, pipeline.reorder_buffer(), &registers)

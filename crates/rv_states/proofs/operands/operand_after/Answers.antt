@@ -1,6 +1,6 @@
 use Rattle.rv_core.specs.Ties.{values_in}
 use Rattle.rv_states.proofs.Status.{given_more}
-use Rattle.rv_states.proofs.operands.operand_behind.Goals as goal
+use Rattle.rv_states.proofs.operands.operand_after.Goals as goal
 
 pub loop-place-preserved : goal.loop-place-preserved
 loop-place-preserved c =
