@@ -1,5 +1,5 @@
--- What a cycle tells, and what a turn of a phase leaves, as its answer tells.
-use Rattle.std.specs.Prelude.{◌≡◌, ℕ, ◌+◌, List, [], ◌∷◌, Option, Some, None, IfSome}
+-- What a cycle reports, and what a turn of a phase leaves, by what it returns.
+use Rattle.std.specs.Prelude.{◌≡◌, ℕ, ◌+◌, List, [], ◌∷◌, ◌++◌, ◌≤◌, length, Option, Some, None, IfSome}
 use Rattle.rv_isa.specs.declared.lines.Lines.{Lines}
 use Rattle.rv_arch.specs.Due.{due}
 use Rattle.rv_arch.specs.State.{State}
@@ -7,6 +7,7 @@ use Rattle.rv_arch.specs.Trap.{interrupt_cause}
 use Rattle.rv_arch.specs.declared.outcome.Stop.{Stop}
 use Rattle.rv_arch.specs.declared.outcome.Stop.TheVariants.{Breakpoint, Stale, Limit, Exhausted}
 use Rattle.rv_hardware.specs.Dispatch.{Dispatching}
+use Rattle.rv_hardware.specs.Guided.{GuidedHardware, IsGuidedCycle}
 use Rattle.rv_hardware.specs.Hardware.{Hardware}
 use Rattle.rv_hardware.specs.Repeated.{Turn, GoesOn, Ends}
 use Rattle.rv_hardware.specs.Report.{Report}
@@ -18,7 +19,7 @@ use Rattle.rv_core.specs.declared.outcome.{CycleEnd.CycleEnd, CycleReport.CycleR
 abbrev pub dispatching : Hardware → ℕ → Dispatching
 dispatching h dispatched = record { hardware = h; dispatched = dispatched; waits_for = None }
 
--- a turn of the dispatch phase, which tells what the instruction waits for, if it does
+-- a turn of the dispatch phase, which says what the instruction waits for, if it waits
 abbrev pub dispatch_told : Option Stall → Hardware → ℕ → Turn Dispatching
 dispatch_told None h dispatched = GoesOn (dispatching h (dispatched + 1))
 dispatch_told (Some reason) h dispatched =
@@ -27,6 +28,11 @@ dispatch_told (Some reason) h dispatched =
 -- what a cycle reports, of its steps and of what it did beside them
 abbrev pub report_with : List Step → CycleEnd → Report
 report_with steps end = record { steps = steps; dispatched = end.dispatched; stall = end.stall; stop = end.stop }
+
+-- a cycle led from the one hardware to the other, and its steps, eight at most, stand after those before it
+abbrev pub AppendsCycle : Lines → GuidedHardware → GuidedHardware → List Step → List Step → CycleEnd → Type 0
+AppendsCycle lines old new before after end =
+    (steps : List Step) × (after ≡ before ++ steps) × (length steps ≤ 8) × IsGuidedCycle lines old (report_with steps end) new
 
 -- what a cycle of a core reports
 abbrev pub report_of_cycle : CycleReport → Report

@@ -51,6 +51,28 @@ with_shown {after = after} seen shown =
 abbrev pub Sight : Type 0 → Type 1
 Sight T = T → T → Watched → Option (List ℕ) → Option (List ℕ) → Type 0
 
+-- a watcher has seen all that there was to see where no cycle was done yet
+abbrev pub HasSeenBegin : {T : Type 0} → Sight T → T → List Arrival → GuidedHardware → Option (List ℕ) → Type 0
+HasSeenBegin has_seen watcher arrivals begun output =
+    (before : Option (List ℕ)) × has_seen watcher watcher (watched arrivals begun [] begun) before output
+
+-- whatever a watcher had seen, it has seen still
+abbrev pub SeesTheSame : {T : Type 0} → Sight T → T → T → Type 0
+SeesTheSame {T = T} has_seen watcher watcher' =
+    (start : T) (seen : Watched) (before now : Option (List ℕ)) → has_seen start watcher seen before now → has_seen start watcher' seen before now
+
+-- a watcher that has seen the cycles before is shown the next one
+abbrev pub IsNextShown : {T : Type 0} → Sight T → T → ℕ → List Step → Hardware → Progress → Option (List ℕ) → Type 0
+IsNextShown {T = T} has_seen watcher cycle steps after progress output =
+    (start : T) × (seen : Watched) × (before : Option (List ℕ)) ×
+    IsShown seen cycle steps after progress × has_seen start watcher seen before output
+
+-- whatever a watcher had seen, it has seen it with the next cycle, which it was shown
+abbrev pub SeesNext : {T : Type 0} → Sight T → T → T → ℕ → List Step → Hardware → Progress → Option (List ℕ) → Option (List ℕ) → Type 0
+SeesNext {T = T} has_seen watcher watcher' cycle steps after progress output output' =
+    (start : T) (seen : Watched) (before : Option (List ℕ)) (shown : IsShown seen cycle steps after progress) →
+    has_seen start watcher seen before output → has_seen start watcher' (with_shown seen shown) before output'
+
 -- why a run ended, or that its watcher refused to see more of it: nothing stopped it then, and it had cycles left
 abbrev pub IsEnd : {Refusal : Type 0} → ℕ → List Report → Hardware → Result Stop Refusal → Type 0
 IsEnd limit reports new end = MatchResult end (λ stop. IsStop limit reports new stop) (λ refusal. NoneStops reports × (length reports < limit))

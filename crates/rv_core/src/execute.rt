@@ -8,8 +8,8 @@ ghost use Rattle.rv_isa.specs.declared.lines.Lines.{Lines};
 ghost use Rattle.rv_arch.specs.Effect.{branches, goes_to, jumps, writes};
 ghost use Rattle.rv_arch.specs.State.{State, write_of};
 ghost use Rattle.rv_memory.specs.Memory.{Layout};
-ghost use Rattle.rv_hardware.specs.Result.{effect_message, fault_message, result_in, result_of_word, value_written};
-ghost use Rattle.rv_core.specs.Execution.{Reads, is_operation};
+ghost use Rattle.rv_hardware.specs.Result.{effect_message, fault_message, result_of_word, value_written};
+ghost use Rattle.rv_core.specs.Execution.{IsResult, is_operation};
 ghost use Rattle.rv_core.specs.Load.{store_fault};
 
 use rv_isa::{
@@ -96,7 +96,7 @@ pub(crate) fn address(base: u32, offset: Immediate) -> u32
 
 /// What an instruction without a memory access gives, of the values of its registers.
 pub(crate) fn operation_result(instruction: &Instr, pc: u32, first: u32, second: u32) -> Message
-    ensures { is_operation (kind_of instruction.now) ≡ true → (layout : Layout) (s : State) (lines : Lines) (word : ℕ) → Reads s pc first second instruction.now → result ≡ result_in layout s lines word instruction.now }
+    ensures { is_operation (kind_of instruction.now) ≡ true → (layout : Layout) → IsResult layout pc first second instruction.now result }
 {
     match *instruction {
         Instr::Lui { rd, immediate } => computed(rd, immediate.value() * 4096, pc),
@@ -181,7 +181,7 @@ fn store_fault(ram: &Ram, address: u32, width: Width) -> Option<Cause>
 
 /// What an instruction gives that is no load, of the values of its registers.
 pub(crate) fn result_of(ram: &Ram, ready: &Ready) -> Message
-    ensures { is_load (Some ready.now.instruction) ≡ false → is_some (kind_of ready.now.instruction) ≡ true → (s : State) (lines : Lines) (word : ℕ) → Reads s ready.now.pc ready.now.first ready.now.second ready.now.instruction → result ≡ result_in ram.now.layout s lines word ready.now.instruction }
+    ensures { is_load (Some ready.now.instruction) ≡ false → is_some (kind_of ready.now.instruction) ≡ true → IsResult ram.now.layout ready.now.pc ready.now.first ready.now.second ready.now.instruction result }
 {
     let Instr::Store { width, offset, .. } = ready.instruction else {
         return operation_result(&ready.instruction, ready.pc, ready.first, ready.second);

@@ -1,4 +1,4 @@
-ghost use Rattle.std.specs.Prelude.{◌≡◌, ◌+◌, ◌*◌, ◌^◌, ◌≤◌, ◌<◌, List, [], ◌++◌, filter, length, vec_len, vec_capacity, nat_le, IfOk};
+ghost use Rattle.std.specs.Prelude.{◌≡◌, ◌+◌, ◌*◌, ◌^◌, ◌≤◌, ◌<◌, [], filter, length, vec_len, vec_capacity, nat_le, IfOk};
 ghost use Rattle.std.specs.FinSet as set;
 ghost use Rattle.rv_isa.specs.PerKind.{for_each};
 ghost use Rattle.rv_front.specs.FetchBuffer.{FetchesInto};
@@ -9,12 +9,11 @@ ghost use Rattle.rv_stations.specs.Pool.{squashed as squashed_pool, empty_pool};
 ghost use Rattle.rv_stores.specs.Store.{is_committed};
 ghost use Rattle.rv_units.specs.Bus.{empty_bus, squashed as squashed_bus};
 ghost use Rattle.rv_units.specs.Pool.{free_pool};
-ghost use Rattle.rv_hardware.specs.Guided.{IsGuidedCycle, guided};
+ghost use Rattle.rv_hardware.specs.Guided.{guided};
 ghost use Rattle.rv_hardware.specs.Run.{Reachable};
 ghost use Rattle.rv_hardware.specs.Reset.{reset_hardware};
 ghost use Rattle.rv_hardware.specs.Squash.{flushed};
-ghost use Rattle.rv_hardware.specs.declared.step.Step.{Step as StepOf};
-ghost use Rattle.rv_core.specs.Told.{IsCommitStop, report_with};
+ghost use Rattle.rv_core.specs.Told.{AppendsCycle, IsCommitStop};
 
 use crate::outcome::CycleEnd;
 use rv_arch::Csrs;
@@ -114,7 +113,7 @@ impl Parts {
         requires numbers { self.old.rob.retired ≤ 8 * self.old.cycle }
         requires room { vec_len steps.old + 8 ≤ vec_capacity steps.old }
         requires reached { Reachable self.old }
-        ensures cycle { (done : List StepOf) × (steps.new.items ≡ steps.old.items ++ done) × (length done ≤ 8) × IsGuidedCycle lines (guided self.old (known predictor.old)) (report_with done result) (guided self.new (known predictor.new)) }
+        ensures cycle { AppendsCycle lines (guided self.old (known predictor.old)) (guided self.new (known predictor.new)) steps.old.items steps.new.items result }
         ensures stop { IsCommitStop result.stop }
         ensures numbers { self.new.rob.retired ≤ 8 * self.new.cycle }
         ensures capacity { vec_capacity steps.new ≡ vec_capacity steps.old }

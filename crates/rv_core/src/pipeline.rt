@@ -1,4 +1,4 @@
-ghost use Rattle.std.specs.Prelude.{◌≡◌, ◌+◌, ◌^◌, ◌<◌, ◌≤◌, ◌↔◌, ◌==◌, false, None, List, ◌++◌, is_some, length, nat_le, vec_len, vec_capacity, IsTrue, IfOk, IfErr};
+ghost use Rattle.std.specs.Prelude.{◌≡◌, ◌+◌, ◌^◌, ◌<◌, ◌≤◌, ◌↔◌, ◌==◌, false, None, is_some, length, nat_le, vec_len, vec_capacity, IsTrue, IfOk, IfErr};
 ghost use Rattle.std.specs.FinSet as set;
 ghost use Rattle.rv_isa.specs.Description.{IsLegal};
 ghost use Rattle.rv_memory.specs.Memory.{byte_seen, is_in_ram, word_of};
@@ -8,9 +8,8 @@ ghost use Rattle.rv_hardware.specs.Headline.{IsTrueCycle};
 ghost use Rattle.rv_hardware.specs.Run.{Reachable};
 ghost use Rattle.rv_hardware.specs.Reset.{IsLoadable, reset_hardware};
 ghost use Rattle.rv_hardware.specs.Seen.{layout_of, seen};
-ghost use Rattle.rv_hardware.specs.declared.step.Step.{Step as StepOf};
 ghost use Rattle.rv_core.specs.Ties.{queue_of};
-ghost use Rattle.rv_core.specs.Told.{IsCommitStop, TakesDue, exhausted_report, report_of_cycle, report_with};
+ghost use Rattle.rv_core.specs.Told.{AppendsCycle, IsCommitStop, TakesDue, exhausted_report, report_of_cycle};
 ghost use Rattle.rv_core.specs.declared.errors.NewError.TheVariants as refusal;
 
 use crate::errors::NewError;
@@ -128,7 +127,7 @@ impl Pipeline {
         requires cycles { self.old.cycle < 2 ^ 40 }
         requires room { vec_len steps.old + 8 ≤ vec_capacity steps.old }
         ensures stop { IsCommitStop result.stop }
-        ensures cycle { (done : List StepOf) × (steps.new.items ≡ steps.old.items ++ done) × (length done ≤ 8) × IsGuidedCycle lines (guided self.old (known predictor.old)) (report_with done result) (guided self.new (known predictor.new)) }
+        ensures cycle { AppendsCycle lines (guided self.old (known predictor.old)) (guided self.new (known predictor.new)) steps.old.items steps.new.items result }
         ensures capacity { vec_capacity steps.new ≡ vec_capacity steps.old }
     {
         self.parts.advance(lines, predictor, steps)

@@ -1,6 +1,6 @@
-ghost use Rattle.std.specs.Prelude.{◌≡◌, ◌≤◌, ℕ, List, [], Option, vec_capacity};
+ghost use Rattle.std.specs.Prelude.{◌≡◌, ◌≤◌, vec_capacity};
 ghost use Rattle.rv_hardware.specs.Guided.{guided};
-ghost use Rattle.rv_core.specs.Watching.{IsWatchedRun, watched};
+ghost use Rattle.rv_core.specs.Watching.{HasSeenBegin, IsWatchedRun};
 
 use crate::outcome::Progress;
 use crate::pipeline::Pipeline;
@@ -42,7 +42,7 @@ pub fn watch<T: Watcher, W: Write>(
     output: &mut W,
 ) -> Ended<T::Refusal>
     requires room { 8 ≤ vec_capacity steps }
-    requires ready { (before : Option (List ℕ)) × T.has_seen watcher.old watcher.old (watched arrivals.now (guided pipeline.old (known predictor.old)) [] (guided pipeline.old (known predictor.old))) before (W.contents output.old) }
+    requires ready { HasSeenBegin T.has_seen watcher.old arrivals.now (guided pipeline.old (known predictor.old)) (W.contents output.old) }
     ensures { IsWatchedRun T.has_seen arrivals.now limit (guided pipeline.old (known predictor.old)) (guided pipeline.new (known predictor.new)) result.progress result.stop watcher.old watcher.new (W.contents output.old) (W.contents output.new) }
 {
     let mut steps = steps;

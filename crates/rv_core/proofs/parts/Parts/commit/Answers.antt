@@ -1,9 +1,9 @@
-use Rattle.rv_core.proofs.Words.{◌≡◌, ◌+◌, ◌-◌, [], ◌∷◌, ◌++◌, Some, sym, refl, ap, ◌∙◌, subst, arith, Committing, commit, commit_unless, Hardware, AreTaught, lessons_of, Step, and_step, turn_left}
+use Rattle.rv_core.proofs.Words.{◌≡◌, ◌+◌, ◌-◌, [], ◌∷◌, ◌++◌, Some, sym, refl, ap, ◌∙◌, subst, arith, Committing, commit, commit_unless, Hardware, AreTaught, lessons_of, Step, and_step, committing, turn_left}
 use Rattle.std.specs.FinSet as set
 use Rattle.rv_core.proofs.Retired.Loop.{none_committed, committed_all, committed_whole, committed_more, interrupted, steps_with}
 use Rattle.rv_core.proofs.Retired.Taught.{none_taught, taught_all, taught_at_end, teaching_begins, teaching_goes}
 use Rattle.rv_core.proofs.parts.Parts.commit.Goals as goal
-use Rattle.rv_core.proofs.parts.Parts.commit.Goals.{In-Some, In-Ends}
+use Rattle.rv_core.proofs.parts.Parts.commit.Goals.{After-loop, In-Some, In-Ends}
 use Rattle.rv_core.proofs.parts.Parts.commit.Given.{Over}
 
 pub loop-init : goal.loop-init
@@ -74,32 +74,29 @@ returns-in-Ends-clause-taught g c =
     c.commit_head.ensures.turn.learns (commit set.contains c.args.self.now).steps
     (ap (λ (x : Committing). x.steps) (ends g (goal.at.returns-in-Ends-clause-taught g c).In-Ends))
 
+-- all turns of the phase leave what the definition leaves
+turned : (g : Over) (c : After-loop g) → committing c.loop.self c.loop.invariant.0.steps ≡ commit set.contains c.args.self.now
+turned g c =
+    committed_all c.args.self.now c.loop.self c.args.steps.now.items c.loop.steps.items c.loop.counter
+    (c.self.inside.values.commit_width - c.loop.counter) c.loop.invariant.0 (omega (arith, c.loop-test.false))
+
 pub returns-clause-hardware : goal.returns-clause-hardware
 returns-clause-hardware g c =
-    ap (λ (x : Committing). x.hardware)
-    (committed_all c.args.self.now c.loop.self c.args.steps.now.items c.loop.steps.items c.loop.counter
-    (c.self.inside.values.commit_width - c.loop.counter) c.loop.invariant.0 (omega (arith, c.loop-test.false)))
+    ap (λ (x : Committing). x.hardware) (turned g (goal.at.returns-clause-hardware g c).After-loop)
 
 pub returns-clause-steps : goal.returns-clause-steps
 returns-clause-steps g c =
     c.loop.invariant.0.appended
-    ∙ ap (λ (x : Committing). c.args.steps.now.items ++ x.steps)
-    (committed_all c.args.self.now c.loop.self c.args.steps.now.items c.loop.steps.items c.loop.counter
-    (c.self.inside.values.commit_width - c.loop.counter) c.loop.invariant.0 (omega (arith, c.loop-test.false)))
+    ∙ ap (λ (x : Committing). c.args.steps.now.items ++ x.steps) (turned g (goal.at.returns-clause-steps g c).After-loop)
 
 pub returns-clause-stop : goal.returns-clause-stop
-returns-clause-stop g c =
-    ap (λ (x : Committing). x.stop)
-    (committed_all c.args.self.now c.loop.self c.args.steps.now.items c.loop.steps.items c.loop.counter
-    (c.self.inside.values.commit_width - c.loop.counter) c.loop.invariant.0 (omega (arith, c.loop-test.false)))
+returns-clause-stop g c = ap (λ (x : Committing). x.stop) (turned g (goal.at.returns-clause-stop g c).After-loop)
 
 pub returns-clause-taught : goal.returns-clause-taught
 returns-clause-taught g c =
     taught_all c.args.self.now c.loop.self c.loop.invariant.0.steps _ _ c.loop.invariant.2
     (commit set.contains c.args.self.now).steps
-    (ap (λ (x : Committing). x.steps)
-    (committed_all c.args.self.now c.loop.self c.args.steps.now.items c.loop.steps.items c.loop.counter
-    (c.self.inside.values.commit_width - c.loop.counter) c.loop.invariant.0 (omega (arith, c.loop-test.false))))
+    (ap (λ (x : Committing). x.steps) (turned g (goal.at.returns-clause-taught g c).After-loop))
 
 pub loop-preserved : goal.loop-preserved
 unfolding committed_more
