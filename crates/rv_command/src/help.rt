@@ -96,7 +96,7 @@ pub(crate) static LOG: LimitedHelp = LimitedHelp {
     limit: CYCLES,
 };
 
-// The end of the help of a command that tells of some cycles.
+// The end of the help of a command that shows some cycles.
 macro_rules! ending_of_states {
     ($beginning:literal, $example:literal) => {
         concat!(

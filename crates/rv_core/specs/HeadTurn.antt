@@ -1,4 +1,4 @@
--- What a turn of the commit phase leaves, as the code tells it.
+-- What a turn of the commit phase leaves, as the code returns it.
 use Rattle.std.specs.Prelude.{◌≡◌, ◌+◌, ◌≤◌, ℕ, if◌then◌else◌, List, [], ◌∷◌, ◌++◌, Option, Some, None}
 use Rattle.std.specs.FinSet as set
 use Rattle.rv_isa.specs.declared.instructions.Instr.{Instr}

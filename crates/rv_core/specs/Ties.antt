@@ -134,7 +134,7 @@ bus_of values rob = record {
 abbrev pub queue_of : Hardware → Queue
 queue_of h = record { stores = stores_behind h h.rob.entries; capacity = h.values.store_queue }
 
--- what the parts hold beside the hardware is told by the instructions in flight
+-- what the parts hold beside the hardware follows from the instructions in flight
 pub record AreTied (h : Hardware) (rename : Renaming) (stations : PerKind Pool) (bus : Pending) (queue : Queue) : Type 0 where
   pub renamed : rename ≡ renaming_of h.values h.rob
   pub stationed : stations ≡ stations_of h.values h.registers h.rob

@@ -81,7 +81,7 @@ pub use Rattle.rv_hardware.specs.Dispatch.{Dispatching, dispatch, dispatch_turn,
 pub use Rattle.rv_hardware.specs.Drain.{drain, end_drain, start_drain, with_drained}
 pub use Rattle.rv_hardware.specs.Gap.{AreSilent, NoSilence, OnlyLastStops}
 pub use Rattle.rv_hardware.specs.Hardware.{Hardware}
-pub use Rattle.rv_hardware.specs.Headline.{ComesBefore, EndAtBreakpoints, EndAtTraps, IsTrueCycle, IsTrueRun, IsTrueStop, Lead, nowhere, onwards, told}
+pub use Rattle.rv_hardware.specs.Headline.{ComesBefore, EndAtBreakpoints, EndAtTraps, IsTrueCycle, IsTrueRun, IsTrueStop, Lead, nowhere, onwards, reference_step}
 pub use Rattle.rv_hardware.specs.InFlight.{broadcast_of, is_known_from, is_waiting, memory_behind, registers_behind, store_of_broadcast, store_of_message, stores_of, with_store, with_value, writes}
 pub use Rattle.rv_hardware.specs.Issue.{FromCache, FromStores, Path, Without, cost_of, has_operands, has_port, is_ready, issue, issue_kind, issue_oldest, issue_turn, issued, may_load, oldest, oldest_from, path, path_of, with_access, with_start}
 pub use Rattle.rv_hardware.specs.Laws.{AreApartAtPort, AreCounted, DoesNotWait, EachProducer, FitUnits, HasCost, HasOperandsIn, HasOrderedStamps, IsBroadcastFirst, IsCost, IsFetchedAhead, IsFetchedBehind, IsFetchedSince, IsFirst, IsKnownBefore, IsLoadCost, IsTrappedSoon, IssuesWithOperands, LacksRoom, Laws, LeaveNoUnitIdle, LeavesNoBusIdle, LeavesNoUnitIdle, LoadsAfterStore, NeverMoreThan, TakesDueInterrupts, WaitsForBus, WaitsForRoom, WaitsForUnits, dispatch_cycles, is_pipelined, stall_cycles, stations_of, units_of}

@@ -114,7 +114,7 @@ head_turn e (Some (Csr op rd csr source)) c = Ends (execute_head e (Csr op rd cs
 head_turn e (Some Mret) c = Ends (execute_head e Mret c)
 head_turn e _ c = finish_broadcast e (broadcast_of e.stage) c
 
--- where `is_stale` tells whether a set of words holds one
+-- where `is_stale` says whether a set of words holds one
 module _ (is_stale : set.FinSet nat_cmp → ℕ → Bool) where
   -- one turn of the phase: a stale head stops the run
   abbrev pub commit_turn_of : List Entry → Committing → Turn Committing

@@ -30,7 +30,7 @@ report_of committing dispatching = record {
   stop = committing.stop;
 }
 
--- the phases from the lines to commit, where `is_stale` tells whether a set of words holds one
+-- the phases from the lines to commit, where `is_stale` says whether a set of words holds one
 abbrev pub commit_with : (set.FinSet nat_cmp → ℕ → Bool) → Lines → Hardware → Committing
 commit_with is_stale lines h = commit is_stale (with_lines lines h)
 

@@ -14,18 +14,18 @@ use Rattle.rv_hardware.specs.Step.{stamp_of, is_breakpoint, is_retirement}
 use Rattle.rv_hardware.specs.declared.step.Step.{Step}
 use Rattle.rv_hardware.specs.declared.step.Step.TheVariants as step
 
--- The machine's step that a reported step tells of: its kind and its pc, and the word, the register and the value, or the
--- cause and the value.
-abbrev pub told : Step → RefStep
-told (step.Retired row) = machine.Retired row.pc row.word row.written
-told (step.Trap pc cause value cycle) = machine.Trap pc cause value
-told (step.Interrupt pc cause cycle) = machine.Interrupt pc cause
+-- the step of the one-at-a-time machine that a reported step stands for: its kind and its pc, and the word, the register and
+-- the value, or the cause and the value
+abbrev pub reference_step : Step → RefStep
+reference_step (step.Retired row) = machine.Retired row.pc row.word row.written
+reference_step (step.Trap pc cause value cycle) = machine.Trap pc cause value
+reference_step (step.Interrupt pc cause cycle) = machine.Interrupt pc cause
 
 -- The machine, with the same lines at each step, takes the steps one after another, and they lead it from a state to another.
 pub data Lead (layout : Layout) (lines : Lines) : State → List Step → State → Type 0 where
   nowhere : {s : State} → Lead layout lines s [] s
   onwards : {s t u : State} {first : Step} {steps : List Step} →
-      MachineStep layout s lines (told first) t → Lead layout lines t steps u → Lead layout lines s (first ∷ steps) u
+      MachineStep layout s lines (reference_step first) t → Lead layout lines t steps u → Lead layout lines s (first ∷ steps) u
 
 -- nothing follows a trap or an interrupt
 abbrev pub EndAtTraps : List Step → Type 0
@@ -52,7 +52,7 @@ pub record ComesBefore (earlier later : Step) : Type 0 where
 -- programs see.
 pub record IsTrueRun (layout : Layout) (arrivals : List Arrival) (first done : ℕ) (before : State) (steps : List Step) (after : State) : Type 0 where
   -- the machine takes the steps from the state before, each with the lines of its cycle, and reaches the state after
-  pub runs : Run layout arrivals before (map stamp_of steps) (map told steps) after
+  pub runs : Run layout arrivals before (map stamp_of steps) (map reference_step steps) after
   pub within : All (λ s. (first ≤ stamp_of s) × (stamp_of s < done)) steps
   pub in_order : AllPairs ComesBefore steps
 

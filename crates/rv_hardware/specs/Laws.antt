@@ -10,7 +10,7 @@ use Rattle.rv_arch.specs.Run.{Run}
 use Rattle.rv_arch.specs.State.{State}
 use Rattle.rv_arch.specs.Trap.{interrupt_cause}
 use Rattle.rv_memory.specs.Memory.{Layout}
-use Rattle.rv_hardware.specs.Headline.{told}
+use Rattle.rv_hardware.specs.Headline.{reference_step}
 use Rattle.rv_hardware.specs.Stamps.{rows_of, steps_below, steps_in, EachBehind, EachNext, kind_of_row, is_store_row, is_load_row, is_fence_i_row, known_in, needs_no_unit, is_row_of_kind, sources_of_row, producer_among, flushes, is_fetched_in, is_dispatched_in, is_issued_in, is_broadcast_in, is_buffered_in, is_in_flight_in, is_stationed_in, is_executing_in, is_queued_in, uses_port}
 use Rattle.rv_hardware.specs.Step.{stamp_of, is_interrupt}
 use Rattle.rv_hardware.specs.declared.{report.StallCounts.StallCounts, step.Execution.Execution, step.Row.Row, step.Step.Step}
@@ -193,7 +193,7 @@ pub record AreCounted (from to : ℕ) (steps : List Step) (busy : ℕ) (stalls :
 -- the machine comes from a state to another by the steps of the cycles below c
 abbrev pub ComesTo : Layout → List Arrival → State → List Step → ℕ → State → Type 0
 ComesTo layout arrivals before steps c s =
-    Run layout arrivals before (map stamp_of (steps_below c steps)) (map told (steps_below c steps)) s
+    Run layout arrivals before (map stamp_of (steps_below c steps)) (map reference_step (steps_below c steps)) s
 
 -- an interrupt that is due in a state, with the lines of the cycle, is the one step of the cycle
 abbrev pub TakesDueInterrupt : List Arrival → List Step → ℕ → State → Type 0

@@ -140,6 +140,6 @@ is_executing_in kind cycle row =
 abbrev pub is_queued_in : ℕ → ℕ → Row → Bool
 is_queued_in hit cycle row = is_store_row row && nat_le row.dispatched cycle && nat_lt cycle (row.retired + hit)
 
--- it is a load that takes its bytes from the cache, as its cost tells
+-- it is a load that takes its bytes from the cache, as its cost shows
 abbrev pub uses_port : ℕ → Row → Bool
 uses_port forward row = is_load_row row && passes (λ execution. not (execution.cost == forward)) row.execution

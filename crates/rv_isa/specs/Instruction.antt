@@ -27,7 +27,7 @@ abbrev pub is_store : Option Instr → Bool
 is_store (Some (Store width rs1 rs2 offset)) = true
 is_store _ = false
 
--- an instruction whose next pc its execution tells
+-- an instruction whose next pc only its execution gives
 abbrev pub is_branch_or_jump : Option Instr → Bool
 is_branch_or_jump (Some (Jal rd offset)) = true
 is_branch_or_jump (Some (Jalr rd rs1 offset)) = true

@@ -1,4 +1,4 @@
--- Lists of things that have sequence numbers; `seq` tells the number of one.
+-- Lists of things that have sequence numbers; `seq` gives the number of one.
 use Rattle.std.specs.Prelude.{ℕ, ◌<◌, List, filter, nat_lt}
 use Rattle.std.specs.List.{All, AllPairs}
 

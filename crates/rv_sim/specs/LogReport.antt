@@ -1,4 +1,4 @@
--- What the log of a job's run tells.
+-- What the log of a job's run says.
 use Rattle.std.specs.Prelude.{ℕ, List, Option}
 use Rattle.rv_arch.specs.declared.outcome.Stop.{Stop}
 use Rattle.rv_front.specs.declared.predictors.DescribedPredictor.{DescribedPredictor}

@@ -15,11 +15,11 @@ use Rattle.rv_job.specs.declared.{errors.SimError.SimError, input.InputError.Inp
 use Rattle.rv_job.specs.declared.errors.SimError.TheVariants.{Memory, WriteFailed}
 use Rattle.rv_sim.specs.declared.{ended.Ended.Ended, task.Task.Task}
 
--- the input could not be read, which is told
+-- the input could not be read, which is reported
 abbrev pub IsUnread : FaultStream → FaultStream → ℕ → Type 0
 IsUnread old new status = (error : InputError) × Tells old new (input_fault_line error) × (status ≡ input_fault_status error)
 
--- the input was refused, which is told, and the output, whose known bytes are its contents, was handed back
+-- the input was refused, which is reported, and the output, whose known bytes are its contents, was handed back
 abbrev pub IsRefused : {W : Type 0} → (W → Option (List ℕ)) → Command → List ℕ → W → Option W → FaultStream → FaultStream → ℕ → Type 0
 IsRefused contents command input given handed old new status =
     (error : SimError) × Refuses command input error × Tells old new (fault_line error) × (status ≡ fault_status error)
@@ -33,7 +33,7 @@ EndsBehind task predictor old new (Err WriteFailed) = (text : List ℕ) × (ende
 EndsBehind task predictor old new (Err Memory) = AsksForMemory task × HoldsBeginning old new []
 EndsBehind task predictor old new (Err _) = ⊥
 
--- memory for a box or a buffer was refused, which is told: the output was handed back as it was given, or let go with the buffer
+-- memory for a box or a buffer was refused, which is reported: the output was handed back as it was given, or let go with the buffer
 abbrev pub IsUnbegun : {W : Type 0} → W → Option W → FaultStream → FaultStream → ℕ → Type 0
 IsUnbegun given handed old new status = ((handed ≡ Some given) ⊎ (handed ≡ None)) × TellsError Memory old new status
 

@@ -1,4 +1,4 @@
--- What the states of a job's run tell.
+-- What is shown of the states of a job's run.
 use Rattle.std.specs.Prelude.{ℕ, List, Option}
 use Rattle.rv_arch.specs.declared.outcome.Stop.{Stop}
 use Rattle.rv_front.specs.declared.predictors.DescribedPredictor.{DescribedPredictor}

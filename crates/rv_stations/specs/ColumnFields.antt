@@ -9,7 +9,7 @@ use Rattle.rv_stations.specs.declared.column.OperandColumn.TheInside.{Inside}
 abbrev pub operands : Inside → List Operand
 operands c = zip2 operand_of c.tags.items c.values.items
 
--- there are as many tags as values, at most 64 in groups of eight, and a bit tells which operands wait
+-- there are as many tags as values, at most 64 in groups of eight, and a bit says which operands wait
 pub record IsSoundColumn (c : Inside) : Type 0 where
   pub as_many : vec_len c.tags ≡ vec_len c.values
   pub few : vec_len c.tags ≤ 64

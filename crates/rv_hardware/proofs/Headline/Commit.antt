@@ -1,5 +1,5 @@
 -- The commit phase takes the steps of the one-at-a-time machine.
-use Rattle.rv_hardware.proofs.Words.{◌≡◌, ℕ, ◌*◌, Bool, true, false, ◌↔◌, List, [], ◌∷◌, ◌++◌, IfSome, if◌then◌else◌, nat_eq, ◌==◌, Some, None, Option, unwrap_or, sym, refl, ap, ◌∙◌, subst, arith, eqb-true, false≢true, code_of, is_serialising, Message, Cause, Fault, Instr, Csr, FenceI, Mret, Lines, Layout, is_in_ram, word_of, faulted_at, retired_at, due, Effect, Faults, Retires, effect, State, interrupted, stale, trap_taken, interrupt_cause, head_retired, Entry, Committing, commit, commit_turn, commit_turn_of, commit_unless, execute_head, finish_broadcast, finish_head, head_turn, is_drained, stop_of, take_effect, with_fault, with_write_back, write_back_time, Hardware, IsTrueCycle, Lead, nowhere, told, broadcast_of, Ends, GoesOn, row_of, with_result, written_of, layout_of, seen, with_state, flushed, is_breakpoint_cause, Step, Leads, left_by_turns, Values}
+use Rattle.rv_hardware.proofs.Words.{◌≡◌, ℕ, ◌*◌, Bool, true, false, ◌↔◌, List, [], ◌∷◌, ◌++◌, IfSome, if◌then◌else◌, nat_eq, ◌==◌, Some, None, Option, unwrap_or, sym, refl, ap, ◌∙◌, subst, arith, eqb-true, false≢true, code_of, is_serialising, Message, Cause, Fault, Instr, Csr, FenceI, Mret, Lines, Layout, is_in_ram, word_of, faulted_at, retired_at, due, Effect, Faults, Retires, effect, State, interrupted, stale, trap_taken, interrupt_cause, head_retired, Entry, Committing, commit, commit_turn, commit_turn_of, commit_unless, execute_head, finish_broadcast, finish_head, head_turn, is_drained, stop_of, take_effect, with_fault, with_write_back, write_back_time, Hardware, IsTrueCycle, Lead, nowhere, reference_step, broadcast_of, Ends, GoesOn, row_of, with_result, written_of, layout_of, seen, with_state, flushed, is_breakpoint_cause, Step, Leads, left_by_turns, Values}
 use Rattle.std.specs.FinSet as set
 use Rattle.rv_arch.specs.Step.{Step as MachineStep}
 use Rattle.rv_arch.specs.declared.outcome.RefStep.TheVariants as machine
@@ -90,7 +90,7 @@ module _ (lines : Lines) (before : State) (old : Hardware) where
         abbrev after : Hardware
         after = with_result e message h
 
-        retired_now : MachineStep layout s h.lines (told row) (seen after)
+        retired_now : MachineStep layout s h.lines (reference_step row) (seen after)
         retired_now = grind (arith, seen_result, here)
 
         retire_done : (straight : Bool) → nat_eq message.next_pc e.predicted_next ≡ straight →
@@ -139,8 +139,8 @@ module _ (lines : Lines) (before : State) (old : Hardware) where
                 let row : Step = row_of e register h.cycle in
                 let after : Hardware = with_state next (record h { rob = head_retired h.rob }) in
                 let same : next ≡ seen (flushed after) = ap (λ (ram : List ℕ). record next { ram = ram }) serial.ram_is in
-                let now : MachineStep layout s h.lines (told row) (seen (flushed after)) =
-                subst (λ (t : State). MachineStep layout s h.lines (told row) t) same
+                let now : MachineStep layout s h.lines (reference_step row) (seen (flushed after)) =
+                subst (λ (t : State). MachineStep layout s h.lines (reference_step row) t) same
                 (retired_at layout s h.lines (fetched layout s h.lines word (Some i) known) e.pc here word (word_here layout s h.lines word (Some i) known) i (decoded layout s h.lines word i known) register next gives) in
                 record {
                   stays = going.stays;

@@ -1,5 +1,5 @@
 -- What the cycles of a run report leads from what programs saw before it to what they see after it.
-use Rattle.rv_hardware.proofs.Words.{◌≡◌, ℕ, ◌+◌, ◌<◌, ◌≤◌, false, List, [], ◌∷◌, ◌++◌, map, length, All, AllPairs, sym, ap, subst, arith, All-append, All-head, All-nil, All-tail, All-weaker, AllPairs-cons, lines_at, IsLegal, Arrival, Values, Layout, reset, Run, is_stale, stepped, State, Hardware, ComesBefore, EndAtTraps, IsTrueCycle, IsTrueRun, Lead, nowhere, onwards, told, Report, IsLoadable, reset_hardware, Cycles, Reachable, at_reset, cycled, steps_of, layout_of, seen, stamp_of, Step}
+use Rattle.rv_hardware.proofs.Words.{◌≡◌, ℕ, ◌+◌, ◌<◌, ◌≤◌, false, List, [], ◌∷◌, ◌++◌, map, length, All, AllPairs, sym, ap, subst, arith, All-append, All-head, All-nil, All-tail, All-weaker, AllPairs-cons, lines_at, IsLegal, Arrival, Values, Layout, reset, Run, is_stale, stepped, State, Hardware, ComesBefore, EndAtTraps, IsTrueCycle, IsTrueRun, Lead, nowhere, onwards, reference_step, Report, IsLoadable, reset_hardware, Cycles, Reachable, at_reset, cycled, steps_of, layout_of, seen, stamp_of, Step}
 use Rattle.rv_arch.specs.Run.{ended}
 use Rattle.rv_arch.specs.Step.{Step as MachineStep}
 use Rattle.rv_hardware.specs.Run as run
@@ -24,26 +24,26 @@ cycles_true {arrivals = arrivals} {old = old} {new = new} is (cycled {middle = m
     (subst (λ (n : ℕ). TrueCycles (layout_of old.values) arrivals (seen middle) n reports (seen new) new.cycle) now.cycle_is
     (subst (λ (v : Values). TrueCycles (layout_of v) arrivals (seen middle) middle.cycle reports (seen new) new.cycle) now.values_are later))
 
-never_stale : (x : Step) → is_stale (told x) ≡ false
+never_stale : (x : Step) → is_stale (reference_step x) ≡ false
 never_stale x = grind arith
 
 module _ (layout : Layout) (arrivals : List Arrival) where
   -- the steps of a cycle, and those of later ones
   lead_runs : (n : ℕ) (s t u : State) (xs ys : List Step) → Lead layout (lines_at arrivals n) s xs t →
-      All (λ x. stamp_of x ≡ n) xs → Run layout arrivals t (map stamp_of ys) (map told ys) u →
-      Run layout arrivals s (map stamp_of (xs ++ ys)) (map told (xs ++ ys)) u
+      All (λ x. stamp_of x ≡ n) xs → Run layout arrivals t (map stamp_of ys) (map reference_step ys) u →
+      Run layout arrivals s (map stamp_of (xs ++ ys)) (map reference_step (xs ++ ys)) u
   lead_runs n s t u xs ys leads stamped rest = by_lead leads stamped rest where
     by_lead : {s t : State} {xs : List Step} → Lead layout (lines_at arrivals n) s xs t → All (λ x. stamp_of x ≡ n) xs →
-        Run layout arrivals t (map stamp_of ys) (map told ys) u →
-        Run layout arrivals s (map stamp_of (xs ++ ys)) (map told (xs ++ ys)) u
+        Run layout arrivals t (map stamp_of ys) (map reference_step ys) u →
+        Run layout arrivals s (map stamp_of (xs ++ ys)) (map reference_step (xs ++ ys)) u
     by_lead nowhere stamped rest = rest
     by_lead (onwards {s = s} {t = t} {first = first} {steps = steps} takes more) stamped rest =
         let at : stamp_of first ≡ n = All-head (λ x. stamp_of x ≡ n) first steps stamped in
-        stepped (subst (λ k. MachineStep layout s (lines_at arrivals k) (told first) t) (sym at) takes) (never_stale first)
+        stepped (subst (λ k. MachineStep layout s (lines_at arrivals k) (reference_step first) t) (sym at) takes) (never_stale first)
         (by_lead more (All-tail (λ x. stamp_of x ≡ n) first steps stamped) rest)
 
   pub true_run_runs : {s u : State} {n m : ℕ} {reports : List Report} → TrueCycles layout arrivals s n reports u m →
-      Run layout arrivals s (map stamp_of (steps_of reports)) (map told (steps_of reports)) u
+      Run layout arrivals s (map stamp_of (steps_of reports)) (map reference_step (steps_of reports)) u
   true_run_runs none = ended
   true_run_runs (one_more {s = s} {t = t} {u = u} {n = n} {report = report} {reports = reports} cycle rest) = grind (arith, lead_runs, true_run_runs rest)
 

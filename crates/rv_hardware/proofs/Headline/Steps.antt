@@ -1,5 +1,5 @@
 -- Retirements that a cycle reports one after another, and one other step at most at their end, make a true cycle.
-use Rattle.rv_hardware.proofs.Words.{◌≡◌, ℕ, Bool, true, false, ◌||◌, ◌↔◌, List, [], ◌∷◌, ◌++◌, Some, All, Option, sym, refl, ap, ◌∙◌, true≢false, false≢true, or_from, All-append, All-cons, All-nil, list_any-append, list_any, Lines, Layout, State, Stop, EndAtTraps, IsTrueCycle, Lead, nowhere, onwards, told, is_breakpoint, is_retirement, stamp_of, Step, arith}
+use Rattle.rv_hardware.proofs.Words.{◌≡◌, ℕ, Bool, true, false, ◌||◌, ◌↔◌, List, [], ◌∷◌, ◌++◌, Some, All, Option, sym, refl, ap, ◌∙◌, true≢false, false≢true, or_from, All-append, All-cons, All-nil, list_any-append, list_any, Lines, Layout, State, Stop, EndAtTraps, IsTrueCycle, Lead, nowhere, onwards, reference_step, is_breakpoint, is_retirement, stamp_of, Step, arith}
 use Rattle.rv_arch.specs.Step.{Step as MachineStep}
 use Rattle.rv_arch.specs.declared.outcome.RefStep.TheVariants as machine
 use Rattle.rv_arch.specs.declared.outcome.Stop.TheVariants as stop
@@ -37,7 +37,7 @@ true_cycle_breakpoint cycle (x ∷ xs) all = or_from (is_breakpoint x) (list_any
 
 -- the machine's steps so far, and one more
 pub true_cycle_leads : {layout : Layout} {lines : Lines} {s t u : State} {xs : List Step} → Lead layout lines s xs t →
-    (x : Step) → MachineStep layout t lines (told x) u → Lead layout lines s (xs ++ x ∷ []) u
+    (x : Step) → MachineStep layout t lines (reference_step x) u → Lead layout lines s (xs ++ x ∷ []) u
 true_cycle_leads nowhere x takes = onwards takes nowhere
 true_cycle_leads (onwards first rest) x takes = onwards first (true_cycle_leads rest x takes)
 
@@ -52,7 +52,7 @@ module _ (layout : Layout) (lines : Lines) (cycle : ℕ) (before s : State) (xs 
   true_retirements ending breaks given = grind (arith, true_cycle_precise, true_cycle_stamped, false≢true, true_cycle_breakpoint)
 
   -- ... and one more step at its end
-  pub true_push : (x : Step) (t : State) (ending : Option Stop) → MachineStep layout s lines (told x) t → stamp_of x ≡ cycle →
+  pub true_push : (x : Step) (t : State) (ending : Option Stop) → MachineStep layout s lines (reference_step x) t → stamp_of x ≡ cycle →
       (ending ≡ Some stop.Breakpoint) ↔ (is_breakpoint x ≡ true) → ((pc : ℕ) → ending ≡ Some (stop.Stale pc) → ⊥) →
       IsTrueCycle layout lines cycle before (xs ++ x ∷ []) ending t
   true_push x t ending takes stamped breaks stale =

@@ -1,5 +1,5 @@
 -- Over a run, an interrupt that is due in a cycle is its one step.
-use Rattle.rv_hardware.proofs.Words.{◌≡◌, ℕ, ◌+◌, ◌<◌, ◌≤◌, Bool, true, false, List, [], ◌∷◌, ◌++◌, map, nat_lt, ◌==◌, Some, filter, sym, refl, ap, ◌∙◌, subst, inl, inr, append_assoc, append-nil, arith, le-ltb, lt-ltb, eq-eqb, ne_eqb, cases_lt, filter-append, lines_at, Arrival, Values, due, Run, State, interrupt_cause, Each, IsCycle, any_prediction, Hardware, told, TakesDueInterrupts, Report, Cycles, Reachable, cycled, ended, steps_of, layout_of, seen, steps_below, steps_in, stamp_of, Step, Interrupt, Each-right, Each-weaker}
+use Rattle.rv_hardware.proofs.Words.{◌≡◌, ℕ, ◌+◌, ◌<◌, ◌≤◌, Bool, true, false, List, [], ◌∷◌, ◌++◌, map, nat_lt, ◌==◌, Some, filter, sym, refl, ap, ◌∙◌, subst, inl, inr, append_assoc, append-nil, arith, le-ltb, lt-ltb, eq-eqb, ne_eqb, cases_lt, filter-append, lines_at, Arrival, Values, due, Run, State, interrupt_cause, Each, IsCycle, any_prediction, Hardware, reference_step, TakesDueInterrupts, Report, Cycles, Reachable, cycled, ended, steps_of, layout_of, seen, steps_below, steps_in, stamp_of, Step, Interrupt, Each-right, Each-weaker}
 use Rattle.rv_hardware.proofs.Headline.Run.{headline_of_run}
 use Rattle.rv_hardware.proofs.Marks.History.{History, went_on, reachable_has_history, history_is_legal, history_is_sound}
 use Rattle.rv_hardware.proofs.Laws.OfCycles.{due_interrupt_is_taken}
@@ -96,12 +96,12 @@ module _ (v : Values) (earlier : List Step) (arrivals : List Arrival) (c : ℕ) 
       ∙ append-nil a.here.steps
 
   abbrev Reaches : List Step → Type 0
-  Reaches below = Run (layout_of old.values) arrivals (seen old) (map stamp_of below) (map told below) (seen a.begins)
+  Reaches below = Run (layout_of old.values) arrivals (seen old) (map stamp_of below) (map reference_step below) (seen a.begins)
 
   due_is_taken : (code : ℕ) → due a.begins.csrs (lines_at arrivals c) ≡ Some code → steps_in c (steps_of reports) ≡ Interrupt a.begins.pc (interrupt_cause code) c ∷ []
   due_is_taken code given = grind (arith, all_in, due_interrupt_is_taken)
 
-  taken_around : (s : State) × Run (layout_of old.values) arrivals (seen old) (map stamp_of (steps_below c (steps_of reports))) (map told (steps_below c (steps_of reports))) s ×
+  taken_around : (s : State) × Run (layout_of old.values) arrivals (seen old) (map stamp_of (steps_below c (steps_of reports))) (map reference_step (steps_below c (steps_of reports))) s ×
       ((code : ℕ) → due s.csrs (lines_at arrivals c) ≡ Some code → steps_in c (steps_of reports) ≡ Interrupt s.pc (interrupt_cause code) c ∷ [])
   taken_around = (seen a.begins, subst Reaches (sym all_below) (headline_of_run arrivals old a.begins a.first reached a.before).runs, due_is_taken)
 

@@ -3,7 +3,7 @@ use rv_command::Command;
 use std::alloc::Global;
 use std::process::Abort;
 
-/// Checks that a run of the program ends with a status, that its report has some lines, and that it tells no fault.
+/// Checks that a run of the program ends with a status, that its report has some lines, and that it reports no fault.
 pub(crate) fn check_run(
     rt: &impl Abort,
     alloc: Global,

@@ -8,10 +8,10 @@ mod waits;
 use crate::tests::helpers::{CORE, run_text};
 use rv_command::Command;
 
-/// A run up to so many cycles that is told in sentences.
+/// A run up to so many cycles that is explained in sentences.
 pub(crate) const EXPLAIN: Command = Command::Explain { limit: 100 };
 
-/// A program, and a line of what is told of its run.
+/// A program, and a line of the explanation of its run.
 #[derive(Clone, Copy, Debug)]
 pub(crate) struct Told {
     pub(crate) program: &'static str,

@@ -97,7 +97,7 @@ fn an_output_that_takes_few_bytes_gets_the_whole_report(rt: HostRuntime) {
     }
 }
 
-// Whether a full output has a beginning of a report and the status tells it.
+// Whether a full output has a beginning of a report and the status says so.
 fn is_cut(alloc: Global, command: Command, room: usize) -> bool {
     let whole = run_text(alloc, command, TEXT);
     let cut = run_into(alloc, command, 9, room);
@@ -115,7 +115,7 @@ fn an_output_that_is_full_has_a_beginning_of_the_report(rt: HostRuntime) {
     assert!(rt; is_cut(rt.alloc(), Command::Check, 3));
 }
 
-// The status of a run whose faults cannot be told, and whether there were none to tell.
+// The status of a run whose faults cannot be reported, and whether there were none to report.
 fn run_untold(alloc: Global, mut input: &[u8]) -> (u8, bool) {
     let mut errors = FaultLines::new(Closed);
     let exit = run(alloc, &WHOLE, &mut input, Closed, &mut errors);

@@ -6,7 +6,7 @@ use rv_isa::{Arrivals, Recovery};
 use std::alloc::Global;
 use std::process::Abort;
 
-// What runs of a core told, one after the other.
+// What runs of a core reported, one after the other.
 #[derive(Drop)]
 struct Told {
     steps: Vec<Step>,
@@ -47,7 +47,7 @@ impl Told {
     }
 }
 
-// Adds what one more run tells, unless a breakpoint ended the one before.
+// Adds what one more run reports, unless a breakpoint ended the one before.
 fn add_run(
     alloc: Global,
     core: &mut Core,
@@ -62,7 +62,7 @@ fn add_run(
     told.add(&outcome)
 }
 
-// What runs of so many cycles each tell, up to a breakpoint.
+// What runs of so many cycles each report, up to a breakpoint.
 fn told_by(alloc: Global, core: &mut Core, arrivals: &Arrivals, cycles: u64) -> Option<Told> {
     let mut told = Told::nothing(alloc);
     for _ in 0..200 {
@@ -94,7 +94,7 @@ const STORES_AND_LOADS: [u8; 20] = [
     0x73, 0x00, 0x10, 0x00,
 ];
 
-// One run and runs of one cycle each tell the same, and so many steps.
+// One run and runs of one cycle each report the same, and so many steps.
 fn check_pieces(rt: &impl Abort, alloc: Global, bytes: &[u8], recovery: Recovery, steps: usize) {
     let whole = told_in_pieces(rt, alloc, bytes, recovery, 1000);
     let pieces = told_in_pieces(rt, alloc, bytes, recovery, 1);

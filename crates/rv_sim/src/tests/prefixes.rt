@@ -23,7 +23,7 @@ const fn status(length: usize) -> u8 {
     }
 }
 
-// Whether the check of a beginning of the text tells its line alone.
+// Whether the check of a beginning of the text reports its line alone.
 fn is_told(alloc: Global, beginning: &[u8]) -> bool {
     let length = beginning.len();
     let ended = run_text(alloc, Command::Check, beginning);
