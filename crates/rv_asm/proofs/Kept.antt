@@ -5,7 +5,7 @@ use Rattle.std.specs.Option.{option_map, option_or}
 use Rattle.rv_asm.specs.Faults.{earliest, second_fault, second_fault_of}
 use Rattle.rv_asm.specs.Kept.{Kept, says_nothing, is_idle, kept, places, first_with_fault}
 use Rattle.rv_asm.specs.Layout.{Layout, extended, layout, line_in, lines_of, unlaid}
-use Rattle.rv_asm.specs.Meaning.{Spells, behind_text, contents, image_parts, line_cells, parts_in, section_parts}
+use Rattle.rv_asm.specs.Meaning.{Spells, after_text, contents, image_parts, line_cells, parts_in, section_parts}
 use Rattle.rv_asm.specs.Placed.{Placed, place, placed}
 use Rattle.rv_asm.specs.Statement.{Statement, Nothing}
 use Rattle.rv_asm.specs.declared.{fault.AsmFault.AsmFault, operation.Section.Section}
@@ -65,5 +65,5 @@ module _ (base : ℕ) (text : List ℕ) (whole : Layout) (lines : List Kept) (wh
   pub same_parts : (part : Section) → contents base whole part (places lines) ≡ section_parts base part (lines_of text)
   same_parts part = ap (λ l. contents base whole part (places l)) lines_are ∙ kept_contents base whole part 1 unlaid (slice_split (λ byte. byte == 10) text) ∙ ap (λ l. contents base l part (placed unlaid (lines_of text))) whole_is
 
-  pub same_image : (bytes : List ℕ) → Spells (contents base whole Text (places lines) ++ behind_text whole.reach.text_size whole.reach.data_size (contents base whole Data (places lines))) bytes → Spells (image_parts base (lines_of text)) bytes
-  same_image bytes spells = subst (λ parts. Spells parts bytes) (λ i. same_parts Text i ++ behind_text (whole_is i).reach.text_size (whole_is i).reach.data_size (same_parts Data i)) spells
+  pub same_image : (bytes : List ℕ) → Spells (contents base whole Text (places lines) ++ after_text whole.reach.text_size whole.reach.data_size (contents base whole Data (places lines))) bytes → Spells (image_parts base (lines_of text)) bytes
+  same_image bytes spells = subst (λ parts. Spells parts bytes) (λ i. same_parts Text i ++ after_text (whole_is i).reach.text_size (whole_is i).reach.data_size (same_parts Data i)) spells

@@ -14,16 +14,16 @@ grow Text Data n reach = omega arith
 grow Data Text n reach = omega arith
 grow Data Data n reach = omega arith
 
-behind_grows : (part : Section) (m : Meanings) (reach : Reach) (said : Result Statement AsmFault) → offset_in part reach ≤ offset_in part (behind m reach said).reach
-behind_grows Text m reach (Ok (Choice section)) = omega arith
-behind_grows Data m reach (Ok (Choice section)) = omega arith
-behind_grows part m reach (Ok said) = grow part reach.section (size m (offset reach) said) reach
-behind_grows part m reach (Err fault) = omega arith
+after_grows : (part : Section) (m : Meanings) (reach : Reach) (said : Result Statement AsmFault) → offset_in part reach ≤ offset_in part (behind m reach said).reach
+after_grows Text m reach (Ok (Choice section)) = omega arith
+after_grows Data m reach (Ok (Choice section)) = omega arith
+after_grows part m reach (Ok said) = grow part reach.section (size m (offset reach) said) reach
+after_grows part m reach (Err fault) = omega arith
 
 -- after a line a section is not smaller, nor after many
 pub line_grows : (part : Section) (before : Layout) (line : Line) → offset_in part before.reach ≤ offset_in part (extended before line).reach
 line_grows part before Unreadable = omega arith
-line_grows part before (Readable labels body) = behind_grows part (labelled before.meanings (label_at before.reach) labels) before.reach (statement_in body)
+line_grows part before (Readable labels body) = after_grows part (labelled before.meanings (label_at before.reach) labels) before.reach (statement_in body)
 
 pub lines_grow : (part : Section) (before : Layout) (lines : List Line) → offset_in part before.reach ≤ offset_in part (laid before lines).reach
 lines_grow part before [] = omega arith

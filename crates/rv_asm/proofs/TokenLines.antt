@@ -2,36 +2,36 @@
 use Rattle.std.proofs.Common.{◌≡◌, ℕ, zero, suc, ◌-◌, ◌<◌, List, [], ◌∷◌, ◌++◌, length, drop, get_or, Option, Some, None, refl, ap, ◌∙◌, arith}
 use Rattle.std.specs.Prelude.{option_and_then}
 use Rattle.std.specs.Option.{option_map, option_to_list}
-use Rattle.rv_asm.specs.Token.{Lexeme, first_lexeme, tokens_behind, tokens_of}
+use Rattle.rv_asm.specs.Token.{Lexeme, first_lexeme, tokens_after, tokens_of}
 
-tokens_behind-drop : (bytes : List ℕ) (taken : ℕ) → tokens_behind bytes taken ≡ tokens_behind (drop taken bytes) 0
-unfolding tokens_behind
-tokens_behind-drop [] zero = refl
-tokens_behind-drop [] (suc taken) = refl
-tokens_behind-drop (byte ∷ bytes) zero = refl
-tokens_behind-drop (byte ∷ bytes) (suc taken) = tokens_behind-drop bytes taken
+tokens_after-drop : (bytes : List ℕ) (taken : ℕ) → tokens_after bytes taken ≡ tokens_after (drop taken bytes) 0
+unfolding tokens_after
+tokens_after-drop [] zero = refl
+tokens_after-drop [] (suc taken) = refl
+tokens_after-drop (byte ∷ bytes) zero = refl
+tokens_after-drop (byte ∷ bytes) (suc taken) = tokens_after-drop bytes taken
 
 drop-size : (byte : ℕ) (bytes : List ℕ) (size : ℕ) → 0 < size → drop (size - 1) bytes ≡ drop size (byte ∷ bytes)
 drop-size byte bytes zero positive = absurd (omega arith)
 drop-size byte bytes (suc size) positive = ap (λ n. drop n bytes) (omega arith)
 
-tokens_behind-first : (byte : ℕ) (bytes : List ℕ) (found : Option Lexeme) → found ≡ first_lexeme byte (byte ∷ bytes) → tokens_behind (byte ∷ bytes) 0 ≡ option_and_then (λ l. option_map (λ tokens. option_to_list l.token ++ tokens) (tokens_behind bytes (l.size - 1))) found
-unfolding tokens_behind
-tokens_behind-first byte bytes found found_is = rw found_is refl
+tokens_after-first : (byte : ℕ) (bytes : List ℕ) (found : Option Lexeme) → found ≡ first_lexeme byte (byte ∷ bytes) → tokens_after (byte ∷ bytes) 0 ≡ option_and_then (λ l. option_map (λ tokens. option_to_list l.token ++ tokens) (tokens_after bytes (l.size - 1))) found
+unfolding tokens_after
+tokens_after-first byte bytes found found_is = rw found_is refl
 
 -- the first lexeme's token comes first
 pub tokens_of-first : (line : List ℕ) (found : Lexeme) → 0 < length line → Some found ≡ first_lexeme (get_or line 0 0) line → 0 < found.size → tokens_of line ≡ option_map (λ tokens. option_to_list found.token ++ tokens) (tokens_of (drop found.size line))
 unfolding tokens_of
 tokens_of-first [] found some_bytes found_is positive = absurd (omega arith)
 tokens_of-first (byte ∷ bytes) found some_bytes found_is positive =
-    tokens_behind-first byte bytes (Some found) found_is ∙ ap (option_map (λ tokens. option_to_list found.token ++ tokens)) (tokens_behind-drop bytes (found.size - 1) ∙ ap (λ rest. tokens_behind rest 0) (drop-size byte bytes found.size positive))
+    tokens_after-first byte bytes (Some found) found_is ∙ ap (option_map (λ tokens. option_to_list found.token ++ tokens)) (tokens_after-drop bytes (found.size - 1) ∙ ap (λ rest. tokens_after rest 0) (drop-size byte bytes found.size positive))
 
 pub tokens_of-none : (line : List ℕ) → 0 < length line → None ≡ first_lexeme (get_or line 0 0) line → tokens_of line ≡ None
 unfolding tokens_of
 tokens_of-none [] some_bytes found_is = absurd (omega arith)
-tokens_of-none (byte ∷ bytes) some_bytes found_is = tokens_behind-first byte bytes None found_is
+tokens_of-none (byte ∷ bytes) some_bytes found_is = tokens_after-first byte bytes None found_is
 
 pub tokens_of-empty : (line : List ℕ) → length line ≡ 0 → tokens_of line ≡ Some []
-unfolding tokens_of tokens_behind
+unfolding tokens_of tokens_after
 tokens_of-empty [] no_bytes = refl
 tokens_of-empty (byte ∷ bytes) no_bytes = absurd (omega arith)

@@ -9,7 +9,7 @@ use Rattle.rv_asm.proofs.Moves.{idle_stays, line_grows, lines_grow, place_reach}
 use Rattle.rv_asm.proofs.Ranges.{split_range}
 use Rattle.rv_asm.specs.Kept.{Kept, is_idle, kept}
 use Rattle.rv_asm.specs.Layout.{Layout, extended, laid, layout, line_in, lines_of, offset_in, unlaid}
-use Rattle.rv_asm.specs.Listing.{line_holding, lines_behind_text, listing_of, reach_before, shown, word_count, words_between, words_in}
+use Rattle.rv_asm.specs.Listing.{line_holding, lines_after_text, listing_of, reach_before, shown, word_count, words_between, words_in}
 use Rattle.rv_asm.specs.Placed.{place}
 use Rattle.rv_asm.specs.declared.{operation.Section.Section, reach.Reach.Reach}
 use Rattle.rv_asm.specs.declared.operation.Section.TheVariants.{Text, Data}
@@ -67,7 +67,7 @@ module _ (part : Section) (end : Reach) where
       record { begins = lines.begins; words_are = lines.words_are ∙ ap (λ l. replicate m (Some (shown number bytes)) ++ l) rest.words_are ∙ sym (ap (λ k. map f (range_with_len (word_count (offset_in part before.reach)) k)) whole ∙ words) }
 
 -- the listing of what the program keeps
-pub listed_is : (base : ℕ) (text : List ℕ) (end : Reach) (all : List Kept) (listing : Listed) → end ≡ (layout (lines_of text)).reach → all ≡ kept 1 unlaid (slice_split (λ byte. byte == 10) text) → listing ≡ record { base = base; words = words_in Text end all ++ lines_behind_text end.text_size end.data_size (words_in Data end all) } → listing ≡ listing_of base text
+pub listed_is : (base : ℕ) (text : List ℕ) (end : Reach) (all : List Kept) (listing : Listed) → end ≡ (layout (lines_of text)).reach → all ≡ kept 1 unlaid (slice_split (λ byte. byte == 10) text) → listing ≡ record { base = base; words = words_in Text end all ++ lines_after_text end.text_size end.data_size (words_in Data end all) } → listing ≡ listing_of base text
 listed_is base text end all listing end_is all_are is =
     let lines = slice_split (λ byte. byte == 10) text in
     let text_words = (kept_words Text end 1 unlaid lines (word_count end.text_size) (sym end_is) (omega arith)).words_are in

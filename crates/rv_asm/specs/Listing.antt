@@ -37,14 +37,14 @@ abbrev pub section_lines : Section → ℕ → List (List ℕ) → List (Option 
 section_lines part size lines = map (λ i. line_holding part 1 unlaid lines (4 * i)) (range_with_len 0 (word_count size))
 
 -- what stands after the words of the text: the zero bytes up to the data, which come from no line, and the data, if there are any
-abbrev pub lines_behind_text : ℕ → ℕ → List (Option source.Line) → List (Option source.Line)
-lines_behind_text text_size data_size lines =
+abbrev pub lines_after_text : ℕ → ℕ → List (Option source.Line) → List (Option source.Line)
+lines_after_text text_size data_size lines =
     if data_size == 0 then [] else (replicate (word_count (round_up text_size) - word_count text_size) None ++ lines)
 
 -- the lines of the words of the image
 abbrev pub image_lines : Reach → List (List ℕ) → List (Option source.Line)
 image_lines end lines =
-    section_lines Text end.text_size lines ++ lines_behind_text end.text_size end.data_size (section_lines Data end.data_size lines)
+    section_lines Text end.text_size lines ++ lines_after_text end.text_size end.data_size (section_lines Data end.data_size lines)
 
 -- the listing of a text at a base; a line feed ends a line
 abbrev pub listing_of : ℕ → List ℕ → Listed
@@ -67,7 +67,7 @@ words_in part end (line ∷ others) = replicate (words_between part line.place.r
 -- the words of the image, from the lines that the program keeps
 abbrev pub words_of_kept : Reach → List Kept → List (Option source.Line)
 words_of_kept end lines =
-    words_in Text end lines ++ lines_behind_text end.text_size end.data_size (words_in Data end lines)
+    words_in Text end lines ++ lines_after_text end.text_size end.data_size (words_in Data end lines)
 
 -- the listing of a text at a base, from the lines that the program keeps
 abbrev pub listing_of_kept : ℕ → Reach → List Kept → Listed

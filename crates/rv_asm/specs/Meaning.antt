@@ -141,15 +141,15 @@ abbrev pub section_parts : ℕ → Section → List Line → List Cell
 section_parts base section lines = contents base (layout lines) section (placed unlaid lines)
 
 -- what stands after the text: the data after zero bytes, if there are any
-abbrev pub behind_text : ℕ → ℕ → List Cell → List Cell
-behind_text text_size data_size parts =
+abbrev pub after_text : ℕ → ℕ → List Cell → List Cell
+after_text text_size data_size parts =
     if data_size == 0 then [] else (map Byte' (replicate (round_up text_size - text_size) 0) ++ parts)
 
 -- the parts of the image: the text, and the data after it
 abbrev pub image_parts : ℕ → List Line → List Cell
 image_parts base lines =
     section_parts base Text lines
-    ++ behind_text (layout lines).reach.text_size (layout lines).reach.data_size (section_parts base Data lines)
+    ++ after_text (layout lines).reach.text_size (layout lines).reach.data_size (section_parts base Data lines)
 
 -- the word of an instruction; of the words of fence and fence.i the one with their standard fields
 pub record IsWordOf (instruction : Instr) (word : ℕ) : Type 0 where

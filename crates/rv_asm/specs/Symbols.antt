@@ -4,7 +4,7 @@ use Rattle.std.specs.{BTreeMap.get_by, Cmp.Lexicographic.slice_cmp, Ordering.nat
 use Rattle.rv_asm.specs.Faults.{second_fault}
 use Rattle.rv_asm.specs.Kept.{Kept, first_with_fault, places}
 use Rattle.rv_asm.specs.Layout.{Layout}
-use Rattle.rv_asm.specs.Meaning.{Cell, behind_text, cells_at, contents, value_of}
+use Rattle.rv_asm.specs.Meaning.{Cell, after_text, cells_at, contents, value_of}
 use Rattle.rv_asm.specs.Placed.{Placed, place_body}
 use Rattle.rv_asm.specs.Read.{operands_in}
 use Rattle.rv_asm.specs.Statement.{Statement, statement}
@@ -49,4 +49,4 @@ abbrev pub cells_in : Program → List Cell
 cells_in program =
     let whole = layout_of program.layout.now in
     let lines = lines_in program.layout.now.records.items in
-    contents program.base whole Text lines ++ behind_text whole.reach.text_size whole.reach.data_size (contents program.base whole Data lines)
+    contents program.base whole Text lines ++ after_text whole.reach.text_size whole.reach.data_size (contents program.base whole Data lines)

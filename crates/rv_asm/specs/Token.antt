@@ -110,12 +110,12 @@ first_lexeme first line =
     else option_map (λ mark. record { token = Some mark; size = 1 }) (mark_of first))))
 
 -- the tokens of the bytes after so many, which belong to the token before
-unfoldable pub tokens_behind : List ℕ → ℕ → Option (List Token)
-tokens_behind [] taken = Some []
-tokens_behind (byte ∷ bytes) (suc taken) = tokens_behind bytes taken
-tokens_behind (byte ∷ bytes) zero =
-    option_and_then (λ found. option_map (λ tokens. option_to_list found.token ++ tokens) (tokens_behind bytes (found.size - 1))) (first_lexeme byte (byte ∷ bytes))
+unfoldable pub tokens_after : List ℕ → ℕ → Option (List Token)
+tokens_after [] taken = Some []
+tokens_after (byte ∷ bytes) (suc taken) = tokens_after bytes taken
+tokens_after (byte ∷ bytes) zero =
+    option_and_then (λ found. option_map (λ tokens. option_to_list found.token ++ tokens) (tokens_after bytes (found.size - 1))) (first_lexeme byte (byte ∷ bytes))
 
 -- the tokens of a line; none where something on it is no token
 unfoldable pub tokens_of : List ℕ → Option (List Token)
-tokens_of line = tokens_behind line 0
+tokens_of line = tokens_after line 0

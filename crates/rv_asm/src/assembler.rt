@@ -2,7 +2,7 @@ ghost use Rattle.std.specs.Prelude.{◌≡◌, ◌-◌, ◌++◌, ◌==◌, List
 ghost use Rattle.rv_asm.specs.Answer.{RefusedAt};
 ghost use Rattle.rv_asm.specs.Faults.{fault_of};
 ghost use Rattle.rv_asm.specs.Layout.{layout, lines_of};
-ghost use Rattle.rv_asm.specs.Meaning.{Cell, Spells, image_parts, round_up, start_address, behind_text};
+ghost use Rattle.rv_asm.specs.Meaning.{Cell, Spells, image_parts, round_up, start_address, after_text};
 ghost use Rattle.rv_asm.specs.Symbols.{cells_in, fault_in, layout_of};
 
 use crate::directive::push_zeros;
@@ -25,7 +25,7 @@ fn gap(text_size: usize) -> usize
 fn joined(text_size: usize, data_size: usize, sections: Sections) -> Result<Vec<u8>, AsmFault>
     ensures spells { (text_parts data_parts : List Cell) → Spells text_parts sections.text.items →
         Spells data_parts sections.data_bytes.items →
-        IfOk result (λ bytes. Spells (text_parts ++ behind_text text_size data_size data_parts) bytes.items) }
+        IfOk result (λ bytes. Spells (text_parts ++ after_text text_size data_size data_parts) bytes.items) }
     ensures refused { IfErr result (λ fault. fault ≡ AsmFault.Memory) }
 {
     let Sections {

@@ -14,7 +14,7 @@ use Rattle.rv_stations.specs.declared.waiting.Ready.{Ready}
 use Rattle.rv_stores.specs.Queue.{Queue, older_than}
 use Rattle.rv_stores.specs.declared.store.{Store.Store, StoreState.StoreState}
 use Rattle.rv_stores.specs.declared.store.StoreState.TheVariants.{Waiting, Faulted, Filled}
-use Rattle.rv_hardware.specs.InFlight.{memory_behind}
+use Rattle.rv_hardware.specs.InFlight.{bytes_after}
 use Rattle.rv_hardware.specs.Issue.{Path as DefinedPath, Without as DefinedWithout, FromStores as DefinedFromStores, FromCache as DefinedFromCache}
 use Rattle.rv_hardware.specs.Result.{effect_message, result_in}
 use Rattle.rv_core.specs.Execution.{Reads}
@@ -94,14 +94,14 @@ abbrev pub LieIn : ℕ → ℕ → List Store → Type 0
 LieIn base size stores = All (λ (s : Store). LiesIn base size s.state) stores
 
 -- a state's memory is the cache's after some stores
-pub record IsBehind (cache : Contents Memory) (stores : List Store) (s : State) : Type 0 where
+pub record IsAfter (cache : Contents Memory) (stores : List Store) (s : State) : Type 0 where
   pub inside : LieIn cache.base (length cache.bytes) stores
-  pub ram : s.ram ≡ memory_behind cache.base stores cache.bytes
+  pub ram : s.ram ≡ bytes_after cache.base stores cache.bytes
 
 -- the message is a ready load's, in each state that has the cache's memory after the stores that are older
 abbrev pub IsLoaded : Contents Memory → Queue → Ready → LoadForm → ℕ → ℤ → Message → Type 0
 IsLoaded cache queue ready form rd offset message =
-    (s : State) → s.pc ≡ ready.pc → IsBehind cache (older_than ready.seq queue.stores) s →
+    (s : State) → s.pc ≡ ready.pc → IsAfter cache (older_than ready.seq queue.stores) s →
     message ≡ effect_message None (loads cache.backing.layout s form rd (address_of ready offset))
 
 -- the message is a ready instruction's, in each state that it reads and that has that memory, if it uses a unit
@@ -109,4 +109,4 @@ abbrev pub IsExecuted : Contents Memory → Queue → Ready → Message → Type
 IsExecuted cache queue ready message =
     is_some (kind_of ready.instruction) ≡ true →
     (s : State) (lines : Lines) (word : ℕ) → Reads s ready.pc ready.first ready.second ready.instruction →
-    IsBehind cache (older_than ready.seq queue.stores) s → message ≡ result_in cache.backing.layout s lines word ready.instruction
+    IsAfter cache (older_than ready.seq queue.stores) s → message ≡ result_in cache.backing.layout s lines word ready.instruction

@@ -19,7 +19,7 @@ use Rattle.rv_hardware.specs.Broadcast.{mends_early}
 use Rattle.rv_hardware.specs.Dispatch.{is_stationed}
 use Rattle.rv_hardware.specs.Hardware.{Hardware}
 use Rattle.rv_hardware.specs.InFlight.{broadcast_of, writes}
-use Rattle.rv_hardware.specs.Seen.{stores_behind}
+use Rattle.rv_hardware.specs.Seen.{stores_after}
 
 -- the producer that an instruction is, where it writes a register
 abbrev pub producer_of : ℕ → Option ℕ → List Producer
@@ -69,9 +69,9 @@ abbrev pub status_with : RegisterStatus → ℕ → Entry → RegisterStatus
 status_with status seq e register = if writes e register then operand_by seq (broadcast_of e.stage) else status register
 
 -- the status after some instructions, the first of which has a sequence number
-abbrev pub status_behind : RegisterStatus → ℕ → List Entry → RegisterStatus
-status_behind status seq [] = status
-status_behind status seq (e ∷ es) = status_behind (status_with status seq e) (seq + 1) es
+abbrev pub status_after : RegisterStatus → ℕ → List Entry → RegisterStatus
+status_after status seq [] = status
+status_after status seq (e ∷ es) = status_after (status_with status seq e) (seq + 1) es
 
 -- what an instruction reads: 0 where it reads no register
 abbrev pub operand_of : RegisterStatus → Option ℕ → Operand
@@ -132,7 +132,7 @@ bus_of values rob = record {
 
 -- the store queue: the retired stores, and after them those in flight
 abbrev pub queue_of : Hardware → Queue
-queue_of h = record { stores = stores_behind h h.rob.entries; capacity = h.values.store_queue }
+queue_of h = record { stores = stores_after h h.rob.entries; capacity = h.values.store_queue }
 
 -- what the parts hold beside the hardware follows from the instructions in flight
 pub record AreTied (h : Hardware) (rename : Renaming) (stations : PerKind Pool) (bus : Pending) (queue : Queue) : Type 0 where

@@ -14,7 +14,7 @@ ghost use Rattle.rv_hardware.specs.Dispatch.{dispatch, dispatch_turn, entry_of_f
 ghost use Rattle.rv_hardware.specs.Hardware.{Hardware};
 ghost use Rattle.rv_hardware.specs.InFlight.{broadcast_of};
 ghost use Rattle.rv_core.specs.Entering.{are_full_for, with_instruction, with_jump, with_store, with_target};
-ghost use Rattle.rv_core.specs.Ties.{operand_by, operand_of, producers_of, status_behind, values_in};
+ghost use Rattle.rv_core.specs.Ties.{operand_by, operand_of, producers_of, status_after, values_in};
 ghost use Rattle.rv_core.specs.Told.{dispatch_told, dispatching};
 
 use crate::broadcast::is_branch_or_jump;
@@ -234,7 +234,7 @@ fn station(
     requires numbers { next_number rob.now ≤ 2 ^ 44 }
     requires room { are_full_for (kind_of_word fetched.now.instruction) stations.old ≡ false }
     requires youngest { (kind : KindOf) → AreBelow seq_of seq (at_kind kind stations.old).waiting }
-    ensures { stations.new ≡ with_instruction (status_behind (values_in registers.now) rob.now.retired rob.now.entries) seq fetched.now.pc fetched.now.instruction stations.old }
+    ensures { stations.new ≡ with_instruction (status_after (values_in registers.now) rob.now.retired rob.now.entries) seq fetched.now.pc fetched.now.instruction stations.old }
 {
     let Some(instruction) = fetched.instruction else {
         return;
@@ -257,7 +257,7 @@ fn station(
 fn operand_of(rename: &RenameMap, rob: &Rob, registers: &[u32; 32], source: Option<Reg>) -> Operand
     requires producers { rename.now.producers ≡ producers_of rob.now.retired rob.now.entries }
     requires numbers { next_number rob.now ≤ 2 ^ 44 }
-    ensures operand { result ≡ operand_of (status_behind (values_in registers.now) rob.now.retired rob.now.entries) source }
+    ensures operand { result ≡ operand_of (status_after (values_in registers.now) rob.now.retired rob.now.entries) source }
     ensures known { IsOperand result }
 {
     let Some(register) = source else {

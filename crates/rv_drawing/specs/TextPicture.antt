@@ -30,13 +30,13 @@ unfoldable pub statement_field : List ℕ → List ℕ
 statement_field statement = plain_text statement ++ blanks (33 - length statement)
 
 -- what was written in 17 columns
-unfoldable pub room_behind : Option (ℕ × ℕ) → List ℕ
-room_behind None = blanks 16
-room_behind (Some written) = blanks (6 - (length (decimal written.0) + length (register_name written.0)))
+unfoldable pub room_after : Option (ℕ × ℕ) → List ℕ
+room_after None = blanks 16
+room_after (Some written) = blanks (6 - (length (decimal written.0) + length (register_name written.0)))
 
 -- what was written, and blanks after it
 unfoldable pub written_field : Option (ℕ × ℕ) → List ℕ
-written_field written = written_text written ++ room_behind written
+written_field written = written_text written ++ room_after written
 
 -- the same of an instruction, where its stale word may have ended the run
 unfoldable pub outcome_field : Bool → Option (ℕ × ℕ) → List ℕ

@@ -2,7 +2,7 @@ ghost use Rattle.std.specs.Prelude.{◌≡◌, ◌+◌, ◌<◌, ◌^◌, ◌++�
 ghost use Rattle.std.specs.List.{flat_map};
 ghost use Rattle.rv_drawing.specs.ColumnText.{column_text};
 ghost use Rattle.rv_drawing.specs.Columns.{columns};
-ghost use Rattle.rv_drawing.specs.TextPicture.{scale_at, scale_line, statement_field, room_behind, written_field, outcome_field, cell_text, cell_at, row_line, shown_line, interrupt_at, mark_line, interrupt_line, text_picture};
+ghost use Rattle.rv_drawing.specs.TextPicture.{scale_at, scale_line, statement_field, room_after, written_field, outcome_field, cell_text, cell_at, row_line, shown_line, interrupt_at, mark_line, interrupt_line, text_picture};
 ghost use Rattle.rv_drawing.specs.Label.{statement_of, written_by};
 ghost use Rattle.rv_drawing.specs.Stopped.{is_stopped};
 ghost use Rattle.rv_text.specs.Line.{word_text};
@@ -84,9 +84,9 @@ fn write_statement<W: Write>(
 }
 
 // The columns that a register and its value leave free.
-#[tactic(auto, unfolding(crate::specs::TextPicture::room_behind))]
-fn write_room_behind<W: Write>(writer: &mut W, row: &Passage) -> Result<(), ReportError>
-    ensures { IsWritten result (W.contents writer.old) (W.contents writer.new) (room_behind (written_by row.now.ending)) }
+#[tactic(auto, unfolding(crate::specs::TextPicture::room_after))]
+fn write_room_after<W: Write>(writer: &mut W, row: &Passage) -> Result<(), ReportError>
+    ensures { IsWritten result (W.contents writer.old) (W.contents writer.new) (room_after (written_by row.now.ending)) }
 {
     match written(row.ending) {
         Some((register, _)) => {
@@ -102,7 +102,7 @@ fn write_written_field<W: Write>(writer: &mut W, row: &Passage) -> Result<(), Re
     ensures { IsWritten result (W.contents writer.old) (W.contents writer.new) (written_field (written_by row.now.ending)) }
 {
     write_written(writer, row)?;
-    write_room_behind(writer, row)
+    write_room_after(writer, row)
 }
 
 #[tactic(auto, unfolding(crate::specs::TextPicture::outcome_field))]

@@ -10,7 +10,7 @@ use Rattle.rv_decode.proofs.Masks.{and_opcode}
 use Rattle.rv_decode.proofs.Rows.{instruction_of-by_rows}
 use Rattle.rv_front.specs.declared.flow.Flow.{Flow}
 use Rattle.rv_front.specs.declared.flow.Flow.TheVariants.{Sequential, Jump, Branch, Indirect}
-use Rattle.rv_front.specs.Flow.{flow_of, flow_behind, flow_at, codes_elsewhere, leads_elsewhere}
+use Rattle.rv_front.specs.Flow.{flow_of, flow_after, flow_at, codes_elsewhere, leads_elsewhere}
 
 abbrev is_sequential : Flow → Bool
 is_sequential Sequential = true
@@ -28,16 +28,16 @@ sequential Indirect is = cc
 abbrev stays : ℕ → ℕ → Row → Bool
 stays pc word row = list_any (λ code. opcode row.fixed == code) codes_elsewhere || is_sequential (flow_of pc (row.instruction word))
 
-flow_behind-by_rows : (pc word code third seventh : ℕ) → list_any (λ known. code == known) codes_elsewhere ≡ false → (rows : List Row) → list_all (stays pc word) rows ≡ true → flow_behind pc (by_rows rows word code third seventh) ≡ Sequential
-flow_behind-by_rows pc word code third seventh elsewhere [] stay = refl
-flow_behind-by_rows pc word code third seventh elsewhere (row ∷ rows) stay =
+flow_after-by_rows : (pc word code third seventh : ℕ) → list_any (λ known. code == known) codes_elsewhere ≡ false → (rows : List Row) → list_all (stays pc word) rows ≡ true → flow_after pc (by_rows rows word code third seventh) ≡ Sequential
+flow_after-by_rows pc word code third seventh elsewhere [] stay = refl
+flow_after-by_rows pc word code third seventh elsewhere (row ∷ rows) stay =
     let parts = and_parts (stays pc word row) (list_all (stays pc word) rows) stay in
     elim (cases_Bool (has_fields row word code third seventh)) [
       | inl has ↦ rw has (sequential _ (grind (arith, nat_tests)))
-      | inr fails ↦ rw fails (flow_behind-by_rows pc word code third seventh elsewhere rows parts.1)
+      | inr fails ↦ rw fails (flow_after-by_rows pc word code third seventh elsewhere rows parts.1)
     ]
 
 pub flow_at-sequential : (pc word : ℕ) → word < 2 ^ 32 → leads_elsewhere word ≡ false → flow_at pc word ≡ Sequential
 unfolding table
 flow_at-sequential pc word small elsewhere =
-    rw (instruction_of-by_rows word small) (flow_behind-by_rows pc word (opcode word) (funct3 word) (funct7 word) (rw (sym (and_opcode word)) elsewhere) table refl)
+    rw (instruction_of-by_rows word small) (flow_after-by_rows pc word (opcode word) (funct3 word) (funct7 word) (rw (sym (and_opcode word)) elsewhere) table refl)

@@ -7,7 +7,7 @@ use Rattle.rv_memory.specs.Memory.{Memory}
 use Rattle.rv_front.specs.declared.fetched.Fetched.{Fetched}
 use Rattle.rv_front.specs.declared.fetched.FetchStop.{FetchStop}
 use Rattle.rv_front.specs.declared.fetched.FetchStop.TheVariants.{Width, Room, Prediction, Halted}
-use Rattle.rv_front.specs.FetchBuffer.{Answers, FetchBuffer, Fetches, FetchesInto, FetchesOne, IsFetchedAt, IsLinked, is_halted, stop_behind, stop_for}
+use Rattle.rv_front.specs.FetchBuffer.{Answers, FetchBuffer, Fetches, FetchesInto, FetchesOne, IsFetchedAt, IsLinked, is_halted, stop_after, stop_for}
 
 -- a front by its fields
 front_is : (f : FetchBuffer) (es : List Fetched) (capacity width : ℕ) (halted : Bool) → f.entries ≡ es → f.capacity ≡ capacity → f.width ≡ width → f.halted ≡ halted → f ≡ record { entries = es; capacity = capacity; width = width; next_pc = f.next_pc; halted = halted }
@@ -25,12 +25,12 @@ ends (Some word) false stop h = let why : stop ≡ Prediction = cc in rw why ref
 
 module _ (answers : Answers) (ram : Memory) (cycle : ℕ) where
   -- ---- what the first word leaves to fetch
-  Fetches-more : (left more pc : ℕ) (e : Fetched) (es : List Fetched) (next : ℕ) (stop : FetchStop) → IsFetchedAt answers ram cycle pc e → stop_behind e ≡ None → Fetches answers ram cycle left more e.predicted es next stop → Fetches answers ram cycle (suc left) (suc more) pc (e ∷ es) next stop
+  Fetches-more : (left more pc : ℕ) (e : Fetched) (es : List Fetched) (next : ℕ) (stop : FetchStop) → IsFetchedAt answers ram cycle pc e → stop_after e ≡ None → Fetches answers ram cycle left more e.predicted es next stop → Fetches answers ram cycle (suc left) (suc more) pc (e ∷ es) next stop
   Fetches-more left more pc e es next stop at on rest =
       let P : Option FetchStop → Type 0 = λ o. MatchOption o (Fetches answers ram cycle left more e.predicted es next stop) (λ reason. (es ≡ []) × (next ≡ e.predicted) × (stop ≡ reason)) in
       (at, subst P (sym on) rest)
 
-  Fetches-last : (left more pc : ℕ) (e : Fetched) (stop : FetchStop) → IsFetchedAt answers ram cycle pc e → stop_behind e ≡ Some stop → Fetches answers ram cycle (suc left) (suc more) pc (e ∷ []) e.predicted stop
+  Fetches-last : (left more pc : ℕ) (e : Fetched) (stop : FetchStop) → IsFetchedAt answers ram cycle pc e → stop_after e ≡ Some stop → Fetches answers ram cycle (suc left) (suc more) pc (e ∷ []) e.predicted stop
   Fetches-last left more pc e stop at end =
       let nothing : List Fetched = [] in
       let P : Option FetchStop → Type 0 = λ o. MatchOption o (Fetches answers ram cycle left more e.predicted nothing e.predicted stop) (λ reason. (nothing ≡ []) × (e.predicted ≡ e.predicted) × (stop ≡ reason)) in
@@ -49,7 +49,7 @@ module _ (answers : Answers) (ram : Memory) (cycle : ℕ) where
   less_room : (capacity : ℕ) (es : List Fetched) (e : Fetched) → length es < capacity → capacity - length es ≡ suc (capacity - length (es ++ e ∷ []))
   less_room capacity es e h = omega (arith, length-append es (e ∷ []))
 
-  step_in : (old now new : FetchBuffer) (left more : ℕ) (b : Bool) → nat_lt (length now.entries) now.capacity ≡ b → left ≡ suc more → Fetching old left now → MatchBool b ((e : Fetched) × IsFetchedAt answers ram cycle now.next_pc e × (None ≡ stop_behind e) × (new ≡ record now { entries = now.entries ++ e ∷ []; next_pc = e.predicted; halted = is_none e.word })) ((new ≡ now) × (None ≡ Some Room)) → Fetching old more new
+  step_in : (old now new : FetchBuffer) (left more : ℕ) (b : Bool) → nat_lt (length now.entries) now.capacity ≡ b → left ≡ suc more → Fetching old left now → MatchBool b ((e : Fetched) × IsFetchedAt answers ram cycle now.next_pc e × (None ≡ stop_after e) × (new ≡ record now { entries = now.entries ++ e ∷ []; next_pc = e.predicted; halted = is_none e.word })) ((new ≡ now) × (None ≡ Some Room)) → Fetching old more new
   step_in old now new left more false full el f one = absurd (cc)
   step_in old now new left more true room el f (e, at, is, news) =
       let less = less_room now.capacity now.entries e (ltb-true _ _ room) in
@@ -76,7 +76,7 @@ module _ (answers : Answers) (ram : Memory) (cycle : ℕ) where
       let P : Bool → Type 0 = λ b. MatchBool b ((new ≡ old) × (stop ≡ Halted)) ((more : List Fetched) × Fetches answers ram cycle old.width (old.capacity - length old.entries) old.next_pc more new.next_pc stop × (new ≡ record old { entries = old.entries ++ more; next_pc = new.next_pc; halted = is_halted stop })) in
       subst P (sym runs) (added, fetches, front_is new (old.entries ++ added) old.capacity old.width (is_halted stop) e c w h)
 
-  end_in : (old now new : FetchBuffer) (left more : ℕ) (stop : FetchStop) (b : Bool) → old.halted ≡ false → nat_lt (length now.entries) now.capacity ≡ b → left ≡ suc more → Fetching old left now → MatchBool b ((e : Fetched) × IsFetchedAt answers ram cycle now.next_pc e × (Some stop ≡ stop_behind e) × (new ≡ record now { entries = now.entries ++ e ∷ []; next_pc = e.predicted; halted = is_none e.word })) ((new ≡ now) × (Some stop ≡ Some Room)) → FetchesInto answers ram cycle old new stop
+  end_in : (old now new : FetchBuffer) (left more : ℕ) (stop : FetchStop) (b : Bool) → old.halted ≡ false → nat_lt (length now.entries) now.capacity ≡ b → left ≡ suc more → Fetching old left now → MatchBool b ((e : Fetched) × IsFetchedAt answers ram cycle now.next_pc e × (Some stop ≡ stop_after e) × (new ≡ record now { entries = now.entries ++ e ∷ []; next_pc = e.predicted; halted = is_none e.word })) ((new ≡ now) × (Some stop ≡ Some Room)) → FetchesInto answers ram cycle old new stop
   end_in old now new left more stop false runs full el f one =
       let why : stop ≡ Room = cc in
       let none : now.capacity - length now.entries ≡ 0 = omega (arith, ltb-false (length now.entries) now.capacity full) in

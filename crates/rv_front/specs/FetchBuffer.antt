@@ -63,8 +63,8 @@ stop_for (Some word) true = None
 stop_for (Some word) false = Some Prediction
 
 -- why a fetch ends after a word, if it does
-abbrev pub stop_behind : Fetched → Option FetchStop
-stop_behind e = stop_for e.word (e.predicted == pc_plus_4 e.pc)
+abbrev pub stop_after : Fetched → Option FetchStop
+stop_after e = stop_for e.word (e.predicted == pc_plus_4 e.pc)
 
 -- why a fetch ends that takes no more words, where it may take `width` and has room for `room`
 abbrev pub EndsFor : ℕ → ℕ → FetchStop → Type 0
@@ -79,7 +79,7 @@ Fetches answers ram cycle zero room pc (e ∷ es) next stop = ⊥
 Fetches answers ram cycle (suc width) zero pc (e ∷ es) next stop = ⊥
 Fetches answers ram cycle (suc width) (suc room) pc (e ∷ es) next stop =
     IsFetchedAt answers ram cycle pc e ×
-    MatchOption (stop_behind e)
+    MatchOption (stop_after e)
     (Fetches answers ram cycle width room e.predicted es next stop)
     (λ reason. (es ≡ []) × (next ≡ e.predicted) × (stop ≡ reason))
 
@@ -105,6 +105,6 @@ FetchesOne answers ram cycle old new stop =
     MatchBool (nat_lt (length old.entries) old.capacity)
     ((e : Fetched) ×
     IsFetchedAt answers ram cycle old.next_pc e ×
-    (stop ≡ stop_behind e) ×
+    (stop ≡ stop_after e) ×
     (new ≡ record old { entries = old.entries ++ e ∷ []; next_pc = e.predicted; halted = is_none e.word }))
     ((new ≡ old) × (stop ≡ Some Room))

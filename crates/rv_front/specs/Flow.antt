@@ -16,13 +16,13 @@ flow_of pc (Branch condition rs1 rs2 offset) = flow.Branch (pc_plus pc offset) (
 flow_of pc other = flow.Sequential
 
 -- an illegal word traps, so that nothing is guessed after it but the next word
-abbrev pub flow_behind : ℕ → Option Instr → Flow
-flow_behind pc None = flow.Sequential
-flow_behind pc (Some instruction) = flow_of pc instruction
+abbrev pub flow_after : ℕ → Option Instr → Flow
+flow_after pc None = flow.Sequential
+flow_after pc (Some instruction) = flow_of pc instruction
 
 -- where the program may go on after a word at a pc
 abbrev pub flow_at : ℕ → ℕ → Flow
-flow_at pc word = flow_behind pc (instruction_of word)
+flow_at pc word = flow_after pc (instruction_of word)
 
 -- Unprivileged ISA 20191213, 24, table 24.1: the opcodes BRANCH, JALR and JAL
 abbrev pub codes_elsewhere : List ℕ

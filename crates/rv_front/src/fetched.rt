@@ -1,5 +1,5 @@
 ghost use Rattle.std.specs.Prelude.{◌≡◌};
-ghost use Rattle.rv_front.specs.FetchBuffer.{stop_behind};
+ghost use Rattle.rv_front.specs.FetchBuffer.{stop_after};
 
 use rv_isa::Instr;
 
@@ -34,7 +34,7 @@ pub enum FetchStop {
 impl Fetched {
     // Why a fetch ends with this word, if it does.
     pub(crate) fn stop(&self) -> Option<FetchStop>
-        ensures { result ≡ stop_behind self.now }
+        ensures { result ≡ stop_after self.now }
     {
         if self.word.is_none() {
             return Some(FetchStop::Halted);

@@ -1,6 +1,6 @@
 -- A cycle by what a predictor answers is one by any of the predictions that there may be.
 use Rattle.rv_hardware.proofs.Words.{arith, ◌≡◌, ℕ, suc, ◌-◌, Bool, List, [], ◌∷◌, ◌++◌, length, Option, MatchBool, MatchOption, Memory, Fetched, FetchStop, Halted, IsCycle, any_prediction, Hardware, Report, Cycles, ended, cycled, Arrival, Lines}
-use Rattle.rv_front.specs.FetchBuffer.{Answers, FetchBuffer, Fetches, FetchesInto, IsFetchedAt, IsGuess, is_halted, stop_behind}
+use Rattle.rv_front.specs.FetchBuffer.{Answers, FetchBuffer, Fetches, FetchesInto, IsFetchedAt, IsGuess, is_halted, stop_after}
 use Rattle.rv_hardware.specs.Guided.{GuidedCycles, GuidedHardware, ended as guided_ended, cycled as guided_cycled}
 
 module _ (answers : Answers) (ram : Memory) (cycle : ℕ) where
@@ -16,7 +16,7 @@ module _ (answers : Answers) (ram : Memory) (cycle : ℕ) where
   any-fetches : (width room pc : ℕ) (es : List Fetched) (next : ℕ) (stop : FetchStop) → Fetches answers ram cycle width room pc es next stop → Fetches any_prediction ram cycle width room pc es next stop
   any-fetches width room pc [] next stop is = is
   any-fetches (suc width) (suc room) pc (e ∷ es) next stop is =
-      (any-at pc e is.0, where_none (Fetches answers ram cycle width room e.predicted es next stop) (Fetches any_prediction ram cycle width room e.predicted es next stop) (λ reason. (es ≡ []) × (next ≡ e.predicted) × (stop ≡ reason)) (stop_behind e) (any-fetches width room e.predicted es next stop) is.1)
+      (any-at pc e is.0, where_none (Fetches answers ram cycle width room e.predicted es next stop) (Fetches any_prediction ram cycle width room e.predicted es next stop) (λ reason. (es ≡ []) × (next ≡ e.predicted) × (stop ≡ reason)) (stop_after e) (any-fetches width room e.predicted es next stop) is.1)
   any-fetches width room pc (e ∷ es) next stop is = is
 
   any-into_at : (halted : Bool) (old new : FetchBuffer) (stop : FetchStop)

@@ -2,7 +2,7 @@
 use Rattle.rv_hardware.proofs.Words.{◌≡◌, ◌∙◌, ℕ, suc, ◌+◌, ◌-◌, ◌^◌, ◌≤◌, Bool, true, false, List, [], ◌∷◌, ◌++◌, length, Option, Some, None, MatchBool, MatchOption, is_some, refl, sym, ap, subst, arith, length-append, unwrap_or, Memory, Stop, Halted, Committing, Dispatching, Hardware, Report, IsStop, NoneStops, true≢false, Arrival, Lines, Fetched, FetchStop}
 use Rattle.std.specs.List.{fold}
 use Rattle.rv_arch.specs.declared.outcome.Stop.TheVariants as stop
-use Rattle.rv_front.specs.FetchBuffer.{EndsFor, FetchBuffer, Fetches, FetchesInto, IsFetchedAt, IsGuess, is_halted, stop_behind}
+use Rattle.rv_front.specs.FetchBuffer.{EndsFor, FetchBuffer, Fetches, FetchesInto, IsFetchedAt, IsGuess, is_halted, stop_after}
 use Rattle.rv_front.specs.Lesson.{Lesson}
 use Rattle.rv_front.specs.Predictors.{after_lesson, answers_of, taught}
 use Rattle.rv_front.specs.declared.predictors.DescribedPredictor.{DescribedPredictor}
@@ -45,8 +45,8 @@ module _ (predictor : DescribedPredictor) (ram : Memory) (cycle : ℕ) where
   fetches_once (suc width) (suc room) pc (e ∷ es) (e' ∷ es') next next' why why' is is' =
       let first : e ≡ e' = fetched_once pc e e' is.0 is'.0 in
       same_more e e' es es' next next' why why' first
-      (rest_once width room e es es' next next' why why' (stop_behind e) (fetches_once width room e.predicted es es' next next' why why') is.1
-      (subst (λ f. Rest width room f es' next' why' (stop_behind f)) (sym first) is'.1))
+      (rest_once width room e es es' next next' why why' (stop_after e) (fetches_once width room e.predicted es es' next next' why why') is.1
+      (subst (λ f. Rest width room f es' next' why' (stop_after f)) (sym first) is'.1))
   fetches_once (suc width) (suc room) pc (e ∷ es) [] next next' why why' is is' = absurd is'.0
   fetches_once (suc width) (suc room) pc [] es' next next' why why' is is' = absurd is.0
   fetches_once width room pc (e ∷ es) es' next next' why why' is is' = absurd is

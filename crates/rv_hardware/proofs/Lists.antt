@@ -5,7 +5,7 @@ use Rattle.std.proofs.lemmas.List.{map-append}
 use Rattle.std.proofs.lemmas.List.Kept.{AllPairs-cons}
 use Rattle.std.proofs.lemmas.List.Recursion.{is_count_by}
 use Rattle.rv_cache.specs.WriteBack.{Each}
-use Rattle.rv_hardware.specs.Stamps.{EachBehind}
+use Rattle.rv_hardware.specs.Stamps.{EachAfter}
 
 -- R of each element and each later one, by recursion
 abbrev pub EveryPair : {X : Type 0} → (X → X → Type 0) → List X → Type 0
@@ -13,9 +13,9 @@ EveryPair R [] = Unit {0}
 EveryPair R (x ∷ xs) = Each (R x) xs × EveryPair R xs
 
 -- P of each element and of those before it, by recursion
-abbrev pub EveryBehind : {X : Type 0} → (List X → X → Type 0) → List X → List X → Type 0
-EveryBehind P before [] = Unit {0}
-EveryBehind P before (x ∷ xs) = P before x × EveryBehind P (before ++ x ∷ []) xs
+abbrev pub EveryAfter : {X : Type 0} → (List X → X → Type 0) → List X → List X → Type 0
+EveryAfter P before [] = Unit {0}
+EveryAfter P before (x ∷ xs) = P before x × EveryAfter P (before ++ x ∷ []) xs
 
 -- how many pass a test, by recursion
 abbrev pub count : {X : Type 0} → (X → Bool) → List X → ℕ
@@ -175,87 +175,87 @@ module _ {X : Type 0} where
   Beginning-count p xs ys f = rw (f.1, count-append p xs f.0) (omega arith)
 
   -- of both together, and so of the first
-  pub EveryBehind-left : (P : List X → X → Type 0) (before xs ys : List X) → EveryBehind P before (xs ++ ys) → EveryBehind P before xs
-  EveryBehind-left P before [] ys h = tt
-  EveryBehind-left P before (x ∷ xs) ys h = (h.0, EveryBehind-left P (before ++ x ∷ []) xs ys h.1)
+  pub EveryAfter-left : (P : List X → X → Type 0) (before xs ys : List X) → EveryAfter P before (xs ++ ys) → EveryAfter P before xs
+  EveryAfter-left P before [] ys h = tt
+  EveryAfter-left P before (x ∷ xs) ys h = (h.0, EveryAfter-left P (before ++ x ∷ []) xs ys h.1)
 
   -- of one list, and of another after it, and so of both together
-  pub EveryBehind-append : (P : List X → X → Type 0) (before xs ys : List X) → EveryBehind P before xs → EveryBehind P (before ++ xs) ys → EveryBehind P before (xs ++ ys)
-  EveryBehind-append P before [] ys h g = rw (append-nil before) at g
-  EveryBehind-append P before (x ∷ xs) ys h g = (h.0, EveryBehind-append P (before ++ x ∷ []) xs ys h.1 (rw (← append_assoc before (x ∷ []) xs) at g))
+  pub EveryAfter-append : (P : List X → X → Type 0) (before xs ys : List X) → EveryAfter P before xs → EveryAfter P (before ++ xs) ys → EveryAfter P before (xs ++ ys)
+  EveryAfter-append P before [] ys h g = rw (append-nil before) at g
+  EveryAfter-append P before (x ∷ xs) ys h g = (h.0, EveryAfter-append P (before ++ x ∷ []) xs ys h.1 (rw (← append_assoc before (x ∷ []) xs) at g))
 
   -- of both together, and so of the second after the first
-  pub EveryBehind-right : (P : List X → X → Type 0) (before xs ys : List X) → EveryBehind P before (xs ++ ys) → EveryBehind P (before ++ xs) ys
-  EveryBehind-right P before [] ys h = rw (append-nil before) h
-  EveryBehind-right P before (x ∷ xs) ys h = rw (← append_assoc before (x ∷ []) xs) (EveryBehind-right P (before ++ x ∷ []) xs ys h.1)
+  pub EveryAfter-right : (P : List X → X → Type 0) (before xs ys : List X) → EveryAfter P before (xs ++ ys) → EveryAfter P (before ++ xs) ys
+  EveryAfter-right P before [] ys h = rw (append-nil before) h
+  EveryAfter-right P before (x ∷ xs) ys h = rw (← append_assoc before (x ∷ []) xs) (EveryAfter-right P (before ++ x ∷ []) xs ys h.1)
 
   -- of the whole, and so of a beginning
-  pub Beginning-EveryBehind : (P : List X → X → Type 0) (xs ys : List X) → Beginning xs ys → EveryBehind P [] ys → EveryBehind P [] xs
-  Beginning-EveryBehind P xs ys f h = EveryBehind-left P [] xs f.0 (rw f.1 at h)
+  pub Beginning-EveryAfter : (P : List X → X → Type 0) (xs ys : List X) → Beginning xs ys → EveryAfter P [] ys → EveryAfter P [] xs
+  Beginning-EveryAfter P xs ys f h = EveryAfter-left P [] xs f.0 (rw f.1 at h)
 
   -- after another beginning
   moved : (P Q : List X → X → Type 0) (pre pre' : List X) → ((mid : List X) (z : X) → P (pre ++ mid) z → Q (pre' ++ mid) z) → (acc ys : List X) →
-      EveryBehind P (pre ++ acc) ys → EveryBehind Q (pre' ++ acc) ys
+      EveryAfter P (pre ++ acc) ys → EveryAfter Q (pre' ++ acc) ys
   moved P Q pre pre' f acc [] h = tt
   moved P Q pre pre' f acc (y ∷ ys) h = grind (arith, append_assoc, moved P Q pre pre' f (acc ++ y ∷ []) ys (rw (append_assoc pre acc (y ∷ [])) at h.1))
 
   -- of a list behind another beginning
-  pub EveryBehind-moved : (P Q : List X → X → Type 0) (pre pre' : List X) → ((mid : List X) (z : X) → P (pre ++ mid) z → Q (pre' ++ mid) z) → (ys : List X) → EveryBehind P pre ys → EveryBehind Q pre' ys
-  EveryBehind-moved P Q pre pre' f ys h = rw (append-nil pre') at (moved P Q pre pre' f [] ys (rw (append-nil pre) (h)))
+  pub EveryAfter-moved : (P Q : List X → X → Type 0) (pre pre' : List X) → ((mid : List X) (z : X) → P (pre ++ mid) z → Q (pre' ++ mid) z) → (ys : List X) → EveryAfter P pre ys → EveryAfter Q pre' ys
+  EveryAfter-moved P Q pre pre' f ys h = rw (append-nil pre') at (moved P Q pre pre' f [] ys (rw (append-nil pre) (h)))
 
   -- where nothing is after it
-  pub EveryBehind-all : (Q : X → Type 0) (P : List X → X → Type 0) → ((before : List X) (x : X) → Q x → P before x) → (before xs : List X) → Each Q xs → EveryBehind P before xs
-  EveryBehind-all Q P f before [] h = tt
-  EveryBehind-all Q P f before (x ∷ xs) h = (f before x h.0, EveryBehind-all Q P f (before ++ x ∷ []) xs h.1)
+  pub EveryAfter-all : (Q : X → Type 0) (P : List X → X → Type 0) → ((before : List X) (x : X) → Q x → P before x) → (before xs : List X) → Each Q xs → EveryAfter P before xs
+  EveryAfter-all Q P f before [] h = tt
+  EveryAfter-all Q P f before (x ∷ xs) h = (f before x h.0, EveryAfter-all Q P f (before ++ x ∷ []) xs h.1)
 
   -- another element at a place
-  pub EveryBehind-set : (P : List X → X → Type 0) (xs ys : List X) (m n : X) → (P xs m → P xs n) → ((mid : List X) (z : X) → P (xs ++ m ∷ mid) z → P (xs ++ n ∷ mid) z) →
-      EveryBehind P [] (xs ++ m ∷ ys) → EveryBehind P [] (xs ++ n ∷ ys)
-  EveryBehind-set P xs ys m n f g h =
-      let right = EveryBehind-right P [] xs (m ∷ ys) h in
+  pub EveryAfter-set : (P : List X → X → Type 0) (xs ys : List X) (m n : X) → (P xs m → P xs n) → ((mid : List X) (z : X) → P (xs ++ m ∷ mid) z → P (xs ++ n ∷ mid) z) →
+      EveryAfter P [] (xs ++ m ∷ ys) → EveryAfter P [] (xs ++ n ∷ ys)
+  EveryAfter-set P xs ys m n f g h =
+      let right = EveryAfter-right P [] xs (m ∷ ys) h in
       let rest = moved P P (xs ++ m ∷ []) (xs ++ n ∷ []) (λ mid z is. rw (append_assoc xs (n ∷ []) mid) (g mid z (rw (append_assoc xs (m ∷ []) mid) at is))) [] ys (rw (append-nil (xs ++ m ∷ [])) (right.1)) in
-      EveryBehind-append P [] xs (n ∷ ys) (EveryBehind-left P [] xs (m ∷ ys) h) (f right.0, rw (append-nil (xs ++ n ∷ [])) at rest)
+      EveryAfter-append P [] xs (n ∷ ys) (EveryAfter-left P [] xs (m ∷ ys) h) (f right.0, rw (append-nil (xs ++ n ∷ [])) at rest)
 
   -- at any place
-  pub EveryBehind-at : (P : List X → X → Type 0) (before after : List X) (x : X) → EveryBehind P [] (before ++ x ∷ after) → P before x
-  EveryBehind-at P before after x h = (EveryBehind-right P [] before (x ∷ after) h).0
+  pub EveryAfter-at : (P : List X → X → Type 0) (before after : List X) (x : X) → EveryAfter P [] (before ++ x ∷ after) → P before x
+  EveryAfter-at P before after x h = (EveryAfter-right P [] before (x ∷ after) h).0
 
   -- each element that stands after some others
-  pub EachBehind-EveryBehind : (P : List X → X → Type 0) (xs : List X) → EveryBehind P [] xs → EachBehind P xs
-  EachBehind-EveryBehind P xs h before after x at = EveryBehind-at P before after x (rw at at h)
+  pub EachAfter-EveryAfter : (P : List X → X → Type 0) (xs : List X) → EveryAfter P [] xs → EachAfter P xs
+  EachAfter-EveryAfter P xs h before after x at = EveryAfter-at P before after x (rw at at h)
 
 -- of each element of the image, and so of the image of each
-pub EveryBehind-unmap : {X Y : Type 0} (P : List X → X → Type 0) (f : Y → X) (before ys : List Y) → EveryBehind P (map f before) (map f ys) → EveryBehind (λ b y. P (map f b) (f y)) before ys
-EveryBehind-unmap P f before [] h = tt
-EveryBehind-unmap P f before (y ∷ ys) h = (h.0, EveryBehind-unmap P f (before ++ y ∷ []) ys (rw (map-append f before (y ∷ [])) (h.1)))
+pub EveryAfter-unmap : {X Y : Type 0} (P : List X → X → Type 0) (f : Y → X) (before ys : List Y) → EveryAfter P (map f before) (map f ys) → EveryAfter (λ b y. P (map f b) (f y)) before ys
+EveryAfter-unmap P f before [] h = tt
+EveryAfter-unmap P f before (y ∷ ys) h = (h.0, EveryAfter-unmap P f (before ++ y ∷ []) ys (rw (map-append f before (y ∷ [])) (h.1)))
 
 -- what follows from what holds of each element behind others holds of each
-pub EveryBehind-weaker : {X : Type 0} (P Q : List X → X → Type 0) → ((before : List X) (x : X) → P before x → Q before x) → (before xs : List X) → EveryBehind P before xs → EveryBehind Q before xs
-EveryBehind-weaker P Q f before [] h = tt
-EveryBehind-weaker P Q f before (x ∷ xs) h = (f before x h.0, EveryBehind-weaker P Q f (before ++ x ∷ []) xs h.1)
+pub EveryAfter-weaker : {X : Type 0} (P Q : List X → X → Type 0) → ((before : List X) (x : X) → P before x → Q before x) → (before xs : List X) → EveryAfter P before xs → EveryAfter Q before xs
+EveryAfter-weaker P Q f before [] h = tt
+EveryAfter-weaker P Q f before (x ∷ xs) h = (f before x h.0, EveryAfter-weaker P Q f (before ++ x ∷ []) xs h.1)
 
 -- what follows from a property of each element and what holds of each behind others holds of each
-pub EveryBehind-both : {X : Type 0} (P : X → Type 0) (Q R : List X → X → Type 0) → ((before : List X) (x : X) → P x → Q before x → R before x) → (before xs : List X) → Each P xs → EveryBehind Q before xs → EveryBehind R before xs
-EveryBehind-both P Q R f before [] g h = tt
-EveryBehind-both P Q R f before (x ∷ xs) g h = (f before x g.0 h.0, EveryBehind-both P Q R f (before ++ x ∷ []) xs g.1 h.1)
+pub EveryAfter-both : {X : Type 0} (P : X → Type 0) (Q R : List X → X → Type 0) → ((before : List X) (x : X) → P x → Q before x → R before x) → (before xs : List X) → Each P xs → EveryAfter Q before xs → EveryAfter R before xs
+EveryAfter-both P Q R f before [] g h = tt
+EveryAfter-both P Q R f before (x ∷ xs) g h = (f before x g.0 h.0, EveryAfter-both P Q R f (before ++ x ∷ []) xs g.1 h.1)
 
 -- pairs and what stands after
 
 module _ {X : Type 0} (R : X → X → Type 0) where
-  behind_one : (before : List X) (x : X) (more ys : List X) → EveryBehind (λ b y. Each (λ a. R a y) b) (before ++ x ∷ more) ys → Each (R x) ys
-  behind_one before x more [] h = tt
-  behind_one before x more (y ∷ ys) h =
-      (Each-place (λ a. R a y) before more x h.0, behind_one before x (more ++ y ∷ []) ys (rw (append_assoc before (x ∷ more) (y ∷ [])) at h.1))
+  after_one : (before : List X) (x : X) (more ys : List X) → EveryAfter (λ b y. Each (λ a. R a y) b) (before ++ x ∷ more) ys → Each (R x) ys
+  after_one before x more [] h = tt
+  after_one before x more (y ∷ ys) h =
+      (Each-place (λ a. R a y) before more x h.0, after_one before x (more ++ y ∷ []) ys (rw (append_assoc before (x ∷ more) (y ∷ [])) at h.1))
 
   -- a relation of each element to all before it is one of each pair
-  pub EveryPair-EveryBehind : (before xs : List X) → EveryBehind (λ b y. Each (λ a. R a y) b) before xs → EveryPair R xs
-  EveryPair-EveryBehind before [] h = tt
-  EveryPair-EveryBehind before (x ∷ xs) h = (behind_one before x [] xs h.1, EveryPair-EveryBehind (before ++ x ∷ []) xs h.1)
+  pub EveryPair-EveryAfter : (before xs : List X) → EveryAfter (λ b y. Each (λ a. R a y) b) before xs → EveryPair R xs
+  EveryPair-EveryAfter before [] h = tt
+  EveryPair-EveryAfter before (x ∷ xs) h = (after_one before x [] xs h.1, EveryPair-EveryAfter (before ++ x ∷ []) xs h.1)
 
   -- a relation of each pair is one of each element to all before it
-  pub EveryBehind-EveryPair : (before xs : List X) → Across R before xs → EveryPair R xs → EveryBehind (λ b y. Each (λ a. R a y) b) before xs
-  EveryBehind-EveryPair before [] a h = tt
-  EveryBehind-EveryPair before (x ∷ xs) a h = (
+  pub EveryAfter-EveryPair : (before xs : List X) → Across R before xs → EveryPair R xs → EveryAfter (λ b y. Each (λ a. R a y) b) before xs
+  EveryAfter-EveryPair before [] a h = tt
+  EveryAfter-EveryPair before (x ∷ xs) a h = (
     Each-weaker (λ z. Each (R z) (x ∷ xs)) (λ z. R z x) (λ z w. w.0) before a,
-    EveryBehind-EveryPair (before ++ x ∷ []) xs (Each-append (λ z. Each (R z) xs) before (x ∷ []) (Each-weaker (λ z. Each (R z) (x ∷ xs)) (λ z. Each (R z) xs) (λ z w. w.1) before a) (h.0, tt)) h.1,
+    EveryAfter-EveryPair (before ++ x ∷ []) xs (Each-append (λ z. Each (R z) xs) before (x ∷ []) (Each-weaker (λ z. Each (R z) (x ∷ xs)) (λ z. Each (R z) xs) (λ z w. w.1) before a) (h.0, tt)) h.1,
   )

@@ -20,9 +20,9 @@ module _ (n before m : ℕ) (reports : List Report) (few : before ≤ n) (passed
   abbrev Gap : List Step → ℕ → Type 0
   Gap xs = HasGap n before m (xs ++ steps_of reports)
 
-  gap_behind : (xs : List Step) (x : Step) → All (λ y. stamp_of y ≡ n) (x ∷ xs) → HasGap (n + 1) 0 m (steps_of reports) (longest_gap_from 0 reports) →
+  gap_after : (xs : List Step) (x : Step) → All (λ y. stamp_of y ≡ n) (x ∷ xs) → HasGap (n + 1) 0 m (steps_of reports) (longest_gap_from 0 reports) →
       before < longest_gap_from 0 reports → Gap (x ∷ xs) (max before (longest_gap_from 0 reports))
-  gap_behind xs x stamped anew longer =
+  gap_after xs x stamped anew longer =
       let is : longest_gap_from 0 reports ≡ max before (longest_gap_from 0 reports) = omega (arith, longer) in
       let outside = IsOutside anew.first (longest_gap_from 0 reports) in
       subst (Gap (x ∷ xs)) is (record {
@@ -46,7 +46,7 @@ module _ (n before m : ℕ) (reports : List Report) (few : before ≤ n) (passed
   gap_from : (xs : List Step) → All (λ y. stamp_of y ≡ n) xs → HasGap (n + 1) (before + 1) m (steps_of reports) (longest_gap_from (before + 1) reports) →
       HasGap (n + 1) 0 m (steps_of reports) (longest_gap_from 0 reports) → Gap xs (cond (is_silent xs) (longest_gap_from (before + 1) reports) (max before (longest_gap_from 0 reports)))
   gap_from [] stamped more anew = record { first = more.first; since = omega (arith, more.since); within = more.within; is_gap = more.is_gap }
-  gap_from (x ∷ xs) stamped more anew = grind (arith, gap_behind, gap_before)
+  gap_from (x ∷ xs) stamped more anew = grind (arith, gap_after, gap_before)
 
 -- a gap among a cycle and those after it is no longer
 no_longer_from : (n before m first count : ℕ) (reports : List Report) → n ≤ first + before → (xs : List Step) → All (λ y. stamp_of y ≡ n) xs → IsGap (xs ++ steps_of reports) first count →

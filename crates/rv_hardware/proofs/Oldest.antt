@@ -1,26 +1,26 @@
 -- The oldest instruction that passes a test stands after some that do not, and a change of it or a cut after it changes no other.
-use Rattle.rv_hardware.proofs.Words.{◌≡◌, ℕ, ◌+◌, ◌≤◌, Bool, true, false, cond, List, [], ◌∷◌, ◌++◌, length, Some, None, Option, refl, append_assoc, append-nil, arith, le-ltb, lt-ltb, eq-eqb, ne_eqb, entries_below, with_entry, Entry, oldest, oldest_from, EveryBehind, EveryBehind-append}
+use Rattle.rv_hardware.proofs.Words.{◌≡◌, ℕ, ◌+◌, ◌≤◌, Bool, true, false, cond, List, [], ◌∷◌, ◌++◌, length, Some, None, Option, refl, append_assoc, append-nil, arith, le-ltb, lt-ltb, eq-eqb, ne_eqb, entries_below, with_entry, Entry, oldest, oldest_from, EveryAfter, EveryAfter-append}
 
 -- what a search for the oldest finds
 abbrev pub Finds : (List Entry → Entry → Bool) → List Entry → Option (List Entry × Entry) → Type 0
-Finds test entries None = EveryBehind (λ before e. test before e ≡ false) [] entries
+Finds test entries None = EveryAfter (λ before e. test before e ≡ false) [] entries
 Finds test entries (Some found) =
     (younger : List Entry) × (entries ≡ found.0 ++ found.1 ∷ younger) × (test found.0 found.1 ≡ true) ×
-    EveryBehind (λ before e. test before e ≡ false) [] found.0
+    EveryAfter (λ before e. test before e ≡ false) [] found.0
 
-one_behind : (P : List Entry → Entry → Type 0) (before : List Entry) (e : Entry) → EveryBehind P [] before → P before e →
-    EveryBehind P [] (before ++ e ∷ [])
-one_behind P before e h g = EveryBehind-append P [] before (e ∷ []) h (g, tt)
+one_after : (P : List Entry → Entry → Type 0) (before : List Entry) (e : Entry) → EveryAfter P [] before → P before e →
+    EveryAfter P [] (before ++ e ∷ [])
+one_after P before e h g = EveryAfter-append P [] before (e ∷ []) h (g, tt)
 
-finds_here : (test : List Entry → Entry → Bool) (b : Bool) (before es : List Entry) (e : Entry) (rest : Option (List Entry × Entry)) → b ≡ test before e → EveryBehind (λ older x. test older x ≡ false) [] before → (b ≡ false → Finds test ((before ++ e ∷ []) ++ es) rest) → Finds test (before ++ e ∷ es) (cond b (Some (before, e)) rest)
+finds_here : (test : List Entry → Entry → Bool) (b : Bool) (before es : List Entry) (e : Entry) (rest : Option (List Entry × Entry)) → b ≡ test before e → EveryAfter (λ older x. test older x ≡ false) [] before → (b ≡ false → Finds test ((before ++ e ∷ []) ++ es) rest) → Finds test (before ++ e ∷ es) (cond b (Some (before, e)) rest)
 finds_here test b before es e rest is given further = grind (arith, append_assoc)
 
 finds_from : (test : List Entry → Entry → Bool) (before es : List Entry) →
-    EveryBehind (λ older x. test older x ≡ false) [] before → Finds test (before ++ es) (oldest_from test before es)
+    EveryAfter (λ older x. test older x ≡ false) [] before → Finds test (before ++ es) (oldest_from test before es)
 finds_from test before [] none = rw (append-nil before) none
 finds_from test before (e ∷ es) none =
     finds_here test (test before e) before es e (oldest_from test (before ++ e ∷ []) es) refl none
-    (λ fails. finds_from test (before ++ e ∷ []) es (one_behind (λ older x. test older x ≡ false) before e none fails))
+    (λ fails. finds_from test (before ++ e ∷ []) es (one_after (λ older x. test older x ≡ false) before e none fails))
 
 -- what the search for the oldest finds is the oldest that passes, or none passes
 pub oldest_finds : (test : List Entry → Entry → Bool) (es : List Entry) → Finds test es (oldest test es)

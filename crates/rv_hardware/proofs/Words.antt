@@ -70,7 +70,7 @@ pub use Rattle.rv_rob.specs.ReorderBuffer.{ReorderBuffer, after_head, changed, e
 pub use Rattle.rv_rob.specs.declared.entry.Entry.{Entry}
 pub use Rattle.rv_rob.specs.declared.entry.Stage.{Stage}
 pub use Rattle.rv_rob.specs.declared.entry.Stage.TheVariants.{Finished, Running, Waiting}
-pub use Rattle.rv_front.specs.FetchBuffer.{Answers, EndsFor, FetchBuffer, Fetches, FetchesInto, IsFetchedAt, is_halted, stop_behind, stop_for}
+pub use Rattle.rv_front.specs.FetchBuffer.{Answers, EndsFor, FetchBuffer, Fetches, FetchesInto, IsFetchedAt, is_halted, stop_after, stop_for}
 pub use Rattle.rv_front.specs.declared.fetched.FetchStop.{FetchStop}
 pub use Rattle.rv_front.specs.declared.fetched.FetchStop.TheVariants.{Halted, Prediction, Room}
 pub use Rattle.rv_front.specs.declared.fetched.Fetched.{Fetched}
@@ -82,18 +82,18 @@ pub use Rattle.rv_hardware.specs.Drain.{drain, end_drain, start_drain, with_drai
 pub use Rattle.rv_hardware.specs.Gap.{AreSilent, NoSilence, OnlyLastStops}
 pub use Rattle.rv_hardware.specs.Hardware.{Hardware}
 pub use Rattle.rv_hardware.specs.Headline.{ComesBefore, EndAtBreakpoints, EndAtTraps, IsTrueCycle, IsTrueRun, IsTrueStop, Lead, nowhere, onwards, reference_step}
-pub use Rattle.rv_hardware.specs.InFlight.{broadcast_of, is_known_from, is_waiting, memory_behind, registers_behind, store_of_broadcast, store_of_message, stores_of, with_store, with_value, writes}
+pub use Rattle.rv_hardware.specs.InFlight.{broadcast_of, is_known_from, is_waiting, bytes_after, registers_after, store_of_broadcast, store_of_message, stores_of, with_store, with_value, writes}
 pub use Rattle.rv_hardware.specs.Issue.{FromCache, FromStores, Path, Without, cost_of, has_operands, has_port, is_ready, issue, issue_kind, issue_oldest, issue_turn, issued, may_load, oldest, oldest_from, path, path_of, with_access, with_start}
-pub use Rattle.rv_hardware.specs.Laws.{AreApartAtPort, AreCounted, DoesNotWait, EachProducer, FitUnits, HasCost, HasOperandsIn, HasOrderedStamps, IsBroadcastFirst, IsCost, IsFetchedAhead, IsFetchedBehind, IsFetchedSince, IsFirst, IsKnownBefore, IsLoadCost, IsTrappedSoon, IssuesWithOperands, LacksRoom, Laws, LeaveNoUnitIdle, LeavesNoBusIdle, LeavesNoUnitIdle, LoadsAfterStore, NeverMoreThan, TakesDueInterrupts, WaitsForBus, WaitsForRoom, WaitsForUnits, dispatch_cycles, is_pipelined, stall_cycles, stations_of, units_of}
+pub use Rattle.rv_hardware.specs.Laws.{AreApartAtPort, AreCounted, DoesNotWait, EachProducer, FitUnits, HasCost, HasOperandsIn, HasOrderedStamps, IsBroadcastFirst, IsCost, IsFetchedAhead, IsFetchedAfter, IsFetchedSince, IsFirst, IsKnownBefore, IsLoadCost, IsTrappedSoon, IssuesWithOperands, LacksRoom, Laws, LeaveNoUnitIdle, LeavesNoBusIdle, LeavesNoUnitIdle, LoadsAfterStore, NeverMoreThan, TakesDueInterrupts, WaitsForBus, WaitsForRoom, WaitsForUnits, dispatch_cycles, is_pipelined, stall_cycles, stations_of, units_of}
 pub use Rattle.rv_hardware.specs.Repeated.{Ends, GoesOn, Turn, followed_by, repeated}
 pub use Rattle.rv_hardware.specs.Report.{Report, counted}
 pub use Rattle.rv_hardware.specs.Reset.{IsLoadable, memory_at_reset, reset_hardware}
 pub use Rattle.rv_hardware.specs.Result.{access_of, effect_message, fault_message, result_in, result_of_word, value_written}
 pub use Rattle.rv_hardware.specs.Retirement.{committed_store, execution_of, row_of, stale_after, with_result, written_of}
 pub use Rattle.rv_hardware.specs.Run.{Cycles, EndsWith, IsStop, NoneStops, Reachable, at_reset, busy_of, by_cycle, counted_stall, cycled, ended, is_silent, longest_gap_from, longest_gap_of, stalls_from, stalls_of, steps_of}
-pub use Rattle.rv_hardware.specs.Seen.{layout_of, seen, seen_behind, stores_behind, with_state}
+pub use Rattle.rv_hardware.specs.Seen.{layout_of, seen, state_after, stores_after, with_state}
 pub use Rattle.rv_hardware.specs.Squash.{flushed, redirected, with_trap}
-pub use Rattle.rv_hardware.specs.Stamps.{EachBehind, EachNext, flushes, instruction_of_row, is_broadcast_in, is_buffered_in, is_dispatched_in, is_executing_in, is_fetched_in, is_in_flight_in, is_issued_in, is_load_row, is_queued_in, is_row_of_kind, is_stationed_in, is_store_row, last_from, last_that, needs_no_unit, passes, producer_among, rows_of, sources_of_row, steps_below, steps_in, uses_port, writes_register}
+pub use Rattle.rv_hardware.specs.Stamps.{EachAfter, EachNext, flushes, instruction_of_row, is_broadcast_in, is_buffered_in, is_dispatched_in, is_executing_in, is_fetched_in, is_in_flight_in, is_issued_in, is_load_row, is_queued_in, is_row_of_kind, is_stationed_in, is_store_row, last_from, last_that, needs_no_unit, passes, producer_among, rows_of, sources_of_row, steps_below, steps_in, uses_port, writes_register}
 pub use Rattle.rv_hardware.specs.Step.{is_breakpoint, is_breakpoint_cause, is_interrupt, is_retirement, pc_of, stamp_of}
 pub use Rattle.rv_hardware.specs.declared.report.Stall.{Stall}
 pub use Rattle.rv_hardware.specs.declared.step.Execution.{Execution}
@@ -102,5 +102,5 @@ pub use Rattle.rv_hardware.specs.declared.step.Step.{Step}
 pub use Rattle.rv_hardware.specs.declared.step.Step.TheVariants.{Interrupt, Retired, Trap}
 pub use Rattle.rv_hardware.proofs.Tests.{by_test, and_first, and_second, not_both, never_both}
 pub use Rattle.rv_hardware.proofs.Each.{All-Each, Each-All, All-right, Each-append, Each-left, Each-right, Each-push, Each-change, Each-set, Each-place, Each-weaker, Each-all, Each-both, Each-map, Each-images, Each-unmap, Each-filter, map-change}
-pub use Rattle.rv_hardware.proofs.Lists.{EveryPair, EveryBehind, count, Beginning, AllPairs-EveryPair, Across, EveryPair-append, EveryPair-left, EveryPair-right, EveryPair-across, EveryPair-weaker, EveryPair-map, EveryPair-unmap, EveryPair-set, count-count_by, count-append, count-none, count-yes, count-map, count-le, count-length, count-set-same, count-set-more, count-set-grows, count-set-one_more, count-set-less, count-push, count-push-no, count-push-most, count-left, Beginning-self, Beginning-trans, Beginning-count, EveryBehind-left, EveryBehind-append, EveryBehind-right, Beginning-EveryBehind, EveryBehind-moved, EveryBehind-all, EveryBehind-set, EveryBehind-at, EachBehind-EveryBehind, EveryBehind-unmap, EveryBehind-weaker, EveryBehind-both, EveryPair-EveryBehind, EveryBehind-EveryPair}
+pub use Rattle.rv_hardware.proofs.Lists.{EveryPair, EveryAfter, count, Beginning, AllPairs-EveryPair, Across, EveryPair-append, EveryPair-left, EveryPair-right, EveryPair-across, EveryPair-weaker, EveryPair-map, EveryPair-unmap, EveryPair-set, count-count_by, count-append, count-none, count-yes, count-map, count-le, count-length, count-set-same, count-set-more, count-set-grows, count-set-one_more, count-set-less, count-push, count-push-no, count-push-most, count-left, Beginning-self, Beginning-trans, Beginning-count, EveryAfter-left, EveryAfter-append, EveryAfter-right, Beginning-EveryAfter, EveryAfter-moved, EveryAfter-all, EveryAfter-set, EveryAfter-at, EachAfter-EveryAfter, EveryAfter-unmap, EveryAfter-weaker, EveryAfter-both, EveryPair-EveryAfter, EveryAfter-EveryPair}
 pub use Rattle.rv_hardware.proofs.Repeated.{Leads, Leaves, leads_both, left_by_the_rest, turns_within, left_by_turns, kept_by_turns, always}

@@ -12,7 +12,7 @@ use Rattle.rv_hardware.specs.Hardware.{Hardware}
 use Rattle.rv_hardware.specs.InFlight.{is_waiting}
 use Rattle.rv_hardware.specs.Repeated.{Turn, GoesOn, Ends, repeated}
 use Rattle.rv_hardware.specs.Result.{result_of_word}
-use Rattle.rv_hardware.specs.Seen.{layout_of, seen_behind, stores_behind}
+use Rattle.rv_hardware.specs.Seen.{layout_of, state_after, stores_after}
 use Rattle.rv_hardware.specs.declared.report.Stall.{Stall}
 use Rattle.rv_hardware.specs.declared.report.Stall.TheVariants as stall
 
@@ -38,7 +38,7 @@ reason_of h fetched =
     if list_any (λ e. is_serialising e.instruction) h.rob.entries then Some stall.Serial
     else (if nat_le h.rob.capacity (length h.rob.entries) then Some stall.Rob
     else (if has_full_stations h (kind_of_word fetched.instruction) then Some stall.Station
-    else (if is_store fetched.instruction && nat_le h.values.store_queue (length (stores_behind h h.rob.entries)) then Some stall.Store
+    else (if is_store fetched.instruction && nat_le h.values.store_queue (length (stores_after h h.rob.entries)) then Some stall.Store
     else None)))
 
 -- serialising instructions wait to be the oldest, those with a unit wait in a station; all others are finished at once
@@ -51,7 +51,7 @@ stage_by None false finished = finished
 abbrev pub first_stage : Hardware → Fetched → Stage
 first_stage h fetched =
     stage_by (kind_of_word fetched.instruction) (is_serialising fetched.instruction)
-    (Finished None h.cycle (result_of_word (layout_of h.values) (seen_behind h h.rob.entries fetched.pc) h.lines fetched.word fetched.instruction))
+    (Finished None h.cycle (result_of_word (layout_of h.values) (state_after h h.rob.entries fetched.pc) h.lines fetched.word fetched.instruction))
 
 -- the entry of a fetched word
 abbrev pub entry_of_fetched : Hardware → Fetched → Entry

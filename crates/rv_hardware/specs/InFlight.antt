@@ -43,10 +43,10 @@ with_value registers (Some target) None = registers
 with_value registers (Some target) (Some message) = with_register registers target message.value
 
 -- the registers after some instructions, as far as their results were broadcast
-abbrev pub registers_behind : List ℕ → List Entry → List ℕ
-registers_behind registers [] = registers
-registers_behind registers (e ∷ es) =
-    registers_behind (with_value registers (target_of_word e.instruction) (broadcast_of e.stage)) es
+abbrev pub registers_after : List ℕ → List Entry → List ℕ
+registers_after registers [] = registers
+registers_after registers (e ∷ es) =
+    registers_after (with_value registers (target_of_word e.instruction) (broadcast_of e.stage)) es
 
 -- what is known of a store: a faulting one covers no byte
 abbrev pub store_of_message : Option StoreAccess → StoreState
@@ -73,6 +73,6 @@ with_store base store.Faulted bytes = bytes
 with_store base (store.Filled access phase) bytes = overwritten bytes (access.address - base) access.bytes
 
 -- the bytes of memory from address base on, once stores have written theirs, the oldest first
-abbrev pub memory_behind : ℕ → List QueuedStore → List ℕ → List ℕ
-memory_behind base [] bytes = bytes
-memory_behind base (s ∷ ss) bytes = memory_behind base ss (with_store base s.state bytes)
+abbrev pub bytes_after : ℕ → List QueuedStore → List ℕ → List ℕ
+bytes_after base [] bytes = bytes
+bytes_after base (s ∷ ss) bytes = bytes_after base ss (with_store base s.state bytes)

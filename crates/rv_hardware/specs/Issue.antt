@@ -21,7 +21,7 @@ use Rattle.rv_hardware.specs.Hardware.{Hardware}
 use Rattle.rv_hardware.specs.InFlight.{is_waiting, is_known}
 use Rattle.rv_hardware.specs.Repeated.{Turn, GoesOn, Ends, repeated}
 use Rattle.rv_hardware.specs.Result.{result_of_word}
-use Rattle.rv_hardware.specs.Seen.{layout_of, seen_behind, stores_behind}
+use Rattle.rv_hardware.specs.Seen.{layout_of, state_after, stores_after}
 
 -- where an instruction takes its bytes from memory
 pub data Path : Type 0 where
@@ -36,7 +36,7 @@ pub data Path : Type 0 where
 abbrev pub path_of_load : Hardware → List Entry → ℕ → ℕ → Path
 path_of_load h older address count =
     if not (is_aligned address count && is_in_ram (layout_of h.values) address count) then Without
-    else (if list_all is_some (take count (forwarded (stores_behind h older) address count)) then FromStores
+    else (if list_all is_some (take count (forwarded (stores_after h older) address count)) then FromStores
     else FromCache address)
 
 -- the way of an instruction that executes in a state
@@ -47,7 +47,7 @@ path_of h older s _ = Without
 
 -- the way of an entry after the older ones
 abbrev pub path : Hardware → List Entry → Entry → Path
-path h older e = path_of h older (seen_behind h older e.pc) e.instruction
+path h older e = path_of h older (state_after h older e.pc) e.instruction
 
 -- the cycles from issue until the result can be broadcast
 abbrev pub cost_of : Hardware → Kind → Path → ℕ
@@ -70,7 +70,7 @@ has_operands older (Some register ∷ sources) = is_known older register && has_
 -- a load waits until every older store was broadcast, and for the port where it needs it
 abbrev pub may_load : Hardware → List Entry → Entry → Bool
 may_load h older e =
-    not (is_load e.instruction) || (list_all is_known_store (stores_behind h older) && has_port h (path h older e))
+    not (is_load e.instruction) || (list_all is_known_store (stores_after h older) && has_port h (path h older e))
 
 -- an instruction of a kind that can leave its station
 abbrev pub is_ready : Hardware → Kind → List Entry → Entry → Bool
@@ -109,7 +109,7 @@ with_start kind seq cost message h = record h {
 abbrev pub issued : Kind → Hardware → List Entry → Entry → Hardware
 issued kind h older e =
     with_start kind (h.rob.retired + length older) (cost_of h kind (path h older e))
-    (result_of_word (layout_of h.values) (seen_behind h older e.pc) h.lines e.word e.instruction) (with_access (path h older e) h)
+    (result_of_word (layout_of h.values) (state_after h older e.pc) h.lines e.word e.instruction) (with_access (path h older e) h)
 
 -- the entry that was found leaves; where none was, the turns of the kind end
 abbrev pub issue_oldest : Kind → Hardware → Option (List Entry × Entry) → Turn Hardware

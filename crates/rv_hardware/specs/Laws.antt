@@ -11,7 +11,7 @@ use Rattle.rv_arch.specs.State.{State}
 use Rattle.rv_arch.specs.Trap.{interrupt_cause}
 use Rattle.rv_memory.specs.Memory.{Layout}
 use Rattle.rv_hardware.specs.Headline.{reference_step}
-use Rattle.rv_hardware.specs.Stamps.{rows_of, steps_below, steps_in, EachBehind, EachNext, kind_of_row, is_store_row, is_load_row, is_fence_i_row, known_in, needs_no_unit, is_row_of_kind, sources_of_row, producer_among, flushes, is_fetched_in, is_dispatched_in, is_issued_in, is_broadcast_in, is_buffered_in, is_in_flight_in, is_stationed_in, is_executing_in, is_queued_in, uses_port}
+use Rattle.rv_hardware.specs.Stamps.{rows_of, steps_below, steps_in, EachAfter, EachNext, kind_of_row, is_store_row, is_load_row, is_fence_i_row, known_in, needs_no_unit, is_row_of_kind, sources_of_row, producer_among, flushes, is_fetched_in, is_dispatched_in, is_issued_in, is_broadcast_in, is_buffered_in, is_in_flight_in, is_stationed_in, is_executing_in, is_queued_in, uses_port}
 use Rattle.rv_hardware.specs.Step.{stamp_of, is_interrupt}
 use Rattle.rv_hardware.specs.declared.{report.StallCounts.StallCounts, step.Execution.Execution, step.Row.Row, step.Step.Step}
 use Rattle.rv_hardware.specs.declared.step.Step.TheVariants.{Retired, Trap, Interrupt}
@@ -124,7 +124,7 @@ LeavesNoUnitIdle kind units from before row =
 
 -- no unit of a kind is idle while a row waits for one with its operands
 abbrev pub LeaveNoUnitIdle : Values → Kind → ℕ → List Row → Type 0
-LeaveNoUnitIdle values kind from rows = EachBehind (LeavesNoUnitIdle kind (units_of values kind) from) rows
+LeaveNoUnitIdle values kind from rows = EachAfter (LeavesNoUnitIdle kind (units_of values kind) from) rows
 
 -- in a cycle the stations of the kind of unit that a row uses are full of older ones
 abbrev pub LacksStation : Values → ℕ → List Row → Row → Type 0
@@ -210,12 +210,12 @@ TakesDueInterrupts layout arrivals from to before steps =
 
 -- where row b comes next after row a, b is fetched when a retires, with early recovery when a's result is broadcast, or
 -- as soon as the fetch buffer has room
-abbrev pub IsFetchedBehind : Values → ℕ → List Row → Step → Step → Type 0
-IsFetchedBehind values from rows (Retired a) (Retired b) =
+abbrev pub IsFetchedAfter : Values → ℕ → List Row → Step → Step → Type 0
+IsFetchedAfter values from rows (Retired a) (Retired b) =
     (b.fetched ≡ a.retired) ⊎
     ((values.recovery ≡ Early) × MatchOption a.execution ⊥ (λ x. b.fetched ≡ x.broadcast)) ⊎
     ((c : ℕ) → from ≤ c → a.fetched < c → c < b.fetched → values.fetch_buffer ≤ count_by (is_buffered_in c) rows)
-IsFetchedBehind values from rows _ _ = Unit {0}
+IsFetchedAfter values from rows _ _ = Unit {0}
 
 -- The laws, of the steps of the cycles from `from` on and below `to`. A stamp is the number of a cycle.
 pub record Laws (values : Values) (from to : ℕ) (steps : List Step) : Type 0 where
@@ -242,13 +242,13 @@ pub record Laws (values : Values) (from to : ℕ) (steps : List Step) : Type 0 w
   pub fetch_width : NeverMoreThan values.fetch_width is_fetched_in (rows_of steps)
   pub dispatch_width : NeverMoreThan values.dispatch_width is_dispatched_in (rows_of steps)
   -- an instruction issues after the broadcasts of its operands, and a load after those of all older stores
-  pub operands : EachBehind IssuesWithOperands (rows_of steps)
+  pub operands : EachAfter IssuesWithOperands (rows_of steps)
   pub loads_after_stores : AllPairs LoadsAfterStore (rows_of steps)
   -- at most `bus_width` results are broadcast in a cycle, of those that are ready the oldest; the bus is not idle while
   -- one waits
   pub bus_width : NeverMoreThan values.bus_width is_broadcast_in (rows_of steps)
   pub oldest_result_first : AllPairs IsBroadcastFirst (rows_of steps)
-  pub no_idle_bus : EachBehind (LeavesNoBusIdle values.bus_width from) (rows_of steps)
+  pub no_idle_bus : EachAfter (LeavesNoBusIdle values.bus_width from) (rows_of steps)
   -- the reorder buffer, the fetch buffer and the stations hold no more than they have room for
   pub reorder_buffer : NeverMoreThan values.rob is_in_flight_in (rows_of steps)
   pub fetch_buffer : NeverMoreThan values.fetch_buffer is_buffered_in (rows_of steps)
@@ -264,6 +264,6 @@ pub record Laws (values : Values) (from to : ℕ) (steps : List Step) : Type 0 w
   -- after a trap, an interrupt or a serialising instruction everything is fetched anew
   pub fetched_anew : AllPairs (λ a b. flushes a ≡ true → IsFetchedSince a b) steps
   -- fetch waits for nothing but room
-  pub no_idle_fetch : EachNext (IsFetchedBehind values from (rows_of steps)) steps
+  pub no_idle_fetch : EachNext (IsFetchedAfter values from (rows_of steps)) steps
   -- dispatch waits for nothing but room
-  pub no_idle_dispatch : EachBehind (WaitsForRoom values from) (rows_of steps)
+  pub no_idle_dispatch : EachAfter (WaitsForRoom values from) (rows_of steps)

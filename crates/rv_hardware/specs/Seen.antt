@@ -6,7 +6,7 @@ use Rattle.rv_memory.specs.Memory.{Layout}
 use Rattle.rv_rob.specs.declared.entry.Entry.{Entry}
 use Rattle.rv_stores.specs.declared.store.Store.{Store as QueuedStore}
 use Rattle.rv_hardware.specs.Hardware.{Hardware}
-use Rattle.rv_hardware.specs.InFlight.{registers_behind, stores_of, memory_behind}
+use Rattle.rv_hardware.specs.InFlight.{registers_after, stores_of, bytes_after}
 
 -- where the description puts RAM
 abbrev pub layout_of : Values → Layout
@@ -19,21 +19,21 @@ seen h = record {
   pc = h.pc;
   registers = h.registers;
   csrs = h.csrs;
-  ram = memory_behind h.values.ram_base h.committed h.cache.bytes;
+  ram = bytes_after h.values.ram_base h.committed h.cache.bytes;
   stale = h.stale;
 }
 
 -- the stores that are older than the instruction after some others in flight
-abbrev pub stores_behind : Hardware → List Entry → List QueuedStore
-stores_behind h older = h.committed ++ stores_of h.rob.retired older
+abbrev pub stores_after : Hardware → List Entry → List QueuedStore
+stores_after h older = h.committed ++ stores_of h.rob.retired older
 
 -- the state in which an instruction at a pc executes: after the older ones, as far as their results were broadcast
-abbrev pub seen_behind : Hardware → List Entry → ℕ → State
-seen_behind h older pc = record {
+abbrev pub state_after : Hardware → List Entry → ℕ → State
+state_after h older pc = record {
   pc = pc;
-  registers = registers_behind h.registers older;
+  registers = registers_after h.registers older;
   csrs = h.csrs;
-  ram = memory_behind h.values.ram_base (stores_behind h older) h.cache.bytes;
+  ram = bytes_after h.values.ram_base (stores_after h older) h.cache.bytes;
   stale = h.stale;
 }
 

@@ -25,8 +25,8 @@ abbrev pub steps_in : ℕ → List Step → List Step
 steps_in c steps = filter (λ step. stamp_of step == c) steps
 
 -- P of each element and of those before it, in order
-abbrev pub EachBehind : {X : Type 0} → (List X → X → Type 0) → List X → Type 0
-EachBehind {X} P xs = (before after : List X) (x : X) → xs ≡ before ++ x ∷ after → P before x
+abbrev pub EachAfter : {X : Type 0} → (List X → X → Type 0) → List X → Type 0
+EachAfter {X} P xs = (before after : List X) (x : X) → xs ≡ before ++ x ∷ after → P before x
 
 -- R of each element and the one that comes next
 abbrev pub EachNext : {X : Type 0} → (X → X → Type 0) → List X → Type 0

@@ -4,22 +4,22 @@ use Rattle.std.proofs.Math.Seq.{drop-cons}
 use Rattle.std.proofs.lemmas.List.{take_more, take-append-drop}
 use Rattle.rv_isa.specs.declared.values.Values.{Values}
 use Rattle.rv_describe.specs.Description.{description_of}
-use Rattle.rv_job.specs.Comparison.{AreLoaded, Compares, IsBehind, IsLoaded, RefusesDescribed, RefusesLoading, RefusesProgram}
+use Rattle.rv_job.specs.Comparison.{AreLoaded, Compares, IsAfter, IsLoaded, RefusesDescribed, RefusesLoading, RefusesProgram}
 use Rattle.rv_job.specs.Parts.{halves_of}
 use Rattle.rv_job.specs.declared.errors.SimError.{SimError}
 use Rattle.rv_job.specs.declared.job.Job.{Job}
 
 -- after no description stands the whole text
-behind_none : {text rest : List ℕ} {machines : List Values} → IsBehind text machines rest → length machines ≡ 0 → rest ≡ text
-behind_none IsBehind.nothing none = refl
-behind_none (IsBehind.another {machines = machines} {machine = machine} front is described) none =
+after_none : {text rest : List ℕ} {machines : List Values} → IsAfter text machines rest → length machines ≡ 0 → rest ≡ text
+after_none IsAfter.nothing none = refl
+after_none (IsAfter.another {machines = machines} {machine = machine} front is described) none =
     absurd (omega (arith, none, length-append machines (machine ∷ [])))
 
 -- a text without separator
-pub compares_alone : (text rest : List ℕ) (machines : List Values) (machine : Values) → IsBehind text machines rest → length machines ≡ 0
+pub compares_alone : (text rest : List ℕ) (machines : List Values) (machine : Values) → IsAfter text machines rest → length machines ≡ 0
     → halves_of rest ≡ None → description_of [] ≡ Ok machine → Compares text (machines ++ machine ∷ []) rest
 compares_alone text rest [] machine front none last described =
-    let whole = behind_none front none in
+    let whole = after_none front none in
     subst (Compares text (machine ∷ [])) (sym whole) (Compares.alone (subst (λ t. halves_of t ≡ None) whole last) described)
 compares_alone text rest (first ∷ machines) machine front none last described = absurd (omega (arith, none))
 

@@ -4,7 +4,7 @@ use Rattle.std.specs.Prelude.{if◌then◌else◌, IfSome}
 use Rattle.std.specs.List.{after_first, before_first, position_or_len}
 use Rattle.std.specs.Option.{option_or}
 use Rattle.std.proofs.lemmas.List.{length-drop}
-use Rattle.rv_job.specs.Parts.{Halves, behind_separator, halves_at_front, halves_of, is_line_feed, is_separator, later_halves, preceded}
+use Rattle.rv_job.specs.Parts.{Halves, after_separator, halves_at_front, halves_of, is_line_feed, is_separator, later_halves, preceded}
 
 abbrev IsShorter : ℕ → Option Halves → Type 0
 IsShorter bound found = IfSome found (λ halves. length halves.behind < bound)
@@ -13,16 +13,16 @@ either : (bound : ℕ) (one other : Option Halves) → IsShorter bound one → I
 either bound None other first second = second
 either bound (Some halves) other first second = first
 
-behind_byte : (byte bound : ℕ) (found : Option Halves) → IsShorter bound found → IsShorter (suc bound) (option_map (preceded (byte ∷ [])) found)
-behind_byte byte bound None shorter = tt
-behind_byte byte bound (Some halves) shorter = omega (arith, shorter)
+after_byte : (byte bound : ℕ) (found : Option Halves) → IsShorter bound found → IsShorter (suc bound) (option_map (preceded (byte ∷ [])) found)
+after_byte byte bound None shorter = tt
+after_byte byte bound (Some halves) shorter = omega (arith, shorter)
 
 where_tested : (test : Bool) (bound : ℕ) (found : Option Halves) → IsShorter bound found → IsShorter bound (if test then found else None)
 where_tested true bound found shorter = shorter
 where_tested false bound found shorter = tt
 
 at_front : (text : List ℕ) → IsShorter (length text) (halves_at_front text)
-unfolding behind_separator
+unfolding after_separator
 at_front [] = tt
 at_front (byte ∷ later) = go (is_separator (before_first is_line_feed (byte ∷ later)))
   where
@@ -40,12 +40,12 @@ later_shorter : (text : List ℕ) → IsShorter (length text) (later_halves text
 unfolding later_halves
 later_shorter [] = tt
 later_shorter (byte ∷ later) =
-    behind_byte byte (length later) _
+    after_byte byte (length later) _
     (either (length later) _ _ (where_tested (is_line_feed byte) (length later) _ (at_front later)) (later_shorter later))
 
 shorter : (text : List ℕ) → IsShorter (length text) (halves_of text)
 unfolding halves_of
 shorter text = either (length text) _ _ (at_front text) (later_shorter text)
 
-pub behind_shorter : (text : List ℕ) (halves : Halves) → halves_of text ≡ Some halves → length halves.behind < length text
-behind_shorter text halves is = subst (IsShorter (length text)) is (shorter text)
+pub after_shorter : (text : List ℕ) (halves : Halves) → halves_of text ≡ Some halves → length halves.behind < length text
+after_shorter text halves is = subst (IsShorter (length text)) is (shorter text)

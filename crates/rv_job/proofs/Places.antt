@@ -3,7 +3,7 @@ use Rattle.std.proofs.Common.{◌≡◌, ℕ, ◌+◌, ◌<◌, List, [], ◌∷
 use Rattle.std.specs.Prelude.{if◌then◌else◌}
 use Rattle.std.proofs.Math.Seq.{drop-cons}
 use Rattle.std.proofs.lemmas.List.{take_more}
-use Rattle.rv_job.specs.Parts.{Halves, behind_separator, preceded, later_halves, halves_at_front, is_line_feed}
+use Rattle.rv_job.specs.Parts.{Halves, after_separator, preceded, later_halves, halves_at_front, is_line_feed}
 
 preceded_twice : (before : List ℕ) (byte : ℕ) (found : Option Halves)
     → option_map (preceded before) (option_map (preceded (byte ∷ [])) found) ≡ option_map (preceded (before ++ byte ∷ [])) found
@@ -18,7 +18,7 @@ unfolding later_halves
 no_separator byte later none = rw none refl
 
 -- no separator stands at the front of a text, whatever stands before it
-pub no_separator_at_front : (at_line_feed : Bool) (later : List ℕ) → behind_separator later ≡ None
+pub no_separator_at_front : (at_line_feed : Bool) (later : List ℕ) → after_separator later ≡ None
     → (if at_line_feed then halves_at_front later else None) ≡ None
 no_separator_at_front true later none = rw none refl
 no_separator_at_front false later none = refl

@@ -6,8 +6,8 @@ use Rattle.std.specs.List.{after_first, before_first, position_or_len, slice_spl
 use Rattle.std.specs.Option.{option_or}
 use Rattle.std.proofs.lemmas.List.Sums.{sum_by-cons}
 use Rattle.rv_isa.specs.declared.values.Values.{Values}
-use Rattle.rv_job.specs.Comparison.{AreLoaded, Compares, IsBehind, most_machines, separator_count}
-use Rattle.rv_job.specs.Parts.{Halves, behind_separator, halves_at_front, halves_of, is_line_feed, is_separator, later_halves, preceded}
+use Rattle.rv_job.specs.Comparison.{AreLoaded, Compares, IsAfter, most_machines, separator_count}
+use Rattle.rv_job.specs.Parts.{Halves, after_separator, halves_at_front, halves_of, is_line_feed, is_separator, later_halves, preceded}
 use Rattle.rv_job.specs.ReadParts.{halves_in}
 use Rattle.rv_job.specs.declared.job.Job.{Job}
 use Rattle.rv_job.specs.declared.parts.Halves as read
@@ -42,9 +42,9 @@ by_first_line text =
     ap (count_by is_separator) (first_line text)
     ∙ sum_by-cons (λ line. if is_separator line then 1 else 0) (before_first is_line_feed text) (later_lines text)
 
-behind_first_line : (text : List ℕ) → later_count text ≡ separator_count (after_first is_line_feed text)
-behind_first_line [] = refl
-behind_first_line (byte ∷ later) = go (behind_first_line later) (is_line_feed byte) refl
+after_first_line : (text : List ℕ) → later_count text ≡ separator_count (after_first is_line_feed text)
+after_first_line [] = refl
+after_first_line (byte ∷ later) = go (after_first_line later) (is_line_feed byte) refl
   where
     go : later_count later ≡ separator_count (after_first is_line_feed later) → (test : Bool) → is_line_feed byte ≡ test
         → later_count (byte ∷ later) ≡ separator_count (after_first is_line_feed (byte ∷ later))
@@ -59,13 +59,13 @@ of_preceded bytes (Some halves) = refl
 
 either_count : (text : List ℕ) → later_count text ≡ count_from (later_halves text)
     → separator_count text ≡ count_from (option_or (halves_at_front text) (later_halves text))
-unfolding behind_separator
+unfolding after_separator
 either_count text behind = by_first_line text ∙ go (is_separator (before_first is_line_feed text)) refl
   where
     go : (test : Bool) → is_separator (before_first is_line_feed text) ≡ test
         → (if is_separator (before_first is_line_feed text) then 1 else 0) + later_count text
         ≡ count_from (option_or (halves_at_front text) (later_halves text))
-    go true is = rw (is, behind_first_line text) refl
+    go true is = rw (is, after_first_line text) refl
     go false is = rw (is, behind) (omega arith)
 
 later_counted : (text : List ℕ) → later_count text ≡ count_from (later_halves text)
@@ -96,11 +96,11 @@ another rest None count is all = sym (le-ltb most_machines count (omega (arith, 
 another rest (Some halves) count is all = sym (lt-ltb most_machines count (omega (arith, all, one_more rest (halves_in halves) (sym is))))
 
 -- after descriptions stand the other separators
-pub counted_behind : {text rest : List ℕ} {machines : List Values} → IsBehind text machines rest
+pub counted_after : {text rest : List ℕ} {machines : List Values} → IsAfter text machines rest
     → separator_count text ≡ length machines + separator_count rest
-counted_behind IsBehind.nothing = omega arith
-counted_behind (IsBehind.another {machines = machines} {rest = rest} {machine = machine} {halves = halves} front is described) =
-    let whole = counted_behind front in
+counted_after IsAfter.nothing = omega arith
+counted_after (IsAfter.another {machines = machines} {rest = rest} {machine = machine} {halves = halves} front is described) =
+    let whole = counted_after front in
     let here = counted rest ∙ ap count_from is in
     omega (arith, whole, here, length-append machines (machine ∷ []))
 
@@ -108,7 +108,7 @@ counted_behind (IsBehind.another {machines = machines} {rest = rest} {machine = 
 machines_few : {text program : List ℕ} {machines : List Values} → Compares text machines program
     → separator_count text ≤ most_machines → length machines ≤ most_machines
 machines_few (Compares.alone last described) few = omega arith
-machines_few (Compares.described front last some) few = let whole = counted_behind front in omega (arith, whole, few)
+machines_few (Compares.described front last some) few = let whole = counted_after front in omega (arith, whole, few)
 
 as_many : {program : List ℕ} {machines : List Values} {jobs : List Job} → AreLoaded program machines jobs → length jobs ≡ length machines
 as_many AreLoaded.nothing = refl

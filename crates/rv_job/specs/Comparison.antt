@@ -39,16 +39,16 @@ abbrev pub names_of : List ℕ → List (List ℕ)
 names_of text = let lines = slice_split is_line_feed text in names_from (first_of lines) lines
 
 -- the front of a text describes machines, with a separator after each description, and the rest stands after the last of them
-pub data IsBehind (text : List ℕ) : List Values → List ℕ → Type 0 where
-  nothing : IsBehind text [] text
-  another : {machines : List Values} {rest : List ℕ} {machine : Values} {halves : Halves} → IsBehind text machines rest →
-      halves_of rest ≡ Some halves → description_of halves.before ≡ Ok machine → IsBehind text (machines ++ machine ∷ []) halves.behind
+pub data IsAfter (text : List ℕ) : List Values → List ℕ → Type 0 where
+  nothing : IsAfter text [] text
+  another : {machines : List Values} {rest : List ℕ} {machine : Values} {halves : Halves} → IsAfter text machines rest →
+      halves_of rest ≡ Some halves → description_of halves.before ≡ Ok machine → IsAfter text (machines ++ machine ∷ []) halves.behind
 
 -- a text compares a program on some machines; where no separator stands, on the one that an empty description describes
 pub data Compares (text : List ℕ) : List Values → List ℕ → Type 0 where
   alone : {machine : Values} → halves_of text ≡ None → description_of [] ≡ Ok machine → Compares text (machine ∷ []) text
   described : {machines : List Values} {program : List ℕ} →
-      IsBehind text machines program → halves_of program ≡ None → 0 < length machines → Compares text machines program
+      IsAfter text machines program → halves_of program ≡ None → 0 < length machines → Compares text machines program
 
 -- a job is a program on a machine, without arrivals
 pub record IsLoaded (program : List ℕ) (machine : Values) (job : Job) : Type 0 where
@@ -90,7 +90,7 @@ RefusesProgram number program machine error = RefusesAssembly machine.ram_base p
 -- why descriptions are refused: those before the one at fault are without fault
 pub data RefusesDescriptions (text : List ℕ) : SimError → Type 0 where
   memory : RefusesDescriptions text Memory
-  at : {machines : List Values} {rest : List ℕ} {halves : Halves} {error : SimError} → IsBehind text machines rest →
+  at : {machines : List Values} {rest : List ℕ} {halves : Halves} {error : SimError} → IsAfter text machines rest →
       halves_of rest ≡ Some halves → RefusesDescribed (length machines + 1) halves.before error → RefusesDescriptions text error
 
 -- why a program is refused on some machines: on those before the one that is named it is not

@@ -11,8 +11,8 @@ abbrev pub is_separator : List ℕ → Bool
 is_separator line = bytes_eq line (codes "%%") || bytes_eq line (codes "%%\r")
 
 -- what stands after the first line of a text, where that line is a separator
-unfoldable pub behind_separator : List ℕ → Option (List ℕ)
-behind_separator text =
+unfoldable pub after_separator : List ℕ → Option (List ℕ)
+after_separator text =
     if is_separator (before_first is_line_feed text) then Some (after_first is_line_feed text) else None
 
 -- what stands before a separator, and after it
@@ -26,7 +26,7 @@ preceded bytes halves = record { before = bytes ++ halves.before; behind = halve
 
 -- the halves of a text whose first line is a separator
 abbrev pub halves_at_front : List ℕ → Option Halves
-halves_at_front text = option_map (λ behind. record { before = []; behind = behind }) (behind_separator text)
+halves_at_front text = option_map (λ behind. record { before = []; behind = behind }) (after_separator text)
 
 -- the halves of a text at the first separator after one of its line feeds
 unfoldable pub later_halves : List ℕ → Option Halves
@@ -49,11 +49,11 @@ abbrev pub assembly_alone : List ℕ → Parts
 assembly_alone text = record { description = []; arrivals = []; assembly = text }
 
 -- what stands after the first separator: arrivals and assembly, or assembly where there is no other separator
-abbrev pub parts_behind : List ℕ → List ℕ → Parts
-parts_behind description behind =
+abbrev pub parts_after : List ℕ → List ℕ → Parts
+parts_after description behind =
     option_map_or (λ halves. record { description = description; arrivals = halves.before; assembly = halves.behind })
     (halves_of behind) (record { description = description; arrivals = []; assembly = behind })
 
 -- the parts of a text; a part that is missing is empty
 unfoldable pub parts_of : List ℕ → Parts
-parts_of text = option_map_or (λ halves. parts_behind halves.before halves.behind) (halves_of text) (assembly_alone text)
+parts_of text = option_map_or (λ halves. parts_after halves.before halves.behind) (halves_of text) (assembly_alone text)

@@ -1,7 +1,7 @@
 ghost use Rattle.std.specs.Prelude.{◌≡◌, ◌≤◌, List, [], IfOk, IfErr, None, Ok, length, map, nat_lt};
 ghost use Rattle.rv_asm.specs.Kept.{lines_left};
 ghost use Rattle.rv_describe.specs.Description.{description_of};
-ghost use Rattle.rv_job.specs.Comparison.{AreLoaded, Compares, IsBehind, IsComparisonOf, IsLoaded, RefusesComparison, RefusesDescribed, RefusesDescriptions, RefusesLoading, RefusesProgram, first_of, machine_name, most_machines, names_of, separator_count};
+ghost use Rattle.rv_job.specs.Comparison.{AreLoaded, Compares, IsAfter, IsComparisonOf, IsLoaded, RefusesComparison, RefusesDescribed, RefusesDescriptions, RefusesLoading, RefusesProgram, first_of, machine_name, most_machines, names_of, separator_count};
 ghost use Rattle.rv_job.specs.Parts.{halves_of};
 
 use crate::errors::SimError;
@@ -93,7 +93,7 @@ fn read_described(alloc: Global, number: usize, part: &[u8]) -> Result<Descripti
 
 // The machines that are described in front of a text's last part, and that part.
 fn read_descriptions(alloc: Global, text: &[u8]) -> Result<(Vec<Description>, &[u8]), SimError>
-    ensures machines { IfOk result (λ read. IsBehind text.entry.now read.0.items read.1.now) }
+    ensures machines { IfOk result (λ read. IsAfter text.entry.now read.0.items read.1.now) }
     ensures last { IfOk result (λ read. halves_of read.1.now ≡ None) }
     ensures refused { IfErr result (RefusesDescriptions text.entry.now) }
 {

@@ -1,6 +1,6 @@
 ghost use Rattle.std.specs.Prelude.{◌≡◌, ◌≤◌, length, option_map, option_copied};
 ghost use Rattle.std.specs.List.{position_or_len};
-ghost use Rattle.rv_job.specs.Parts.{behind_separator, halves_of, later_halves, parts_of, is_line_feed, is_separator};
+ghost use Rattle.rv_job.specs.Parts.{after_separator, halves_of, later_halves, parts_of, is_line_feed, is_separator};
 ghost use Rattle.rv_job.specs.ReadParts.{halves_in, parts_in};
 
 // The line between two parts, without and with a carriage return.
@@ -44,9 +44,9 @@ pub(crate) fn is_separator(line: &[u8]) -> bool
 }
 
 // What stands after the first line of a text, where that line is a separator.
-#[tactic(auto, unfolding(crate::specs::Parts::behind_separator))]
-fn behind_separator(text: &[u8]) -> Option<&[u8]>
-    ensures { option_copied result ≡ behind_separator text.entry.now }
+#[tactic(auto, unfolding(crate::specs::Parts::after_separator))]
+fn after_separator(text: &[u8]) -> Option<&[u8]>
+    ensures { option_copied result ≡ after_separator text.entry.now }
 {
     let count = count_before_line_feed(text);
     let (line, rest) = text.split_at(count);
@@ -67,7 +67,7 @@ fn later_halves(text: &[u8]) -> Option<Halves<'_>>
     for place in 0..text.len() {
         if text[place] == b'\n' {
             let (before, later) = text.split_at(place + 1);
-            if let Some(behind) = behind_separator(later) {
+            if let Some(behind) = after_separator(later) {
                 return Some(Halves { before, behind });
             }
         }
@@ -80,7 +80,7 @@ fn later_halves(text: &[u8]) -> Option<Halves<'_>>
 pub(crate) fn cut_at_separator(text: &[u8]) -> Option<Halves<'_>>
     ensures { option_map halves_in result ≡ halves_of text.entry.now }
 {
-    match behind_separator(text) {
+    match after_separator(text) {
         Some(behind) => Some(Halves {
             before: b"",
             behind,

@@ -61,7 +61,7 @@ fn divisions_and_products(rt: HostRuntime) {
 }
 
 #[test]
-fn load_behind_ram_faults(rt: HostRuntime) {
+fn load_after_ram_faults(rt: HostRuntime) {
     const CASE: Case<'static> = Case {
         words: &LOAD_PAST_RAM,
         traps: 2,

@@ -238,9 +238,9 @@ open-numbered number (p ∷ ps) =
 open_same : (ps qs : List Passage) (count : ℕ) → ps ≡ qs → length (filter is_in_flight qs) ≤ count → length (filter is_in_flight ps) ≤ count
 open_same ps qs count same few = subst (λ (l : List Passage). length (filter is_in_flight l) ≤ count) (sym same) few
 
-open_behind : (cycle number : ℕ) (older now : List Passage) (p q : Passage) (ps left : List Passage) (count : ℕ) → moved cycle older now p ≡ q → left_after cycle now p ≡ left
+open_after : (cycle number : ℕ) (older now : List Passage) (p q : Passage) (ps left : List Passage) (count : ℕ) → moved cycle older now p ≡ q → left_after cycle now p ≡ left
     → length (filter is_in_flight (q ∷ moved_on cycle number (older ++ q ∷ []) ps left)) ≤ count → length (filter is_in_flight (moved_on cycle number older (p ∷ ps) now)) ≤ count
-open_behind cycle number older now p q ps left count becomes leaves few =
+open_after cycle number older now p q ps left count becomes leaves few =
     open_same _ _ count (λ i. becomes i ∷ moved_on cycle number (older ++ becomes i ∷ []) ps (leaves i)) few
 
 pub open-moved : (cycle number : ℕ) (older ps now : List Passage) → length (filter is_in_flight (moved_on cycle number older ps now)) ≤ length now
@@ -249,10 +249,10 @@ open-moved cycle number older (p ∷ ps) [] =
     elim (cases_Bool (is_in_flight p)) [
       | inl flies ↦
           let q = squashed_in cycle p in
-          open_behind cycle number older [] p q ps [] 0 (gone-moved cycle older p flies) (gone-left cycle older p flies)
+          open_after cycle number older [] p q ps [] 0 (gone-moved cycle older p flies) (gone-left cycle older p flies)
           (open_past q (moved_on cycle number (older ++ q ∷ []) ps []) 0 refl (open-moved cycle number (older ++ q ∷ []) ps []))
       | inr ended ↦
-          open_behind cycle number older [] p p ps [] 0 (stays-moved cycle older p [] ended) (stays-left cycle older p [] ended)
+          open_after cycle number older [] p p ps [] 0 (stays-moved cycle older p [] ended) (stays-left cycle older p [] ended)
           (open_past p (moved_on cycle number (older ++ p ∷ []) ps []) 0 ended (open-moved cycle number (older ++ p ∷ []) ps []))
     ]
 open-moved cycle number older (p ∷ ps) (n ∷ now) =
@@ -260,14 +260,14 @@ open-moved cycle number older (p ∷ ps) (n ∷ now) =
       | inl flies ↦ elim (cases_Bool (nat_lt n.fetched cycle)) [
         | inl before ↦
             let q = standing_at older n p in
-            open_behind cycle number older (n ∷ now) p q ps now _ (stands-moved cycle older p n now flies before) (stands-left cycle older p n now flies before)
+            open_after cycle number older (n ∷ now) p q ps now _ (stands-moved cycle older p n now flies before) (stands-left cycle older p n now flies before)
             (omega (arith, open_here q (moved_on cycle number (older ++ q ∷ []) ps now), open-moved cycle number (older ++ q ∷ []) ps now))
         | inr later ↦
             let q = squashed_in cycle p in
-            open_behind cycle number older (n ∷ now) p q ps (n ∷ now) _ (squashed-moved cycle older p n now flies later) (squashed-left cycle older p n now flies later)
+            open_after cycle number older (n ∷ now) p q ps (n ∷ now) _ (squashed-moved cycle older p n now flies later) (squashed-left cycle older p n now flies later)
             (open_past q (moved_on cycle number (older ++ q ∷ []) ps (n ∷ now)) (length (n ∷ now)) refl (open-moved cycle number (older ++ q ∷ []) ps (n ∷ now)))
       ]
       | inr ended ↦
-          open_behind cycle number older (n ∷ now) p p ps (n ∷ now) _ (stays-moved cycle older p (n ∷ now) ended) (stays-left cycle older p (n ∷ now) ended)
+          open_after cycle number older (n ∷ now) p p ps (n ∷ now) _ (stays-moved cycle older p (n ∷ now) ended) (stays-left cycle older p (n ∷ now) ended)
           (open_past p (moved_on cycle number (older ++ p ∷ []) ps (n ∷ now)) (length (n ∷ now)) ended (open-moved cycle number (older ++ p ∷ []) ps (n ∷ now)))
     ]

@@ -8,7 +8,7 @@ ghost use Rattle.rv_asm.specs.Statement.{is_implied};
 ghost use Rattle.rv_refusal.specs.Culprit.{culprit_among, culprit_of, culprit_on, definition_on, defines, has_unknown_register, holds_register, holds_value, is_culprit, is_misfit, is_of_definition, is_of_operands, is_of_register, is_of_shape, is_past_csrs, is_too_wide, is_unnamed, is_wrong_value, marked, may_be_out_of_range, only, operand_at, operand_of_fault, operands_on, unless_empty};
 
 use crate::operand_tokens::{add_operands, from_register, operand_at};
-use crate::statement::behind_labels;
+use crate::statement::after_labels;
 use rv_asm::{AsmFault, Expression, Form, Operand, Place, Token, form_named, register_named};
 use rv_isa::Width;
 use std::alloc::{AllocError, Global};
@@ -391,7 +391,7 @@ pub(crate) fn culprit_on<'t, 'a>(
     if is_of_definition(fault) {
         return Ok(definition_on(tokens));
     }
-    let body = behind_labels(tokens);
+    let body = after_labels(tokens);
     match operand_of_fault(alloc, fault, body)? {
         Some(operand) => Ok(Some(operand)),
         None => Ok(Some(unless_empty(body, tokens))),

@@ -9,7 +9,7 @@ ghost use Rattle.rv_refusal.specs.Further.{fault_of_line, faulty_by, faulty_from
 ghost use Rattle.rv_refusal.specs.Place.{place_line};
 
 use crate::place::add_place;
-use crate::statement::behind_labels;
+use crate::statement::after_labels;
 use crate::text::add_all;
 use itoa::Buffer;
 use rv_asm::{AsmFault, Token, first_line, make_statement, read, tokenize};
@@ -47,7 +47,7 @@ fn try_line(alloc: Global, line: &[u8]) -> Result<(), AsmFault>
     ensures refused { RefusedBy (fault_of_line (line_in line.now)) result }
 {
     let tokens = tokenize(alloc, line)?;
-    try_statement(alloc, behind_labels(tokens.as_slice()))
+    try_statement(alloc, after_labels(tokens.as_slice()))
 }
 
 // The fault that a line has whatever stands on the others.

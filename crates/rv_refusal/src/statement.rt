@@ -7,7 +7,7 @@ use rv_asm::{AsmFault, Token, tokenize};
 use std::alloc::{AllocError, Global};
 
 /// What stands after the labels of a line.
-pub(crate) fn behind_labels<'t, 'a>(tokens: &'t [Token<'a>]) -> &'t [Token<'a>]
+pub(crate) fn after_labels<'t, 'a>(tokens: &'t [Token<'a>]) -> &'t [Token<'a>]
     ensures { tokens_in result.now ≡ body_of (tokens_in tokens.entry.now) }
 {
     let mut rest = tokens;
@@ -34,7 +34,7 @@ pub(crate) fn name_on(alloc: Global, line: &[u8]) -> Result<Option<&[u8]>, Alloc
     ensures { IfOk result (λ name. option_copied name ≡ name_on line.entry.now) }
 {
     match tokenize(alloc, line) {
-        Ok(tokens) => Ok(first_name(behind_labels(tokens.as_slice()))),
+        Ok(tokens) => Ok(first_name(after_labels(tokens.as_slice()))),
         Err(AsmFault::Memory) => Err(AllocError),
         Err(_) => Ok(None),
     }

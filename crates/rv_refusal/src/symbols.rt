@@ -5,7 +5,7 @@ ghost use Rattle.rv_asm.specs.Read.{tokens_in};
 ghost use Rattle.rv_asm.specs.Token.{tokens_of};
 ghost use Rattle.rv_refusal.specs.Names.{constant_of, symbols_of, symbols_on};
 
-use crate::statement::behind_labels;
+use crate::statement::after_labels;
 use rv_asm::{AsmFault, Token, first_line, tokenize};
 use std::alloc::{AllocError, Global};
 
@@ -40,7 +40,7 @@ fn add_symbols_in<'a>(symbols: &mut Vec<&'a [u8]>, tokens: &[Token<'a>]) -> Resu
         ≡ map (λ name. name.now) symbols.old.items ++ symbols_on (tokens_in tokens.now)) }
 {
     add_labels(symbols, tokens)?;
-    if let Some(symbol) = constant_of(behind_labels(tokens)) {
+    if let Some(symbol) = constant_of(after_labels(tokens)) {
         symbols.push(symbol)?;
     }
     Ok(())

@@ -10,7 +10,7 @@ ghost use Rattle.rv_refusal.specs.Statement.{first_name};
 use crate::culprit::{is_of_shape, operand_of_fault};
 use crate::names::{add_mnemonics, csrs, registers};
 use crate::near::add_nearest;
-use crate::statement::{behind_labels, first_name};
+use crate::statement::{after_labels, first_name};
 use crate::symbols::add_symbols;
 use rv_asm::{AsmFault, Form, Operation, Token, form_named, tokenize};
 use std::alloc::{AllocError, Global};
@@ -82,7 +82,7 @@ fn unknown_on(alloc: Global, fault: AsmFault, line: &[u8]) -> Result<Option<&[u8
         ≡ option_and_then (λ tokens. unknown_name fault (body_of tokens)) (tokens_of line.entry.now)) }
 {
     match tokenize(alloc, line) {
-        Ok(tokens) => unknown_name(alloc, fault, behind_labels(tokens.as_slice())),
+        Ok(tokens) => unknown_name(alloc, fault, after_labels(tokens.as_slice())),
         Err(AsmFault::Memory) => Err(AllocError),
         Err(_) => Ok(None),
     }

@@ -26,11 +26,11 @@ use Rattle.rv_text.specs.Written.{AppendsBeginning, IsWritten}
 use Rattle.rv_report.specs.declared.options.Options.{Options}
 use Rattle.rv_report.specs.declared.totals.StepCounts.{StepCounts}
 use Rattle.rv_report.specs.declared.totals.Totals.{Totals}
-use Rattle.rv_text.proofs.Writing.{Appends-both, Appends-nothing, Appends-same, beginning-both, beginning-longer, written_behind}
+use Rattle.rv_text.proofs.Writing.{Appends-both, Appends-nothing, Appends-same, beginning-both, beginning-longer, written_after}
 
 -- more is written after a text that was written whole
 pub written_on : {T E T' E' : Type 0} (old : Result T E) (new : Result T' E') (a b c : Option (List ℕ)) (text more : List ℕ) → is_ok old ≡ true → IsWritten new b c more → IsWritten old a b text → IsWritten new a c (text ++ more)
-written_on (Ok done) new a b c text more ok next is = written_behind new a b c text more is next
+written_on (Ok done) new a b c text more ok next is = written_after new a b c text more is next
 written_on (Err error) new a b c text more ok next is = absurd (true≢false (sym ok))
 
 trace_of-none : (shown : Bool) → trace_of shown [] ≡ []

@@ -44,19 +44,19 @@ sum_if : (one : Bool) (counts : List ℕ) → sum (if one then with_next counts 
 sum_if true counts = sum_with_next counts
 sum_if false counts = refl
 
-sum_behind : (count : ℕ) (some more : List ℕ) → sum some ≡ sum more → sum (count ∷ some) ≡ sum (count ∷ more)
-sum_behind count some more same = omega (arith, same, sum_cons count some, sum_cons count more)
+sum_after : (count : ℕ) (some more : List ℕ) → sum some ≡ sum more → sum (count ∷ some) ≡ sum (count ∷ more)
+sum_after count some more same = omega (arith, same, sum_cons count some, sum_cons count more)
 
 sum_by_line : (listing : Listed) (word : ℕ) (counts : List ℕ) → sum (by_line listing word counts) ≡ sum counts
 sum_by_line listing word [] = refl
 sum_by_line listing word (count ∷ counts) =
     sum_if (is_one_line (number_of listing word) (number_of listing (word + 1))) (count ∷ by_line listing (word + 1) counts) ∙
-    sum_behind count (by_line listing (word + 1) counts) counts (sum_by_line listing (word + 1) counts)
+    sum_after count (by_line listing (word + 1) counts) counts (sum_by_line listing (word + 1) counts)
 
 pub sum_lines_from : (listing : Listed) (word place : ℕ) (counts : List ℕ) → sum (lines_from listing word place counts) ≡ sum counts
 sum_lines_from listing word zero counts = sum_by_line listing word counts
 sum_lines_from listing word (suc place) [] = refl
-sum_lines_from listing word (suc place) (count ∷ counts) = sum_behind count (lines_from listing (word + 1) place counts) counts (sum_lines_from listing (word + 1) place counts)
+sum_lines_from listing word (suc place) (count ∷ counts) = sum_after count (lines_from listing (word + 1) place counts) counts (sum_lines_from listing (word + 1) place counts)
 
 -- at the last place nothing is joined yet
 pub lines_from_last : (listing : Listed) (word place : ℕ) (counts : List ℕ) → length counts ≡ suc place → lines_from listing word place counts ≡ counts

@@ -14,7 +14,7 @@ use Rattle.rv_sim.specs.Program.{EndsWithin}
 use Rattle.rv_sim.specs.Task.{AsksForMemory, Ends, Shows, ended_after, predictor_of}
 use Rattle.rv_sim.specs.declared.{ended.Ended.Ended, task.Task.Task}
 use Rattle.rv_sim.proofs.Answered.{Keeps-same}
-use Rattle.rv_sim.proofs.PassedOn.{ended_behind}
+use Rattle.rv_sim.proofs.PassedOn.{ended_passed_on}
 
 -- by the error of a call that answers with the text, after each answer of which the task ends so
 pub Ends-by_error : {T : Type 0} (task : Task) (predictor : Option DescribedPredictor) (Is : T → List ℕ → Type 0) (ended : T → Ended) (error : SimError) (old new : Option (List ℕ))
@@ -45,4 +45,4 @@ pub ended_with : {W : Type 0} (contents : W → Option (List ℕ)) (task : Task)
     → ReportsEnding old new outcome → status ≡ exit_status outcome → EndsWithin contents task given (Some output) old new status
 ended_with contents task given output held ended outcome ends described passed reports is =
     let own = subst (λ p. Ends task p (contents given) held ended) described ends in
-    inr (output, refl, outcome, ended_behind task _ (contents given) held (contents output) ended outcome own passed, reports, is)
+    inr (output, refl, outcome, ended_passed_on task _ (contents given) held (contents output) ended outcome own passed, reports, is)

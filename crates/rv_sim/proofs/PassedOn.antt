@@ -12,7 +12,7 @@ use Rattle.rv_job.specs.declared.errors.SimError.TheVariants.{Memory, WriteFaile
 use Rattle.rv_text.proofs.Writing.{Appends-kept, Appends-same}
 use Rattle.rv_text.specs.Written.{AppendsBeginning}
 use Rattle.rv_sim.specs.Output.{HoldsBeginning, PassesOn}
-use Rattle.rv_sim.specs.Program.{EndsBehind}
+use Rattle.rv_sim.specs.Program.{EndsPassedOn}
 use Rattle.rv_sim.specs.Task.{Ends}
 use Rattle.rv_sim.specs.declared.{ended.Ended.Ended, task.Task.Task}
 
@@ -76,16 +76,16 @@ kept_on ended (Err WriteFailed) held between new kept left = kept_left held betw
 kept_on ended (Err _) held between new kept never = absurd never
 
 -- a task that ended into a buffer, which was passed on
-pub ended_behind : (task : Task) (predictor : Option DescribedPredictor) (old held new : Option (List ℕ)) (ended outcome : Result Ended SimError)
-    → Ends task predictor old held ended → PassesOn ended outcome held new → EndsBehind task predictor old new outcome
-ended_behind task predictor old held new (Ok ended) (Ok _) (text, shows, appended) (same, kept) =
-    subst (λ s. EndsBehind task predictor old new (Ok s)) (sym same) (text, shows, Appends-kept old held new text appended kept)
-ended_behind task predictor old held new (Ok ended) (Err WriteFailed) (text, shows, appended) left =
+pub ended_passed_on : (task : Task) (predictor : Option DescribedPredictor) (old held new : Option (List ℕ)) (ended outcome : Result Ended SimError)
+    → Ends task predictor old held ended → PassesOn ended outcome held new → EndsPassedOn task predictor old new outcome
+ended_passed_on task predictor old held new (Ok ended) (Ok _) (text, shows, appended) (same, kept) =
+    subst (λ s. EndsPassedOn task predictor old new (Ok s)) (sym same) (text, shows, Appends-kept old held new text appended kept)
+ended_passed_on task predictor old held new (Ok ended) (Err WriteFailed) (text, shows, appended) left =
     (text, ended, shows, grown_left old held new text (length text, omega arith, Appends-same old held _ _ (sym (take-length text)) appended) left)
-ended_behind task predictor old held new (Ok ended) (Err _) ends never = absurd never
-ended_behind task predictor old held new (Err error) (Ok _) ends never = absurd never
-ended_behind task predictor old held new (Err WriteFailed) (Err outcome) (text, ended, shows, grown) (same, left) =
-    subst (λ e. EndsBehind task predictor old new (Err e)) (sym same) (text, ended, shows, grown_left old held new text grown left)
-ended_behind task predictor old held new (Err Memory) (Err outcome) (asks, kept) (same, left) =
-    subst (λ e. EndsBehind task predictor old new (Err e)) (sym same) (asks, kept_left old held new kept left)
-ended_behind task predictor old held new (Err _) (Err outcome) never passes = absurd never
+ended_passed_on task predictor old held new (Ok ended) (Err _) ends never = absurd never
+ended_passed_on task predictor old held new (Err error) (Ok _) ends never = absurd never
+ended_passed_on task predictor old held new (Err WriteFailed) (Err outcome) (text, ended, shows, grown) (same, left) =
+    subst (λ e. EndsPassedOn task predictor old new (Err e)) (sym same) (text, ended, shows, grown_left old held new text grown left)
+ended_passed_on task predictor old held new (Err Memory) (Err outcome) (asks, kept) (same, left) =
+    subst (λ e. EndsPassedOn task predictor old new (Err e)) (sym same) (asks, kept_left old held new kept left)
+ended_passed_on task predictor old held new (Err _) (Err outcome) never passes = absurd never

@@ -27,11 +27,11 @@ IsRefused contents command input given handed old new status =
 
 -- A task ended so, with a predictor, and its output was handed back by the buffer before it. The output has got the text whole. Where a
 -- write failed it holds a beginning of what it held and of the text; when out of memory, of what it held.
-abbrev pub EndsBehind : Task → Option DescribedPredictor → Option (List ℕ) → Option (List ℕ) → Result Ended SimError → Type 0
-EndsBehind task predictor old new (Ok ended) = (text : List ℕ) × Shows task predictor text ended × Appends old new text
-EndsBehind task predictor old new (Err WriteFailed) = (text : List ℕ) × (ended : Ended) × Shows task predictor text ended × HoldsBeginning old new text
-EndsBehind task predictor old new (Err Memory) = AsksForMemory task × HoldsBeginning old new []
-EndsBehind task predictor old new (Err _) = ⊥
+abbrev pub EndsPassedOn : Task → Option DescribedPredictor → Option (List ℕ) → Option (List ℕ) → Result Ended SimError → Type 0
+EndsPassedOn task predictor old new (Ok ended) = (text : List ℕ) × Shows task predictor text ended × Appends old new text
+EndsPassedOn task predictor old new (Err WriteFailed) = (text : List ℕ) × (ended : Ended) × Shows task predictor text ended × HoldsBeginning old new text
+EndsPassedOn task predictor old new (Err Memory) = AsksForMemory task × HoldsBeginning old new []
+EndsPassedOn task predictor old new (Err _) = ⊥
 
 -- memory for a box or a buffer was refused, which is reported: the output was handed back as it was given, or let go with the buffer
 abbrev pub IsUnbegun : {W : Type 0} → W → Option W → FaultStream → FaultStream → ℕ → Type 0
@@ -43,7 +43,7 @@ abbrev pub EndsWithin : {W : Type 0} → (W → Option (List ℕ)) → Task → 
 EndsWithin {W} contents task given handed old new status =
     IsUnbegun given handed old new status
     ⊎ ((output : W) × (handed ≡ Some output) × (outcome : Result Ended SimError)
-    × EndsBehind task (untaught_of (predictor_of task)) (contents given) (contents output) outcome
+    × EndsPassedOn task (untaught_of (predictor_of task)) (contents given) (contents output) outcome
     × ReportsEnding old new outcome × (status ≡ exit_status outcome))
 
 -- what the command asks of the input was done, or failed

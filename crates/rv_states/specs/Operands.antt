@@ -2,7 +2,7 @@
 use Rattle.std.specs.Prelude.{ℕ, List, [], ◌++◌, codes, slice_index_or, take, Option, Some, None}
 use Rattle.rv_isa.specs.Operands.{sources_of}
 use Rattle.rv_isa.specs.declared.instructions.Instr.{Instr}
-use Rattle.rv_core.specs.Ties.{RegisterStatus, status_behind, values_in}
+use Rattle.rv_core.specs.Ties.{RegisterStatus, status_after, values_in}
 use Rattle.rv_rob.specs.ReorderBuffer.{ReorderBuffer}
 use Rattle.rv_rob.specs.declared.entry.{Stage.Stage}
 use Rattle.rv_rob.specs.declared.entry.Stage.TheVariants.{Waiting, Running, Finished}
@@ -11,7 +11,7 @@ use Rattle.rv_json.specs.Operand.{operand_json}
 
 -- what each register gives after the oldest so many instructions of a reorder buffer
 abbrev pub status_at : List ℕ → ReorderBuffer → ℕ → RegisterStatus
-status_at registers buffer count = status_behind (values_in registers) buffer.retired (take count buffer.entries)
+status_at registers buffer count = status_after (values_in registers) buffer.retired (take count buffer.entries)
 
 -- an operand, where the instruction has it
 unfoldable pub operand_text : List ℕ → RegisterStatus → Option ℕ → List ℕ

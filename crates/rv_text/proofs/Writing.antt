@@ -56,9 +56,9 @@ pub written_same : {T E : Type 0} (r : Result T E) (a b : Option (List ℕ)) (xs
 written_same r a b xs ys same written = rw same at written
 
 -- a text was written, and the next one by a call that answers so
-pub written_behind : {T E : Type 0} (r : Result T E) (a b c : Option (List ℕ)) (xs ys : List ℕ) → Appends a b xs → IsWritten r b c ys → IsWritten r a c (xs ++ ys)
-written_behind (Ok value) a b c xs ys first second = Appends-both a b c xs ys first second
-written_behind (Err error) a b c xs ys first second = beginning-both a b c xs ys first second
+pub written_after : {T E : Type 0} (r : Result T E) (a b c : Option (List ℕ)) (xs ys : List ℕ) → Appends a b xs → IsWritten r b c ys → IsWritten r a c (xs ++ ys)
+written_after (Ok value) a b c xs ys first second = Appends-both a b c xs ys first second
+written_after (Err error) a b c xs ys first second = beginning-both a b c xs ys first second
 
 -- texts that are written one after the other, at the place of one of them
 module _ {X : Type 0} (text : X → List ℕ) (items : List X) (place : ℕ) (other : X) (here : place < length items) where

@@ -1,18 +1,18 @@
 -- What the execution of an instruction leaves is what the definition's start of it leaves.
-use Rattle.rv_core.proofs.Words.{◌≡◌, ℕ, ◌+◌, ◌^◌, ◌≤◌, Bool, true, List, [], ◌∷◌, map, length, is_some, Some, None, All, Option, option_and_then, sym, refl, ap, ◌∙◌, subst, arith, is_store, kind_of_word, sources_of, bytes_of, width_of, at_kind, with_kind, modulo_word, sum, Message, Instr, Load, Issue, Kind, PerKind, CacheValues, instruction_of, Memory, State, register_of, Contents, access_cost, cost_of_access, CacheLine, UnitPool, started, changed, Entry, Hardware, memory_behind, FromCache, Path, cost_of, issued, path, path_of_word, with_start, result_in, result_of_word, layout_of, seen_behind, stores_behind, IsLegalCost, kind_of, Queue, older_than, Pool, taken_from, Ready, Pending, started_unit, Renaming, path_of_load, IsBehind, LieIn, cache_after, load_path, path_cost, port_after, operand_value, IsDescribedCache, IsLegalWrite, IsSoundEntry, IsSoundHardware, AreTied}
+use Rattle.rv_core.proofs.Words.{◌≡◌, ℕ, ◌+◌, ◌^◌, ◌≤◌, Bool, true, List, [], ◌∷◌, map, length, is_some, Some, None, All, Option, option_and_then, sym, refl, ap, ◌∙◌, subst, arith, is_store, kind_of_word, sources_of, bytes_of, width_of, at_kind, with_kind, modulo_word, sum, Message, Instr, Load, Issue, Kind, PerKind, CacheValues, instruction_of, Memory, State, register_of, Contents, access_cost, cost_of_access, CacheLine, UnitPool, started, changed, Entry, Hardware, bytes_after, FromCache, Path, cost_of, issued, path, path_of_word, with_start, result_in, result_of_word, layout_of, state_after, stores_after, IsLegalCost, kind_of, Queue, older_than, Pool, taken_from, Ready, Pending, started_unit, Renaming, path_of_load, IsAfter, LieIn, cache_after, load_path, path_cost, port_after, operand_value, IsDescribedCache, IsLegalWrite, IsSoundEntry, IsSoundHardware, AreTied}
 use Rattle.rv_units.specs.Bus.{with_result}
 use Rattle.rv_core.specs.Access.{IsExecuted, path_of_ready}
 use Rattle.rv_core.proofs.Issued.Found.{Leaving, test_of}
 use Rattle.rv_core.proofs.Issued.Ready.{All-left, kind_there}
 use Rattle.rv_core.proofs.Issued.Stores.{older_than-behind}
 use Rattle.rv_core.proofs.Issued.Tied.{entry_sound, sound_started, tied_started}
-use Rattle.rv_core.proofs.Issued.Writes.{inside_behind, result_writes}
+use Rattle.rv_core.proofs.Issued.Writes.{inside_after, result_writes}
 use Rattle.rv_core.proofs.Loads.Path.{access_is_defined, cost_is_defined, path_is_defined}
 
 -- the path that the code takes is the definition's, where it has the register's value
 load_path_defined : (h : Hardware) (older : List Entry) (s : State) (i : Instr) (first second : ℕ) →
     map (operand_value s) (sources_of i) ≡ first ∷ second ∷ [] →
-    load_path (layout_of h.values) (stores_behind h older) first i ≡ path_of_word h older s (Some i)
+    load_path (layout_of h.values) (stores_after h older) first i ≡ path_of_word h older s (Some i)
 load_path_defined h older s (Load form rd rs1 offset) first second reads =
     let count = bytes_of (width_of form) in
     let same : register_of s rs1 ≡ first = cc in
@@ -60,7 +60,7 @@ module _ {h : Hardware} (sound : IsSoundHardware h) where
   keeps _ = sound.cache
 
   module _ {kind : Kind} {ready : Ready} (leaving : Leaving h kind ready) {queue : Queue} (x : Execution h kind queue ready)
-      (told : queue.stores ≡ stores_behind h h.rob.entries) where
+      (told : queue.stores ≡ stores_after h h.rob.entries) where
     abbrev before : List Entry
     before = leaving.before
 
@@ -69,15 +69,15 @@ module _ {h : Hardware} (sound : IsSoundHardware h) where
 
     -- the state in which the instruction executes
     abbrev s : State
-    s = seen_behind h before entry.pc
+    s = state_after h before entry.pc
 
     abbrev place : ℕ
     place = h.rob.retired + length before
 
-    older : older_than ready.seq queue.stores ≡ stores_behind h before
+    older : older_than ready.seq queue.stores ≡ stores_after h before
     older =
         (λ j. older_than (leaving.number j) (told j))
-        ∙ ap (λ es. older_than place (stores_behind h es)) leaving.split
+        ∙ ap (λ es. older_than place (stores_after h es)) leaving.split
         ∙ older_than-behind h sound.stores.older before (entry ∷ leaving.rest)
 
     -- the path in the code's words
@@ -87,16 +87,16 @@ module _ {h : Hardware} (sound : IsSoundHardware h) where
         ∙ load_path_defined h before s ready.instruction ready.first ready.second leaving.operands.values
         ∙ ap (path_of_word h before s) (sym leaving.decoded)
 
-    behind : IsBehind h.cache (older_than ready.seq queue.stores) s
+    behind : IsAfter h.cache (older_than ready.seq queue.stores) s
     behind = record {
       inside =
           subst (LieIn h.cache.base (length h.cache.bytes)) (sym older)
-          (subst (λ b. LieIn b (length h.cache.bytes) (stores_behind h before)) (sym sound.cache.base)
-          (subst (λ n. LieIn h.values.ram_base n (stores_behind h before)) (sym sound.cache.bytes)
-          (inside_behind h before sound.stores.each
+          (subst (λ b. LieIn b (length h.cache.bytes) (stores_after h before)) (sym sound.cache.base)
+          (subst (λ n. LieIn h.values.ram_base n (stores_after h before)) (sym sound.cache.bytes)
+          (inside_after h before sound.stores.each
           (All-left (IsSoundEntry h.values) before (entry ∷ leaving.rest)
           (subst (All (IsSoundEntry h.values)) leaving.split sound.entries.each)))));
-      ram = λ j. memory_behind (sym sound.cache.base j) (sym older j) h.cache.bytes;
+      ram = λ j. bytes_after (sym sound.cache.base j) (sym older j) h.cache.bytes;
     }
 
     own : IsSoundEntry h.values entry

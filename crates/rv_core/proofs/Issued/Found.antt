@@ -1,5 +1,5 @@
 -- The instruction that leaves its station is the definition's, with what it reads.
-use Rattle.rv_core.proofs.Words.{◌≡◌, ◌+◌, Bool, true, ◌⊎◌, List, [], ◌∷◌, ◌++◌, length, nat_le, Some, None, All, Option, option_and_then, sym, refl, ap, ◌∙◌, subst, inl, inr, arith, Message, Issue, Kind, started, Entry, is_stationed, Hardware, is_ready_entry, oldest, layout_of, seen_behind, stores_behind, Mem, oldest_ready, ready_of, without_oldest_ready, Ready, Station, Reads, goes, IsSoundHardware, status_behind, values_in, waiting_from, waiting_of}
+use Rattle.rv_core.proofs.Words.{◌≡◌, ◌+◌, Bool, true, ◌⊎◌, List, [], ◌∷◌, ◌++◌, length, nat_le, Some, None, All, Option, option_and_then, sym, refl, ap, ◌∙◌, subst, inl, inr, arith, Message, Issue, Kind, started, Entry, is_stationed, Hardware, is_ready_entry, oldest, layout_of, state_after, stores_after, Mem, oldest_ready, ready_of, without_oldest_ready, Ready, Station, Reads, goes, IsSoundHardware, status_after, values_in, waiting_from, waiting_of}
 use Rattle.rv_core.proofs.Issued.Operands.{reads, ready_parts, tells_at}
 use Rattle.rv_core.proofs.Issued.Ready.{All-left, HasTarget, accesses_agree, operations_agree, passes_by}
 use Rattle.rv_core.proofs.Issued.Search.{Agree, Found, NoneFound, search_from}
@@ -18,7 +18,7 @@ none_taken test (w ∷ ws) none = grind (arith, none_taken test ws)
 module _ (h : Hardware) (kind : Kind) where
   -- the test that the definition has in the words of the stations
   abbrev pub test_of : Station → Bool
-  test_of = goes kind (layout_of h.values) (stores_behind h h.rob.entries) (nat_le h.port_free h.cycle)
+  test_of = goes kind (layout_of h.values) (stores_after h h.rob.entries) (nat_le h.port_free h.cycle)
 
   -- the stations of the kind, as the instructions in flight tell them
   abbrev pub stationed_now : List Station
@@ -34,7 +34,7 @@ module _ (h : Hardware) (kind : Kind) where
     pub there : is_stationed kind entry ≡ true
     pub number : ready.seq ≡ h.rob.retired + length before
     pub found : oldest (is_ready_entry h kind) h.rob.entries ≡ Some (before, entry)
-    pub operands : Reads (seen_behind h before entry.pc) ready.pc ready.first ready.second ready.instruction
+    pub operands : Reads (state_after h before entry.pc) ready.pc ready.first ready.second ready.instruction
     pub left : (issue : Issue) (message : Message) →
         without_oldest_ready test_of stationed_now
         ≡ waiting_from kind (values_in h.registers) h.rob.retired (before ++ started issue message entry ∷ rest)
@@ -44,7 +44,7 @@ module _ (h : Hardware) (kind : Kind) where
     targets k d within = (sound.entries.each k d within).target
 
     agree_of : (k : Kind) → Agree k (values_in h.registers) h.rob.retired h.rob.entries
-        (goes k (layout_of h.values) (stores_behind h h.rob.entries) (nat_le h.port_free h.cycle)) (is_ready_entry h k)
+        (goes k (layout_of h.values) (stores_after h h.rob.entries) (nat_le h.port_free h.cycle)) (is_ready_entry h k)
     agree_of Mem = accesses_agree h sound.registers targets sound.stores.older
     agree_of k = operations_agree h k refl
 
@@ -83,7 +83,7 @@ module _ (h : Hardware) (kind : Kind) where
         let none = ap (oldest_ready test_of) (from_first h.rob.entries) ∙ n.searched in
         absurd (let nothing = sym is ∙ answer ∙ ap (option_and_then ready_of) none in cc)
     leaves_by result ready answer is (inr f) =
-        let status = status_behind (values_in h.registers) h.rob.retired f.prior in
+        let status = status_after (values_in h.registers) h.rob.retired f.prior in
         let place = h.rob.retired + length f.prior in
         let w = waiting_of status place f.entry.pc f.instruction in
         let some : oldest_ready test_of stationed_now ≡ Some w =
@@ -94,7 +94,7 @@ module _ (h : Hardware) (kind : Kind) where
         f.split ∙ ap (λ (es : List Entry). es ++ f.entry ∷ f.rest) (sym f.behind) in
         let tells = tells_at f.prior h.registers h.rob.retired sound.registers
         (All-left HasTarget f.prior (f.entry ∷ f.rest) (subst (All HasTarget) split targets)) in
-        let given = reads status place f.entry.pc f.instruction (seen_behind h f.prior f.entry.pc) ready taken tells refl in
+        let given = reads status place f.entry.pc f.instruction (state_after h f.prior f.entry.pc) ready taken tells refl in
         record {
           before = f.prior;
           entry = f.entry;

@@ -1,5 +1,5 @@
 -- The operands in a station are what the definition reads after the older instructions.
-use Rattle.rv_core.proofs.Words.{◌≡◌, ℕ, ◌+◌, ◌<◌, cond, ◌≢◌, List, [], ◌∷◌, map, length, IfSome, slice_index, slice_index_or, Some, None, All, Option, sym, refl, ap, ◌∙◌, arith, get_or-set_other, get_or-set_same, eqb-true, ne_eqb, eqb-false, All-head, All-tail, is_target, target_of_word, sources_of, target_of, Message, Instr, Csr, Lui, State, Entry, broadcast_of, is_known_from, registers_behind, with_value, has_operands, has_value, is_ready_station, ready_of, ready_with, Operand, Value, Ready, Station, is_known, Reads, operand_value, RegisterStatus, operand_by, operand_of, status_behind, status_with, values_in, waiting_of}
+use Rattle.rv_core.proofs.Words.{◌≡◌, ℕ, ◌+◌, ◌<◌, cond, ◌≢◌, List, [], ◌∷◌, map, length, IfSome, slice_index, slice_index_or, Some, None, All, Option, sym, refl, ap, ◌∙◌, arith, get_or-set_other, get_or-set_same, eqb-true, ne_eqb, eqb-false, All-head, All-tail, is_target, target_of_word, sources_of, target_of, Message, Instr, Csr, Lui, State, Entry, broadcast_of, is_known_from, registers_after, with_value, has_operands, has_value, is_ready_station, ready_of, ready_with, Operand, Value, Ready, Station, is_known, Reads, operand_value, RegisterStatus, operand_by, operand_of, status_after, status_with, values_in, waiting_of}
 use Rattle.rv_hardware.proofs.Headline.Known.{length-with_value}
 use Rattle.rv_isa.specs.declared.instructions.CsrSource.TheVariants as source
 
@@ -18,15 +18,15 @@ target_of_word_nonzero word r is = grind (arith, target_nonzero)
 
 -- whether the value is there
 
-known_behind : (es : List Entry) (status : RegisterStatus) (seq r : ℕ) →
-    has_value (status_behind status seq es r) ≡ is_known_from (has_value (status r)) es r
-known_behind [] status seq r = refl
-known_behind (e ∷ es) status seq r = grind (arith, known_behind es (status_with status seq e) (seq + 1) r)
+known_after : (es : List Entry) (status : RegisterStatus) (seq r : ℕ) →
+    has_value (status_after status seq es r) ≡ is_known_from (has_value (status r)) es r
+known_after [] status seq r = refl
+known_after (e ∷ es) status seq r = grind (arith, known_after es (status_with status seq e) (seq + 1) r)
 
 -- a register has a value in the status where the definition knows it
 pub is_known-status : (registers : List ℕ) (seq : ℕ) (older : List Entry) (r : ℕ) →
-    has_value (status_behind (values_in registers) seq older r) ≡ is_known older r
-is_known-status registers seq older r = known_behind older (values_in registers) seq r
+    has_value (status_after (values_in registers) seq older r) ≡ is_known older r
+is_known-status registers seq older r = known_after older (values_in registers) seq r
 
 -- which value it is
 
@@ -42,14 +42,14 @@ tells_by status registers seq (Some t) None within positive tells r v is = grind
 tells_by status registers seq (Some t) (Some message) within positive tells r v is =
     grind (arith, tells, positive t refl, within, eqb-true, eqb-false, ne_eqb, get_or-set_same, get_or-set_other)
 
-pub tells_behind : (es : List Entry) (status : RegisterStatus) (registers : List ℕ) (seq : ℕ) → length registers ≡ 32 →
+pub tells_after : (es : List Entry) (status : RegisterStatus) (registers : List ℕ) (seq : ℕ) → length registers ≡ 32 →
     All (λ e. IfSome (target_of_word e.instruction) (λ t. t < 32)) es → Tells status registers →
-    Tells (status_behind status seq es) (registers_behind registers es)
-tells_behind [] status registers seq sized targets tells = tells
-tells_behind (e ∷ es) status registers seq sized targets tells =
+    Tells (status_after status seq es) (registers_after registers es)
+tells_after [] status registers seq sized targets tells = tells
+tells_after (e ∷ es) status registers seq sized targets tells =
     let P : Entry → Type 0 = λ x. IfSome (target_of_word x.instruction) (λ t. t < 32) in
     let target : IfSome (target_of_word e.instruction) (λ t. t < length registers) = rw sized (All-head P e es targets) in
-    tells_behind es (status_with status seq e) (with_value registers (target_of_word e.instruction) (broadcast_of e.stage))
+    tells_after es (status_with status seq e) (with_value registers (target_of_word e.instruction) (broadcast_of e.stage))
     (seq + 1)
     (length-with_value registers (target_of_word e.instruction) (broadcast_of e.stage) ∙ sized)
     (All-tail P e es targets)
@@ -59,9 +59,9 @@ tells_behind (e ∷ es) status registers seq sized targets tells =
 -- the status after older instructions tells what the registers are after them
 pub tells_at : (older : List Entry) (registers : List ℕ) (seq : ℕ) → length registers ≡ 32 →
     All (λ e. IfSome (target_of_word e.instruction) (λ t. t < 32)) older →
-    Tells (status_behind (values_in registers) seq older) (registers_behind registers older)
+    Tells (status_after (values_in registers) seq older) (registers_after registers older)
 tells_at older registers seq sized targets =
-    tells_behind older (values_in registers) registers seq sized targets (λ r v is. cc)
+    tells_after older (values_in registers) registers seq sized targets (λ r v is. cc)
 
 -- an instruction that is ready reads the values of its registers
 

@@ -1,5 +1,5 @@
 -- What the parts answer to a search in the stations is what the definition's turn finds and starts.
-use Rattle.rv_core.proofs.Words.{◌≡◌, ℕ, ◌+◌, ◌<◌, Bool, true, false, List, [], length, nat_le, take, Some, None, Option, option_and_then, sym, refl, ap, ◌∙◌, subst, inl, inr, cases_Bool, cond-false, cond-true, at_kind, with_kind, Kind, PerKind, UnitPool, is_free, started, ReorderBuffer, changed, Entry, Hardware, is_ready_entry, issue_oldest, issue_turn, oldest, Ends, GoesOn, stores_behind, at_kind-by_kind, with_kind-back, Queue, Pool, taken_from, oldest_ready, ready_of, without_oldest_ready, Ready, Station, Pending, holds, started_unit, goes, IsSound, hardware_of, IsLegalCost, IsSoundHardware, AreTied, pool_of_kind, Inside}
+use Rattle.rv_core.proofs.Words.{◌≡◌, ℕ, ◌+◌, ◌<◌, Bool, true, false, List, [], length, nat_le, take, Some, None, Option, option_and_then, sym, refl, ap, ◌∙◌, subst, inl, inr, cases_Bool, cond-false, cond-true, at_kind, with_kind, Kind, PerKind, UnitPool, is_free, started, ReorderBuffer, changed, Entry, Hardware, is_ready_entry, issue_oldest, issue_turn, oldest, Ends, GoesOn, stores_after, at_kind-by_kind, with_kind-back, Queue, Pool, taken_from, oldest_ready, ready_of, without_oldest_ready, Ready, Station, Pending, holds, started_unit, goes, IsSound, hardware_of, IsLegalCost, IsSoundHardware, AreTied, pool_of_kind, Inside}
 use Rattle.rv_units.specs.Bus.{with_result}
 use Rattle.rv_core.proofs.Issued.Executed.{Execution, is_issued, is_sound, is_tied, started_hardware}
 use Rattle.rv_core.proofs.Issued.Found.{Leaving, leaves, nothing_leaves, stationed_now, test_of}
@@ -103,7 +103,7 @@ module _ {parts : Inside} (sound : IsSound parts) {old : Hardware} (view : hardw
           rob = rob;
         }
 
-        told : parts.stores.stores ≡ stores_behind h h.rob.entries
+        told : parts.stores.stores ≡ stores_after h h.rob.entries
         told = ap (λ (q : Queue). q.stores) sound.tied.queued
 
         abbrev started_now : Hardware

@@ -1,5 +1,5 @@
 -- A station is ready, and passes the code's test, where the definition finds its instruction ready.
-use Rattle.rv_core.proofs.Words.{◌≡◌, ℕ, ◌+◌, ◌<◌, Bool, true, false, not, ◌&&◌, ◌||◌, List, ◌∷◌, ◌++◌, length, ℤ, IfSome, nat_le, slice_index, Some, All, Option, sym, refl, ap, ◌∙◌, subst, arith, and_parts, list_all, is_load, is_of_kind, kind_of_word, sources_of_word, target_of_word, bytes_of, width_of, modulo_word, sum, Instr, Load, Kind, LoadForm, is_known_store, Store, Entry, is_stationed, Hardware, is_waiting, registers_behind, has_operands, has_port, is_ready_entry, path_of_word, layout_of, seen_behind, stores_behind, AreBelow, kind_of, Mem, first_unknown, older_than, has_value, is_ready_station, Operand, Tag, Value, Station, path_of_load, is_operation, is_known_before, may_go, needs_port, path_of, RegisterStatus, status_behind, values_in, waiting_of}
+use Rattle.rv_core.proofs.Words.{◌≡◌, ℕ, ◌+◌, ◌<◌, Bool, true, false, not, ◌&&◌, ◌||◌, List, ◌∷◌, ◌++◌, length, ℤ, IfSome, nat_le, slice_index, Some, All, Option, sym, refl, ap, ◌∙◌, subst, arith, and_parts, list_all, is_load, is_of_kind, kind_of_word, sources_of_word, target_of_word, bytes_of, width_of, modulo_word, sum, Instr, Load, Kind, LoadForm, is_known_store, Store, Entry, is_stationed, Hardware, is_waiting, registers_after, has_operands, has_port, is_ready_entry, path_of_word, layout_of, state_after, stores_after, AreBelow, kind_of, Mem, first_unknown, older_than, has_value, is_ready_station, Operand, Tag, Value, Station, path_of_load, is_operation, is_known_before, may_go, needs_port, path_of, RegisterStatus, status_after, values_in, waiting_of}
 use Rattle.std.proofs.Math.Seq.{take-append_seam}
 use Rattle.std.proofs.lemmas.List.Elements.{All-take}
 use Rattle.rv_hardware.proofs.Marks.Sound.{is_of_kind_is}
@@ -35,7 +35,7 @@ module _ (h : Hardware) where
 
   -- the test of loads and stores
   abbrev pub goes : Station → Bool
-  goes w = may_go (layout_of h.values) (stores_behind h h.rob.entries) (first_unknown (stores_behind h h.rob.entries))
+  goes w = may_go (layout_of h.values) (stores_after h h.rob.entries) (first_unknown (stores_after h h.rob.entries))
       (nat_le h.port_free h.cycle) w
 
   -- in the stations of a kind that is no memory unit every ready instruction passes the test
@@ -44,14 +44,14 @@ module _ (h : Hardware) where
 
   module _ (older rest : List Entry) (e : Entry) where
     abbrev status : RegisterStatus
-    status = status_behind status0 h.rob.retired older
+    status = status_after status0 h.rob.retired older
 
     abbrev number : ℕ
     number = h.rob.retired + length older
 
     abbrev may : Option Instr → Bool
     may word = not (is_load word) ||
-        (list_all is_known_store (stores_behind h older) && has_port h (path_of_word h older (seen_behind h older e.pc) word))
+        (list_all is_known_store (stores_after h older) && has_port h (path_of_word h older (state_after h older e.pc) word))
 
     agrees : (kind : Kind) (test : Station → Bool) (i : Instr) → e.instruction ≡ Some i → is_stationed kind e ≡ true →
         (is_ready_station (waiting_of status number e.pc i) ≡ true → test (waiting_of status number e.pc i) ≡ may (Some i)) →
@@ -66,29 +66,29 @@ module _ (h : Hardware) where
         there (λ ready. passes ready ∙ ap may (sym decoded))
 
     module _ (all : older ++ e ∷ rest ≡ h.rob.entries) (retired : AreBelow (λ (s : Store). s.seq) h.rob.retired h.committed)
-        (tells : Tells status (registers_behind h.registers older)) where
+        (tells : Tells status (registers_after h.registers older)) where
       abbrev waiting_stores : List Store
-      waiting_stores = stores_behind h h.rob.entries
+      waiting_stores = stores_after h h.rob.entries
 
-      known : is_known_before (first_unknown waiting_stores) number ≡ list_all is_known_store (stores_behind h older)
+      known : is_known_before (first_unknown waiting_stores) number ≡ list_all is_known_store (stores_after h older)
       known =
-          ap (λ es. is_known_before (first_unknown (stores_behind h es)) number) (sym all)
+          ap (λ es. is_known_before (first_unknown (stores_after h es)) number) (sym all)
           ∙ known-behind h retired older (e ∷ rest)
 
-      before : older_than number waiting_stores ≡ stores_behind h older
-      before = ap (λ es. older_than number (stores_behind h es)) (sym all) ∙ older_than-behind h retired older (e ∷ rest)
+      before : older_than number waiting_stores ≡ stores_after h older
+      before = ap (λ es. older_than number (stores_after h es)) (sym all) ∙ older_than-behind h retired older (e ∷ rest)
 
       port : (form : LoadForm) (rs1 base offset : ℕ) → status rs1 ≡ Value base →
           (nat_le h.port_free h.cycle || not
           (needs_port (path_of (layout_of h.values) (older_than number waiting_stores) (sum base offset)
           (bytes_of (width_of form)))))
-          ≡ has_port h (path_of_load h older (sum (slice_index (registers_behind h.registers older) rs1) offset)
+          ≡ has_port h (path_of_load h older (sum (slice_index (registers_after h.registers older) rs1) offset)
           (bytes_of (width_of form)))
       port form rs1 base offset is =
           let count = bytes_of (width_of form) in
           ap (λ ss. nat_le h.port_free h.cycle || not
           (needs_port (path_of (layout_of h.values) ss (sum base offset) count))) before
-          ∙ port_is_defined h (sum base offset) (path_of (layout_of h.values) (stores_behind h older) (sum base offset) count)
+          ∙ port_is_defined h (sum base offset) (path_of (layout_of h.values) (stores_after h older) (sum base offset) count)
           ∙ ap (has_port h) (path_is_defined h older (sum base offset) count)
           ∙ ap (λ b. has_port h (path_of_load h older (sum b offset) count)) (sym (tells rs1 base is))
 

@@ -1,5 +1,5 @@
 -- A search in the stations of a kind finds the oldest instruction that the definition finds.
-use Rattle.rv_core.proofs.Words.{◌≡◌, ℕ, ◌+◌, Bool, true, false, ◌&&◌, ◌⊎◌, List, [], ◌∷◌, ◌++◌, length, Some, None, Option, sym, refl, ap, ◌∙◌, inl, inr, append_assoc, append-nil, arith, length-append, and_parts, cases_Bool, cond-false, is_of_kind, kind_of_word, Message, Instr, Issue, Kind, started, Entry, is_stationed, is_waiting, oldest_from, is_ready_station, oldest_ready, without_oldest_ready, Station, RegisterStatus, status_behind, status_with, waiting_at, waiting_from, waiting_of}
+use Rattle.rv_core.proofs.Words.{◌≡◌, ℕ, ◌+◌, Bool, true, false, ◌&&◌, ◌⊎◌, List, [], ◌∷◌, ◌++◌, length, Some, None, Option, sym, refl, ap, ◌∙◌, inl, inr, append_assoc, append-nil, arith, length-append, and_parts, cases_Bool, cond-false, is_of_kind, kind_of_word, Message, Instr, Issue, Kind, started, Entry, is_stationed, is_waiting, oldest_from, is_ready_station, oldest_ready, without_oldest_ready, Station, RegisterStatus, status_after, status_with, waiting_at, waiting_from, waiting_of}
 
 -- an instruction gives no value to the status before it has a result, started or not
 pub status_started : (status : RegisterStatus) (seq : ℕ) (e : Entry) (issue : Issue) (message : Message) →
@@ -7,7 +7,7 @@ pub status_started : (status : RegisterStatus) (seq : ℕ) (e : Entry) (issue : 
 status_started status seq e issue message waits = grind arith
 
 status_push : (status : RegisterStatus) (seq : ℕ) (older : List Entry) (e : Entry) →
-    status_behind status seq (older ++ e ∷ []) ≡ status_with (status_behind status seq older) (seq + length older) e
+    status_after status seq (older ++ e ∷ []) ≡ status_with (status_after status seq older) (seq + length older) e
 status_push status seq [] e = ap (λ n. status_with status n e) (omega arith)
 status_push status seq (x ∷ older) e = grind (arith, status_push (status_with status seq x) (seq + 1) older e)
 
@@ -36,31 +36,31 @@ module _ (kind : Kind) (status : RegisterStatus) (seq : ℕ) (e : Entry) where
 
 module _ (kind : Kind) (status0 : RegisterStatus) (n0 : ℕ) where
   -- the stations of a kind, as far as they hold what stands after some instructions
-  abbrev pub stations_behind : List Entry → List Entry → List Station
-  stations_behind older es = waiting_from kind (status_behind status0 n0 older) (n0 + length older) es
+  abbrev pub stations_after : List Entry → List Entry → List Station
+  stations_after older es = waiting_from kind (status_after status0 n0 older) (n0 + length older) es
 
   -- an instruction as it waits after some others
-  abbrev pub station_behind : List Entry → Entry → Instr → Station
-  station_behind older e i = waiting_of (status_behind status0 n0 older) (n0 + length older) e.pc i
+  abbrev pub station_after : List Entry → Entry → Instr → Station
+  station_after older e i = waiting_of (status_after status0 n0 older) (n0 + length older) e.pc i
 
   next_place : (older : List Entry) (e : Entry) → n0 + length older + 1 ≡ n0 + length (older ++ e ∷ [])
   next_place older e = omega (arith, length-append older (e ∷ []))
 
   stations_step : (older : List Entry) (e : Entry) (es : List Entry) →
-      stations_behind older (e ∷ es)
-      ≡ waiting_at kind (status_behind status0 n0 older) (n0 + length older) e e.instruction ++ stations_behind
+      stations_after older (e ∷ es)
+      ≡ waiting_at kind (status_after status0 n0 older) (n0 + length older) e e.instruction ++ stations_after
       (older ++ e ∷ []) es
   stations_step older e es = rw (status_push status0 n0 older e, ← next_place older e) refl
 
   -- once an instruction that was there has started, the stations hold what is after it
   stations_started : (older : List Entry) (e : Entry) (i : Instr) (es : List Entry) (issue : Issue) (message : Message) →
       e.instruction ≡ Some i → is_waiting e.stage ≡ true →
-      stations_behind older (started issue message e ∷ es) ≡ stations_behind (older ++ e ∷ []) es
+      stations_after older (started issue message e ∷ es) ≡ stations_after (older ++ e ∷ []) es
   stations_started older e i es issue message is waiting =
       rw (
         status_push status0 n0 older e,
         ← next_place older e,
-        ← status_started (status_behind status0 n0 older) (n0 + length older) e issue message waiting,
+        ← status_started (status_after status0 n0 older) (n0 + length older) e issue message waiting,
       ) (grind (arith, is))
 
   module _ (entries : List Entry) (test : Station → Bool) (ready : List Entry → Entry → Bool) where
@@ -68,7 +68,7 @@ module _ (kind : Kind) (status0 : RegisterStatus) (n0 : ℕ) where
     abbrev pub Agree : Type 0
     Agree = (older rest : List Entry) (e : Entry) (i : Instr) → older ++ e ∷ rest ≡ entries → e.instruction ≡ Some i →
         is_stationed kind e ≡ true →
-        (is_ready_station (station_behind older e i) && test (station_behind older e i)) ≡ ready older e
+        (is_ready_station (station_after older e i) && test (station_after older e i)) ≡ ready older e
 
     -- each other instruction is not ready
     abbrev pub PassBy : Type 0
@@ -77,7 +77,7 @@ module _ (kind : Kind) (status0 : RegisterStatus) (n0 : ℕ) where
     -- neither finds an instruction
     pub record NoneFound (older es : List Entry) : Type 0 where
       pub defined : oldest_from ready older es ≡ None
-      pub searched : oldest_ready test (stations_behind older es) ≡ None
+      pub searched : oldest_ready test (stations_after older es) ≡ None
 
     -- both find the same one
     pub record Found (older es : List Entry) : Type 0 where
@@ -91,24 +91,24 @@ module _ (kind : Kind) (status0 : RegisterStatus) (n0 : ℕ) where
       pub decoded : entry.instruction ≡ Some instruction
       pub there : is_stationed kind entry ≡ true
       pub defined : oldest_from ready older es ≡ Some (prior, entry)
-      pub searched : oldest_ready test (stations_behind older es) ≡ Some (station_behind prior entry instruction)
+      pub searched : oldest_ready test (stations_after older es) ≡ Some (station_after prior entry instruction)
       pub left : (issue : Issue) (message : Message) →
-          without_oldest_ready test (stations_behind older es)
-          ≡ stations_behind older (before ++ started issue message entry ∷ rest)
+          without_oldest_ready test (stations_after older es)
+          ≡ stations_after older (before ++ started issue message entry ∷ rest)
 
     -- past an instruction whose stations' part is a list in which nothing is found
     module _ (older : List Entry) (e : Entry) (es : List Entry) (here : List Station)
-        (at : waiting_at kind (status_behind status0 n0 older) (n0 + length older) e e.instruction ≡ here)
+        (at : waiting_at kind (status_after status0 n0 older) (n0 + length older) e e.instruction ≡ here)
         (not : ready older e ≡ false)
         (oldest_skips : (ws : List Station) → oldest_ready test (here ++ ws) ≡ oldest_ready test ws)
         (others_skip : (ws : List Station) → without_oldest_ready test (here ++ ws) ≡ here ++ without_oldest_ready test ws) where
-      joined : (xs : List Entry) → stations_behind older (e ∷ xs) ≡ here ++ stations_behind (older ++ e ∷ []) xs
-      joined xs = stations_step older e xs ∙ ap (λ l. l ++ stations_behind (older ++ e ∷ []) xs) at
+      joined : (xs : List Entry) → stations_after older (e ∷ xs) ≡ here ++ stations_after (older ++ e ∷ []) xs
+      joined xs = stations_step older e xs ∙ ap (λ l. l ++ stations_after (older ++ e ∷ []) xs) at
 
       none_past : NoneFound (older ++ e ∷ []) es → NoneFound older (e ∷ es)
       none_past n = record {
         defined = rw not n.defined;
-        searched = ap (oldest_ready test) (joined es) ∙ oldest_skips (stations_behind (older ++ e ∷ []) es) ∙ n.searched;
+        searched = ap (oldest_ready test) (joined es) ∙ oldest_skips (stations_after (older ++ e ∷ []) es) ∙ n.searched;
       }
 
       found_past : Found (older ++ e ∷ []) es → Found older (e ∷ es)
@@ -123,10 +123,10 @@ module _ (kind : Kind) (status0 : RegisterStatus) (n0 : ℕ) where
         decoded = f.decoded;
         there = f.there;
         defined = rw not f.defined;
-        searched = ap (oldest_ready test) (joined es) ∙ oldest_skips (stations_behind (older ++ e ∷ []) es) ∙ f.searched;
+        searched = ap (oldest_ready test) (joined es) ∙ oldest_skips (stations_after (older ++ e ∷ []) es) ∙ f.searched;
         left = λ issue message.
             ap (without_oldest_ready test) (joined es)
-            ∙ others_skip (stations_behind (older ++ e ∷ []) es)
+            ∙ others_skip (stations_after (older ++ e ∷ []) es)
             ∙ ap (λ l. here ++ l) (f.left issue message)
             ∙ sym (joined (f.before ++ started issue message f.entry ∷ f.rest));
       }
@@ -140,11 +140,11 @@ module _ (kind : Kind) (status0 : RegisterStatus) (n0 : ℕ) where
     search_from older [] all agree pass = inl (record { defined = refl; searched = refl })
     search_from older (e ∷ es) all agree pass =
         let rest = search_from (older ++ e ∷ []) es (append_assoc older (e ∷ []) es ∙ all) agree pass in
-        elim (at_cases kind (status_behind status0 n0 older) (n0 + length older) e) [
+        elim (at_cases kind (status_after status0 n0 older) (n0 + length older) e) [
           | inl away ↦ past older e es [] away.0 (pass older e away.1) (λ ws. refl) (λ ws. refl) rest
           | inr there ↦
               let i = there.0 in
-              let w = station_behind older e i in
+              let w = station_after older e i in
               let same = agree older es e i all there.1 there.3 in
               elim (cases_Bool (is_ready_station w && test w)) [
                 | inr fails ↦ past older e es (w ∷ []) there.2 (sym same ∙ fails)
@@ -152,8 +152,8 @@ module _ (kind : Kind) (status0 : RegisterStatus) (n0 : ℕ) where
                     (λ ws. cond-false (is_ready_station w && test w) ws (w ∷ without_oldest_ready test ws) fails)
                     rest
                 | inl passes ↦
-                    let ws = stations_behind (older ++ e ∷ []) es in
-                    let joined : stations_behind older (e ∷ es) ≡ w ∷ ws = stations_step older e es ∙ ap (λ l. l ++ ws) there.2 in
+                    let ws = stations_after (older ++ e ∷ []) es in
+                    let joined : stations_after older (e ∷ es) ≡ w ∷ ws = stations_step older e es ∙ ap (λ l. l ++ ws) there.2 in
                     inr (record {
                       before = [];
                       prior = older;

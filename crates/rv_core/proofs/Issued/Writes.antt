@@ -1,5 +1,5 @@
 -- The stores older than an instruction write within RAM, and so does an instruction, or it faults.
-use Rattle.rv_core.proofs.Words.{◌≡◌, ℕ, ◌+◌, Bool, true, false, List, [], ◌∷◌, length, IfSome, Some, None, All, Option, sym, refl, subst, arith, All-append, All-head, All-tail, bytes_of_number, is_store, bytes_of, modulo_word, sum, Message, StoreAccess, Cause, Fault, Instr, Lines, Width, Values, Effect, Faults, Retires, effect, stores, State, register_of, IsAligned, Store as QueuedStore, Committed, Draining, StoreState, Entry, Stage, Finished, Hardware, broadcast_of, store_of_broadcast, store_of_message, stores_of, effect_message, result_in, layout_of, stores_behind, LieIn, LiesIn, store_fault, IsLegalWrite, IsRetiredStore, IsSoundEntry, message_of}
+use Rattle.rv_core.proofs.Words.{◌≡◌, ℕ, ◌+◌, Bool, true, false, List, [], ◌∷◌, length, IfSome, Some, None, All, Option, sym, refl, subst, arith, All-append, All-head, All-tail, bytes_of_number, is_store, bytes_of, modulo_word, sum, Message, StoreAccess, Cause, Fault, Instr, Lines, Width, Values, Effect, Faults, Retires, effect, stores, State, register_of, IsAligned, Store as QueuedStore, Committed, Draining, StoreState, Entry, Stage, Finished, Hardware, broadcast_of, store_of_broadcast, store_of_message, stores_of, effect_message, result_in, layout_of, stores_after, LieIn, LiesIn, store_fault, IsLegalWrite, IsRetiredStore, IsSoundEntry, message_of}
 use Rattle.rv_stores.specs.declared.store.StoreState.TheVariants as store
 use Rattle.rv_isa.specs.declared.instructions.Instr.TheVariants.{Store}
 use Rattle.rv_core.proofs.Issued.Stores.{All-one}
@@ -43,9 +43,9 @@ module _ (values : Values) where
   committed_inside ss sound k d within = retired_inside _ (sound k d within)
 
 -- the stores older than an instruction lie in RAM
-pub inside_behind : (h : Hardware) (older : List Entry) → All (λ (s : QueuedStore). IsRetiredStore h.values s.state) h.committed →
-    All (IsSoundEntry h.values) older → LieIn h.values.ram_base h.values.ram_size (stores_behind h older)
-inside_behind h older committed sound =
+pub inside_after : (h : Hardware) (older : List Entry) → All (λ (s : QueuedStore). IsRetiredStore h.values s.state) h.committed →
+    All (IsSoundEntry h.values) older → LieIn h.values.ram_base h.values.ram_size (stores_after h older)
+inside_after h older committed sound =
     All-append (λ (t : QueuedStore). LiesIn h.values.ram_base h.values.ram_size t.state) h.committed
     (stores_of h.rob.retired older)
     (committed_inside h.values h.committed committed) (stores_inside h.values h.rob.retired older sound)

@@ -1,5 +1,5 @@
 -- A byte after stores is that of the youngest store which covers it, else the one below.
-use Rattle.rv_core.proofs.Words.{◌≡◌, ℕ, ◌+◌, ◌-◌, ◌<◌, ◌≤◌, List, [], ◌∷◌, length, slice_get, slice_index_or as get_or, Some, Option, unwrap_or, sym, refl, ap, ◌∙◌, arith, All-head, All-tail, option_or, StoreAccess, overwritten, get_or-overwritten_above, get_or-overwritten_below, get_or-overwritten_in, length-overwritten, youngest_byte, byte_of_state, written_at, Store, StoreState, memory_behind, slice_get-get_or, slice_get_past, LieIn, LiesIn}
+use Rattle.rv_core.proofs.Words.{◌≡◌, ℕ, ◌+◌, ◌-◌, ◌<◌, ◌≤◌, List, [], ◌∷◌, length, slice_get, slice_index_or as get_or, Some, Option, unwrap_or, sym, refl, ap, ◌∙◌, arith, All-head, All-tail, option_or, StoreAccess, overwritten, get_or-overwritten_above, get_or-overwritten_below, get_or-overwritten_in, length-overwritten, youngest_byte, byte_of_state, written_at, Store, StoreState, bytes_after, slice_get-get_or, slice_get_past, LieIn, LiesIn}
 use Rattle.rv_hardware.specs.InFlight.{with_store}
 
 unwrap_or-option_or : (a b : Option ℕ) (d : ℕ) → unwrap_or (option_or a b) d ≡ unwrap_or a (unwrap_or b d)
@@ -30,33 +30,33 @@ module _ (base : ℕ) where
   get_or-with_store size address state bytes sized inside given = grind (arith, get_or-with_access)
 
   -- stores within RAM leave as many bytes as there were
-  pub length-memory_behind : (size : ℕ) (ss : List Store) (bytes : List ℕ) → length bytes ≡ size → LieIn base size ss →
-      length (memory_behind base ss bytes) ≡ size
-  length-memory_behind size [] bytes sized inside = sized
-  length-memory_behind size (s ∷ ss) bytes sized inside =
+  pub length-bytes_after : (size : ℕ) (ss : List Store) (bytes : List ℕ) → length bytes ≡ size → LieIn base size ss →
+      length (bytes_after base ss bytes) ≡ size
+  length-bytes_after size [] bytes sized inside = sized
+  length-bytes_after size (s ∷ ss) bytes sized inside =
       let P : Store → Type 0 = λ t. LiesIn base size t.state in
-      length-memory_behind size ss (with_store base s.state bytes)
+      length-bytes_after size ss (with_store base s.state bytes)
       (length-with_store size s.state bytes sized (All-head P s ss inside)) (All-tail P s ss inside)
 
   -- a byte of memory after stores
-  pub get_or-memory_behind : (size address : ℕ) (ss : List Store) (bytes : List ℕ) → length bytes ≡ size → LieIn base size ss →
-      base ≤ address → get_or (memory_behind base ss bytes) (address - base) 0
+  pub get_or-bytes_after : (size address : ℕ) (ss : List Store) (bytes : List ℕ) → length bytes ≡ size → LieIn base size ss →
+      base ≤ address → get_or (bytes_after base ss bytes) (address - base) 0
       ≡ unwrap_or (youngest_byte address ss) (get_or bytes (address - base) 0)
-  get_or-memory_behind size address [] bytes sized inside at = refl
-  get_or-memory_behind size address (s ∷ ss) bytes sized inside at =
+  get_or-bytes_after size address [] bytes sized inside at = refl
+  get_or-bytes_after size address (s ∷ ss) bytes sized inside at =
       let P : Store → Type 0 = λ t. LiesIn base size t.state in
       let here = All-head P s ss inside in
-      get_or-memory_behind size address ss (with_store base s.state bytes) (length-with_store size s.state bytes sized here)
+      get_or-bytes_after size address ss (with_store base s.state bytes) (length-with_store size s.state bytes sized here)
       (All-tail P s ss inside) at
       ∙ ap (unwrap_or (youngest_byte address ss)) (get_or-with_store size address s.state bytes sized here at)
       ∙ sym (unwrap_or-option_or (youngest_byte address ss) (byte_of_state address s.state) (get_or bytes (address - base) 0))
 
   -- the same where there is a byte
-  pub slice_get-memory_behind : (size address : ℕ) (ss : List Store) (bytes : List ℕ) → length bytes ≡ size → LieIn base size ss →
+  pub slice_get-bytes_after : (size address : ℕ) (ss : List Store) (bytes : List ℕ) → length bytes ≡ size → LieIn base size ss →
       base ≤ address → address < base + size →
-      slice_get (memory_behind base ss bytes) (address - base)
+      slice_get (bytes_after base ss bytes) (address - base)
       ≡ Some (unwrap_or (youngest_byte address ss) (get_or bytes (address - base) 0))
-  slice_get-memory_behind size address ss bytes sized inside at within =
-      let long = length-memory_behind size ss bytes sized inside in
-      slice_get-get_or (memory_behind base ss bytes) (address - base) 0 (omega (arith, long))
-      ∙ ap (λ n. Some n) (get_or-memory_behind size address ss bytes sized inside at)
+  slice_get-bytes_after size address ss bytes sized inside at within =
+      let long = length-bytes_after size ss bytes sized inside in
+      slice_get-get_or (bytes_after base ss bytes) (address - base) 0 (omega (arith, long))
+      ∙ ap (λ n. Some n) (get_or-bytes_after size address ss bytes sized inside at)

@@ -1,6 +1,6 @@
 -- The bytes that a load takes from the older stores and the cache are those of memory after the stores.
-use Rattle.rv_core.proofs.Words.{◌≡◌, ℕ, zero, suc, ◌+◌, ◌-◌, ◌<◌, ◌≤◌, true, List, [], ◌∷◌, ◌++◌, length, take, drop, is_some, slice_index_or as get_or, slice_range, Option, unwrap_or, sym, refl, ap, ◌∙◌, arith, and_parts, bytes_of, Width, forwarded, youngest_byte, Store, memory_behind, drop_more, get_or_append_left, get_or-between, length-between, LieIn, bytes_over, is_forwarded}
-use Rattle.rv_core.proofs.Loads.Behind.{get_or-memory_behind, length-memory_behind}
+use Rattle.rv_core.proofs.Words.{◌≡◌, ℕ, zero, suc, ◌+◌, ◌-◌, ◌<◌, ◌≤◌, true, List, [], ◌∷◌, ◌++◌, length, take, drop, is_some, slice_index_or as get_or, slice_range, Option, unwrap_or, sym, refl, ap, ◌∙◌, arith, and_parts, bytes_of, Width, forwarded, youngest_byte, Store, bytes_after, drop_more, get_or_append_left, get_or-between, length-between, LieIn, bytes_over, is_forwarded}
+use Rattle.rv_core.proofs.Loads.Behind.{get_or-bytes_after, length-bytes_after}
 
 -- so many numbers of a list, from a place on
 abbrev numbers : ℕ → ℕ → List ℕ → List ℕ
@@ -39,19 +39,19 @@ forwarded_all width ss address all k lt = grind (arith, and_parts)
 module _ (base size : ℕ) (ss : List Store) (bytes : List ℕ) (sized : length bytes ≡ size) (inside : LieIn base size ss)
     (address : ℕ) (width : Width) (from : base ≤ address) (to : address + bytes_of width ≤ base + size) where
   abbrev ram : List ℕ
-  ram = memory_behind base ss bytes
+  ram = bytes_after base ss bytes
 
   abbrev place : ℕ
   place = address - base
 
   within : place + bytes_of width ≤ length ram
-  within = omega (arith, length-memory_behind base size ss bytes sized inside)
+  within = omega (arith, length-bytes_after base size ss bytes sized inside)
 
   behind : (k : ℕ) → get_or ram (place + k) 0 ≡ unwrap_or (youngest_byte (address + k) ss) (get_or bytes (place + k) 0)
   behind k =
       let at : place + k ≡ address + k - base = omega arith in
       ap (λ i. get_or ram i 0) at
-      ∙ get_or-memory_behind base size (address + k) ss bytes sized inside (omega arith)
+      ∙ get_or-bytes_after base size (address + k) ss bytes sized inside (omega arith)
       ∙ ap (λ i. unwrap_or (youngest_byte (address + k) ss) (get_or bytes i 0)) (sym at)
 
   -- the stores forward every byte

@@ -1,11 +1,11 @@
 -- The value that a load takes from the older stores and the cache is that of its effect.
-use Rattle.rv_core.proofs.Words.{◌≡◌, ℕ, ◌+◌, ◌-◌, ◌≤◌, List, ◌++◌, length, take, slice_range, None, Option, sym, refl, ap, ◌∙◌, subst, arith, number_of, bytes_of, is_sign_extended, width_of, pc_plus_4, LoadForm, Memory, number_at, extended, loads, State, Contents, forwarded, Store, memory_behind, effect_message, writes, IsBehind, IsOverRam, bytes_over, load_fault, path_of}
+use Rattle.rv_core.proofs.Words.{◌≡◌, ℕ, ◌+◌, ◌-◌, ◌≤◌, List, ◌++◌, length, take, slice_range, None, Option, sym, refl, ap, ◌∙◌, subst, arith, number_of, bytes_of, is_sign_extended, width_of, pc_plus_4, LoadForm, Memory, number_at, extended, loads, State, Contents, forwarded, Store, bytes_after, effect_message, writes, IsAfter, IsOverRam, bytes_over, load_fault, path_of}
 use Rattle.rv_core.proofs.Loads.Bytes.{bytes_from_cache, bytes_from_stores}
 use Rattle.rv_core.proofs.Loads.Effect.{PathFacts, load_gives, load_within, path_facts}
 use Rattle.rv_core.specs.declared.load.Path.{Path}
 use Rattle.rv_core.specs.declared.load.Path.TheVariants.{FromStores, FromCache}
 
-module _ (cache : Contents Memory) (ss : List Store) (over : IsOverRam cache) (s : State) (behind : IsBehind cache ss s)
+module _ (cache : Contents Memory) (ss : List Store) (over : IsOverRam cache) (s : State) (behind : IsAfter cache ss s)
     (form : LoadForm) (rd address : ℕ) where
   abbrev count : ℕ
   count = bytes_of (width_of form)
@@ -24,13 +24,13 @@ module _ (cache : Contents Memory) (ss : List Store) (over : IsOverRam cache) (s
     to : address + count ≤ cache.base + length cache.bytes
     to = omega (arith, over.base, over.size, (load_within cache.backing.layout address count fault).2)
 
-    number_behind : number_at cache.backing.layout s.ram address count
-        ≡ number_of (slice_range (memory_behind cache.base ss cache.bytes) place (place + count))
-    number_behind =
+    number_after : number_at cache.backing.layout s.ram address count
+        ≡ number_of (slice_range (bytes_after cache.base ss cache.bytes) place (place + count))
+    number_after =
         λ j. number_of (slice_range (behind.ram j) (address - sym over.base j) (address - sym over.base j + count))
 
     gives : (overlay : List (Option ℕ)) (below : List ℕ) → overlay ≡ forwarded ss address count →
-        slice_range (memory_behind cache.base ss cache.bytes) place (place + count)
+        slice_range (bytes_after cache.base ss cache.bytes) place (place + count)
         ≡ take count (bytes_over (forwarded ss address count) below) →
         effect_message None (writes s rd (value_over overlay below) (pc_plus_4 s.pc))
         ≡ effect_message None (loads cache.backing.layout s form rd address)
@@ -38,7 +38,7 @@ module _ (cache : Contents Memory) (ss : List Store) (over : IsOverRam cache) (s
         let value : extended (is_sign_extended form) count (number_at cache.backing.layout s.ram address count)
         ≡ value_over overlay below =
         ap (extended (is_sign_extended form) count)
-        (number_behind ∙ ap number_of (bytes ∙ ap (λ o. take count (bytes_over o below)) (sym same))) in
+        (number_after ∙ ap number_of (bytes ∙ ap (λ o. take count (bytes_over o below)) (sym same))) in
         ap (λ v. effect_message None (writes s rd v (pc_plus_4 s.pc))) (sym value)
         ∙ sym (load_gives cache.backing.layout address s form rd fault)
 

@@ -1,11 +1,11 @@
 -- The path of a load in the code is the definition's.
 use Rattle.std.proofs.Common.{arith}
-use Rattle.rv_core.proofs.Words.{◌≡◌, ℕ, not, ◌||◌, List, nat_le, at_kind, Kind, Entry, Hardware, Path as DefinedPath, cost_of, has_port, with_access, layout_of, stores_behind, path_of_load, cache_after, defined_path, path_cost, port_after, needs_port, path_of}
+use Rattle.rv_core.proofs.Words.{◌≡◌, ℕ, not, ◌||◌, List, nat_le, at_kind, Kind, Entry, Hardware, Path as DefinedPath, cost_of, has_port, with_access, layout_of, stores_after, path_of_load, cache_after, defined_path, path_cost, port_after, needs_port, path_of}
 use Rattle.rv_core.specs.declared.load.Path.{Path}
 
 -- the code's path of a load is the definition's
 pub path_is_defined : (h : Hardware) (older : List Entry) (address count : ℕ) →
-    defined_path address (path_of (layout_of h.values) (stores_behind h older) address count) ≡ path_of_load h older address count
+    defined_path address (path_of (layout_of h.values) (stores_after h older) address count) ≡ path_of_load h older address count
 path_is_defined h older address count = grind arith
 
 -- what the port lets pass

@@ -1,6 +1,6 @@
 -- The byte that programs see is the youngest retired store's, else the cache's.
 use Rattle.rv_core.proofs.Words.{◌≡◌, ℕ, ◌-◌, ◌≤◌, false, nat_le, slice_get, slice_index_or as get_or, Some, None, Option, unwrap_or, sym, ap, ◌∙◌, arith, le-leb, and_from, cond-true, is_in_ram, youngest_byte, Hardware, layout_of, seen, slice_get_past, byte_seen, IsCached, LieIn, IsSoundHardware}
-use Rattle.rv_core.proofs.Loads.Behind.{length-memory_behind, slice_get-memory_behind}
+use Rattle.rv_core.proofs.Loads.Behind.{length-bytes_after, slice_get-bytes_after}
 use Rattle.rv_core.proofs.Issued.Writes.{committed_inside}
 
 module _ (h : Hardware) (sound : IsSoundHardware h) (address : ℕ) where
@@ -22,7 +22,7 @@ module _ (h : Hardware) (sound : IsSoundHardware h) (address : ℕ) where
         slice_get_past,
         sound.cache.base,
         sound.cache.bytes,
-        length-memory_behind h.values.ram_base h.values.ram_size h.committed h.cache.bytes sound.cache.bytes inside,
+        length-bytes_after h.values.ram_base h.values.ram_size h.committed h.cache.bytes sound.cache.bytes inside,
       )
 
   -- in RAM it is the youngest store's, or the cache's
@@ -32,7 +32,7 @@ module _ (h : Hardware) (sound : IsSoundHardware h) (address : ℕ) where
       ap (λ m. Some m) (is ∙ ap
       (λ b. unwrap_or (youngest_byte address h.committed) (get_or h.cache.bytes (address - b) 0)) sound.cache.base)
       ∙ sym (from_base (omega (arith, cached.0, sound.cache.base))
-      ∙ slice_get-memory_behind h.values.ram_base h.values.ram_size address h.committed h.cache.bytes sound.cache.bytes inside
+      ∙ slice_get-bytes_after h.values.ram_base h.values.ram_size address h.committed h.cache.bytes sound.cache.bytes inside
       (omega (arith, cached.0, sound.cache.base)) (omega (arith, cached.1, sound.cache.base, sound.cache.bytes)))
 
   -- no byte outside RAM is cached

@@ -1,5 +1,5 @@
 -- The parts with an instruction that was dispatched into them are sound, and stand for the hardware with it.
-use Rattle.rv_core.proofs.Words.{◌≡◌, ◌<◌, ◌&&◌, List, [], ◌∷◌, drop, IfSome, slice_get, Some, None, All, refl, All-head, is_branch_or_jump, is_store, target_of_word, pushed, FetchBuffer, Fetched, mends_early, entry_of_fetched, reason_of, Hardware, All-drop, next_number, with_instruction, with_jump, with_store, with_target, IsSound, hardware_of, IsDecoded, status_behind, values_in, Inside}
+use Rattle.rv_core.proofs.Words.{◌≡◌, ◌<◌, ◌&&◌, List, [], ◌∷◌, drop, IfSome, slice_get, Some, None, All, refl, All-head, is_branch_or_jump, is_store, target_of_word, pushed, FetchBuffer, Fetched, mends_early, entry_of_fetched, reason_of, Hardware, All-drop, next_number, with_instruction, with_jump, with_store, with_target, IsSound, hardware_of, IsDecoded, status_after, values_in, Inside}
 use Rattle.rv_core.proofs.Ties.Closed.{closed-is, closed-sound}
 use Rattle.rv_core.proofs.Phases.Fetched.{sound_with_front}
 use Rattle.rv_core.proofs.Ties.Dispatch.{sound-dispatched, tied-dispatched}
@@ -22,7 +22,7 @@ module _ {p : Inside} (f : Fetched) (is : IsSound p) (waits_not : reason_of (har
   abbrev pub entered_parts : Inside
   entered_parts = record p {
     stores = with_store (is_store f.instruction) (next_number p.rob) p.stores;
-    stations = with_instruction (status_behind (values_in p.registers) p.rob.retired p.rob.entries)
+    stations = with_instruction (status_after (values_in p.registers) p.rob.retired p.rob.entries)
         (next_number p.rob) f.pc f.instruction p.stations;
     rename = with_jump (mends_early p.values.recovery && is_branch_or_jump f.instruction) (next_number p.rob)
         (with_target (next_number p.rob) (target_of_word f.instruction) p.rename);

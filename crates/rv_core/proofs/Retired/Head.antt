@@ -1,7 +1,7 @@
 -- The head retires: rename map, stations, bus and queue are those of the instructions after it.
 use Rattle.rv_core.proofs.Words.{◌≡◌, ℕ, ◌+◌, ◌<◌, Bool, false, not, ◌≢◌, List, [], ◌∷◌, ◌++◌, map, length, IfSome, if◌then◌else◌, ◌==◌, Some, None, filter, Option, sym, refl, ap, ◌∙◌, arith, get_or-set_other, get_or-set_same, eq-eqb, ne_eqb, is_branch_or_jump, is_store, is_target, target_of_word, at_kind, Message, Kind, PerKind, Values, with_register, ReorderBuffer, after_head, head_retired, Entry, Stage, mends_early, Hardware, broadcast_of, is_waiting, stores_of, with_value, committed_store, with_result, by_kind-same, Queue, Pool, Pending, Checkpoint, Renaming, checkpoint_without_oldest, retired, without_checkpoint, without_oldest, Producer, with_commit, without_target, IsLegalWrite, AreTied, bus_of, checkpoints_of, operand_by, pending_of, pool_of_kind, producer_of, producers_of, producers_with, renaming_of, stations_of, status_with, values_in, waiting_from}
 use Rattle.rv_core.proofs.Ties.Stations.{busy-at}
-use Rattle.rv_core.proofs.Retired.Stores.{AreRetired, queued_behind_head}
+use Rattle.rv_core.proofs.Retired.Stores.{AreRetired, queued_after_head}
 
 -- the registers
 
@@ -22,10 +22,10 @@ head_status registers seq None m ok register = refl
 head_status registers seq (Some r) m ok register = written_status registers seq r m ok.0 ok.1 register
 
 -- after the head all values are those that it leaves
-status_behind_head : (registers : List ℕ) (seq : ℕ) (e : Entry) (m : Message) → broadcast_of e.stage ≡ Some m →
+status_after_head : (registers : List ℕ) (seq : ℕ) (e : Entry) (m : Message) → broadcast_of e.stage ≡ Some m →
     IsTarget registers (target_of_word e.instruction) →
     status_with (values_in registers) seq e ≡ values_in (with_value registers (target_of_word e.instruction) (Some m))
-status_behind_head registers seq e m known ok =
+status_after_head registers seq e m known ok =
     λ i register. (ap (λ o. if is_target register
     (target_of_word e.instruction) then operand_by seq o else values_in registers register) known
     ∙ head_status registers seq (target_of_word e.instruction) m ok register) i
@@ -35,14 +35,14 @@ status_behind_head registers seq e m known ok =
 not_waiting : (stage : Stage) (m : Message) → broadcast_of stage ≡ Some m → is_waiting stage ≡ false
 not_waiting stage m known = grind arith
 
-stations_behind_head : (kind : Kind) (registers : List ℕ) (seq : ℕ) (e : Entry) (es : List Entry) (m : Message) →
+stations_after_head : (kind : Kind) (registers : List ℕ) (seq : ℕ) (e : Entry) (es : List Entry) (m : Message) →
     broadcast_of e.stage ≡ Some m → IsTarget registers (target_of_word e.instruction) →
     waiting_from kind (values_in registers) seq (e ∷ es)
     ≡ waiting_from kind (values_in (with_value registers (target_of_word e.instruction) (Some m))) (seq + 1) es
-stations_behind_head kind registers seq e es m known ok =
+stations_after_head kind registers seq e es m known ok =
     ap (λ ws. ws ++ waiting_from kind (status_with (values_in registers) seq e) (seq + 1) es)
     (busy-at kind (values_in registers) seq e e.instruction (not_waiting e.stage m known))
-    ∙ ap (λ status. waiting_from kind status (seq + 1) es) (status_behind_head registers seq e m known ok)
+    ∙ ap (λ status. waiting_from kind status (seq + 1) es) (status_after_head registers seq e m known ok)
 
 -- the bus
 
@@ -110,33 +110,33 @@ renamed_from : (capacity seq : ℕ) (target : Option ℕ) (is_jump : Bool) (es :
     }
 renamed_from capacity seq target is_jump es is_early = grind (arith, oldest_goes, noted_goes, younger_stay, without_head)
 
-pub renamed_behind_head : (values : Values) (capacity seq : ℕ) (e : Entry) (es : List Entry) →
+pub renamed_after_head : (values : Values) (capacity seq : ℕ) (e : Entry) (es : List Entry) →
     without_checkpoint seq (without_target seq (target_of_word e.instruction)
     (renaming_of values (record { capacity = capacity; retired = seq; entries = e ∷ es })))
     ≡ renaming_of values (record { capacity = capacity; retired = seq + 1; entries = es })
-renamed_behind_head values capacity seq e es =
+renamed_after_head values capacity seq e es =
     renamed_from values.rob seq (target_of_word e.instruction) (is_branch_or_jump e.instruction) es (mends_early values.recovery)
 
-pub stationed_behind_head : (values : Values) (registers : List ℕ) (capacity seq : ℕ) (e : Entry) (es : List Entry)
+pub stationed_after_head : (values : Values) (registers : List ℕ) (capacity seq : ℕ) (e : Entry) (es : List Entry)
     (m : Message) →
     broadcast_of e.stage ≡ Some m → IsTarget registers (target_of_word e.instruction) →
     stations_of values registers (record { capacity = capacity; retired = seq; entries = e ∷ es })
     ≡ stations_of values (with_value registers (target_of_word e.instruction) (Some m))
     (record { capacity = capacity; retired = seq + 1; entries = es })
-stationed_behind_head values registers capacity seq e es m known ok =
+stationed_after_head values registers capacity seq e es m known ok =
     by_kind-same (pool_of_kind values registers (record { capacity = capacity; retired = seq; entries = e ∷ es }))
     (pool_of_kind values (with_value registers (target_of_word e.instruction) (Some m))
     (record { capacity = capacity; retired = seq + 1; entries = es }))
     (λ kind i. record {
-      waiting = stations_behind_head kind registers seq e es m known ok i;
+      waiting = stations_after_head kind registers seq e es m known ok i;
       capacity = (at_kind kind values.kinds).stations;
     })
 
-pub pending_behind_head : (values : Values) (capacity seq : ℕ) (e : Entry) (es : List Entry) (m : Message) →
+pub pending_after_head : (values : Values) (capacity seq : ℕ) (e : Entry) (es : List Entry) (m : Message) →
     broadcast_of e.stage ≡ Some m →
     bus_of values (record { capacity = capacity; retired = seq; entries = e ∷ es })
     ≡ bus_of values (record { capacity = capacity; retired = seq + 1; entries = es })
-pending_behind_head values capacity seq e es m known = rw (head_not_pending seq e.stage m known) refl
+pending_after_head values capacity seq e es m known = rw (head_not_pending seq e.stage m known) refl
 
 -- the hardware
 
@@ -146,12 +146,12 @@ pub buffer_of : (rob : ReorderBuffer) (es : List Entry) → rob.entries ≡ es �
 buffer_of rob es is = ap (λ l. record { capacity = rob.capacity; retired = rob.retired; entries = l }) is
 
 -- the reorder buffer after its head
-pub buffer_behind : (rob : ReorderBuffer) (e : Entry) (es : List Entry) → rob.entries ≡ e ∷ es →
+pub buffer_after : (rob : ReorderBuffer) (e : Entry) (es : List Entry) → rob.entries ≡ e ∷ es →
     head_retired rob ≡ record { capacity = rob.capacity; retired = rob.retired + 1; entries = es }
-buffer_behind rob e es is = ap (after_head rob) is
+buffer_after rob e es is = ap (after_head rob) is
 
 -- a head with its result retires
-pub tied_behind_head : (h : Hardware) (e : Entry) (es : List Entry) (m : Message) (rename : Renaming) (stations : PerKind Pool)
+pub tied_after_head : (h : Hardware) (e : Entry) (es : List Entry) (m : Message) (rename : Renaming) (stations : PerKind Pool)
     (bus : Pending) (queue : Queue) →
     AreTied h rename stations bus queue → AreRetired h.values h.committed → h.rob.entries ≡ e ∷ es →
     broadcast_of e.stage ≡ Some m →
@@ -159,24 +159,24 @@ pub tied_behind_head : (h : Hardware) (e : Entry) (es : List Entry) (m : Message
     AreTied (with_result e m h)
     (without_checkpoint h.rob.retired (without_target h.rob.retired (target_of_word e.instruction) rename)) stations bus
     (with_commit m.store queue)
-tied_behind_head h e es m rename stations bus queue tied retired entries known target legal =
+tied_after_head h e es m rename stations bus queue tied retired entries known target legal =
     let before = buffer_of h.rob (e ∷ es) entries in
-    let after = sym (buffer_behind h.rob e es entries) in
+    let after = sym (buffer_after h.rob e es entries) in
     record {
       renamed =
           ap (λ r. without_checkpoint h.rob.retired (without_target h.rob.retired (target_of_word e.instruction) r))
           (tied.renamed ∙ ap (renaming_of h.values) before)
-          ∙ renamed_behind_head h.values h.rob.capacity h.rob.retired e es
+          ∙ renamed_after_head h.values h.rob.capacity h.rob.retired e es
           ∙ ap (renaming_of h.values) after;
       stationed =
           tied.stationed
           ∙ ap (stations_of h.values h.registers) before
-          ∙ stationed_behind_head h.values h.registers h.rob.capacity h.rob.retired e es m known target
+          ∙ stationed_after_head h.values h.registers h.rob.capacity h.rob.retired e es m known target
           ∙ ap (stations_of h.values (with_value h.registers (target_of_word e.instruction) (Some m))) after;
       pending =
           tied.pending
           ∙ ap (bus_of h.values) before
-          ∙ pending_behind_head h.values h.rob.capacity h.rob.retired e es m known
+          ∙ pending_after_head h.values h.rob.capacity h.rob.retired e es m known
           ∙ ap (bus_of h.values) after;
       queued =
           ap (with_commit m.store)
@@ -184,7 +184,7 @@ tied_behind_head h e es m rename stations bus queue tied retired entries known t
             stores = h.committed ++ stores_of h.rob.retired l;
             capacity = h.values.store_queue;
           }) entries)
-          ∙ queued_behind_head h.values h.committed h.rob.retired e es m retired known legal
+          ∙ queued_after_head h.values h.committed h.rob.retired e es m retired known legal
           ∙ ap (λ rob. record {
             stores =
                 (h.committed ++ committed_store h.rob.retired m.store) ++ stores_of rob.retired rob.entries;

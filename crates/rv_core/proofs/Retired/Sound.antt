@@ -1,7 +1,7 @@
 -- The head retires: what holds of the hardware goes on to hold.
 use Rattle.rv_core.proofs.Words.{◌≡◌, ℕ, suc, ◌+◌, ◌*◌, ◌<◌, Bool, false, List, ◌∷◌, ◌++◌, length, Some, None, All, Option, AllPairs, sym, ap, ◌∙◌, subst, append-nil, arith, All-tail, is_serialising, is_store, target_of_word, Message, StoreAccess, Values, Store as QueuedStore, Committed, Filled, ReorderBuffer, head_retired, Entry, Hardware, committed_store, with_result, All-push, AreBelow-push, AreBelow-weaken, AreSoundEntries, AreSoundStores, IsLegalWrite, IsRetiredStore, IsSoundEntry, IsSoundHardware}
 use Rattle.rv_hardware.proofs.Headline.Known.{length-with_value}
-use Rattle.rv_core.proofs.Retired.Head.{buffer_behind}
+use Rattle.rv_core.proofs.Retired.Head.{buffer_after}
 use Rattle.rv_core.proofs.Retired.Stores.{AreRetired}
 
 -- the retired stores, with what the head writes
@@ -20,11 +20,11 @@ older_with ss seq (Some access) are =
     (AreBelow-weaken (λ (s : QueuedStore). s.seq) seq (seq + 1) ss (omega arith) are) (omega arith)
 
 -- the instructions after the head
-pub entries_behind_head : (values : Values) (cycle : ℕ) (rob : ReorderBuffer) (e : Entry) (es : List Entry) →
+pub entries_after_head : (values : Values) (cycle : ℕ) (rob : ReorderBuffer) (e : Entry) (es : List Entry) →
     AreSoundEntries values cycle rob → rob.entries ≡ e ∷ es →
     rob.retired < 8 * cycle + 8 → AreSoundEntries values cycle (head_retired rob)
-entries_behind_head values cycle rob e es sound entries room =
-    subst (AreSoundEntries values cycle) (sym (buffer_behind rob e es entries)) (record {
+entries_after_head values cycle rob e es sound entries room =
+    subst (AreSoundEntries values cycle) (sym (buffer_after rob e es entries)) (record {
       capacity = sound.capacity;
       within = omega (arith, ap length entries, sound.within);
       numbers = omega (arith, room);
@@ -36,19 +36,19 @@ entries_behind_head values cycle rob e es sound entries room =
     })
 
 -- the hardware of which the head has retired is sound
-pub sound_behind_head : (h : Hardware) (e : Entry) (es : List Entry) (m : Message) → IsSoundHardware h → h.rob.entries ≡ e ∷ es →
+pub sound_after_head : (h : Hardware) (e : Entry) (es : List Entry) (m : Message) → IsSoundHardware h → h.rob.entries ≡ e ∷ es →
     h.rob.retired < 8 * h.cycle + 8 → IsLegalWrite h.values (is_store e.instruction) None m.store →
     IsSoundHardware (with_result e m h)
-sound_behind_head h e es m sound entries room legal = record {
+sound_after_head h e es m sound entries room legal = record {
   legal = sound.legal;
   cycles = sound.cycles;
   port = sound.port;
   registers = length-with_value h.registers (target_of_word e.instruction) (Some m) ∙ sound.registers;
   cache = sound.cache;
-  entries = entries_behind_head h.values h.cycle h.rob e es sound.entries entries room;
+  entries = entries_after_head h.values h.cycle h.rob e es sound.entries entries room;
   stores =
       subst (λ (rob : ReorderBuffer). AreSoundStores h.values rob.retired (h.committed ++ committed_store h.rob.retired m.store))
-      (sym (buffer_behind h.rob e es entries)) (record {
+      (sym (buffer_after h.rob e es entries)) (record {
         each = retired_with h.values h.committed h.rob.retired (is_store e.instruction) m.store sound.stores.each legal;
         older = older_with h.committed h.rob.retired m.store sound.stores.older;
       });

@@ -42,10 +42,10 @@ committed_from values ss seq younger are true m (Some access) is legal =
 committed_from values ss seq younger are _ m _ is legal = absurd legal
 
 -- the oldest store that has not retired is that of the head
-pub queued_behind_head : (values : Values) (ss : List QueuedStore) (seq : ℕ) (e : Entry) (es : List Entry) (m : Message) →
+pub queued_after_head : (values : Values) (ss : List QueuedStore) (seq : ℕ) (e : Entry) (es : List Entry) (m : Message) →
     AreRetired values ss →
     broadcast_of e.stage ≡ Some m → IsLegalWrite values (is_store e.instruction) None m.store →
     with_commit m.store (record { stores = ss ++ stores_of seq (e ∷ es); capacity = values.store_queue })
     ≡ record { stores = (ss ++ committed_store seq m.store) ++ stores_of (seq + 1) es; capacity = values.store_queue }
-queued_behind_head values ss seq e es m are known legal =
+queued_after_head values ss seq e es m are known legal =
     rw known (committed_from values ss seq (stores_of (seq + 1) es) are (is_store e.instruction) m m.store refl legal)

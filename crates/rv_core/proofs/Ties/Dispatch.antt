@@ -1,5 +1,5 @@
 -- A dispatch keeps the ties of the parts and the soundness of the hardware.
-use Rattle.rv_core.proofs.Words.{◌≡◌, ℕ, suc, ◌-◌, ◌<◌, Bool, false, cond, ◌&&◌, List, [], ◌∷◌, ◌++◌, length, IfSome, nat_le, slice_get, Some, None, All, Option, AllPairs, sym, refl, ap, ◌∙◌, arith, length-append, leb-false, All-cons, list_any, is_branch_or_jump, is_serialising, is_store, kind_of_word, target_of_word, Instr, Lines, Kind, PerKind, Values, Layout, State, pushed, Entry, Finished, Fetched, mends_early, entry_of_fetched, has_full_stations, reason_of, stage_by, Hardware, result_of_word, layout_of, seen_behind, stores_behind, or-false, All-push, all_pairs_push, at_kind-by_kind, Queue, Pool, Pending, Renaming, next_number, are_full_for, with_instruction, with_jump, with_store, with_target, IsDecoded, IsLegalWrite, IsSoundEntry, IsSoundHardware, message_of, AreTied, stations_of, status_behind, values_in}
+use Rattle.rv_core.proofs.Words.{◌≡◌, ℕ, suc, ◌-◌, ◌<◌, Bool, false, cond, ◌&&◌, List, [], ◌∷◌, ◌++◌, length, IfSome, nat_le, slice_get, Some, None, All, Option, AllPairs, sym, refl, ap, ◌∙◌, arith, length-append, leb-false, All-cons, list_any, is_branch_or_jump, is_serialising, is_store, kind_of_word, target_of_word, Instr, Lines, Kind, PerKind, Values, Layout, State, pushed, Entry, Finished, Fetched, mends_early, entry_of_fetched, has_full_stations, reason_of, stage_by, Hardware, result_of_word, layout_of, state_after, stores_after, or-false, All-push, all_pairs_push, at_kind-by_kind, Queue, Pool, Pending, Renaming, next_number, are_full_for, with_instruction, with_jump, with_store, with_target, IsDecoded, IsLegalWrite, IsSoundEntry, IsSoundHardware, message_of, AreTied, stations_of, status_after, values_in}
 use Rattle.rv_hardware.specs.declared.report.Stall.TheVariants as stall
 use Rattle.rv_rob.specs.ReorderBuffer.{youngest}
 use Rattle.rv_core.proofs.Phases.InFlight.{sound_in_flight}
@@ -15,7 +15,7 @@ pub record Goes (h : Hardware) (fetched : Fetched) : Type 0 where
   pub serial : list_any (λ e. is_serialising e.instruction) h.rob.entries ≡ false
   pub room : nat_le h.rob.capacity (length h.rob.entries) ≡ false
   pub station : has_full_stations h (kind_of_word fetched.instruction) ≡ false
-  pub queue : (is_store fetched.instruction && nat_le h.values.store_queue (length (stores_behind h h.rob.entries))) ≡ false
+  pub queue : (is_store fetched.instruction && nat_le h.values.store_queue (length (stores_after h h.rob.entries))) ≡ false
 
 -- what holds where nothing has a fetched word wait
 pub goes : (h : Hardware) (fetched : Fetched) → reason_of h fetched ≡ None → Goes h fetched
@@ -47,7 +47,7 @@ full-is h o = grind (arith, at_kind-by_kind, waiting-count)
 pub reason-is : (h : Hardware) (fetched : Fetched) (serial room station queue : Bool) →
     list_any (λ e. is_serialising e.instruction) h.rob.entries ≡ serial → nat_le h.rob.capacity (length h.rob.entries) ≡ room
     → has_full_stations h (kind_of_word fetched.instruction) ≡ station →
-    (is_store fetched.instruction && nat_le h.values.store_queue (length (stores_behind h h.rob.entries))) ≡ queue
+    (is_store fetched.instruction && nat_le h.values.store_queue (length (stores_after h h.rob.entries))) ≡ queue
     → reason_of h fetched ≡ cond serial (Some stall.Serial)
     (cond room (Some stall.Rob) (cond station (Some stall.Station) (cond queue (Some stall.Store) None)))
 reason-is h fetched serial room station queue serial_is room_is station_is queue_is = λ i.
@@ -74,7 +74,7 @@ module _ (h : Hardware) (fetched : Fetched) where
     decoded = decoded;
     target = target;
     writes = first-legal h.values (layout_of h.values)
-        (seen_behind h h.rob.entries fetched.pc) h.lines h.cycle fetched.word fetched.instruction;
+        (state_after h h.rob.entries fetched.pc) h.lines h.cycle fetched.word fetched.instruction;
   }
 
   all_fail : (es : List Entry) → list_any (λ e. is_serialising e.instruction) es ≡ false →
@@ -102,21 +102,21 @@ module _ (h : Hardware) (fetched : Fetched) where
       → AreTied entered_hardware
       (with_jump (mends_early h.values.recovery && is_branch_or_jump fetched.instruction) (next_number h.rob)
       (with_target (next_number h.rob) (target_of_word fetched.instruction) rename))
-      (with_instruction (status_behind (values_in h.registers) h.rob.retired h.rob.entries)
+      (with_instruction (status_after (values_in h.registers) h.rob.retired h.rob.entries)
       (next_number h.rob) fetched.pc fetched.instruction stations)
       bus
       (with_store (is_store fetched.instruction) (next_number h.rob) queue)
   tied-dispatched rename stations bus queue tied =
       let n = next_number h.rob in
       let message = result_of_word (layout_of h.values)
-      (seen_behind h h.rob.entries fetched.pc) h.lines fetched.word fetched.instruction in
+      (state_after h h.rob.entries fetched.pc) h.lines fetched.word fetched.instruction in
       record {
         renamed =
             ap (λ m. with_jump (mends_early h.values.recovery && is_branch_or_jump fetched.instruction) n
             (with_target n (target_of_word fetched.instruction) m)) tied.renamed ∙
             sym (renaming-push h.values h.rob new_entry);
         stationed =
-            ap (with_instruction (status_behind
+            ap (with_instruction (status_after
             (values_in h.registers) h.rob.retired h.rob.entries) n fetched.pc fetched.instruction) tied.stationed ∙
             sym (stations-push h.values h.registers h.rob new_entry (is_serialising fetched.instruction) h.cycle message refl);
         pending = tied.pending ∙ sym

@@ -1,5 +1,5 @@
 -- What a register gives is the value or the tag of the youngest instruction that writes it.
-use Rattle.rv_core.proofs.Words.{◌≡◌, ℕ, ◌+◌, ◌<◌, ◌≤◌, Bool, cond, List, [], ◌∷◌, ◌++◌, length, ◌==◌, Some, None, All, Option, refl, ◌∙◌, arith, eq-eqb, ne_eqb, eqb-true, eqb-false, All-head, All-tail, option_or, is_target, target_of_word, Entry, broadcast_of, Operand, Value, youngest, Producer, entry_of, RegisterStatus, operand_by, producer_of, producers_of, status_behind, status_with}
+use Rattle.rv_core.proofs.Words.{◌≡◌, ℕ, ◌+◌, ◌<◌, ◌≤◌, Bool, cond, List, [], ◌∷◌, ◌++◌, length, ◌==◌, Some, None, All, Option, refl, ◌∙◌, arith, eq-eqb, ne_eqb, eqb-true, eqb-false, All-head, All-tail, option_or, is_target, target_of_word, Entry, broadcast_of, Operand, Value, youngest, Producer, entry_of, RegisterStatus, operand_by, producer_of, producers_of, status_after, status_with}
 use Rattle.rv_core.proofs.Ties.Renaming.{producers-below, producers-from}
 
 -- what the entry of a producer gives
@@ -49,7 +49,7 @@ module _ (register : ℕ) where
 
   -- a register after some instructions
   pub status-is : (status : RegisterStatus) (s : ℕ) (es : List Entry) →
-      status_behind status s es register ≡ operand_from (status register) (youngest register (producers_of s es)) s es
+      status_after status s es register ≡ operand_from (status register) (youngest register (producers_of s es)) s es
   status-is status s [] = refl
   status-is status s (e ∷ es) =
       status-is (status_with status s e) (s + 1) es ∙

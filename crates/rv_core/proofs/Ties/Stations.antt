@@ -1,5 +1,5 @@
 -- The reservation stations are what the instructions in flight tell, through a dispatch, a broadcast and a squash.
-use Rattle.rv_core.proofs.Words.{◌≡◌, ℕ, ◌+◌, ◌<◌, ◌≤◌, Bool, true, false, cond, ◌&&◌, List, [], ◌∷◌, ◌++◌, map, length, ◌==◌, slice_index_or, Some, None, All, filter, Option, sym, refl, ap, ◌∙◌, subst, append-nil, arith, eq-eqb, ne_eqb, and_right, eqb-false, map-append, All-cons, is_same-own, is_of_kind, kind_of_word, sources_of, at_kind, for_each, Message, Instr, Kind, PerKind, Values, finished, predicting, ReorderBuffer, changed, entries_below, pushed, with_entry, Entry, Stage, is_stationed, stage_by, broadcast_of, is_waiting, AreBelow, below, by_kind, at_kind-by_kind, by_kind-same, with_kind-by_kind, Pool, squashed_pool, woken_pool, woken, woken_operand, Station, cut_from, entry_of, next_number, with_instruction, with_station, RegisterStatus, operand_by, operand_of, pool_of_kind, stations_of, status_behind, status_with, values_in, waiting_at, waiting_from, waiting_of}
+use Rattle.rv_core.proofs.Words.{◌≡◌, ℕ, ◌+◌, ◌<◌, ◌≤◌, Bool, true, false, cond, ◌&&◌, List, [], ◌∷◌, ◌++◌, map, length, ◌==◌, slice_index_or, Some, None, All, filter, Option, sym, refl, ap, ◌∙◌, subst, append-nil, arith, eq-eqb, ne_eqb, and_right, eqb-false, map-append, All-cons, is_same-own, is_of_kind, kind_of_word, sources_of, at_kind, for_each, Message, Instr, Kind, PerKind, Values, finished, predicting, ReorderBuffer, changed, entries_below, pushed, with_entry, Entry, Stage, is_stationed, stage_by, broadcast_of, is_waiting, AreBelow, below, by_kind, at_kind-by_kind, by_kind-same, with_kind-by_kind, Pool, squashed_pool, woken_pool, woken, woken_operand, Station, cut_from, entry_of, next_number, with_instruction, with_station, RegisterStatus, operand_by, operand_of, pool_of_kind, stations_of, status_after, status_with, values_in, waiting_at, waiting_from, waiting_of}
 use Rattle.rv_rob.specs.declared.entry.Stage.TheVariants as stage
 use Rattle.rv_stations.specs.Waiting.{seq_of}
 use Rattle.rv_core.proofs.Ties.Entries.{at_head, held_at, in_tail}
@@ -21,12 +21,12 @@ module _ (unit : Kind) where
       All (λ w. seq_of w ≡ s) (waiting_at unit status s e o)
   waiting-at status s e o = grind (arith, waiting-at_if)
 
-  behind-status : (status : RegisterStatus) (s : ℕ) (es : List Entry) → behind status_with status s es ≡ status_behind status s es
+  behind-status : (status : RegisterStatus) (s : ℕ) (es : List Entry) → behind status_with status s es ≡ status_after status s es
   behind-status status s es = grind arith
 
   waiting-push : (status : RegisterStatus) (s n : ℕ) (es : List Entry) (e : Entry) → n ≡ s + length es →
       waiting_from unit status s (es ++ e ∷ [])
-      ≡ waiting_from unit status s es ++ waiting_at unit (status_behind status s es) n e e.instruction
+      ≡ waiting_from unit status s es ++ waiting_at unit (status_after status s es) n e e.instruction
   waiting-push status s n es e is =
       waiting-gathered status s (es ++ e ∷ []) ∙ gathered-push status_with own_waiting status s n es e is ∙
       (λ i. sym (waiting-gathered status s es) i ++ waiting_at unit (behind-status status s es i) n e e.instruction)
@@ -231,11 +231,11 @@ with_instruction-is status n e o serialising cycle message pools is given = grin
 pub stations-push : (values : Values) (registers : List ℕ) (rob : ReorderBuffer) (e : Entry) (serialising : Bool) (cycle : ℕ)
     (message : Message) → e.stage ≡ first_stage_of (kind_of_word e.instruction) serialising cycle message
     → stations_of values registers (pushed e rob)
-    ≡ with_instruction (status_behind (values_in registers) rob.retired rob.entries) (next_number rob) e.pc e.instruction
+    ≡ with_instruction (status_after (values_in registers) rob.retired rob.entries) (next_number rob) e.pc e.instruction
     (stations_of values registers rob)
 stations-push values registers rob e serialising cycle message at =
     let n = next_number rob in
-    let status : RegisterStatus = status_behind (values_in registers) rob.retired rob.entries in
+    let status : RegisterStatus = status_after (values_in registers) rob.retired rob.entries in
     by_kind-same (pool_of_kind values registers (pushed e rob))
     (λ k. record (pool_of_kind values registers rob k) {
       waiting =

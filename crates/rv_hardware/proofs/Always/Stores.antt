@@ -1,5 +1,5 @@
 -- There are no more stores, retired or in flight, than the queue holds.
-use Rattle.rv_hardware.proofs.Words.{◌≡◌, ℕ, ◌+◌, ◌≤◌, Bool, false, cond, ◌&&◌, List, [], ◌∷◌, ◌++◌, map, length, is_some, nat_le, Some, None, Option, refl, ap, ◌∙◌, subst, arith, length-append, leb-false, is_store, Message, StoreAccess, Instr, Values, with_oldest_draining, without_drained, Store, finished, predicting, started, Entry, Fetched, entry_of_fetched, Hardware, broadcast_of, stores_of, reset_hardware, committed_store, stores_behind, by_test, map-change}
+use Rattle.rv_hardware.proofs.Words.{◌≡◌, ℕ, ◌+◌, ◌≤◌, Bool, false, cond, ◌&&◌, List, [], ◌∷◌, ◌++◌, map, length, is_some, nat_le, Some, None, Option, refl, ap, ◌∙◌, subst, arith, length-append, leb-false, is_store, Message, StoreAccess, Instr, Values, with_oldest_draining, without_drained, Store, finished, predicting, started, Entry, Fetched, entry_of_fetched, Hardware, broadcast_of, stores_of, reset_hardware, committed_store, stores_after, by_test, map-change}
 use Rattle.rv_hardware.proofs.Turns.Cited.{IsKept, phases-kept, IsKeptByChanges, all_squashed, head_retires, store_drained, store_drains, one_starts, one_sent, one_mended, one_enters, WaitsForNothing}
 use Rattle.rv_hardware.proofs.Always.Entries.{AreShaped, entries_changes, entries-kept, told_at_end}
 
@@ -29,9 +29,9 @@ length-stores : (seq : ℕ) (entries : List Entry) → length (stores_of seq ent
 length-stores seq [] = refl
 length-stores seq (e ∷ es) = one_store (is_store e.instruction) _ (stores_of (seq + 1) es) (store_count (instructions_of es)) (length-stores (seq + 1) es)
 
-pub length-stores_behind : (h : Hardware) (entries : List Entry) →
-    length (stores_behind h entries) ≡ length h.committed + store_count (instructions_of entries)
-length-stores_behind h entries = grind (arith, length-append, length-stores)
+pub length-stores_after : (h : Hardware) (entries : List Entry) →
+    length (stores_after h entries) ≡ length h.committed + store_count (instructions_of entries)
+length-stores_after h entries = grind (arith, length-append, length-stores)
 
 instructions-append : (xs ys : List Entry) → instructions_of (xs ++ ys) ≡ instructions_of xs ++ instructions_of ys
 instructions-append [] ys = refl
@@ -76,7 +76,7 @@ fits_one_more is_one count limit may fits = grind (arith, leb-false)
 
 fits_dispatched : (h : Hardware) (fetched : Fetched) → HasStores h → WaitsForNothing h fetched →
     FitQueue h h.committed (h.rob.entries ++ entry_of_fetched h fetched ∷ [])
-fits_dispatched h fetched has given = grind (arith, length-stores_behind, fits_one_more, count_of)
+fits_dispatched h fetched has given = grind (arith, length-stores_after, fits_one_more, count_of)
 
 fits_at : (h : Hardware) (es : List Entry) → HasStores h → h.rob.entries ≡ es → FitQueue h h.committed es
 fits_at h es has split = subst (FitQueue h h.committed) split has.1

@@ -1,7 +1,7 @@
 -- Where nothing is in flight, a cycle fetches, dispatches, or brings the retired stores nearer to their end.
 use Rattle.rv_hardware.proofs.Words.{◌≡◌, ℕ, suc, ◌+◌, ◌-◌, ◌*◌, ◌≤◌, false, List, [], ◌∷◌, ◌++◌, length, nat_le, None, Option, sym, refl, ap, ◌∙◌, subst, true≢false, arith, length-append, leb-true, and_parts, nat_tests, at_kind, Kind, Memory, Store, Entry, FetchBuffer, Fetches, FetchesInto, FetchStop, Fetched, broadcast, any_prediction, execute, Dispatching, dispatch, dispatch_turn, has_full_stations, with_dispatched, drain, Hardware, issue, Turn, followed_by, repeated}
 use Rattle.rv_hardware.proofs.Gap.Bound.{flight_time-most}
-use Rattle.rv_hardware.proofs.Marks.Cited.{IsKeptByBroadcast, broadcast-keeps, IsKeptByDispatch, dispatch_turns-keep, execute-keeps, drain-keeps, drain-same, fetch-cases, longest_access, longest_execution, longest_write_back, HaltsBehind, words_of, runs-empty, IsKeptByIssue, issue-keeps, DispatchTurn, WaitsFor, buffer_empty, waits as word_waits, dispatches, dispatch_turn_is, HasSizes, sizes-kept, IsBounded}
+use Rattle.rv_hardware.proofs.Marks.Cited.{IsKeptByBroadcast, broadcast-keeps, IsKeptByDispatch, dispatch_turns-keep, execute-keeps, drain-keeps, drain-same, fetch-cases, longest_access, longest_execution, longest_write_back, HaltsAfter, words_of, runs-empty, IsKeptByIssue, issue-keeps, DispatchTurn, WaitsFor, buffer_empty, waits as word_waits, dispatches, dispatch_turn_is, HasSizes, sizes-kept, IsBounded}
 use Rattle.rv_hardware.proofs.Gap.Drained.{Drains, next_port_time}
 use Rattle.rv_hardware.proofs.Gap.Execute.{execute-same, later, same-longest}
 use Rattle.rv_hardware.proofs.Gap.Patience.{fetch_time, flight_time, patience, port_time, time_of_stores}
@@ -111,7 +111,7 @@ in_flight_most : (g : Hardware) → IsBounded g → (entries : List Entry) → g
 in_flight_most g sound entries split some = grind (arith, flight_time-most)
 
 module _ (h : Hardware) (front : FetchBuffer) (ram : Memory) (cycle : ℕ) (stop : FetchStop) (none : h.rob.entries ≡ []) (sizes : HasSizes h) (drains : Drains h (drain h))
-    (halts : HaltsBehind h.front.halted (words_of h.rob.entries h.front.entries)) (fetches : FetchesInto any_prediction ram cycle (execute h).hardware.front front stop)
+    (halts : HaltsAfter h.front.halted (words_of h.rob.entries h.front.entries)) (fetches : FetchesInto any_prediction ram cycle (execute h).hardware.front front stop)
     (sound : IsBounded (later front (execute h).hardware)) where
   abbrev last : Hardware
   last = broadcast (issue (drain h))
@@ -155,7 +155,7 @@ module _ (h : Hardware) (front : FetchBuffer) (ram : Memory) (cycle : ℕ) (stop
       let old_front : d.front ≡ h.front = ap (λ (g : Hardware). g.front) same ∙ nothing.3 in
       let no_words : h.front.entries ≡ [] = ap (λ (f : FetchBuffer). f.entries) (sym nothing.3) ∙ words in
       let no_entry : words_of h.rob.entries h.front.entries ≡ [] = ap (λ es. words_of es h.front.entries) none ∙ ap (λ ws. words_of [] ws) no_words in
-      let runs = runs-empty h.front.halted (subst (HaltsBehind h.front.halted) no_entry halts) in
+      let runs = runs-empty h.front.halted (subst (HaltsAfter h.front.halted) no_entry halts) in
       let after : HasSizes d = execute-keeps sizes-kept.phases h sizes in
       let wide = subst (λ n. 1 ≤ n) (sym after.width) after.legal.pipeline.fetch_width.0 in
       let room : 1 ≤ d.front.capacity = omega (arith, after.room, after.legal.pipeline.fetch_buffer.0) in

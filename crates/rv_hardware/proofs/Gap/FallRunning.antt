@@ -1,5 +1,5 @@
 -- Where the oldest instruction executes, a cycle brings its end nearer.
-use Rattle.rv_hardware.proofs.Words.{◌≡◌, ℕ, suc, ◌+◌, ◌-◌, ◌<◌, ◌≤◌, true, false, not, List, [], ◌∷◌, ◌++◌, is_none, Option, sym, refl, ap, subst, inl, inr, true≢false, arith, le-leb, cases_lt, is_serialising, Message, Instr, Issue, Kind, Values, finished, predicting, started, Entry, Stage, Finished, Running, FetchBuffer, broadcast, broadcast_turn, has_result, result_at, execute, drain, Hardware, is_waiting, issue, Turn, repeated, EveryBehind, Leaves, left_by_the_rest, kept_by_turns}
+use Rattle.rv_hardware.proofs.Words.{◌≡◌, ℕ, suc, ◌+◌, ◌-◌, ◌<◌, ◌≤◌, true, false, not, List, [], ◌∷◌, ◌++◌, is_none, Option, sym, refl, ap, subst, inl, inr, true≢false, arith, le-leb, cases_lt, is_serialising, Message, Instr, Issue, Kind, Values, finished, predicting, started, Entry, Stage, Finished, Running, FetchBuffer, broadcast, broadcast_turn, has_result, result_at, execute, drain, Hardware, is_waiting, issue, Turn, repeated, EveryAfter, Leaves, left_by_the_rest, kept_by_turns}
 use Rattle.rv_hardware.proofs.Marks.Cited.{BroadcastTurn, HasRun, no_result, sends, mends, broadcast_turn_is, IsMadeByBroadcast, sends-makes, mends-makes, drain-same, IsKeptByIssue, issue-keeps, AreEnding, longest_execution}
 use Rattle.rv_hardware.proofs.Gap.Execute.{execute-same, head-dispatched, head-turn, issued-same, later, plain-patience, head-executed}
 use Rattle.rv_hardware.proofs.Gap.Head.{HeadIs, head-change, head-cut}
@@ -72,7 +72,7 @@ module _ (h : Hardware) (front : FetchBuffer) (instruction : Option Instr) (end 
   }
 
   abbrev NoneDue : List Entry → Type 0
-  NoneDue = EveryBehind (λ before e. has_result issued.cycle before e ≡ false) []
+  NoneDue = EveryAfter (λ before e. has_result issued.cycle before e ≡ false) []
 
   one_is_due : end ≤ h.cycle → (entries : List Entry) → HeadIs instruction (RunsUntil end) entries → NoneDue entries → ⊥
   one_is_due due entries runs given = grind (arith, true≢false, result_due, number)

@@ -1,5 +1,5 @@
 -- The oldest instruction that waits and can go leaves for a unit in the issue phase, or no unit of its kind is free.
-use Rattle.rv_hardware.proofs.Words.{◌≡◌, ℕ, suc, ◌-◌, ◌≤◌, true, false, ◌⊎◌, List, [], ◌∷◌, ◌++◌, Some, Option, sym, refl, ap, ◌∙◌, subst, inl, inr, true≢false, arith, false≢true, is_same-own, is_same-true, with_kind-other, is_of_kind, kind_of_word, at_kind, is_same, Instr, Kind, Pool, is_free, started, Entry, Hardware, FromCache, cost_of, is_ready, issue, issue_kind, issue_turn, issued, path, with_access, Turn, followed_by, repeated, EveryBehind, kept_by_turns}
+use Rattle.rv_hardware.proofs.Words.{◌≡◌, ℕ, suc, ◌-◌, ◌≤◌, true, false, ◌⊎◌, List, [], ◌∷◌, ◌++◌, Some, Option, sym, refl, ap, ◌∙◌, subst, inl, inr, true≢false, arith, false≢true, is_same-own, is_same-true, with_kind-other, is_of_kind, kind_of_word, at_kind, is_same, Instr, Kind, Pool, is_free, started, Entry, Hardware, FromCache, cost_of, is_ready, issue, issue_kind, issue_turn, issued, path, with_access, Turn, followed_by, repeated, EveryAfter, kept_by_turns}
 use Rattle.rv_isa.specs.declared.operations.Kind.TheVariants as kind
 use Rattle.rv_hardware.proofs.Gap.Head.{HasBegun, HeadIs, Waits, head-change}
 use Rattle.rv_hardware.proofs.Marks.Cited.{IssueTurn, no_unit, none_ready, starts, issue_turn_is, message_at, started_entries, IsKeptByIssue, starts-keep, issue_kind-keeps, issue_turn-keeps}
@@ -55,7 +55,7 @@ module _ (instruction : Option Instr) (k : Kind) (of_kind : kind_of_word instruc
 
   -- ---- the turns of its own kind
   abbrev NoneReady : Hardware → List Entry → Type 0
-  NoneReady h = EveryBehind (λ before e. is_ready h k before e ≡ false) []
+  NoneReady h = EveryAfter (λ before e. is_ready h k before e ≡ false) []
 
   it_is_ready : (h : Hardware) → CanStart h → (e : Entry) → e.instruction ≡ instruction → Waits e.stage → is_ready h k [] e ≡ true
   it_is_ready h can e is waits = ready_head h k e waits (ap kind_of_word is ∙ of_kind) (subst (λ i. CanGo i h) (sym is) can.3)

@@ -4,7 +4,7 @@ use Rattle.rv_hardware.proofs.Headline.Fold.{result_at, behind, IsResult, AreInF
 use Rattle.rv_hardware.proofs.Headline.Invariant.{FollowsProgram, IsSoundAt, with_other_program}
 use Rattle.rv_hardware.proofs.Headline.Retires.{IsTold, effect_told}
 use Rattle.rv_hardware.proofs.Headline.Split.{behind-append, AreInFlight-older, AreInFlight-append}
-use Rattle.rv_hardware.proofs.Headline.Stage.{behind_aligned, here_in_flight, FollowsProgram-staged}
+use Rattle.rv_hardware.proofs.Headline.Stage.{after_aligned, here_in_flight, FollowsProgram-staged}
 use Rattle.rv_hardware.proofs.Turns.Broadcast.{BroadcastTurn, Sends, no_result, sends, mends, broadcast_turn_is, sent_entries, mended_entries}
 
 -- ---- the pc after an instruction that does not fault is a multiple of 4
@@ -72,7 +72,7 @@ module _ (values : Values) (cycle : ℕ) (state : State) (h : Hardware) (is : Is
       })
 
   aligned_next : is_mispredicted e message ≡ true → message.next_pc % 4 ≡ 0
-  aligned_next wrong = grind (arith, and_parts, behind_aligned, AreInFlight-older, result, aligned_result, plain_jump)
+  aligned_next wrong = grind (arith, and_parts, after_aligned, AreInFlight-older, result, aligned_result, plain_jump)
 
 module _ (values : Values) (cycle : ℕ) (state : State) where
   turn_kept : (h : Hardware) (t : Turn Hardware) → BroadcastTurn h t → IsSoundAt values cycle state h →

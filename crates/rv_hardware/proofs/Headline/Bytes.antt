@@ -1,5 +1,5 @@
 -- A byte after stores is that of the youngest which covers it, else memory's.
-use Rattle.rv_hardware.proofs.Words.{◌≡◌, ℕ, ◌+◌, ◌<◌, ◌-◌, ◌≤◌, List, [], ◌∷◌, length, nat_le, slice_get, slice_index_or as get_or, Some, None, Option, unwrap_or, sym, refl, ap, ◌∙◌, inl, inr, arith, le-leb, cases_lt, cond-false, cond-true, option_or, StoreAccess, overwritten, Layout, get_or-overwritten_above, get_or-overwritten_below, get_or-overwritten_in, Each, youngest_byte, byte_of_state, written_at, Store as QueuedStore, StoreState, Filled, memory_behind, with_store}
+use Rattle.rv_hardware.proofs.Words.{◌≡◌, ℕ, ◌+◌, ◌<◌, ◌-◌, ◌≤◌, List, [], ◌∷◌, length, nat_le, slice_get, slice_index_or as get_or, Some, None, Option, unwrap_or, sym, refl, ap, ◌∙◌, inl, inr, arith, le-leb, cases_lt, cond-false, cond-true, option_or, StoreAccess, overwritten, Layout, get_or-overwritten_above, get_or-overwritten_below, get_or-overwritten_in, Each, youngest_byte, byte_of_state, written_at, Store as QueuedStore, StoreState, Filled, bytes_after, with_store}
 use Rattle.std.proofs.lemmas.Option.{slice_get-get_or, slice_get_past}
 use Rattle.rv_hardware.proofs.Headline.Retires.{IsStoreAccess}
 use Rattle.rv_hardware.proofs.Headline.Words.{length-stored}
@@ -45,8 +45,8 @@ module _ (layout : Layout) where
         cond-true (nat_le access.address place) found None (le-leb access.address place (omega (arith, legal.above)))
         ∙ slice_get_past access.bytes (place - access.address) (omega (arith, legal.above))
 
-    one_behind : get_or (overwritten xs at access.bytes) i 0 ≡ unwrap_or (written_at place access) (get_or xs i 0)
-    one_behind = elim (cases_lt i at) [
+    one_after : get_or (overwritten xs at access.bytes) i 0 ≡ unwrap_or (written_at place access) (get_or xs i 0)
+    one_after = elim (cases_lt i at) [
       | inl below ↦ get_or-overwritten_below xs access.bytes at fits i below ∙ sym (ap (λ (o : Option ℕ). unwrap_or o (get_or xs i 0)) (before below))
       | inr from ↦ elim (cases_lt i (at + length access.bytes)) [
         | inl here ↦ get_or-overwritten_in xs access.bytes at fits i from here ∙ sym (ap (λ (o : Option ℕ). unwrap_or o (get_or xs i 0)) (covered from here))
@@ -55,15 +55,15 @@ module _ (layout : Layout) where
     ]
 
   -- after one store
-  byte_behind_one : (state : StoreState) (xs : List ℕ) (i : ℕ) → IsStateInside layout state → length xs ≡ layout.size →
+  byte_after_one : (state : StoreState) (xs : List ℕ) (i : ℕ) → IsStateInside layout state → length xs ≡ layout.size →
       get_or (with_store layout.base state xs) i 0 ≡ unwrap_or (byte_of_state (layout.base + i) state) (get_or xs i 0)
-  byte_behind_one state xs i inside size = grind (arith, one_behind)
+  byte_after_one state xs i inside size = grind (arith, one_after)
 
-  length-behind_one : (state : StoreState) (xs : List ℕ) → IsStateInside layout state → length xs ≡ layout.size → length (with_store layout.base state xs) ≡ layout.size
-  length-behind_one state xs inside size = grind (arith, length-stored)
+  length-after_one : (state : StoreState) (xs : List ℕ) → IsStateInside layout state → length xs ≡ layout.size → length (with_store layout.base state xs) ≡ layout.size
+  length-after_one state xs inside size = grind (arith, length-stored)
 
   -- after all of them
-  pub byte_behind : (ss : List QueuedStore) (xs : List ℕ) (i : ℕ) → Each (IsInside layout) ss → length xs ≡ layout.size →
-      get_or (memory_behind layout.base ss xs) i 0 ≡ unwrap_or (youngest_byte (layout.base + i) ss) (get_or xs i 0)
-  byte_behind [] xs i inside size = refl
-  byte_behind (s ∷ ss) xs i inside size = grind (arith, length-behind_one, byte_behind_one, unwrap_or-or, byte_behind ss (with_store layout.base s.state xs) i inside.1 (length-behind_one s.state xs inside.0 size))
+  pub byte_after : (ss : List QueuedStore) (xs : List ℕ) (i : ℕ) → Each (IsInside layout) ss → length xs ≡ layout.size →
+      get_or (bytes_after layout.base ss xs) i 0 ≡ unwrap_or (youngest_byte (layout.base + i) ss) (get_or xs i 0)
+  byte_after [] xs i inside size = refl
+  byte_after (s ∷ ss) xs i inside size = grind (arith, length-after_one, byte_after_one, unwrap_or-or, byte_after ss (with_store layout.base s.state xs) i inside.1 (length-after_one s.state xs inside.0 size))

@@ -1,9 +1,9 @@
 -- The drain phase changes nothing that programs see.
-use Rattle.rv_hardware.proofs.Words.{◌≡◌, ℕ, ◌+◌, ◌-◌, ◌≤◌, Bool, true, false, List, [], ◌∷◌, length, if◌then◌else◌, nat_le, slice_index_or as get_or, Some, None, Option, sym, refl, ap, ◌∙◌, inl, inr, true≢false, arith, StoreAccess, Values, overwritten, State, consistent_after, consistent_written, dirty_after_access, IsConsistent, Each, oldest_to_drain, without_drained, draining, is_committed_state, is_draining, state_to_drain, Store as QueuedStore, Committed, Draining, StoreState, Filled, drain, end_drain, start_drain, with_drained, Hardware, memory_behind, with_store, layout_of, seen}
+use Rattle.rv_hardware.proofs.Words.{◌≡◌, ℕ, ◌+◌, ◌-◌, ◌≤◌, Bool, true, false, List, [], ◌∷◌, length, if◌then◌else◌, nat_le, slice_index_or as get_or, Some, None, Option, sym, refl, ap, ◌∙◌, inl, inr, true≢false, arith, StoreAccess, Values, overwritten, State, consistent_after, consistent_written, dirty_after_access, IsConsistent, Each, oldest_to_drain, without_drained, draining, is_committed_state, is_draining, state_to_drain, Store as QueuedStore, Committed, Draining, StoreState, Filled, drain, end_drain, start_drain, with_drained, Hardware, bytes_after, with_store, layout_of, seen}
 use Rattle.rv_hardware.proofs.Headline.Invariant.{DrainInOrder, HoldsMemory, IsSoundAt}
 use Rattle.rv_hardware.proofs.Headline.Retires.{IsStoreAccess}
 use Rattle.rv_hardware.proofs.Headline.Victim.{access_mixed}
-use Rattle.rv_hardware.proofs.Headline.Words.{length-stored, stored_again, memory_behind-fresh}
+use Rattle.rv_hardware.proofs.Headline.Words.{length-stored, stored_again, bytes_after-fresh}
 
 -- ---- other stores and bytes, after which programs see the same
 module _ (values : Values) (cycle : ℕ) (s : State) (h : Hardware) (is : IsSoundAt values cycle s h) where
@@ -32,8 +32,8 @@ module _ (values : Values) (cycle : ℕ) (state : State) (h : Hardware) where
   without_first false s ss is sound = sound
   without_first true s ss is sound =
       let was = sound.sound.memory in
-      let same : memory_behind h.values.ram_base ss h.cache.bytes ≡ memory_behind h.values.ram_base (s ∷ ss) h.cache.bytes =
-      ap (memory_behind h.values.ram_base ss) (sym (was.drains.0 is)) in
+      let same : bytes_after h.values.ram_base ss h.cache.bytes ≡ bytes_after h.values.ram_base (s ∷ ss) h.cache.bytes =
+      ap (bytes_after h.values.ram_base ss) (sym (was.drains.0 is)) in
       let same_seen : seen (with_stores ss) ≡ seen (with_stores (s ∷ ss)) = ap (λ (ram : List ℕ). record (seen h) { ram = ram }) same in
       with_other_memory values cycle state (with_stores (s ∷ ss)) sound (with_stores ss) refl refl refl refl refl refl same_seen (record {
         place = was.place;
@@ -94,7 +94,7 @@ module _ (values : Values) (cycle : ℕ) (state : State) (h : Hardware) where
         ∙ stored_again (layout_of h.values) access legal h.cache.bytes was.cache_size
         ∙ sym bytes_are
 
-    same_ram : memory_behind base (drained ∷ ss) new.cache.bytes ≡ memory_behind base (s ∷ ss) h.cache.bytes
+    same_ram : bytes_after base (drained ∷ ss) new.cache.bytes ≡ bytes_after base (s ∷ ss) h.cache.bytes
     same_ram = grind (arith, in_cache, bytes_are)
 
     same_seen : seen new ≡ seen old
@@ -132,7 +132,7 @@ module _ (values : Values) (cycle : ℕ) (state : State) (h : Hardware) where
           fresh = λ i fresh.
               elim (mixed.either i) [
                 | inl stays ↦ stays ∙ was.fresh i fresh
-                | inr cached ↦ cached ∙ sym (memory_behind-fresh (layout_of h.values) h.stale (s ∷ ss) h.cache.bytes was.retired was.cache_size i fresh)
+                | inr cached ↦ cached ∙ sym (bytes_after-fresh (layout_of h.values) h.stale (s ∷ ss) h.cache.bytes was.retired was.cache_size i fresh)
               ]
               ∙ ap (λ (xs : List ℕ). get_or xs i 0) (sym same_ram);
           inside = was.inside;

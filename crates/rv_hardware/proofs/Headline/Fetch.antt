@@ -1,8 +1,8 @@
 -- What the fetch phase reads from RAM are the words of the program, unless they are stale.
-use Rattle.rv_hardware.proofs.Words.{◌≡◌, ℕ, suc, ◌-◌, ◌%◌, Bool, List, [], ◌∷◌, ◌++◌, length, MatchBool, Option, MatchOption, refl, subst, arith, Values, Layout, Memory, fetched_word, State, Entry, Answers, FetchBuffer, Fetches, FetchesInto, IsFetchedAt, is_halted, stop_behind, FetchStop, Halted, Fetched, Hardware, layout_of, seen}
+use Rattle.rv_hardware.proofs.Words.{◌≡◌, ℕ, suc, ◌-◌, ◌%◌, Bool, List, [], ◌∷◌, ◌++◌, length, MatchBool, Option, MatchOption, refl, subst, arith, Values, Layout, Memory, fetched_word, State, Entry, Answers, FetchBuffer, Fetches, FetchesInto, IsFetchedAt, is_halted, stop_after, FetchStop, Halted, Fetched, Hardware, layout_of, seen}
 use Rattle.rv_hardware.proofs.Headline.Fold.{IsWordAt, IsInBuffer, AreInBuffer}
 use Rattle.rv_hardware.proofs.Headline.Invariant.{FollowsProgram, IsSound, IsSoundAt}
-use Rattle.rv_hardware.proofs.Headline.Words.{fetched_same, length-memory_behind}
+use Rattle.rv_hardware.proofs.Headline.Words.{fetched_same, length-bytes_after}
 
 AreInBuffer-append : (layout : Layout) (s : State) (pc middle next : ℕ) (xs ys : List Fetched) → AreInBuffer layout s pc xs middle → AreInBuffer layout s middle ys next → AreInBuffer layout s pc (xs ++ ys) next
 AreInBuffer-append layout s pc middle next [] ys at rest = subst (λ (n : ℕ). AreInBuffer layout s n ys next) at rest
@@ -17,16 +17,16 @@ module _ (answers : Answers) (layout : Layout) (ram : Memory) (s : State) (cycle
   fetched_one : (pc : ℕ) (e : Fetched) → pc % 4 ≡ 0 → IsFetchedAt answers ram cycle pc e → IsInBuffer layout s pc e
   fetched_one pc e aligned given = grind arith
 
-  behind_one : (o : Option FetchStop) (e : Fetched) (es : List Fetched) (width room next : ℕ) (stop : FetchStop) → e.predicted % 4 ≡ 0 →
+  after_one : (o : Option FetchStop) (e : Fetched) (es : List Fetched) (width room next : ℕ) (stop : FetchStop) → e.predicted % 4 ≡ 0 →
       MatchOption o (Fetches answers ram cycle width room e.predicted es next stop) (λ reason. (es ≡ []) × (next ≡ e.predicted) × (stop ≡ reason)) →
       (Fetches answers ram cycle width room e.predicted es next stop → AddedInOrder e.predicted es next) → AddedInOrder e.predicted es next
-  behind_one o e es width room next stop aligned rest go = grind arith
+  after_one o e es width room next stop aligned rest go = grind arith
 
   added : (es : List Fetched) (width room pc next : ℕ) (stop : FetchStop) → pc % 4 ≡ 0 → Fetches answers ram cycle width room pc es next stop → AddedInOrder pc es next
   added [] width room pc next stop aligned fetches = grind arith
   added (e ∷ es) (suc width) (suc room) pc next stop aligned fetches =
       let one = fetched_one pc e aligned fetches.0 in
-      let rest = behind_one (stop_behind e) e es width room next stop one.aligned fetches.1 (λ more. added es width room e.predicted next stop one.aligned more) in
+      let rest = after_one (stop_after e) e es width room next stop one.aligned fetches.1 (λ more. added es width room e.predicted next stop one.aligned more) in
       record { words = (one, rest.words); aligned = rest.aligned }
   added (e ∷ es) width room pc next stop aligned fetches = absurd fetches
 
@@ -42,7 +42,7 @@ module _ (answers : Answers) (layout : Layout) (ram : Memory) (s : State) (cycle
 
 -- RAM's words are those that programs see, unless they are stale
 pub fresh_words : (h : Hardware) → IsSound h → (pc : ℕ) → pc % 4 ≡ 0 → IsWordAt (layout_of h.values) (seen h) pc (fetched_word h.cache.backing.layout h.cache.backing.bytes pc)
-fresh_words h is pc aligned not_stale = grind (arith, fetched_same, length-memory_behind)
+fresh_words h is pc aligned not_stale = grind (arith, fetched_same, length-bytes_after)
 
 -- the hardware once its words were fetched
 pub fetch_kept : (answers : Answers) (values : Values) (cycle : ℕ) (s : State) (h : Hardware) → IsSoundAt values cycle s h → (front : FetchBuffer) (stop : FetchStop) (now next : ℕ) →

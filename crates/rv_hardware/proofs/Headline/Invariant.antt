@@ -1,5 +1,5 @@
 -- What always holds of the hardware, so that its steps are the one-at-a-time machine's.
-use Rattle.rv_hardware.proofs.Words.{◌≡◌, ℕ, ◌+◌, ◌*◌, ◌%◌, true, false, List, [], ◌∷◌, length, slice_index_or as get_or, nat_cmp, PerKind, Values, Layout, Memory, is_in_ram, word_of, State, Contents, IsConsistent, Each, is_draining, Store as QueuedStore, Pool, ReorderBuffer, Entry, FetchBuffer, Hardware, memory_behind, with_store, layout_of, seen, arith}
+use Rattle.rv_hardware.proofs.Words.{◌≡◌, ℕ, ◌+◌, ◌*◌, ◌%◌, true, false, List, [], ◌∷◌, length, slice_index_or as get_or, nat_cmp, PerKind, Values, Layout, Memory, is_in_ram, word_of, State, Contents, IsConsistent, Each, is_draining, Store as QueuedStore, Pool, ReorderBuffer, Entry, FetchBuffer, Hardware, bytes_after, with_store, layout_of, seen, arith}
 use Rattle.std.specs.FinSet as set
 use Rattle.rv_hardware.proofs.Headline.Fold.{behind, AreInFlight, AreInBuffer}
 use Rattle.rv_hardware.proofs.Headline.Words.{IsRetiredStore}
@@ -28,7 +28,7 @@ pub record HoldsMemory (values : Values) (stale : set.FinSet nat_cmp) (cache : C
   pub consistent : IsConsistent cache.base cache.values cache.bytes cache.sets cache.backing.bytes
   pub retired : Each (IsRetiredStore (layout_of values) stale) committed
   pub drains : DrainInOrder values.ram_base cache.bytes committed
-  pub fresh : IsFreshInRam values.ram_base stale cache.backing.bytes (memory_behind values.ram_base committed cache.bytes)
+  pub fresh : IsFreshInRam values.ram_base stale cache.backing.bytes (bytes_after values.ram_base committed cache.bytes)
   pub inside : (word : ℕ) → set.contains stale word ≡ true → is_in_ram (layout_of values) (4 * word) 4 ≡ true
 
 -- the instructions in flight and the fetched words go on from the state that programs see

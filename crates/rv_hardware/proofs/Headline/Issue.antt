@@ -1,5 +1,5 @@
 -- The issue phase changes nothing that programs see, and what it computes is the one-at-a-time machine's.
-use Rattle.rv_hardware.proofs.Words.{is_known as is_known_store, ◌≡◌, ℕ, ◌+◌, ◌<◌, ◌≤◌, Bool, true, false, not, ◌&&◌, ◌||◌, List, ◌∷◌, ◌++◌, length, if◌then◌else◌, Option, sym, refl, ap, ◌∙◌, subst, inl, inr, arith, leb-true, and_parts, false≢true, list_all, is_load, kind_of_word, at_kind, with_kind, Message, Instr, Kind, Values, is_aligned, is_in_ram, State, consistent_after, started, changed, Entry, Running, Hardware, FromCache, FromStores, Path, Without, cost_of, has_port, is_ready, issue, issued, path, path_of, with_access, with_start, layout_of, seen, seen_behind, stores_behind}
+use Rattle.rv_hardware.proofs.Words.{is_known as is_known_store, ◌≡◌, ℕ, ◌+◌, ◌<◌, ◌≤◌, Bool, true, false, not, ◌&&◌, ◌||◌, List, ◌∷◌, ◌++◌, length, if◌then◌else◌, Option, sym, refl, ap, ◌∙◌, subst, inl, inr, arith, leb-true, and_parts, false≢true, list_all, is_load, kind_of_word, at_kind, with_kind, Message, Instr, Kind, Values, is_aligned, is_in_ram, State, consistent_after, started, changed, Entry, Running, Hardware, FromCache, FromStores, Path, Without, cost_of, has_port, is_ready, issue, issued, path, path_of, with_access, with_start, layout_of, seen, state_after, stores_after}
 use Rattle.rv_isa.specs.declared.Issue.{Issue}
 use Rattle.rv_units.specs.Pool.{started as started_unit}
 use Rattle.rv_hardware.proofs.Headline.Drain.{with_other_memory}
@@ -10,7 +10,7 @@ use Rattle.rv_hardware.proofs.Headline.Retires.{some_bytes}
 use Rattle.rv_hardware.proofs.Headline.Split.{AreInFlight-older}
 use Rattle.rv_hardware.proofs.Headline.Stage.{here_in_flight, FollowsProgram-staged}
 use Rattle.rv_hardware.proofs.Headline.Victim.{access_mixed}
-use Rattle.rv_hardware.proofs.Headline.Words.{memory_behind-fresh}
+use Rattle.rv_hardware.proofs.Headline.Words.{bytes_after-fresh}
 use Rattle.rv_hardware.proofs.Marks.Cited.{kind_is_plain, some_kind, ready-parts, issue-by}
 use Rattle.rv_hardware.proofs.Oldest.{with_entry-at}
 
@@ -47,7 +47,7 @@ module _ (values : Values) (cycle : ℕ) (state : State) where
         drains = was.drains;
         fresh = λ i fresh. elim (mixed.either i) [
           | inl stays ↦ stays ∙ was.fresh i fresh
-          | inr cached ↦ cached ∙ sym (memory_behind-fresh (layout_of h.values) h.stale h.committed h.cache.bytes was.retired was.cache_size i fresh)
+          | inr cached ↦ cached ∙ sym (bytes_after-fresh (layout_of h.values) h.stale h.committed h.cache.bytes was.retired was.cache_size i fresh)
         ];
         inside = was.inside;
       })
@@ -76,9 +76,9 @@ module _ (values : Values) (cycle : ℕ) (state : State) where
       let ready = ready-parts h k older e passes in
       let plain = kind_is_plain e.instruction (some_kind k (kind_of_word e.instruction) ready.of_kind) in
       let result = issued_result h older e (AreInFlight-older (layout_of h.values) (seen h) (seen h) older (e ∷ younger) all) here.pc plain ready.operands
-      (loads_known (is_load e.instruction) (list_all is_known_store (stores_behind h older)) (has_port h (path h older e)) ready.loads) in
+      (loads_known (is_load e.instruction) (list_all is_known_store (stores_after h older)) (has_port h (path h older e)) ready.loads) in
       started_kept (path h older e) k (cost_of h k (path h older e)) (h.rob.retired + length older) _ older e younger h
-      (path_in_ram h older (seen_behind h older e.pc) e.instruction) is entries refl result
+      (path_in_ram h older (state_after h older e.pc) e.instruction) is entries refl result
 
   -- the issue phase keeps the hardware sound, with the same state seen
   pub issue_kept : (h : Hardware) → IsSoundAt values cycle state h → IsSoundAt values cycle state (issue h)

@@ -1,12 +1,12 @@
 -- A retirement, a trap and a flush leave sound hardware, and programs see what the machine's step leaves.
-use Rattle.rv_hardware.proofs.Words.{◌≡◌, ℕ, ◌+◌, ◌*◌, ◌/◌, ◌%◌, ◌^◌, ◌≤◌, Bool, true, false, List, [], ◌∷◌, ◌++◌, length, IfSome, if◌then◌else◌, slice_index_or as get_or, Some, None, Option, nat_cmp, sym, refl, ap, ◌∙◌, subst, ap₂, inl, inr, true≢false, append-nil, arith, le-leb, and_from, cases_eq, Message, StoreAccess, Values, Layout, Memory, fetched_word, is_in_ram, word_of, Kept, State, trap_taken, handler_of, Contents, is_draining, Store as QueuedStore, Committed, Filled, Entry, Fetched, Hardware, memory_behind, store_of_message, with_store, committed_store, stale_after, with_result, layout_of, seen, with_state, flushed, with_trap, Each-push, Each-weaker}
+use Rattle.rv_hardware.proofs.Words.{◌≡◌, ℕ, ◌+◌, ◌*◌, ◌/◌, ◌%◌, ◌^◌, ◌≤◌, Bool, true, false, List, [], ◌∷◌, ◌++◌, length, IfSome, if◌then◌else◌, slice_index_or as get_or, Some, None, Option, nat_cmp, sym, refl, ap, ◌∙◌, subst, ap₂, inl, inr, true≢false, append-nil, arith, le-leb, and_from, cases_eq, Message, StoreAccess, Values, Layout, Memory, fetched_word, is_in_ram, word_of, Kept, State, trap_taken, handler_of, Contents, is_draining, Store as QueuedStore, Committed, Filled, Entry, Fetched, Hardware, bytes_after, store_of_message, with_store, committed_store, stale_after, with_result, layout_of, seen, with_state, flushed, with_trap, Each-push, Each-weaker}
 use Rattle.std.specs.FinSet as set
 use Rattle.rv_hardware.proofs.Headline.Fold.{result_at, with_message, executed, behind, IsWordAt, AreInFlight, AreInBuffer}
 use Rattle.rv_hardware.proofs.Headline.Invariant.{DrainInOrder, HoldsMemory, FollowsProgram, IsSound}
-use Rattle.rv_hardware.proofs.Headline.Known.{memory_behind-append}
+use Rattle.rv_hardware.proofs.Headline.Known.{bytes_after-append}
 use Rattle.rv_hardware.proofs.Headline.Retires.{IsStoreAccess}
-use Rattle.rv_hardware.proofs.Headline.Stage.{behind_aligned}
-use Rattle.rv_hardware.proofs.Headline.Words.{IsRetiredStore, IsRetiredStore-more, not_marked, now_marked, marked_before, fetched_same, stored_elsewhere, length-stored, length-memory_behind}
+use Rattle.rv_hardware.proofs.Headline.Stage.{after_aligned}
+use Rattle.rv_hardware.proofs.Headline.Words.{IsRetiredStore, IsRetiredStore-more, not_marked, now_marked, marked_before, fetched_same, stored_elsewhere, length-stored, length-bytes_after}
 
 -- ---- what a store leaves
 drains_push : (base : ℕ) (bytes : List ℕ) (ss : List QueuedStore) (s : QueuedStore) → is_draining s ≡ false → DrainInOrder base bytes ss → DrainInOrder base bytes (ss ++ s ∷ [])
@@ -21,13 +21,13 @@ module _ (values : Values) (stale : set.FinSet nat_cmp) (cache : Contents Memory
   layout = layout_of values
 
   abbrev ram : List ℕ
-  ram = memory_behind values.ram_base committed cache.bytes
+  ram = bytes_after values.ram_base committed cache.bytes
 
   pub size_seen : length ram ≡ values.ram_size
-  size_seen = length-memory_behind layout stale committed cache.bytes was.retired was.cache_size
+  size_seen = length-bytes_after layout stale committed cache.bytes was.retired was.cache_size
 
-  pub ram_stored : (seq : ℕ) (store : Option StoreAccess) → memory_behind values.ram_base (committed ++ committed_store seq store) cache.bytes ≡ with_store values.ram_base (store_of_message store) ram
-  ram_stored seq store = grind (arith, append-nil, memory_behind-append)
+  pub ram_stored : (seq : ℕ) (store : Option StoreAccess) → bytes_after values.ram_base (committed ++ committed_store seq store) cache.bytes ≡ with_store values.ram_base (store_of_message store) ram
+  ram_stored seq store = grind (arith, append-nil, bytes_after-append)
 
   -- a store that retires leaves cache and queue with the program's memory, its words marked stale
   pub memory_stored : (seq : ℕ) (store : Option StoreAccess) → IfSome store (IsStoreAccess layout) → HoldsMemory values (stale_after store stale) cache (committed ++ committed_store seq store)
@@ -135,7 +135,7 @@ module _ (h : Hardware) (e : Entry) (message : Message) where
         let same : next_state ≡ executed this e (seen h) = ap₂ (λ (m : Message) (n : ℕ). with_message h.values.ram_base e m n (seen h)) result as_predicted in
         let buffered : AreInBuffer this (seen h) (behind this es (executed this e (seen h))).pc h.front.entries h.front.next_pc =
         subst (λ (xs : List Entry). AreInBuffer this (seen h) (behind this xs (seen h)).pc h.front.entries h.front.next_pc) entries is.program.buffered in
-        let start = behind_aligned this (seen h) (seen h) es (executed this e (seen h)) all.1 all.0.aligned in
+        let start = after_aligned this (seen h) (seen h) es (executed this e (seen h)) all.1 all.0.aligned in
         record {
           in_flight = subst (λ (u : State). AreInFlight this next_state u es) (sym same) (AreInFlight-kept this (seen h) next_state keep es (executed this e (seen h)) all.0.aligned all.1);
           buffered = subst (λ (u : State). AreInBuffer this next_state (behind this es u).pc h.front.entries h.front.next_pc) (sym same)

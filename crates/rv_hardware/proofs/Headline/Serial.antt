@@ -1,5 +1,5 @@
 -- A serialising instruction takes its effect in the state that programs see.
-use Rattle.rv_hardware.proofs.Words.{◌≡◌, ℕ, ◌%◌, Bool, true, List, [], IfSome, if◌then◌else◌, slice_index_or as get_or, None, Option, option_map, nat_cmp, sym, refl, ap, ◌∙◌, subst, arith, false≢true, Csr, FenceI, Mret, Lines, Kept, access_csr, Effect, Faults, Retires, accesses, effect, State, consistent_cleaned, memory_written, memory_written_back, Each, Store as QueuedStore, is_drained, with_write_back, Hardware, memory_behind, layout_of, seen}
+use Rattle.rv_hardware.proofs.Words.{◌≡◌, ℕ, ◌%◌, Bool, true, List, [], IfSome, if◌then◌else◌, slice_index_or as get_or, None, Option, option_map, nat_cmp, sym, refl, ap, ◌∙◌, subst, arith, false≢true, Csr, FenceI, Mret, Lines, Kept, access_csr, Effect, Faults, Retires, accesses, effect, State, consistent_cleaned, memory_written, memory_written_back, Each, Store as QueuedStore, is_drained, with_write_back, Hardware, bytes_after, layout_of, seen}
 use Rattle.std.specs.FinSet as set
 use Rattle.rv_isa.specs.declared.instructions.CsrSource.{CsrSource}
 use Rattle.rv_isa.specs.declared.operations.CsrOp.{CsrOp}
@@ -8,7 +8,7 @@ use Rattle.rv_isa.specs.declared.csrs.Csr.TheVariants as csr
 use Rattle.rv_arch.specs.Csr.{written}
 use Rattle.rv_hardware.proofs.Headline.Invariant.{HoldsMemory, IsSound}
 use Rattle.rv_hardware.proofs.Headline.Retires.{aligned_next}
-use Rattle.rv_hardware.proofs.Headline.Words.{IsRetiredStore, memory_behind-fresh}
+use Rattle.rv_hardware.proofs.Headline.Words.{IsRetiredStore, bytes_after-fresh}
 
 -- ---- what the effect of a serialising instruction leaves
 pub record IsSerial (h : Hardware) (next : State) : Type 0 where
@@ -67,7 +67,7 @@ module _ (h : Hardware) (is : IsSound h) where
           consistent = consistent_cleaned h.cache.base h.cache.values h.cache.bytes h.cache.backing.bytes h.cache.sets was.consistent _ all_written;
           retired = was.retired;
           drains = was.drains;
-          fresh = λ i fresh. ap (λ (xs : List ℕ). get_or xs i 0) all_written ∙ sym (memory_behind-fresh (layout_of h.values) h.stale h.committed h.cache.bytes was.retired was.cache_size i fresh);
+          fresh = λ i fresh. ap (λ (xs : List ℕ). get_or xs i 0) all_written ∙ sym (bytes_after-fresh (layout_of h.values) h.stale h.committed h.cache.bytes was.retired was.cache_size i fresh);
           inside = was.inside;
         };
         program = is.program;
@@ -81,7 +81,7 @@ module _ (h : Hardware) (is : IsSound h) where
   fence_serial drained lines word =
       let was = is.memory in
       let none = none_left h.committed drained in
-      let same : memory_behind h.values.ram_base h.committed h.cache.bytes ≡ h.cache.bytes = ap (λ (ss : List QueuedStore). memory_behind h.values.ram_base ss h.cache.bytes) none in
+      let same : bytes_after h.values.ram_base h.committed h.cache.bytes ≡ h.cache.bytes = ap (λ (ss : List QueuedStore). bytes_after h.values.ram_base ss h.cache.bytes) none in
       record {
         ram_is = refl;
         pc_aligned = aligned_next h.pc is.pc_aligned;

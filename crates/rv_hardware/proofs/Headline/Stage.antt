@@ -6,9 +6,9 @@ use Rattle.rv_hardware.proofs.Headline.Split.{behind-append, AreInFlight-older, 
 
 module _ (layout : Layout) (s : State) where
   -- pcs are multiples of 4
-  pub behind_aligned : (now : State) (es : List Entry) (start : State) → AreInFlight layout now start es → start.pc % 4 ≡ 0 → (behind layout es start).pc % 4 ≡ 0
-  behind_aligned now [] start all aligned = aligned
-  behind_aligned now (e ∷ es) start all aligned = behind_aligned now es (executed layout e start) all.1 all.0.aligned
+  pub after_aligned : (now : State) (es : List Entry) (start : State) → AreInFlight layout now start es → start.pc % 4 ≡ 0 → (behind layout es start).pc % 4 ≡ 0
+  after_aligned now [] start all aligned = aligned
+  after_aligned now (e ∷ es) start all aligned = after_aligned now es (executed layout e start) all.1 all.0.aligned
 
   module _ (older : List Entry) (e : Entry) (younger : List Entry) where
     pub behind-staged : (stage : Stage) → behind layout (older ++ record e { stage = stage } ∷ younger) s ≡ behind layout (older ++ e ∷ younger) s

@@ -1,5 +1,5 @@
 -- What the stores in flight write lies in writable RAM.
-use Rattle.rv_hardware.proofs.Words.{◌≡◌, ℕ, ◌+◌, ◌%◌, true, false, List, [], ◌∷◌, ◌++◌, IfSome, Option, sym, subst, false≢true, is_serialising, is_store, Message, StoreAccess, Instr, Lines, Layout, Effect, effect, State, Each, Entry, Stage, Finished, Running, Waiting, Hardware, broadcast_of, store_of_broadcast, store_of_message, stores_of, effect_message, result_of_word, Reachable, layout_of, seen, stores_behind, Each-append, Each-weaker, arith}
+use Rattle.rv_hardware.proofs.Words.{◌≡◌, ℕ, ◌+◌, ◌%◌, true, false, List, [], ◌∷◌, ◌++◌, IfSome, Option, sym, subst, false≢true, is_serialising, is_store, Message, StoreAccess, Instr, Lines, Layout, Effect, effect, State, Each, Entry, Stage, Finished, Running, Waiting, Hardware, broadcast_of, store_of_broadcast, store_of_message, stores_of, effect_message, result_of_word, Reachable, layout_of, seen, stores_after, Each-append, Each-weaker, arith}
 use Rattle.rv_hardware.proofs.Headline.Bytes.{IsStateInside, IsInside}
 use Rattle.rv_hardware.proofs.Headline.Cycle.{always_sound}
 use Rattle.rv_hardware.proofs.Headline.Fold.{executed, IsResult, AreInFlight}
@@ -44,7 +44,7 @@ stores_of_inside layout [] seq all = tt
 stores_of_inside layout (e ∷ es) seq all = grind (arith, broadcast_inside, stores_of_inside layout es (seq + 1) all.1)
 
 -- the stores that are older than an instruction in flight
-pub stores_inside : (h : Hardware) → Reachable h → (older younger : List Entry) → h.rob.entries ≡ older ++ younger → Each (IsInside (layout_of h.values)) (stores_behind h older)
+pub stores_inside : (h : Hardware) → Reachable h → (older younger : List Entry) → h.rob.entries ≡ older ++ younger → Each (IsInside (layout_of h.values)) (stores_after h older)
 stores_inside h reached older younger entries =
     let is : IsSound h = always_sound reached in
     let layout = layout_of h.values in

@@ -1,5 +1,5 @@
 -- A store changes the bytes of its own word alone, and so do all stores that retired.
-use Rattle.rv_hardware.proofs.Words.{◌≡◌, ℕ, ◌+◌, ◌-◌, ◌%◌, ◌≤◌, Bool, true, false, cond, ◌||◌, ◌≢◌, List, [], ◌∷◌, length, slice_index_or as get_or, slice_range, Some, None, nat_cmp, sym, refl, ap, ◌∙◌, inl, inr, true≢false, arith, ext_get_or, eq-eqb, ne_eqb, cases_Bool, cases_lt, cond-false, eqb-false, or_left, or_parts, or_right, nat_tests, number_of, StoreAccess, overwritten, Layout, fetched_word, is_in_ram, number_at, word_of, get_or-overwritten_above, get_or-overwritten_below, get_or-overwritten_in, length-overwritten, Each, is_committed, Store as QueuedStore, StoreState, Filled, memory_behind, with_store}
+use Rattle.rv_hardware.proofs.Words.{◌≡◌, ℕ, ◌+◌, ◌-◌, ◌%◌, ◌≤◌, Bool, true, false, cond, ◌||◌, ◌≢◌, List, [], ◌∷◌, length, slice_index_or as get_or, slice_range, Some, None, nat_cmp, sym, refl, ap, ◌∙◌, inl, inr, true≢false, arith, ext_get_or, eq-eqb, ne_eqb, cases_Bool, cases_lt, cond-false, eqb-false, or_left, or_parts, or_right, nat_tests, number_of, StoreAccess, overwritten, Layout, fetched_word, is_in_ram, number_at, word_of, get_or-overwritten_above, get_or-overwritten_below, get_or-overwritten_in, length-overwritten, Each, is_committed, Store as QueuedStore, StoreState, Filled, bytes_after, with_store}
 use Rattle.std.specs.Cmp.{nat_cmp_total, unsigned_tied}
 use Rattle.std.specs.FinSet as set
 use Rattle.std.proofs.lemmas.List.Edits.{get_or-between, length-between}
@@ -101,15 +101,15 @@ module _ (layout : Layout) (words : set.FinSet nat_cmp) where
   length-with_retired s xs retired size = ap length (stored_is s xs retired) ∙ length-stored layout retired.access retired.legal xs size
 
   -- retired stores leave RAM as long as it is
-  pub length-memory_behind : (ss : List QueuedStore) (xs : List ℕ) → Each (IsRetiredStore layout words) ss → length xs ≡ layout.size → length (memory_behind layout.base ss xs) ≡ layout.size
-  length-memory_behind [] xs all size = size
-  length-memory_behind (s ∷ ss) xs all size = length-memory_behind ss (with_store layout.base s.state xs) all.1 (length-with_retired s xs all.0 size)
+  pub length-bytes_after : (ss : List QueuedStore) (xs : List ℕ) → Each (IsRetiredStore layout words) ss → length xs ≡ layout.size → length (bytes_after layout.base ss xs) ≡ layout.size
+  length-bytes_after [] xs all size = size
+  length-bytes_after (s ∷ ss) xs all size = length-bytes_after ss (with_store layout.base s.state xs) all.1 (length-with_retired s xs all.0 size)
 
   -- they change no byte of a word that is not stale
-  pub memory_behind-fresh : (ss : List QueuedStore) (xs : List ℕ) → Each (IsRetiredStore layout words) ss → length xs ≡ layout.size →
-      (i : ℕ) → set.contains words (word_of (layout.base + i)) ≡ false → get_or (memory_behind layout.base ss xs) i 0 ≡ get_or xs i 0
-  memory_behind-fresh [] xs all size i fresh = refl
-  memory_behind-fresh (s ∷ ss) xs all size i fresh = grind (arith, true≢false, length-with_retired, stored_is, stored_elsewhere, memory_behind-fresh ss (with_store layout.base s.state xs) all.1 (length-with_retired s xs all.0 size) i fresh)
+  pub bytes_after-fresh : (ss : List QueuedStore) (xs : List ℕ) → Each (IsRetiredStore layout words) ss → length xs ≡ layout.size →
+      (i : ℕ) → set.contains words (word_of (layout.base + i)) ≡ false → get_or (bytes_after layout.base ss xs) i 0 ≡ get_or xs i 0
+  bytes_after-fresh [] xs all size i fresh = refl
+  bytes_after-fresh (s ∷ ss) xs all size i fresh = grind (arith, true≢false, length-with_retired, stored_is, stored_elsewhere, bytes_after-fresh ss (with_store layout.base s.state xs) all.1 (length-with_retired s xs all.0 size) i fresh)
 
   -- more words may be stale
   pub IsRetiredStore-more : (k : ℕ) (s : QueuedStore) → IsRetiredStore layout words s → IsRetiredStore layout (set.insert words k) s

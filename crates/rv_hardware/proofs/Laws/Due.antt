@@ -70,8 +70,8 @@ module _ (v : Values) (earlier : List Step) (arrivals : List Arrival) (c : ℕ) 
       Each-weaker (λ s. stamp_of s ≡ a.begins.cycle) (λ s. stamp_of s ≡ c) (λ s at. omega (arith, at, a.cycle)) a.here.steps
       (steps_of_cycle v (history_is_legal v history_here) (earlier ++ steps_of a.first) a.begins a.ends (lines_at arrivals a.begins.cycle) a.here (history_is_sound v history_here) (history_has_steps v history_here) a.is)
 
-  later_behind : Each (λ s. c < stamp_of s) (steps_of a.later)
-  later_behind =
+  later_after : Each (λ s. c < stamp_of s) (steps_of a.later)
+  later_after =
       Each-weaker (λ s. c + 1 ≤ stamp_of s) (λ s. c < stamp_of s) (λ s le. omega (arith, le)) (steps_of a.later)
       (since_by v (c + 1) ((earlier ++ steps_of a.first) ++ a.here.steps) a.after (went_on history_here a.is) (omega (arith, next_is, a.cycle)))
 
@@ -82,7 +82,7 @@ module _ (v : Values) (earlier : List Step) (arrivals : List Arrival) (c : ℕ) 
       ∙ filter-three below (steps_of a.first) a.here.steps (steps_of a.later)
       ∙ ap (λ l. l ++ (filter below a.here.steps ++ filter below (steps_of a.later))) (kept_all below (steps_of a.first) (Each-weaker (λ s. stamp_of s < c) (λ s. below s ≡ true) (λ s lt. lt-ltb (stamp_of s) c lt) (steps_of a.first) first_below))
       ∙ ap (λ l. steps_of a.first ++ (l ++ filter below (steps_of a.later))) (kept_none below a.here.steps (Each-weaker (λ s. stamp_of s ≡ c) (λ s. below s ≡ false) (λ s at. le-ltb (stamp_of s) c (omega (arith, at))) a.here.steps here_in))
-      ∙ ap (λ l. steps_of a.first ++ l) (kept_none below (steps_of a.later) (Each-weaker (λ s. c < stamp_of s) (λ s. below s ≡ false) (λ s lt. le-ltb (stamp_of s) c (omega (arith, lt))) (steps_of a.later) later_behind))
+      ∙ ap (λ l. steps_of a.first ++ l) (kept_none below (steps_of a.later) (Each-weaker (λ s. c < stamp_of s) (λ s. below s ≡ false) (λ s lt. le-ltb (stamp_of s) c (omega (arith, lt))) (steps_of a.later) later_after))
       ∙ append-nil (steps_of a.first)
 
   all_in : steps_in c (steps_of reports) ≡ a.here.steps
@@ -92,7 +92,7 @@ module _ (v : Values) (earlier : List Step) (arrivals : List Arrival) (c : ℕ) 
       ∙ filter-three test (steps_of a.first) a.here.steps (steps_of a.later)
       ∙ ap (λ l. l ++ (filter test a.here.steps ++ filter test (steps_of a.later))) (kept_none test (steps_of a.first) (Each-weaker (λ s. stamp_of s < c) (λ s. test s ≡ false) (λ s lt. ne_eqb (stamp_of s) c (omega (arith, lt))) (steps_of a.first) first_below))
       ∙ ap (λ l. l ++ filter test (steps_of a.later)) (kept_all test a.here.steps (Each-weaker (λ s. stamp_of s ≡ c) (λ s. test s ≡ true) (λ s at. eq-eqb (stamp_of s) c at) a.here.steps here_in))
-      ∙ ap (λ l. a.here.steps ++ l) (kept_none test (steps_of a.later) (Each-weaker (λ s. c < stamp_of s) (λ s. test s ≡ false) (λ s lt. ne_eqb (stamp_of s) c (omega (arith, lt))) (steps_of a.later) later_behind))
+      ∙ ap (λ l. a.here.steps ++ l) (kept_none test (steps_of a.later) (Each-weaker (λ s. c < stamp_of s) (λ s. test s ≡ false) (λ s lt. ne_eqb (stamp_of s) c (omega (arith, lt))) (steps_of a.later) later_after))
       ∙ append-nil a.here.steps
 
   abbrev Reaches : List Step → Type 0

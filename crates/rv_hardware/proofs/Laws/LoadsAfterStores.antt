@@ -1,7 +1,7 @@
 -- A load issues after the broadcasts of all older stores.
-use Rattle.rv_hardware.proofs.Words.{◌≡◌, ℕ, ◌<◌, Bool, true, false, List, [], map, IfSome, Some, None, Option, AllPairs, sym, refl, ◌∙◌, true≢false, is_load, Instr, Values, Each, Hardware, LoadsAfterStore, instruction_of_row, is_load_row, is_store_row, rows_of, Execution, Row, Step, Each-weaker, Each-unmap, AllPairs-EveryPair, EveryBehind-weaker, EveryPair-EveryBehind, arith, Each-all}
-use Rattle.rv_hardware.proofs.Marks.Cited.{IsBefore, History, mark_of_row, start_of_execution, broadcast_of_execution, rows_start_behind}
-use Rattle.rv_hardware.proofs.Laws.Operands.Known.{Found, StartsBehind}
+use Rattle.rv_hardware.proofs.Words.{◌≡◌, ℕ, ◌<◌, Bool, true, false, List, [], map, IfSome, Some, None, Option, AllPairs, sym, refl, ◌∙◌, true≢false, is_load, Instr, Values, Each, Hardware, LoadsAfterStore, instruction_of_row, is_load_row, is_store_row, rows_of, Execution, Row, Step, Each-weaker, Each-unmap, AllPairs-EveryPair, EveryAfter-weaker, EveryPair-EveryAfter, arith, Each-all}
+use Rattle.rv_hardware.proofs.Marks.Cited.{IsBefore, History, mark_of_row, start_of_execution, broadcast_of_execution, rows_start_after}
+use Rattle.rv_hardware.proofs.Laws.Operands.Known.{Found, StartsAfter}
 
 store_by : (c : ℕ) (x : Option Execution) → IsBefore c (broadcast_of_execution x) → IfSome x (λ s. s.broadcast < c)
 store_by c x h = grind arith
@@ -13,7 +13,7 @@ load_by : (a : Row) (i : Option Instr) (before : List Row) (y : Option Execution
     is_load i ≡ true → IfSome y (λ t. Each (λ a. is_store_row a ≡ true → IfSome a.execution (λ s. s.broadcast < t.issued)) before)
 load_by a i before y h load = grind (arith, Each-weaker, store_by, Each-unmap)
 
-loads_by : (before : List Row) (row : Row) → StartsBehind (map mark_of_row before) (mark_of_row row) → Each (λ a. LoadsAfterStore a row) before
+loads_by : (before : List Row) (row : Row) → StartsAfter (map mark_of_row before) (mark_of_row row) → Each (λ a. LoadsAfterStore a row) before
 loads_by before row h = by_load (is_load_row row) refl
   where
     by_execution : (y : Option Execution) → IfSome y (λ t. Each (λ a. is_store_row a ≡ true → IfSome a.execution (λ s. s.broadcast < t.issued)) before) → Each (λ a. is_store_row a ≡ true → IfSome a.execution (λ s. IfSome y (λ t. s.broadcast < t.issued))) before
@@ -31,4 +31,4 @@ loads_by before row h = by_load (is_load_row row) refl
 pub law_of_loads_after_stores : (v : Values) {steps : List Step} {h : Hardware} → History v steps h → AllPairs LoadsAfterStore (rows_of steps)
 law_of_loads_after_stores v {steps} history =
     AllPairs-EveryPair LoadsAfterStore (rows_of steps)
-    (EveryPair-EveryBehind LoadsAfterStore [] (rows_of steps) (EveryBehind-weaker (λ before row. StartsBehind (map mark_of_row before) (mark_of_row row)) (λ before row. Each (λ a. LoadsAfterStore a row) before) loads_by [] (rows_of steps) (rows_start_behind v history)))
+    (EveryPair-EveryAfter LoadsAfterStore [] (rows_of steps) (EveryAfter-weaker (λ before row. StartsAfter (map mark_of_row before) (mark_of_row row)) (λ before row. Each (λ a. LoadsAfterStore a row) before) loads_by [] (rows_of steps) (rows_start_after v history)))

@@ -1,6 +1,6 @@
 -- A fetched instruction that is no store waits for nothing but room and the width.
-use Rattle.rv_hardware.proofs.Words.{◌≡◌, ℕ, suc, ◌<◌, ◌≤◌, Bool, true, false, cond, ◌&&◌, ◌||◌, ◌⊎◌, List, [], ◌∷◌, ◌++◌, map, length, is_some, is_none, nat_lt, nat_le, ◌==◌, Some, None, count_by, filter, Option, sym, refl, ap, ◌∙◌, subst, inl, inr, true≢false, arith, lt-ltb, eq-eqb, leb-false, leb-true, and_from, length-filter, list_any, is_same-own, is_of_kind, is_serialising, is_store, kind_of_word, at_kind, Kind, Values, Each, Entry, Stage, Fetched, Dispatching, dispatch, dispatch_turn, has_full_stations, is_stationed, Hardware, is_waiting, WaitsForRoom, Turn, EachBehind, is_dispatched_in, is_in_flight_in, is_row_of_kind, is_stationed_in, is_store_row, passes, rows_of, Execution, Row, Step, and_first, and_second, Each-All, Each-left, Each-right, Each-place, Each-weaker, Each-all, Each-map, Each-filter, EveryBehind, count, count-count_by, count-append, count-yes, count-map, count-le, EveryBehind-append, Beginning-EveryBehind, EveryBehind-all, EachBehind-EveryBehind, Leads, turns_within, entry_of_fetched, Each-images}
-use Rattle.rv_hardware.proofs.Marks.Cited.{is_in_flight_mark, is_stationed_mark, History, history_is_sound, sent_all, dispatching, behind_law, behind_count, DispatchTurn, dispatch_turn_is, WaitsFor, for_serial, for_buffer, for_station, for_queue, buffer_empty, waits, dispatches, IsNew, Mark, mark_of_row, mark_of_entry, mark_of_fetched, at_end, as_of, was_fetched, start_until, start_of_stage, start_of_execution, until_by, until_now, Older, rows_are_older, rows_obey, SoundRow, HasShape, some_kind, is_at}
+use Rattle.rv_hardware.proofs.Words.{◌≡◌, ℕ, suc, ◌<◌, ◌≤◌, Bool, true, false, cond, ◌&&◌, ◌||◌, ◌⊎◌, List, [], ◌∷◌, ◌++◌, map, length, is_some, is_none, nat_lt, nat_le, ◌==◌, Some, None, count_by, filter, Option, sym, refl, ap, ◌∙◌, subst, inl, inr, true≢false, arith, lt-ltb, eq-eqb, leb-false, leb-true, and_from, length-filter, list_any, is_same-own, is_of_kind, is_serialising, is_store, kind_of_word, at_kind, Kind, Values, Each, Entry, Stage, Fetched, Dispatching, dispatch, dispatch_turn, has_full_stations, is_stationed, Hardware, is_waiting, WaitsForRoom, Turn, EachAfter, is_dispatched_in, is_in_flight_in, is_row_of_kind, is_stationed_in, is_store_row, passes, rows_of, Execution, Row, Step, and_first, and_second, Each-All, Each-left, Each-right, Each-place, Each-weaker, Each-all, Each-map, Each-filter, EveryAfter, count, count-count_by, count-append, count-yes, count-map, count-le, EveryAfter-append, Beginning-EveryAfter, EveryAfter-all, EachAfter-EveryAfter, Leads, turns_within, entry_of_fetched, Each-images}
+use Rattle.rv_hardware.proofs.Marks.Cited.{is_in_flight_mark, is_stationed_mark, History, history_is_sound, sent_all, dispatching, after_law, after_count, DispatchTurn, dispatch_turn_is, WaitsFor, for_serial, for_buffer, for_station, for_queue, buffer_empty, waits, dispatches, IsNew, Mark, mark_of_row, mark_of_entry, mark_of_fetched, at_end, as_of, was_fetched, start_until, start_of_stage, start_of_execution, until_by, until_now, Older, rows_are_older, rows_obey, SoundRow, HasShape, some_kind, is_at}
 
 -- a word that could have been dispatched in a cycle: it is the oldest that was not, and no serialising instruction is in flight
 pub record MayEnter (c : ℕ) (before : List Mark) (m : Mark) : Type 0 where
@@ -97,29 +97,29 @@ was_dispatched : {P : Type 0} (m : Mark) → is_some m.dispatched ≡ true → m
 was_dispatched m is none = absurd (true≢false (sym is ∙ ap is_some none))
 
 -- after a word that was not dispatched none may enter
-none_behind : (v : Values) (now : ℕ) (pre xs : List Mark) → (Each (λ x. is_some x.dispatched ≡ true) pre → ⊥) → EveryBehind (EntersSoon v now) pre xs
-none_behind v now pre [] no_more = tt
-none_behind v now pre (x ∷ xs) no_more = ((λ may. absurd (no_more may.olders)), none_behind v now (pre ++ x ∷ []) xs (λ all. no_more (Each-left (λ z. is_some z.dispatched ≡ true) pre (x ∷ []) all)))
+none_after : (v : Values) (now : ℕ) (pre xs : List Mark) → (Each (λ x. is_some x.dispatched ≡ true) pre → ⊥) → EveryAfter (EntersSoon v now) pre xs
+none_after v now pre [] no_more = tt
+none_after v now pre (x ∷ xs) no_more = ((λ may. absurd (no_more may.olders)), none_after v now (pre ++ x ∷ []) xs (λ all. no_more (Each-left (λ z. is_some z.dispatched ≡ true) pre (x ∷ []) all)))
 
 words_wait : (v : Values) (now : ℕ) (rows : List Row) (h : Hardware) (shape : HasShape v h) (fs : List Fetched) → h.front.entries ≡ fs →
     ((f : Fetched) (gs : List Fetched) → h.front.entries ≡ f ∷ gs → (v.dispatch_width ≤ count (dispatched_now v now) h.rob.entries) ⊎ WaitsFor h f) →
-    EveryBehind (EntersSoon v now) (map mark_of_row rows ++ map mark_of_entry h.rob.entries) (map mark_of_fetched fs)
+    EveryAfter (EntersSoon v now) (map mark_of_row rows ++ map mark_of_entry h.rob.entries) (map mark_of_fetched fs)
 words_wait v now rows h shape [] at left = tt
 words_wait v now rows h shape (f ∷ fs) at left = (
   head_waits v now rows h shape f (left f fs at),
-  none_behind v now ((map mark_of_row rows ++ map mark_of_entry h.rob.entries) ++ mark_of_fetched f ∷ []) (map mark_of_fetched fs)
+  none_after v now ((map mark_of_row rows ++ map mark_of_entry h.rob.entries) ++ mark_of_fetched f ∷ []) (map mark_of_fetched fs)
       (λ all. was_dispatched (mark_of_fetched f) (Each-place (λ x. is_some x.dispatched ≡ true) (map mark_of_row rows ++ map mark_of_entry h.rob.entries) [] (mark_of_fetched f) all) refl),
 )
 
 abbrev IsDispatched : Mark → Type 0
 IsDispatched x = is_some x.dispatched ≡ true
 
-dispatched_ones : (v : Values) (now : ℕ) (before xs : List Mark) → Each IsDispatched xs → EveryBehind (EntersSoon v now) before xs
-dispatched_ones v now before xs h = EveryBehind-all IsDispatched (EntersSoon v now) (λ b x is may. was_dispatched x is may.not_yet) before xs h
+dispatched_ones : (v : Values) (now : ℕ) (before xs : List Mark) → Each IsDispatched xs → EveryAfter (EntersSoon v now) before xs
+dispatched_ones v now before xs h = EveryAfter-all IsDispatched (EntersSoon v now) (λ b x is may. was_dispatched x is may.not_yet) before xs h
 
-soon_marks : (v : Values) {steps : List Step} {h : Hardware} → History v steps h → (c : ℕ) → c < h.cycle → EveryBehind (EntersSoon v c) [] (as_of c (map mark_of_row (rows_of steps)))
+soon_marks : (v : Values) {steps : List Step} {h : Hardware} → History v steps h → (c : ℕ) → c < h.cycle → EveryAfter (EntersSoon v c) [] (as_of c (map mark_of_row (rows_of steps)))
 soon_marks v history =
-    rows_obey v (λ c ms. EveryBehind (EntersSoon v c) [] ms) (λ c xs ys b h. Beginning-EveryBehind (EntersSoon v c) xs ys b h)
+    rows_obey v (λ c ms. EveryAfter (EntersSoon v c) [] ms) (λ c xs ys b h. Beginning-EveryAfter (EntersSoon v c) xs ys b h)
     (λ earlier old new lines report before after passed.
     let all : List Step = earlier ++ report.steps in
     let now : ℕ = old.cycle in
@@ -128,12 +128,12 @@ soon_marks v history =
     let rows : List Mark = map mark_of_row (rows_of all) in
     let es : List Mark = map mark_of_entry d.rob.entries in
     let fs : List Mark = map mark_of_fetched d.front.entries in
-    rw (passed.new_marks) (EveryBehind-append (EntersSoon v now) [] (rows ++ (es ++ fs)) (map mark_of_fetched passed.fetches.added)
-    (EveryBehind-append (EntersSoon v now) [] rows (es ++ fs) (dispatched_ones v now [] rows (Each-images IsDispatched mark_of_row (λ row. refl) (rows_of all)))
-    (EveryBehind-append (EntersSoon v now) rows es fs
+    rw (passed.new_marks) (EveryAfter-append (EntersSoon v now) [] (rows ++ (es ++ fs)) (map mark_of_fetched passed.fetches.added)
+    (EveryAfter-append (EntersSoon v now) [] rows (es ++ fs) (dispatched_ones v now [] rows (Each-images IsDispatched mark_of_row (λ row. refl) (rows_of all)))
+    (EveryAfter-append (EntersSoon v now) rows es fs
     (dispatched_ones v now rows es (Each-images IsDispatched mark_of_entry (λ e. refl) d.rob.entries))
     (words_wait v now (rows_of all) d passed.dispatches.basics.always.sizes d.front.entries refl left)))
-    (EveryBehind-all (λ m. now ≤ m.fetched) (EntersSoon v now) (λ b x le may. absurd (too_new now x le may.fetched)) (rows ++ (es ++ fs)) (map mark_of_fetched passed.fetches.added)
+    (EveryAfter-all (λ m. now ≤ m.fetched) (EntersSoon v now) (λ b x le may. absurd (too_new now x le may.fetched)) (rows ++ (es ++ fs)) (map mark_of_fetched passed.fetches.added)
     (Each-map (λ m. now ≤ m.fetched) mark_of_fetched passed.fetches.added (Each-weaker (IsNew now) (λ f. now ≤ f.cycle) (λ f w. omega (arith, w.0)) passed.fetches.added passed.fetches.are_new)))))
     history
   where
@@ -169,7 +169,7 @@ station_row v bound c k row sound h = grind (arith, and_first, and_second, some_
 
 module _ (v : Values) (bound c : ℕ) (before : List Row) (row : Row) (older : Each (Older v bound row) before) (row_sound : SoundRow v bound row) where
   fewer : (p : Mark → Bool) (q : Row → Bool) → ((a : Row) → SoundRow v bound a → p (at_end c (mark_of_row a)) ≡ true → q a ≡ true) → count p (as_of c (map mark_of_row before)) ≤ count_by q before
-  fewer p q f = behind_count p q c before (Each-weaker (Older v bound row) (λ a. (was_fetched c (mark_of_row a) && p (at_end c (mark_of_row a))) ≡ true → q a ≡ true) (λ a o h. f a o.sound (and_second (was_fetched c (mark_of_row a)) (p (at_end c (mark_of_row a))) h)) before older)
+  fewer p q f = after_count p q c before (Each-weaker (Older v bound row) (λ a. (was_fetched c (mark_of_row a) && p (at_end c (mark_of_row a))) ≡ true → q a ≡ true) (λ a o h. f a o.sound (and_second (was_fetched c (mark_of_row a)) (p (at_end c (mark_of_row a))) h)) before older)
 
   room_of_rows : NoRoom v c (as_of c (map mark_of_row before)) (at_end c (mark_of_row row)) →
       (v.dispatch_width ≤ count_by (is_dispatched_in c) before) ⊎ (v.rob ≤ count_by (is_in_flight_in c) before) ⊎ ((kind : Kind) × (is_row_of_kind kind row ≡ true) × ((at_kind kind v.kinds).stations ≤ count_by (is_stationed_in kind c) before))
@@ -181,9 +181,9 @@ module _ (v : Values) (bound c : ℕ) (before : List Row) (row : Row) (older : E
   may_enter plain given later all = grind (arith, until_now, as_of_rows, Each-weaker, until_by)
 
 -- the field `no_idle_dispatch` of `Laws`, over every history
-pub law_of_no_idle_dispatch : (v : Values) {steps : List Step} {h : Hardware} → History v steps h → EachBehind (WaitsForRoom v 0) (rows_of steps)
+pub law_of_no_idle_dispatch : (v : Values) {steps : List Step} {h : Hardware} → History v steps h → EachAfter (WaitsForRoom v 0) (rows_of steps)
 law_of_no_idle_dispatch v {steps} {h} history before after row at plain c from fetched later all =
     let sound : SoundRow v h.cycle row = Each-place (SoundRow v h.cycle) before after row (subst (Each (SoundRow v h.cycle)) at (history_is_sound v history).rows) in
-    let older = EachBehind-EveryBehind (λ b r. Each (Older v h.cycle r) b) (rows_of steps) (rows_are_older v history) before after row at in
-    let soon = behind_law (EntersSoon v c) c (rows_of steps) before after row (soon_marks v history c (omega (arith, later, sound.stamps.retired_after_dispatch, sound.below))) at (omega (arith, fetched)) in
+    let older = EachAfter-EveryAfter (λ b r. Each (Older v h.cycle r) b) (rows_of steps) (rows_are_older v history) before after row at in
+    let soon = after_law (EntersSoon v c) c (rows_of steps) before after row (soon_marks v history c (omega (arith, later, sound.stamps.retired_after_dispatch, sound.below))) at (omega (arith, fetched)) in
     room_of_rows v h.cycle c before row older sound (soon (may_enter v h.cycle c before row older sound plain fetched later (Each-All (λ a. a.dispatched ≤ c) before all)))

@@ -1,17 +1,17 @@
 -- No pipelined unit is idle while an instruction that is no load has its operands.
 pub mod Marks
 pub mod Phases
-use Rattle.rv_hardware.proofs.Words.{◌≡◌, ℕ, ◌+◌, ◌<◌, ◌≤◌, Bool, true, false, cond, ◌&&◌, List, [], ◌∷◌, map, is_some, IfSome, nat_le, ◌==◌, Some, None, count_by, Option, option_map, sym, refl, ap, ◌∙◌, subst, arith, le-leb, and_from, kind_of_word, at_kind, Kind, Values, Each, Hardware, HasOperandsIn, LeaveNoUnitIdle, is_pipelined, instruction_of_row, is_issued_in, is_row_of_kind, last_from, last_that, passes, producer_among, rows_of, sources_of_row, writes_register, Execution, Row, Step, and_first, and_second, Each-All, Each-place, Each-weaker, EveryBehind, Beginning-EveryBehind, EachBehind-EveryBehind, EveryBehind-EveryPair}
-use Rattle.rv_hardware.proofs.Marks.Cited.{IsBefore, writes_mark, IsKnownMark, OperandsKnown, behind_law, behind_count, History, history_is_sound, Mark, mark_of_row, as_of, as_of-cons, at_end, was_fetched, until, start_until, start_until_now, start_of_execution, broadcast_of_execution, until_by, history_is_orderly, Older, rows_are_older, row_pairs, rows_obey, SoundRow}
+use Rattle.rv_hardware.proofs.Words.{◌≡◌, ℕ, ◌+◌, ◌<◌, ◌≤◌, Bool, true, false, cond, ◌&&◌, List, [], ◌∷◌, map, is_some, IfSome, nat_le, ◌==◌, Some, None, count_by, Option, option_map, sym, refl, ap, ◌∙◌, subst, arith, le-leb, and_from, kind_of_word, at_kind, Kind, Values, Each, Hardware, HasOperandsIn, LeaveNoUnitIdle, is_pipelined, instruction_of_row, is_issued_in, is_row_of_kind, last_from, last_that, passes, producer_among, rows_of, sources_of_row, writes_register, Execution, Row, Step, and_first, and_second, Each-All, Each-place, Each-weaker, EveryAfter, Beginning-EveryAfter, EachAfter-EveryAfter, EveryAfter-EveryPair}
+use Rattle.rv_hardware.proofs.Marks.Cited.{IsBefore, writes_mark, IsKnownMark, OperandsKnown, after_law, after_count, History, history_is_sound, Mark, mark_of_row, as_of, as_of-cons, at_end, was_fetched, until, start_until, start_until_now, start_of_execution, broadcast_of_execution, until_by, history_is_orderly, Older, rows_are_older, row_pairs, rows_obey, SoundRow}
 use Rattle.rv_hardware.proofs.Laws.NoIdleUnit.Marks.{MayStart, BusyUnits}
 use Rattle.rv_hardware.proofs.Laws.NoIdleUnit.Phases.{units_are_busy}
 use Rattle.rv_hardware.proofs.Laws.OtherUnits.Rows.{starts_at, begins_mark}
 
 busy_rows : (v : Values) (k : Kind) → (at_kind k v.kinds).pipelined ≡ true → {steps : List Step} {h : Hardware} →
     History v steps h → (c : ℕ) → c < h.cycle →
-    EveryBehind (BusyUnits k (at_kind k v.kinds).units c) [] (as_of c (map mark_of_row (rows_of steps)))
+    EveryAfter (BusyUnits k (at_kind k v.kinds).units c) [] (as_of c (map mark_of_row (rows_of steps)))
 busy_rows v k line history =
-    rows_obey v (λ c ms. EveryBehind (BusyUnits k (at_kind k v.kinds).units c) [] ms) (λ c xs ys b h. Beginning-EveryBehind (BusyUnits k (at_kind k v.kinds).units c) xs ys b h)
+    rows_obey v (λ c ms. EveryAfter (BusyUnits k (at_kind k v.kinds).units c) [] ms) (λ c xs ys b h. Beginning-EveryAfter (BusyUnits k (at_kind k v.kinds).units c) xs ys b h)
     (λ earlier old new lines report before after passed. units_are_busy v k line earlier lines old new report _ before passed) history
 
 -- rows that were all fetched
@@ -74,10 +74,10 @@ law_of_no_idle_unit v {steps} {h} history k line before after row at kind plain 
     sound = Each-place (SoundRow v h.cycle) before after row (subst (Each (SoundRow v h.cycle)) at (history_is_sound v history).rows)
 
     older : Each (Older v h.cycle row) before
-    older = EachBehind-EveryBehind (λ b r. Each (Older v h.cycle r) b) (rows_of steps) (rows_are_older v history) before after row at
+    older = EachAfter-EveryAfter (λ b r. Each (Older v h.cycle r) b) (rows_of steps) (rows_are_older v history) before after row at
 
     in_order : Each (λ a. a.fetched ≤ row.fetched) before
-    in_order = EachBehind-EveryBehind (λ b r. Each (λ a. a.fetched ≤ r.fetched) b) (rows_of steps) (EveryBehind-EveryPair (λ a b. a.fetched ≤ b.fetched) [] (rows_of steps) tt (row_pairs (λ m n. m.fetched ≤ n.fetched) (λ a b. a.fetched ≤ b.fetched) (λ a b le. le) steps h (history_is_orderly v history).fetched)) before after row at
+    in_order = EachAfter-EveryAfter (λ b r. Each (λ a. a.fetched ≤ r.fetched) b) (rows_of steps) (EveryAfter-EveryPair (λ a b. a.fetched ≤ b.fetched) [] (rows_of steps) tt (row_pairs (λ m n. m.fetched ≤ n.fetched) (λ a b. a.fetched ≤ b.fetched) (λ a b le. le) steps h (history_is_orderly v history).fetched)) before after row at
 
     by_execution : (o : Option Execution) → row.execution ≡ o →
         IfSome o (λ x. (c : ℕ) → 0 ≤ c → row.dispatched < c → c < x.issued → HasOperandsIn c before row → (at_kind k v.kinds).units ≤ count_by (is_issued_in k c) before)
@@ -93,8 +93,8 @@ law_of_no_idle_unit v {steps} {h} history k line before after row at kind plain 
           not_yet = ap (λ o. start_until c (start_of_execution o)) e ∙ not_until c x later;
           operands = rw (all_fetched c before all) (sources_known c v h.cycle before row older (sources_of_row row) (Each-All (λ source. IfSome (producer_among before source) (λ p. IfSome p.execution (λ y. y.broadcast < c))) (sources_of_row row) operands));
         } in
-        let busy = behind_law (BusyUnits k (at_kind k v.kinds).units c) c (rows_of steps) before after row (busy_rows v k line history c (omega (arith, later, between.1, between.2, sound.below))) at fetched may in
-        let fewer = behind_count (begins_mark k c) (is_issued_in k c) c before (Each-weaker (Older v h.cycle row) (λ a. (was_fetched c (mark_of_row a) && begins_mark k c (at_end c (mark_of_row a))) ≡ true → is_issued_in k c a ≡ true)
+        let busy = after_law (BusyUnits k (at_kind k v.kinds).units c) c (rows_of steps) before after row (busy_rows v k line history c (omega (arith, later, between.1, between.2, sound.below))) at fetched may in
+        let fewer = after_count (begins_mark k c) (is_issued_in k c) c before (Each-weaker (Older v h.cycle row) (λ a. (was_fetched c (mark_of_row a) && begins_mark k c (at_end c (mark_of_row a))) ≡ true → is_issued_in k c a ≡ true)
         (λ a o g. let both = and_second (was_fetched c (mark_of_row a)) (begins_mark k c (at_end c (mark_of_row a))) g in and_from (is_row_of_kind k a) (passes (λ y. y.issued == c) a.execution) (and_first (is_row_of_kind k a) (starts_at c (start_until c (start_of_execution a.execution))) both) (begun_at c a.execution (and_second (is_row_of_kind k a) (starts_at c (start_until c (start_of_execution a.execution))) both))) before older) in
         omega (arith, busy, fewer)
       where

@@ -1,5 +1,5 @@
 -- The laws hold of every run of the hardware, on hardware that was just reset and on hardware that has run.
-use Rattle.rv_hardware.proofs.Words.{◌≡◌, ℕ, suc, ◌+◌, ◌<◌, ◌≤◌, Bool, true, false, cond, List, [], ◌∷◌, ◌++◌, IfSome, ◌==◌, Some, None, All, count_by, Option, AllPairs, sym, refl, ap, ◌∙◌, subst, inl, inr, append_assoc, append-nil, arith, All-append, All-weaker, at_kind, Arrival, Kind, Values, Each, Hardware, AreApartAtPort, DoesNotWait, EachProducer, HasCost, HasOperandsIn, HasOrderedStamps, IsBroadcastFirst, IsFetchedAhead, IsFetchedBehind, IsFetchedSince, IsKnownBefore, IsTrappedSoon, IssuesWithOperands, LacksRoom, Laws, LeaveNoUnitIdle, LeavesNoBusIdle, LeavesNoUnitIdle, LoadsAfterStore, WaitsForBus, WaitsForRoom, WaitsForUnits, is_pipelined, units_of, Report, Cycles, Reachable, cycled, ended, steps_of, EachBehind, EachNext, flushes, is_broadcast_in, is_buffered_in, is_dispatched_in, is_executing_in, is_fetched_in, is_in_flight_in, is_issued_in, is_queued_in, is_stationed_in, last_from, producer_among, rows_of, sources_of_row, writes_register, is_interrupt, stamp_of, Execution, Row, Step, Retired, All-Each, All-right, Each-append, Each-right, Each-weaker, Each-both, count-count_by, count-append, count-none}
+use Rattle.rv_hardware.proofs.Words.{◌≡◌, ℕ, suc, ◌+◌, ◌<◌, ◌≤◌, Bool, true, false, cond, List, [], ◌∷◌, ◌++◌, IfSome, ◌==◌, Some, None, All, count_by, Option, AllPairs, sym, refl, ap, ◌∙◌, subst, inl, inr, append_assoc, append-nil, arith, All-append, All-weaker, at_kind, Arrival, Kind, Values, Each, Hardware, AreApartAtPort, DoesNotWait, EachProducer, HasCost, HasOperandsIn, HasOrderedStamps, IsBroadcastFirst, IsFetchedAhead, IsFetchedAfter, IsFetchedSince, IsKnownBefore, IsTrappedSoon, IssuesWithOperands, LacksRoom, Laws, LeaveNoUnitIdle, LeavesNoBusIdle, LeavesNoUnitIdle, LoadsAfterStore, WaitsForBus, WaitsForRoom, WaitsForUnits, is_pipelined, units_of, Report, Cycles, Reachable, cycled, ended, steps_of, EachAfter, EachNext, flushes, is_broadcast_in, is_buffered_in, is_dispatched_in, is_executing_in, is_fetched_in, is_in_flight_in, is_issued_in, is_queued_in, is_stationed_in, last_from, producer_among, rows_of, sources_of_row, writes_register, is_interrupt, stamp_of, Execution, Row, Step, Retired, All-Each, All-right, Each-append, Each-right, Each-weaker, Each-both, count-count_by, count-append, count-none}
 use Rattle.rv_hardware.proofs.Laws.HeadsDoNotWait.{law_of_heads_do_not_wait}
 use Rattle.rv_hardware.proofs.Laws.FetchedAhead.{law_of_fetched_ahead}
 use Rattle.rv_hardware.proofs.Laws.TrapsSoon.{law_of_traps_soon}
@@ -106,8 +106,8 @@ module _ (v : Values) (earlier steps : List Step) (old new : Hardware) (before_r
   rows_count p n h = count_by-last p (rows_of earlier) (rows_of steps) n (subst (λ l. count_by p l ≤ n) rows_of_all h)
 
   -- a row of the run, after all earlier rows
-  rows_behind : (P : List Row → Row → Type 0) → EachBehind P (rows_of (earlier ++ steps)) → (before after : List Row) (row : Row) → rows_of steps ≡ before ++ row ∷ after → P (rows_of earlier ++ before) row
-  rows_behind P h before after row given = grind (arith, rows_of_all, append_assoc)
+  rows_after : (P : List Row → Row → Type 0) → EachAfter P (rows_of (earlier ++ steps)) → (before after : List Row) (row : Row) → rows_of steps ≡ before ++ row ∷ after → P (rows_of earlier ++ before) row
+  rows_after P h before after row given = grind (arith, rows_of_all, append_assoc)
 
   -- none of the earlier rows passes from the run's first cycle on
   none_earlier : (row_test : ℕ → Row → Bool) (test : ℕ → Mark → Bool) → Shows v row_test test → (c : ℕ) → old.cycle ≤ c → (before : List Row) → count_by (row_test c) (rows_of earlier ++ before) ≡ count_by (row_test c) before
@@ -115,8 +115,8 @@ module _ (v : Values) (earlier steps : List Step) (old new : Hardware) (before_r
       count_by-rest (row_test c) (rows_of earlier) before
       (Each-weaker (SoundRow v old.cycle) (λ row. row_test c row ≡ false) (λ row sound. fails_later row_test test shows c old.cycle row le sound (row_test c row) refl) (rows_of earlier) (history_is_sound v before_run).rows)
 
-  operands_of_run : EachBehind IssuesWithOperands (rows_of steps)
-  operands_of_run before after row at = by_execution row.execution (rows_behind IssuesWithOperands (law_of_operands v history) before after row at)
+  operands_of_run : EachAfter IssuesWithOperands (rows_of steps)
+  operands_of_run before after row at = by_execution row.execution (rows_after IssuesWithOperands (law_of_operands v history) before after row at)
     where
       by_execution : (o : Option Execution) → IfSome o (λ x. EachProducer (IsKnownBefore row x) (rows_of earlier ++ before) row) → IfSome o (λ x. EachProducer (IsKnownBefore row x) before row)
       by_execution None h = tt
@@ -124,8 +124,8 @@ module _ (v : Values) (earlier steps : List Step) (old new : Hardware) (before_r
           All-weaker (λ source. IfSome (producer_among (rows_of earlier ++ before) source) (IsKnownBefore row x)) (λ source. IfSome (producer_among before source) (IsKnownBefore row x))
           (λ source k. producer_of_all (IsKnownBefore row x) (rows_of earlier) before source k) (sources_of_row row) h
 
-  bus_of_run : EachBehind (LeavesNoBusIdle v.bus_width old.cycle) (rows_of steps)
-  bus_of_run before after row at = by_execution row.execution (rows_behind (LeavesNoBusIdle v.bus_width 0) (law_of_no_idle_bus v history) before after row at)
+  bus_of_run : EachAfter (LeavesNoBusIdle v.bus_width old.cycle) (rows_of steps)
+  bus_of_run before after row at = by_execution row.execution (rows_after (LeavesNoBusIdle v.bus_width 0) (law_of_no_idle_bus v history) before after row at)
     where
       by_execution : (o : Option Execution) → IfSome o (WaitsForBus v.bus_width 0 (rows_of earlier ++ before)) → IfSome o (WaitsForBus v.bus_width old.cycle before)
       by_execution None h = tt
@@ -151,7 +151,7 @@ module _ (v : Values) (earlier steps : List Step) (old new : Hardware) (before_r
           (λ u. last_from-Each (λ p. IfSome p.execution (λ y. y.broadcast < c)) None (writes_register register) (rows_of earlier) tt all_sent) k)
 
   units_of_run : (kind : Kind) → is_pipelined v kind ≡ true → LeaveNoUnitIdle v kind old.cycle (rows_of steps)
-  units_of_run kind line before after row at is plain = by_execution row.execution (rows_behind (LeavesNoUnitIdle kind (units_of v kind) 0) (law_of_no_idle_unit v history kind line) before after row at is plain)
+  units_of_run kind line before after row at is plain = by_execution row.execution (rows_after (LeavesNoUnitIdle kind (units_of v kind) 0) (law_of_no_idle_unit v history kind line) before after row at is plain)
     where
       by_execution : (o : Option Execution) → IfSome o (WaitsForUnits kind (units_of v kind) 0 (rows_of earlier ++ before) row) →
           IfSome o (WaitsForUnits kind (units_of v kind) old.cycle before row)
@@ -161,9 +161,9 @@ module _ (v : Values) (earlier steps : List Step) (old new : Hardware) (before_r
           let same = none_earlier (is_issued_in kind) _ (begun_shows v kind) c from before in
           omega (arith, all, same)
 
-  dispatch_of_run : EachBehind (WaitsForRoom v old.cycle) (rows_of steps)
+  dispatch_of_run : EachAfter (WaitsForRoom v old.cycle) (rows_of steps)
   dispatch_of_run before after row at plain c from fetched later all =
-      by_cases (rows_behind (WaitsForRoom v 0) (law_of_no_idle_dispatch v history) before after row at plain c (omega arith) fetched later
+      by_cases (rows_after (WaitsForRoom v 0) (law_of_no_idle_dispatch v history) before after row at plain c (omega arith) fetched later
       (All-append (λ e. e.dispatched ≤ c) (rows_of earlier) before (All-Each (λ e. e.dispatched ≤ c) (rows_of earlier) (Each-weaker (SoundRow v old.cycle) (λ e. e.dispatched ≤ c) (λ e s. omega (arith, s.stamps.retired_after_dispatch, s.below, from)) (rows_of earlier) (history_is_sound v before_run).rows)) all))
     where
       by_cases : LacksRoom v c (rows_of earlier ++ before) row → LacksRoom v c before row
@@ -171,11 +171,11 @@ module _ (v : Values) (earlier steps : List Step) (old new : Hardware) (before_r
       by_cases (inr (inl full)) = let same = none_earlier is_in_flight_in _ (in_flight_shows v) c from before in inr (inl (omega (arith, full, same)))
       by_cases (inr (inr full)) = let same = none_earlier (is_stationed_in full.0) _ (stationed_shows v full.0) c from before in inr (inr (full.0, full.1, omega (arith, full.2, same)))
 
-  fetch_of_run : EachNext (IsFetchedBehind v old.cycle (rows_of steps)) steps
+  fetch_of_run : EachNext (IsFetchedAfter v old.cycle (rows_of steps)) steps
   fetch_of_run before after s t at =
       by_steps s t (law_of_no_idle_fetch v history (earlier ++ before) after s t (ap (λ l. earlier ++ l) at ∙ sym (append_assoc earlier before (s ∷ t ∷ after))))
     where
-      by_cases : (a b : Row) → IsFetchedBehind v 0 (rows_of (earlier ++ steps)) (Retired a) (Retired b) → IsFetchedBehind v old.cycle (rows_of steps) (Retired a) (Retired b)
+      by_cases : (a b : Row) → IsFetchedAfter v 0 (rows_of (earlier ++ steps)) (Retired a) (Retired b) → IsFetchedAfter v old.cycle (rows_of steps) (Retired a) (Retired b)
       by_cases a b (inl over) = inl over
       by_cases a b (inr (inl early)) = inr (inl early)
       by_cases a b (inr (inr full)) = inr (inr (λ c from later sooner.
@@ -184,7 +184,7 @@ module _ (v : Values) (earlier steps : List Step) (old new : Hardware) (before_r
           let same = none_earlier is_buffered_in _ (buffered_shows v) c from (rows_of steps) in
           omega (arith, held, all, same)))
 
-      by_steps : (x y : Step) → IsFetchedBehind v 0 (rows_of (earlier ++ steps)) x y → IsFetchedBehind v old.cycle (rows_of steps) x y
+      by_steps : (x y : Step) → IsFetchedAfter v 0 (rows_of (earlier ++ steps)) x y → IsFetchedAfter v old.cycle (rows_of steps) x y
       by_steps (Retired a) (Retired b) h = by_cases a b h
       by_steps x y h = tt
 

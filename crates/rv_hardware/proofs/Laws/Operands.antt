@@ -1,8 +1,8 @@
 -- An instruction issues after the broadcasts of its operands.
 pub mod Known
-use Rattle.rv_hardware.proofs.Words.{◌≡◌, ℕ, ◌<◌, ◌≤◌, Bool, true, false, cond, List, [], ◌∷◌, map, is_some, IfSome, Some, None, All, Option, MatchOption, option_map, sym, refl, ap, ◌∙◌, subst, arith, is_serialising, kind_of_word, Instr, Values, Each, Hardware, IsKnownBefore, IssuesWithOperands, EachBehind, instruction_of_row, last_from, last_that, producer_among, rows_of, sources_of_row, writes_register, Execution, Row, Step, All-Each, Each-weaker, EachBehind-EveryBehind, EveryBehind-both}
-use Rattle.rv_hardware.proofs.Marks.Cited.{IsBefore, writes_mark, IsKnownMark, OperandsKnown, History, history_is_sound, mark_of_row, start_of_execution, broadcast_of_execution, Older, rows_start_behind, rows_are_older, two_behind, writer_serialises, SoundRow}
-use Rattle.rv_hardware.proofs.Laws.Operands.Known.{Found, StartsBehind}
+use Rattle.rv_hardware.proofs.Words.{◌≡◌, ℕ, ◌<◌, ◌≤◌, Bool, true, false, cond, List, [], ◌∷◌, map, is_some, IfSome, Some, None, All, Option, MatchOption, option_map, sym, refl, ap, ◌∙◌, subst, arith, is_serialising, kind_of_word, Instr, Values, Each, Hardware, IsKnownBefore, IssuesWithOperands, EachAfter, instruction_of_row, last_from, last_that, producer_among, rows_of, sources_of_row, writes_register, Execution, Row, Step, All-Each, Each-weaker, EachAfter-EveryAfter, EveryAfter-both}
+use Rattle.rv_hardware.proofs.Marks.Cited.{IsBefore, writes_mark, IsKnownMark, OperandsKnown, History, history_is_sound, mark_of_row, start_of_execution, broadcast_of_execution, Older, rows_start_after, rows_are_older, two_after, writer_serialises, SoundRow}
+use Rattle.rv_hardware.proofs.Laws.Operands.Known.{Found, StartsAfter}
 
 map_either : (b : Bool) (row : Row) (o : Option Row) → option_map mark_of_row (cond b (Some row) o) ≡ cond b (Some (mark_of_row row)) (option_map mark_of_row o)
 map_either b row o = grind arith
@@ -50,9 +50,9 @@ operands_by v bound before row (Some x) sound older h =
     All-Each (λ source. IfSome (producer_among before source) (IsKnownBefore row x)) (sources_of_row row) (sources_known v bound before row x sound older (sources_of_row row) h.operands)
 
 -- the field `operands` of `Laws`, over every history
-pub law_of_operands : (v : Values) {steps : List Step} {h : Hardware} → History v steps h → EachBehind IssuesWithOperands (rows_of steps)
+pub law_of_operands : (v : Values) {steps : List Step} {h : Hardware} → History v steps h → EachAfter IssuesWithOperands (rows_of steps)
 law_of_operands v {steps} {h} history =
-    EachBehind-EveryBehind IssuesWithOperands (rows_of steps)
-    (EveryBehind-both (SoundRow v h.cycle) (λ before row. StartsBehind (map mark_of_row before) (mark_of_row row) × Each (Older v h.cycle row) before) IssuesWithOperands
+    EachAfter-EveryAfter IssuesWithOperands (rows_of steps)
+    (EveryAfter-both (SoundRow v h.cycle) (λ before row. StartsAfter (map mark_of_row before) (mark_of_row row) × Each (Older v h.cycle row) before) IssuesWithOperands
     (λ before row sound both. operands_by v h.cycle before row row.execution sound both.1 both.0) [] (rows_of steps) (history_is_sound v history).rows
-    (two_behind (λ before row. StartsBehind (map mark_of_row before) (mark_of_row row)) (λ before row. Each (Older v h.cycle row) before) (λ before row. StartsBehind (map mark_of_row before) (mark_of_row row) × Each (Older v h.cycle row) before) (λ b x p q. (p, q)) [] (rows_of steps) (rows_start_behind v history) (rows_are_older v history)))
+    (two_after (λ before row. StartsAfter (map mark_of_row before) (mark_of_row row)) (λ before row. Each (Older v h.cycle row) before) (λ before row. StartsAfter (map mark_of_row before) (mark_of_row row) × Each (Older v h.cycle row) before) (λ b x p q. (p, q)) [] (rows_of steps) (rows_start_after v history) (rows_are_older v history)))

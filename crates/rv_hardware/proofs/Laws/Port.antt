@@ -1,8 +1,8 @@
 -- Of two loads that use the cache's port one is over when the other begins.
 pub mod Loads
 pub mod Phases
-use Rattle.rv_hardware.proofs.Words.{◌≡◌, ℕ, ◌+◌, ◌<◌, ◌≤◌, Bool, true, false, cond, not, ◌⊎◌, List, [], ◌∷◌, ◌++◌, map, IfSome, nat_le, ◌==◌, Some, None, Option, AllPairs, sym, refl, ap, ◌∙◌, subst, inl, inr, true≢false, append_assoc, arith, le-leb, and_from, cases_lt, Instr, Values, Each, Entry, Stage, Finished, Running, Waiting, Fetched, Hardware, AreApartAtPort, EachBehind, instruction_of_row, is_load_row, passes, rows_of, uses_port, Execution, Row, Step, and_first, and_second, Each-left, Each-place, Each-weaker, Each-all, Each-both, Each-map, EveryPair, EveryBehind, AllPairs-EveryPair, EveryPair-append, EveryPair-map, Beginning-EveryBehind, EveryPair-EveryBehind, EveryBehind-EveryPair, Each-images}
-use Rattle.rv_hardware.proofs.Marks.Cited.{in_cycle, behind_law, History, began, went_on, dispatching, history_is_legal, history_is_sound, history_passes, Mark, Start, mark_of_row, mark_of_entry, mark_of_fetched, marks_in, as_of, as_of-cons, at_end, start_until, start_of_execution, start_of_stage, rows_obey, SoundRow, SoundEntry, SoundStage}
+use Rattle.rv_hardware.proofs.Words.{◌≡◌, ℕ, ◌+◌, ◌<◌, ◌≤◌, Bool, true, false, cond, not, ◌⊎◌, List, [], ◌∷◌, ◌++◌, map, IfSome, nat_le, ◌==◌, Some, None, Option, AllPairs, sym, refl, ap, ◌∙◌, subst, inl, inr, true≢false, append_assoc, arith, le-leb, and_from, cases_lt, Instr, Values, Each, Entry, Stage, Finished, Running, Waiting, Fetched, Hardware, AreApartAtPort, EachAfter, instruction_of_row, is_load_row, passes, rows_of, uses_port, Execution, Row, Step, and_first, and_second, Each-left, Each-place, Each-weaker, Each-all, Each-both, Each-map, EveryPair, EveryAfter, AllPairs-EveryPair, EveryPair-append, EveryPair-map, Beginning-EveryAfter, EveryPair-EveryAfter, EveryAfter-EveryPair, Each-images}
+use Rattle.rv_hardware.proofs.Marks.Cited.{in_cycle, after_law, History, began, went_on, dispatching, history_is_legal, history_is_sound, history_passes, Mark, Start, mark_of_row, mark_of_entry, mark_of_fetched, marks_in, as_of, as_of-cons, at_end, start_until, start_of_execution, start_of_stage, rows_obey, SoundRow, SoundEntry, SoundStage}
 use Rattle.rv_hardware.proofs.Laws.Port.Loads.{uses_cache, WhereUsed, OverBy, OneAtATime}
 use Rattle.rv_hardware.proofs.Laws.Port.Phases.{PortOk, Tied, new_pair, port_kept}
 
@@ -66,20 +66,20 @@ words_last v now ms fs h =
     among [] = tt
     among (g ∷ gs) = (Each-images (OneAtATime v now (mark_of_fetched g)) mark_of_fetched (λ f. new_pair v now (mark_of_fetched g) (mark_of_fetched f) refl) gs, among gs)
 
-abbrev PortBehind : Values → ℕ → List Mark → Mark → Type 0
-PortBehind v c before m = Each (λ a. OneAtATime v c a m) before
+abbrev PortAfter : Values → ℕ → List Mark → Mark → Type 0
+PortAfter v c before m = Each (λ a. OneAtATime v c a m) before
 
 port_marks : (v : Values) {steps : List Step} {h : Hardware} → History v steps h → (c : ℕ) → c < h.cycle →
-    EveryBehind (PortBehind v c) [] (as_of c (map mark_of_row (rows_of steps)))
+    EveryAfter (PortAfter v c) [] (as_of c (map mark_of_row (rows_of steps)))
 port_marks v history =
-    rows_obey v (λ c ms. EveryBehind (PortBehind v c) [] ms) (λ c xs ys b h. Beginning-EveryBehind (PortBehind v c) xs ys b h)
+    rows_obey v (λ c ms. EveryAfter (PortAfter v c) [] ms) (λ c xs ys b h. Beginning-EveryAfter (PortAfter v c) xs ys b h)
     (λ earlier old new lines report before after passed.
     let all : List Step = earlier ++ report.steps in
     let now : ℕ = old.cycle in
     let d : Hardware = (dispatching lines old).hardware in
     let ok = in_cycle (port_kept v (history_is_legal v before) old.cycle) passed (port_of_history v before) in
     let es = EveryPair-map (OneAtATime v now) mark_of_entry d.rob.entries ok.pairs in
-    rw (passed.new_marks) (EveryBehind-EveryPair (OneAtATime v now) [] (marks_in all d ++ map mark_of_fetched passed.fetches.added) tt
+    rw (passed.new_marks) (EveryAfter-EveryPair (OneAtATime v now) [] (marks_in all d ++ map mark_of_fetched passed.fetches.added) tt
     (words_last v now (marks_in all d) passed.fetches.added (rows_first v now (rows_of all) (map mark_of_entry d.rob.entries ++ map mark_of_fetched d.front.entries) passed.dispatches.basics.rows (words_last v now (map mark_of_entry d.rob.entries) d.front.entries es)))))
     history
 
@@ -156,17 +156,17 @@ rows_apart v {steps} {h} history before after b at =
     (λ a sound_a pair. by_executions v h.cycle a b sound_a sound_b pair a.execution b.execution refl refl) before
     (Each-left (SoundRow v h.cycle) before (b ∷ after) all)
     (every_swap (λ c. (c < h.cycle) × (b.fetched ≤ c)) (λ c a. a.fetched ≤ c → OneAtATime v c (at_end c (mark_of_row a)) (at_end c (mark_of_row b))) before
-    (λ c q. of_rows (λ m. OneAtATime v c m (at_end c (mark_of_row b))) c before (behind_law (PortBehind v c) c (rows_of steps) before after b (port_marks v history c q.0) at q.1)))
+    (λ c q. of_rows (λ m. OneAtATime v c m (at_end c (mark_of_row b))) c before (after_law (PortAfter v c) c (rows_of steps) before after b (port_marks v history c q.0) at q.1)))
 
 -- from places to the recursion
-each_behind : {X : Type 0} (P : List X → X → Type 0) (before xs all : List X) → all ≡ before ++ xs → EachBehind P all →
-    EveryBehind P before xs
-each_behind P before [] all at h = tt
-each_behind P before (x ∷ xs) all at h = (h before xs x at, each_behind P (before ++ x ∷ []) xs all (at ∙ sym (append_assoc before (x ∷ []) xs)) h)
+each_after : {X : Type 0} (P : List X → X → Type 0) (before xs all : List X) → all ≡ before ++ xs → EachAfter P all →
+    EveryAfter P before xs
+each_after P before [] all at h = tt
+each_after P before (x ∷ xs) all at h = (h before xs x at, each_after P (before ++ x ∷ []) xs all (at ∙ sym (append_assoc before (x ∷ []) xs)) h)
 
 -- the field `port` of `Laws`, over every history
 pub law_of_port : (v : Values) {steps : List Step} {h : Hardware} → History v steps h →
     AllPairs (AreApartAtPort v.forward) (rows_of steps)
 law_of_port v {steps} history =
     AllPairs-EveryPair (PortApart v) (rows_of steps)
-    (EveryPair-EveryBehind (PortApart v) [] (rows_of steps) (each_behind (λ before b. Each (λ a. PortApart v a b) before) [] (rows_of steps) (rows_of steps) refl (rows_apart v history)))
+    (EveryPair-EveryAfter (PortApart v) [] (rows_of steps) (each_after (λ before b. Each (λ a. PortApart v a b) before) [] (rows_of steps) (rows_of steps) refl (rows_apart v history)))

@@ -8,7 +8,7 @@ pub use Rattle.rv_hardware.proofs.Always.Executions.{EndsBy, Ending, AreEnding}
 pub use Rattle.rv_hardware.proofs.Always.Units.{HoldsUntil, AreHeld}
 pub use Rattle.rv_hardware.proofs.Always.Stores.{instructions_of, store_count}
 pub use Rattle.rv_hardware.proofs.Always.Serial.{AreSerialLast, alone, older_plain, cut_serial}
-pub use Rattle.rv_hardware.proofs.Always.Halted.{words_of, HaltsBehind, runs-empty, IsHalted, halted-kept}
+pub use Rattle.rv_hardware.proofs.Always.Halted.{words_of, HaltsAfter, runs-empty, IsHalted, halted-kept}
 pub use Rattle.rv_hardware.proofs.Always.Sound.{IsBounded, sound-cycle, sound}
 pub use Rattle.rv_hardware.proofs.Marks.List.{marks, Start, Mark, start_of_execution, broadcast_of_execution, mark_of_row, start_of_issue, start_of_stage, broadcast_of_stage, mark_of_entry, mark_of_fetched, marks_in, until, start_until, at_end, was_fetched, as_of, Extends, marks_append, rows_append, as_of-cons, until_by, until_now, start_until_now, marks_at_entry}
 pub use Rattle.rv_hardware.proofs.Marks.Advance.{IsBefore, writes_mark, IsKnownMark, OperandsKnown, IsSentIfReady, is_in_flight_mark, is_stationed_mark, Starts, IsSent, Advances, mark_retires, mark_starts, mark_is_sent, mark_enters, Kept, advances_agree}
@@ -20,7 +20,7 @@ pub use Rattle.rv_hardware.proofs.Marks.Phases.{Goes, Commits, commit_turn_keeps
 pub use Rattle.rv_hardware.proofs.Marks.History.{committing, drained, issued_all, sent_all, dispatching, Passed, begin, cycle_passes, History, began, went_on, history_is_legal, Anything, anything_is_kept, history_is_sound, history_passes, is_buffered_mark, KeptMarks, buffered_words, new_words, marks_of_history, reachable_has_history}
 pub use Rattle.rv_hardware.proofs.Marks.Past.{as_of_now, marks_settled, rows_obey}
 pub use Rattle.rv_hardware.proofs.Marks.Order.{IsDispatchedFirst, history_is_orderly}
-pub use Rattle.rv_hardware.proofs.Marks.Counted.{count-as_of, Shows, fails_later, counted_law, behind_law, behind_count}
+pub use Rattle.rv_hardware.proofs.Marks.Counted.{count-as_of, Shows, fails_later, counted_law, after_law, after_count}
 pub use Rattle.rv_hardware.proofs.Marks.Widths.{is_at, count_marks, count_in_flight}
-pub use Rattle.rv_hardware.proofs.Marks.Pairs.{row_pairs, rows_start_behind, writer_serialises, Older, two_behind, rows_are_older}
+pub use Rattle.rv_hardware.proofs.Marks.Pairs.{row_pairs, rows_start_after, writer_serialises, Older, two_after, rows_are_older}
 pub use Rattle.rv_hardware.proofs.Marks.Keeps.{InCommit, commit_turns_keep, InCycle, starts_in_cycle, IsKeptInCycle, in_cycle}

@@ -1,5 +1,5 @@
 -- Where marks are counted at the end of each cycle, no more rows pass the test of a cycle than marks did.
-use Rattle.rv_hardware.proofs.Words.{◌≡◌, ℕ, suc, ◌<◌, ◌≤◌, Bool, true, false, cond, ◌&&◌, List, [], ◌∷◌, ◌++◌, map, count_by, refl, ap, ◌∙◌, inl, inr, arith, le-leb, cases_lt, map-append, Lines, Values, Each, Hardware, Report, rows_of, Row, Step, Each-weaker, EveryBehind, count, count-count_by, count-none, count-map, count-le, Beginning-count, EveryBehind-at}
+use Rattle.rv_hardware.proofs.Words.{◌≡◌, ℕ, suc, ◌<◌, ◌≤◌, Bool, true, false, cond, ◌&&◌, List, [], ◌∷◌, ◌++◌, map, count_by, refl, ap, ◌∙◌, inl, inr, arith, le-leb, cases_lt, map-append, Lines, Values, Each, Hardware, Report, rows_of, Row, Step, Each-weaker, EveryAfter, count, count-count_by, count-none, count-map, count-le, Beginning-count, EveryAfter-at}
 use Rattle.rv_hardware.proofs.Marks.History.{Passed, History, history_is_sound}
 use Rattle.rv_hardware.proofs.Marks.List.{Mark, mark_of_row, marks_in, at_end, as_of, as_of-append, as_of-cons, was_fetched, Extends}
 use Rattle.rv_hardware.proofs.Marks.Past.{rows_obey}
@@ -56,14 +56,14 @@ pub as_of_place : (c : ℕ) (before after : List Mark) (m : Mark) → was_fetche
 as_of_place c before after m is = as_of-append c before (m ∷ after) ∙ ap (λ l. as_of c before ++ l) (as_of-cons c m after ∙ ap (λ b. cond b (at_end c m ∷ as_of c after) (as_of c after)) is)
 
 -- what marks obeyed at the end of a cycle, of one row after others
-pub behind_law : (P : List Mark → Mark → Type 0) (c : ℕ) (rows before after : List Row) (row : Row) → EveryBehind P [] (as_of c (map mark_of_row rows)) → rows ≡ before ++ row ∷ after → row.fetched ≤ c →
+pub after_law : (P : List Mark → Mark → Type 0) (c : ℕ) (rows before after : List Row) (row : Row) → EveryAfter P [] (as_of c (map mark_of_row rows)) → rows ≡ before ++ row ∷ after → row.fetched ≤ c →
     P (as_of c (map mark_of_row before)) (at_end c (mark_of_row row))
-behind_law P c rows before after row h given le = grind (arith, EveryBehind-at, map-append, as_of_place, le-leb)
+after_law P c rows before after row h given le = grind (arith, EveryAfter-at, map-append, as_of_place, le-leb)
 
 -- where the test of marks shows that of rows, no more marks pass it than rows
-pub behind_count : (p : Mark → Bool) (q : Row → Bool) (c : ℕ) (before : List Row) → Each (λ a. (was_fetched c (mark_of_row a) && p (at_end c (mark_of_row a))) ≡ true → q a ≡ true) before →
+pub after_count : (p : Mark → Bool) (q : Row → Bool) (c : ℕ) (before : List Row) → Each (λ a. (was_fetched c (mark_of_row a) && p (at_end c (mark_of_row a))) ≡ true → q a ≡ true) before →
     count p (as_of c (map mark_of_row before)) ≤ count_by q before
-behind_count p q c before shows =
+after_count p q c before shows =
     let counts = count-as_of p c (map mark_of_row before) ∙ count-map (λ m. was_fetched c m && p (at_end c m)) mark_of_row before in
     let fewer = count-le (λ row. was_fetched c (mark_of_row row) && p (at_end c (mark_of_row row))) q before shows in
     let same = count-count_by q before in

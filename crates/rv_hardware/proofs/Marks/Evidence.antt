@@ -1,5 +1,5 @@
 -- When an instruction starts, is broadcast or is dispatched, the marks of older ones show its operands, its turn and its room.
-use Rattle.rv_hardware.proofs.Words.{◌≡◌, ℕ, ◌+◌, ◌<◌, ◌≤◌, Bool, true, false, cond, not, ◌&&◌, List, [], ◌∷◌, ◌++◌, map, length, is_some, is_none, IfSome, nat_le, Some, None, filter, Option, sym, refl, ◌∙◌, true≢false, arith, leb-false, length-filter, list_all, is_of_kind, is_store, kind_of_word, Message, Instr, Issue, Kind, Values, Each, is_known as is_known_store, Store as QueuedStore, Entry, Stage, has_result, result_at, is_stationed, broadcast_of, is_known_from, is_waiting, store_of_broadcast, stores_of, writes, has_operands, last_from, last_that, Execution, Row, and_first, and_second, Each-append, Each-weaker, Each-map, EveryBehind, count, count-count_by, count-append, count-none, count-map, count-le, count-length, Each-images, list_all-append}
+use Rattle.rv_hardware.proofs.Words.{◌≡◌, ℕ, ◌+◌, ◌<◌, ◌≤◌, Bool, true, false, cond, not, ◌&&◌, List, [], ◌∷◌, ◌++◌, map, length, is_some, is_none, IfSome, nat_le, Some, None, filter, Option, sym, refl, ◌∙◌, true≢false, arith, leb-false, length-filter, list_all, is_of_kind, is_store, kind_of_word, Message, Instr, Issue, Kind, Values, Each, is_known as is_known_store, Store as QueuedStore, Entry, Stage, has_result, result_at, is_stationed, broadcast_of, is_known_from, is_waiting, store_of_broadcast, stores_of, writes, has_operands, last_from, last_that, Execution, Row, and_first, and_second, Each-append, Each-weaker, Each-map, EveryAfter, count, count-count_by, count-append, count-none, count-map, count-le, count-length, Each-images, list_all-append}
 use Rattle.rv_hardware.specs.InFlight.{is_known}
 use Rattle.rv_hardware.proofs.Marks.Advance.{IsBefore, writes_mark, IsKnownMark, OperandsKnown, IsKnownStore, IsSentIfReady, is_in_flight_mark, is_stationed_mark}
 use Rattle.rv_hardware.proofs.Marks.List.{Mark, mark_of_row, mark_of_entry, broadcast_of_stage, start_of_stage, broadcast_of_execution, start_of_execution}
@@ -111,7 +111,7 @@ stage_sent : (v : Values) (i : Option Instr) (D a now : ℕ) (st : Stage) → So
 stage_sent v i D a now st h given = grind (arith, stage_sent_by)
 
 -- of entries of which none has a result for the bus, each that was ready was broadcast
-pub entries_sent : (v : Values) (d a now : ℕ) (before es : List Entry) → Each (SoundEntry v d a (now + 1)) es → EveryBehind (λ older e. has_result now older e ≡ false) before es → Each (IsSentIfReady now) (map mark_of_entry es)
+pub entries_sent : (v : Values) (d a now : ℕ) (before es : List Entry) → Each (SoundEntry v d a (now + 1)) es → EveryAfter (λ older e. has_result now older e ≡ false) before es → Each (IsSentIfReady now) (map mark_of_entry es)
 entries_sent v d a now before [] sound none = tt
 entries_sent v d a now before (e ∷ es) sound none = (stage_sent v e.instruction e.dispatched a now e.stage sound.0.stage none.0, entries_sent v d a now (before ++ e ∷ []) es sound.1 none.1)
 
@@ -121,7 +121,7 @@ rows_sent v now rows sound = Each-map (IsSentIfReady now) mark_of_row rows (Each
 
 -- where nothing older has a result for the bus, each older mark that was ready was broadcast
 pub none_waits : (v : Values) (d a now : ℕ) (rows : List Row) (older : List Entry) → Each (SoundRow v (now + 1)) rows → Each (SoundEntry v d a (now + 1)) older →
-    EveryBehind (λ before e. has_result now before e ≡ false) [] older → Each (IsSentIfReady now) (map mark_of_row rows ++ map mark_of_entry older)
+    EveryAfter (λ before e. has_result now before e ≡ false) [] older → Each (IsSentIfReady now) (map mark_of_row rows ++ map mark_of_entry older)
 none_waits v d a now rows older sound_rows sound none =
     Each-append (IsSentIfReady now) (map mark_of_row rows) (map mark_of_entry older)
     (Each-map (IsSentIfReady now) mark_of_row rows (Each-weaker (SoundRow v (now + 1)) (λ row. IsSentIfReady now (mark_of_row row)) (row_sent v now) rows sound_rows))

@@ -1,5 +1,5 @@
 -- Every phase keeps what is basic, turn by turn, and its marks go on.
-use Rattle.rv_hardware.proofs.Words.{is_known as is_known_store, ◌≡◌, ℕ, ◌+◌, ◌<◌, ◌≤◌, Bool, true, false, not, ◌&&◌, ◌||◌, List, [], ◌∷◌, ◌++◌, map, length, Some, None, filter, Option, nat_cmp, sym, refl, ap, ◌∙◌, subst, append_assoc, append-nil, arith, leb-false, list_all, IsLegal, is_load, is_of_kind, is_serialising, kind_of_word, sources_of_word, at_kind, Message, Issue, Kind, Values, due, interrupt_cause, Each, finished, predicting, started, Entry, Fetched, broadcast, broadcast_turn, has_result, with_broadcast, with_recovery, Committing, commit, commit_turn, commit_unless, with_fault, Dispatching, dispatch, dispatch_turn, entry_of_fetched, has_full_stations, is_stationed, with_dispatched, drain, Hardware, cost_of, has_port, is_ready, issue, issue_kind, issue_turn, issued, may_load, path, Turn, written_of, stores_behind, rows_of, Step, Interrupt, Retired, Trap, Each-append, Each-left, Each-set, Each-place, Each-weaker, EveryBehind, Leads, Leaves, kept_by_turns}
+use Rattle.rv_hardware.proofs.Words.{is_known as is_known_store, ◌≡◌, ℕ, ◌+◌, ◌<◌, ◌≤◌, Bool, true, false, not, ◌&&◌, ◌||◌, List, [], ◌∷◌, ◌++◌, map, length, Some, None, filter, Option, nat_cmp, sym, refl, ap, ◌∙◌, subst, append_assoc, append-nil, arith, leb-false, list_all, IsLegal, is_load, is_of_kind, is_serialising, kind_of_word, sources_of_word, at_kind, Message, Issue, Kind, Values, due, interrupt_cause, Each, finished, predicting, started, Entry, Fetched, broadcast, broadcast_turn, has_result, with_broadcast, with_recovery, Committing, commit, commit_turn, commit_unless, with_fault, Dispatching, dispatch, dispatch_turn, entry_of_fetched, has_full_stations, is_stationed, with_dispatched, drain, Hardware, cost_of, has_port, is_ready, issue, issue_kind, issue_turn, issued, may_load, path, Turn, written_of, stores_after, rows_of, Step, Interrupt, Retired, Trap, Each-append, Each-left, Each-set, Each-place, Each-weaker, EveryAfter, Leads, Leaves, kept_by_turns}
 use Rattle.std.specs.FinSet as set
 use Rattle.rv_isa.specs.declared.operations.Kind.TheVariants as kind
 use Rattle.rv_hardware.proofs.Turns.Cited.{commit_outcome-keeps, unless-keeps, drain-keeps, drain-same, sends-makes, mends-makes, ready-parts, starts-keep, BroadcastTurn, no_result, sends, mends, broadcast_turn_is, Sends, sent_entries, mended_entries, CommitTurn, fence_writes, fence_retires, executes, serial_faults, traps, retires, retires_last, executed, written_back, retired_and_flushed, retired_with, commit_turn_is, head_retired_entries, DispatchTurn, dispatches, dispatch_turn_is, IssueTurn, starts, issue_turn_is, access_keeps, message_at, started_entries}
@@ -169,8 +169,8 @@ load_waits_by : (b c d : Bool) → b ≡ true → (not b || (c && d)) ≡ true �
 load_waits_by b c d is h = grind arith
 
 load_waits : (h : Hardware) (older : List Entry) (e : Entry) → is_load e.instruction ≡ true → may_load h older e ≡ true →
-    list_all is_known_store (stores_behind h older) ≡ true
-load_waits h older e load may = load_waits_by (is_load e.instruction) (list_all is_known_store (stores_behind h older)) (has_port h (path h older e)) load may
+    list_all is_known_store (stores_after h older) ≡ true
+load_waits h older e load may = load_waits_by (is_load e.instruction) (list_all is_known_store (stores_after h older)) (has_port h (path h older e)) load may
 
 -- issue: broadcasts lie in earlier cycles
 
@@ -274,7 +274,7 @@ module _ (v : Values) (now : ℕ) (R : List Mark → Type 0) (kept : Kept v now 
         ready = omega (arith, sent.over, p.basics.cycle);
         not_yet = ap broadcast_of_stage sent.runs;
         not_retired = refl;
-        oldest = none_waits v now (now + 1) now (rows_of steps) older p.basics.rows olders (subst (λ n. EveryBehind (λ before z. has_result n before z ≡ false) [] older) p.basics.cycle sent.oldest_one);
+        oldest = none_waits v now (now + 1) now (rows_of steps) older p.basics.rows olders (subst (λ n. EveryAfter (λ before z. has_result n before z ≡ false) [] older) p.basics.cycle sent.oldest_one);
       }
 
   -- the oldest result is broadcast

@@ -1,5 +1,5 @@
 -- Each instruction in flight has stamps in order, and executes for its cost.
-use Rattle.rv_hardware.proofs.Words.{◌≡◌, ℕ, ◌+◌, ◌<◌, ◌≤◌, Bool, true, false, cond, ◌⊎◌, List, ℤ, is_some, IfSome, Some, None, Option, option_and_then, unwrap_or, ap, arith, is_same-true, IsLegal, is_load, is_of_kind, is_serialising, kind_of_word, bytes_of, width_of, at_kind, modulo_word, sum, Instr, Load, Kind, LoadForm, CacheValues, Values, instruction_of, is_aligned, is_in_ram, State, register_of, cost_of_access, eviction_cost, CacheLine, Entry, Stage, Finished, Running, Waiting, Fetched, Hardware, FromCache, FromStores, Path, cost_of, path, path_of, IsCost, IsLoadCost, result_of_word, layout_of, seen_behind, refl, inr}
+use Rattle.rv_hardware.proofs.Words.{◌≡◌, ℕ, ◌+◌, ◌<◌, ◌≤◌, Bool, true, false, cond, ◌⊎◌, List, ℤ, is_some, IfSome, Some, None, Option, option_and_then, unwrap_or, ap, arith, is_same-true, IsLegal, is_load, is_of_kind, is_serialising, kind_of_word, bytes_of, width_of, at_kind, modulo_word, sum, Instr, Load, Kind, LoadForm, CacheValues, Values, instruction_of, is_aligned, is_in_ram, State, register_of, cost_of_access, eviction_cost, CacheLine, Entry, Stage, Finished, Running, Waiting, Fetched, Hardware, FromCache, FromStores, Path, cost_of, path, path_of, IsCost, IsLoadCost, result_of_word, layout_of, state_after, refl, inr}
 use Rattle.rv_hardware.proofs.Turns.Issue.{message_at}
 use Rattle.rv_hardware.proofs.Marks.List.{Start, start_of_issue}
 use Rattle.rv_hardware.proofs.Always.Sizes.{HasShape}
@@ -102,7 +102,7 @@ module _ (v : Values) (h : Hardware) (shape : HasShape v h) (older : List Entry)
 -- an instruction that starts executes for its cost, unless it gives a fault
 pub issued_cost : (v : Values) (h : Hardware) → HasShape v h → (older : List Entry) (e : Entry) (k : Kind) → is_of_kind k (kind_of_word e.instruction) ≡ true →
     SoundCost v e.instruction (start_of_issue (record { cycle = h.cycle; cost = cost_of h k (path h older e) }) (message_at h older e))
-issued_cost v h shape older e k is = costs_of v h shape older (seen_behind h older e.pc) e.word k e.instruction is
+issued_cost v h shape older e k is = costs_of v h shape older (state_after h older e.pc) e.word k e.instruction is
 
 -- every cost is at least one cycle
 

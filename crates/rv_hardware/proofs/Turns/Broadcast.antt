@@ -1,5 +1,5 @@
 -- A turn of the broadcast phase finds no result, or broadcasts the oldest, after which early recovery may squash what is younger.
-use Rattle.rv_hardware.proofs.Words.{◌≡◌, ℕ, ◌+◌, ◌≤◌, Bool, true, false, cond, not, ◌&&◌, List, [], ◌∷◌, ◌++◌, length, is_none, nat_le, Some, None, Option, sym, refl, subst, leb-true, Message, Issue, finished, predicting, Entry, Stage, Running, broadcast_oldest, broadcast_result, broadcast_turn, has_result, is_mispredicted, mends_early, result_at, with_broadcast, with_recovery, Hardware, oldest, Ends, GoesOn, Turn, EveryBehind, arith}
+use Rattle.rv_hardware.proofs.Words.{◌≡◌, ℕ, ◌+◌, ◌≤◌, Bool, true, false, cond, not, ◌&&◌, List, [], ◌∷◌, ◌++◌, length, is_none, nat_le, Some, None, Option, sym, refl, subst, leb-true, Message, Issue, finished, predicting, Entry, Stage, Running, broadcast_oldest, broadcast_result, broadcast_turn, has_result, is_mispredicted, mends_early, result_at, with_broadcast, with_recovery, Hardware, oldest, Ends, GoesOn, Turn, EveryAfter, arith}
 use Rattle.rv_hardware.proofs.Oldest.{Finds, oldest_finds, with_entry-at, entries_below-at}
 
 -- the result of an execution that is over
@@ -28,11 +28,11 @@ pub record Sends (h : Hardware) (older younger : List Entry) (e : Entry) (issue 
   pub place : h.rob.entries ≡ older ++ e ∷ younger
   pub runs : e.stage ≡ Running issue message
   pub over : issue.cycle + issue.cost ≤ h.cycle
-  pub oldest_one : EveryBehind (λ before x. has_result h.cycle before x ≡ false) [] older
+  pub oldest_one : EveryAfter (λ before x. has_result h.cycle before x ≡ false) [] older
 
 -- no result is ready, or the oldest is broadcast, and early recovery squashes what is younger
 pub data BroadcastTurn (h : Hardware) : Turn Hardware → Type 0 where
-  no_result : EveryBehind (λ before x. has_result h.cycle before x ≡ false) [] h.rob.entries → BroadcastTurn h (Ends h)
+  no_result : EveryAfter (λ before x. has_result h.cycle before x ≡ false) [] h.rob.entries → BroadcastTurn h (Ends h)
   sends : (older younger : List Entry) (e : Entry) (issue : Issue) (message : Message) → Sends h older younger e issue message →
       (mends_early h.values.recovery && is_mispredicted e message) ≡ false →
       BroadcastTurn h (GoesOn (with_broadcast (h.rob.retired + length older) message h))

@@ -33,12 +33,12 @@ retired_and_flushed e message c = record c {
   steps = c.steps ++ row_of e (written_of e message) c.hardware.cycle ∷ [];
 }
 
-entries_behind : (r : ReorderBuffer) (e : Entry) (es fs : List Entry) → fs ≡ e ∷ es → (after_head r fs).entries ≡ es
-entries_behind r e es fs given = grind arith
+entries_after : (r : ReorderBuffer) (e : Entry) (es fs : List Entry) → fs ≡ e ∷ es → (after_head r fs).entries ≡ es
+entries_after r e es fs given = grind arith
 
 -- after a retirement the entries are those after the head
 pub head_retired_entries : (r : ReorderBuffer) (e : Entry) (es : List Entry) → r.entries ≡ e ∷ es → (head_retired r).entries ≡ es
-head_retired_entries r e es at = entries_behind r e es r.entries at
+head_retired_entries r e es at = entries_after r e es r.entries at
 
 module _ (is_stale : set.FinSet nat_cmp → ℕ → Bool) where
   -- nothing is in flight; the head is stale, unfinished or a FENCE.I that waits; it retires, executes or traps

@@ -1,5 +1,5 @@
 -- A turn of the dispatch phase finds no word, leaves the oldest waiting for room, or dispatches it.
-use Rattle.rv_hardware.proofs.Words.{◌≡◌, ◌+◌, Bool, true, false, cond, ◌&&◌, List, [], ◌∷◌, length, nat_le, Some, None, refl, list_any, is_serialising, is_store, kind_of_word, Entry, Fetched, Dispatching, dispatch_turn, dispatch_turn_of, dispatch_unless, has_full_stations, with_dispatched, Hardware, Ends, GoesOn, Turn, stores_behind, Stall}
+use Rattle.rv_hardware.proofs.Words.{◌≡◌, ◌+◌, Bool, true, false, cond, ◌&&◌, List, [], ◌∷◌, length, nat_le, Some, None, refl, list_any, is_serialising, is_store, kind_of_word, Entry, Fetched, Dispatching, dispatch_turn, dispatch_turn_of, dispatch_unless, has_full_stations, with_dispatched, Hardware, Ends, GoesOn, Turn, stores_after, Stall}
 use Rattle.rv_hardware.specs.declared.report.Stall.TheVariants as stall
 
 -- one of some instructions in flight serialises
@@ -15,7 +15,7 @@ has_full_buffer h = nat_le h.rob.capacity (length h.rob.entries)
 
 -- a store has to wait, since the store queue is full
 abbrev pub has_full_queue : Hardware → Fetched → Bool
-has_full_queue h f = is_store f.instruction && nat_le h.values.store_queue (length (stores_behind h h.rob.entries))
+has_full_queue h f = is_store f.instruction && nat_le h.values.store_queue (length (stores_after h h.rob.entries))
 
 -- none of them holds a fetched word back
 pub record WaitsForNothing (h : Hardware) (f : Fetched) : Type 0 where

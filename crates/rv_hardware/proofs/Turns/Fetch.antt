@@ -1,5 +1,5 @@
 -- A fetch adds new words at the end of the fetch buffer, within its width and its room, or leaves it as it was.
-use Rattle.rv_hardware.proofs.Words.{◌≡◌, ℕ, suc, ◌-◌, ◌≤◌, Bool, true, false, ◌⊎◌, List, [], ◌∷◌, ◌++◌, length, MatchBool, Option, MatchOption, option_and_then, refl, append-nil, arith, instruction_of, Memory, Each, Answers, EndsFor, FetchBuffer, Fetches, FetchesInto, is_halted, stop_behind, FetchStop, Halted, Fetched}
+use Rattle.rv_hardware.proofs.Words.{◌≡◌, ℕ, suc, ◌-◌, ◌≤◌, Bool, true, false, ◌⊎◌, List, [], ◌∷◌, ◌++◌, length, MatchBool, Option, MatchOption, option_and_then, refl, append-nil, arith, instruction_of, Memory, Each, Answers, EndsFor, FetchBuffer, Fetches, FetchesInto, is_halted, stop_after, FetchStop, Halted, Fetched}
 
 -- what a fetch adds where the front was not halted
 pub record Adds (answers : Answers) (ram : Memory) (cycle : ℕ) (old new : FetchBuffer) (stop : FetchStop) : Type 0 where
@@ -49,7 +49,7 @@ fetches_add : (answers : Answers) (ram : Memory) (cycle width room pc : ℕ) (fs
     Fetches answers ram cycle width room pc fs next stop → Added cycle width room fs
 fetches_add answers ram cycle width room pc [] next stop h = ends_with_none cycle width room stop h.0
 fetches_add answers ram cycle (suc width) (suc room) pc (f ∷ fs) next stop h =
-    by_stop cycle width room f fs stop next (stop_behind f) (Fetches answers ram cycle width room f.predicted fs next stop) (h.0.cycle_is, h.0.instruction_is)
+    by_stop cycle width room f fs stop next (stop_after f) (Fetches answers ram cycle width room f.predicted fs next stop) (h.0.cycle_is, h.0.instruction_is)
     (fetches_add answers ram cycle width room f.predicted fs next stop) h.1
 fetches_add answers ram cycle width room pc (f ∷ fs) next stop h = absurd h
 

@@ -1,13 +1,13 @@
 -- A turn of the issue phase finds no free unit, nothing that is ready, or the oldest that is, which starts.
-use Rattle.rv_hardware.proofs.Words.{◌≡◌, Bool, true, false, cond, List, [], ◌∷◌, ◌++◌, Some, None, Option, refl, at_kind, Message, Kind, is_free, started, Entry, Hardware, Path, cost_of, is_ready, issue_oldest, issue_turn, issued, oldest, path, with_access, Ends, GoesOn, Turn, result_of_word, layout_of, seen_behind, EveryBehind, arith}
+use Rattle.rv_hardware.proofs.Words.{◌≡◌, Bool, true, false, cond, List, [], ◌∷◌, ◌++◌, Some, None, Option, refl, at_kind, Message, Kind, is_free, started, Entry, Hardware, Path, cost_of, is_ready, issue_oldest, issue_turn, issued, oldest, path, with_access, Ends, GoesOn, Turn, result_of_word, layout_of, state_after, EveryAfter, arith}
 use Rattle.rv_hardware.proofs.Oldest.{Finds, oldest_finds, with_entry-at}
 
 -- no unit is free, no instruction is ready, or the oldest ready one starts
 pub data IssueTurn (kind : Kind) (h : Hardware) : Turn Hardware → Type 0 where
   no_unit : is_free h.cycle (at_kind kind h.units) ≡ false → IssueTurn kind h (Ends h)
-  none_ready : EveryBehind (λ before e. is_ready h kind before e ≡ false) [] h.rob.entries → IssueTurn kind h (Ends h)
+  none_ready : EveryAfter (λ before e. is_ready h kind before e ≡ false) [] h.rob.entries → IssueTurn kind h (Ends h)
   starts : (older younger : List Entry) (e : Entry) → h.rob.entries ≡ older ++ e ∷ younger → is_ready h kind older e ≡ true →
-      EveryBehind (λ before x. is_ready h kind before x ≡ false) [] older → is_free h.cycle (at_kind kind h.units) ≡ true →
+      EveryAfter (λ before x. is_ready h kind before x ≡ false) [] older → is_free h.cycle (at_kind kind h.units) ≡ true →
       IssueTurn kind h (GoesOn (issued kind h older e))
 
 found_turn : (kind : Kind) (h : Hardware) (found : Option (List Entry × Entry)) → Finds (is_ready h kind) h.rob.entries found →
@@ -41,7 +41,7 @@ access_keeps p h = grind arith
 
 -- what an instruction gives that starts
 abbrev pub message_at : Hardware → List Entry → Entry → Message
-message_at h older e = result_of_word (layout_of h.values) (seen_behind h older e.pc) h.lines e.word e.instruction
+message_at h older e = result_of_word (layout_of h.values) (state_after h older e.pc) h.lines e.word e.instruction
 
 -- the entry that starts is the one that changes
 pub started_entries : (kind : Kind) (h : Hardware) (older younger : List Entry) (e : Entry) →

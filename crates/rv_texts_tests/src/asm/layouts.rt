@@ -26,7 +26,7 @@ fn a_label_is_the_address_where_its_line_begins(rt: HostRuntime) -> Result<(), F
 }
 
 #[test]
-fn data_begin_at_the_next_multiple_of_16_behind_the_text(rt: HostRuntime) -> Result<(), Fail> {
+fn data_begin_at_the_next_multiple_of_16_after_the_text(rt: HostRuntime) -> Result<(), Fail> {
     const CASES: [(&str, &[u32]); 5] = [
         ("nop\n.data\n", &[0x00000013]),
         ("nop\n.data\n.zero 0", &[0x00000013]),

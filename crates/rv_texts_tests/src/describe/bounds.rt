@@ -77,7 +77,7 @@ fn the_least_and_the_greatest_number_of_each_key(rt: HostRuntime) -> Result<(), 
 }
 
 #[test]
-fn ram_begins_no_page_behind_the_last_that_it_may_begin(rt: HostRuntime) -> Result<(), Fail> {
+fn ram_begins_no_page_after_the_last_that_it_may_begin(rt: HostRuntime) -> Result<(), Fail> {
     let outside = Some(DescriptionError::OutOfRange { place: 1 });
     check_key(&rt, rt.alloc(), 1, 0xff00_1000, outside)
 }

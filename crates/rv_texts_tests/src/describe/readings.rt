@@ -141,7 +141,7 @@ fn names_that_a_key_knows(rt: HostRuntime) {
 }
 
 // What a text means whose end is after so many empty lines.
-fn values_behind(alloc: Global, lines: usize, end: &[u8]) -> Result<Option<Values>, Fail> {
+fn values_after(alloc: Global, lines: usize, end: &[u8]) -> Result<Option<Values>, Fail> {
     let mut text = vec![in alloc; b'\n'; lines]?;
     text.extend_from_slice(end)?;
     Ok(values(alloc, text.as_slice()))
@@ -149,7 +149,7 @@ fn values_behind(alloc: Global, lines: usize, end: &[u8]) -> Result<Option<Value
 
 #[test]
 fn a_text_of_ten_million_bytes(rt: HostRuntime) -> Result<(), Fail> {
-    let found = values_behind(rt.alloc(), 10_000_000, b"rob = 7")?;
+    let found = values_after(rt.alloc(), 10_000_000, b"rob = 7")?;
     let expected = Values {
         rob: 7,
         ..Values::standard()

@@ -1,5 +1,5 @@
 use Rattle.rv_drawing.specs.SvgBoxes.{cell_box}
-use Rattle.rv_text.proofs.Writing.{beginning-both, beginning-longer, handed_on, written_behind}
+use Rattle.rv_text.proofs.Writing.{beginning-both, beginning-longer, handed_on, written_after}
 use Rattle.rv_drawing.proofs.boxes.write_box.Goals as goal
 
 pub returns-in_err-write_box_begin : goal.returns-in_err-write_box_begin
@@ -15,4 +15,4 @@ returns-in_err-write_tip g c =
 pub returns : goal.returns
 unfolding cell_box
 returns g c =
-    written_behind _ _ _ _ _ _ c.in_ok-write_box_begin.ensures (written_behind _ _ _ _ _ _ c.in_ok-write_tip.ensures c.write_box_end.ensures)
+    written_after _ _ _ _ _ _ c.in_ok-write_box_begin.ensures (written_after _ _ _ _ _ _ c.in_ok-write_tip.ensures c.write_box_end.ensures)

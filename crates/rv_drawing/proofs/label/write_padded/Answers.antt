@@ -1,5 +1,5 @@
 use Rattle.rv_drawing.specs.Label.{padded}
-use Rattle.rv_text.proofs.Writing.{handed_on, beginning-longer, written_behind}
+use Rattle.rv_text.proofs.Writing.{handed_on, beginning-longer, written_after}
 use Rattle.rv_drawing.proofs.label.write_padded.Goals as goal
 
 pub returns-in_err-put : goal.returns-in_err-put
@@ -10,4 +10,4 @@ returns-in_err-put g c =
 pub returns : goal.returns
 unfolding padded
 returns g c =
-    written_behind _ _ _ _ _ _ c.in_ok-put.ensures c.write_blanks.ensures
+    written_after _ _ _ _ _ _ c.in_ok-put.ensures c.write_blanks.ensures

@@ -1,5 +1,5 @@
 use Rattle.rv_drawing.specs.SvgMarks.{interrupt_mark}
-use Rattle.rv_text.proofs.Writing.{handed_on, beginning-longer, written_behind}
+use Rattle.rv_text.proofs.Writing.{handed_on, beginning-longer, written_after}
 use Rattle.rv_drawing.proofs.marks.write_interrupt_mark.Goals as goal
 
 pub returns-in_err-write_line_down : goal.returns-in_err-write_line_down
@@ -10,4 +10,4 @@ returns-in_err-write_line_down g c =
 pub returns : goal.returns
 unfolding interrupt_mark
 returns g c =
-    written_behind _ _ _ _ _ _ c.in_ok-write_line_down.ensures c.put.ensures
+    written_after _ _ _ _ _ _ c.in_ok-write_line_down.ensures c.put.ensures

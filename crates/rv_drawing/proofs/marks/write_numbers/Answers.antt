@@ -1,5 +1,5 @@
 use Rattle.rv_drawing.specs.SvgMarks.{numbers}
-use Rattle.rv_text.proofs.Writing.{beginning-both, beginning-longer, handed_on, written_behind}
+use Rattle.rv_text.proofs.Writing.{beginning-both, beginning-longer, handed_on, written_after}
 use Rattle.rv_drawing.proofs.marks.write_numbers.Goals as goal
 
 pub returns-in_err-put : goal.returns-in_err-put
@@ -15,4 +15,4 @@ returns-in_err-write_columns g c =
 pub returns : goal.returns
 unfolding numbers
 returns g c =
-    written_behind _ _ _ _ _ _ c.in_ok-put.ensures (written_behind _ _ _ _ _ _ c.in_ok-write_columns.ensures c.put-2.ensures)
+    written_after _ _ _ _ _ _ c.in_ok-put.ensures (written_after _ _ _ _ _ _ c.in_ok-write_columns.ensures c.put-2.ensures)

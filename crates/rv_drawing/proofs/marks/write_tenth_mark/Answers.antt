@@ -1,7 +1,7 @@
 use Rattle.std.proofs.Common.{◌∙◌, ap, ◌++◌}
 use Rattle.std.specs.Prelude.{decimal, codes}
 use Rattle.rv_drawing.specs.SvgMarks.{tenth_mark}
-use Rattle.rv_text.proofs.Writing.{handed_on, beginning-longer, written_behind, written_same}
+use Rattle.rv_text.proofs.Writing.{handed_on, beginning-longer, written_after, written_same}
 use Rattle.rv_drawing.proofs.marks.write_tenth_mark.Goals as goal
 
 pub returns-in_err-write_line_down : goal.returns-in_err-write_line_down
@@ -13,5 +13,5 @@ pub returns : goal.returns
 unfolding tenth_mark
 returns g c =
     let cycle = c.digits-cycle.ensures ∙ ap decimal c.from.ensures in
-    written_behind _ _ _ _ _ _ c.in_ok-write_line_down.ensures
+    written_after _ _ _ _ _ _ c.in_ok-write_line_down.ensures
     (written_same _ _ _ _ _ (λ i. codes "<text x='3' y='16'>" ++ (cycle i ++ codes "</text></g>\n")) c.put_all.ensures)

@@ -1,5 +1,5 @@
 use Rattle.rv_drawing.specs.SvgPicture.{svg_row}
-use Rattle.rv_text.proofs.Writing.{beginning-both, beginning-longer, handed_on, written_behind}
+use Rattle.rv_text.proofs.Writing.{beginning-both, beginning-longer, handed_on, written_after}
 use Rattle.rv_drawing.proofs.svg.write_row.Goals as goal
 
 pub returns-in_err-write_row_begin : goal.returns-in_err-write_row_begin
@@ -45,4 +45,4 @@ returns-in_err-write_near_address g c =
 pub returns : goal.returns
 unfolding svg_row
 returns g c =
-    written_behind _ _ _ _ _ _ c.in_ok-write_row_begin.ensures (written_behind _ _ _ _ _ _ c.in_ok-write_statement.ensures (written_behind _ _ _ _ _ _ c.in_ok-put.ensures (written_behind _ _ _ _ _ _ c.in_ok-write_outcome.ensures (written_behind _ _ _ _ _ _ c.in_ok-put-2.ensures (written_behind _ _ _ _ _ _ c.in_ok-write_numbers_again.ensures (written_behind _ _ _ _ _ _ c.in_ok-write_columns.ensures (written_behind _ _ _ _ _ _ c.in_ok-write_near_address.ensures c.write_row_end.ensures)))))))
+    written_after _ _ _ _ _ _ c.in_ok-write_row_begin.ensures (written_after _ _ _ _ _ _ c.in_ok-write_statement.ensures (written_after _ _ _ _ _ _ c.in_ok-put.ensures (written_after _ _ _ _ _ _ c.in_ok-write_outcome.ensures (written_after _ _ _ _ _ _ c.in_ok-put-2.ensures (written_after _ _ _ _ _ _ c.in_ok-write_numbers_again.ensures (written_after _ _ _ _ _ _ c.in_ok-write_columns.ensures (written_after _ _ _ _ _ _ c.in_ok-write_near_address.ensures c.write_row_end.ensures)))))))

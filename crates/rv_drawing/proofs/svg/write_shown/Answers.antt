@@ -1,5 +1,5 @@
 use Rattle.rv_drawing.specs.SvgPicture.{svg_of}
-use Rattle.rv_text.proofs.Writing.{beginning-both, beginning-longer, handed_on, written_behind}
+use Rattle.rv_text.proofs.Writing.{beginning-both, beginning-longer, handed_on, written_after}
 use Rattle.rv_drawing.proofs.svg.write_shown.Goals as goal
 
 pub returns-in_err-write_begin : goal.returns-in_err-write_begin
@@ -40,4 +40,4 @@ returns-in_err-write_over g c =
 pub returns : goal.returns
 unfolding svg_of
 returns g c =
-    written_behind _ _ _ _ _ _ c.in_ok-write_begin.ensures (written_behind _ _ _ _ _ _ c.in_ok-write_style.ensures (written_behind _ _ _ _ _ _ c.in_ok-write_legend.ensures (written_behind _ _ _ _ _ _ c.in_ok-write_columns.ensures (written_behind _ _ _ _ _ _ c.in_ok-write_rows.ensures (written_behind _ _ _ _ _ _ c.in_ok-write_interrupts.ensures (written_behind _ _ _ _ _ _ c.in_ok-write_over.ensures c.write_end.ensures))))))
+    written_after _ _ _ _ _ _ c.in_ok-write_begin.ensures (written_after _ _ _ _ _ _ c.in_ok-write_style.ensures (written_after _ _ _ _ _ _ c.in_ok-write_legend.ensures (written_after _ _ _ _ _ _ c.in_ok-write_columns.ensures (written_after _ _ _ _ _ _ c.in_ok-write_rows.ensures (written_after _ _ _ _ _ _ c.in_ok-write_interrupts.ensures (written_after _ _ _ _ _ _ c.in_ok-write_over.ensures c.write_end.ensures))))))

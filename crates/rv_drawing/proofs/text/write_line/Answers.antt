@@ -1,4 +1,4 @@
-use Rattle.rv_text.proofs.Writing.{handed_on, beginning-both, beginning-longer, written_behind}
+use Rattle.rv_text.proofs.Writing.{handed_on, beginning-both, beginning-longer, written_after}
 use Rattle.rv_drawing.proofs.text.write_line.Goals as goal
 
 pub returns-in_err-put : goal.returns-in_err-put
@@ -11,4 +11,4 @@ returns-in_err-write_columns g c =
 
 pub returns : goal.returns
 returns g c =
-    written_behind _ _ _ _ _ _ c.in_ok-put.ensures (written_behind _ _ _ _ _ _ c.in_ok-write_columns.ensures c.put-2.ensures)
+    written_after _ _ _ _ _ _ c.in_ok-put.ensures (written_after _ _ _ _ _ _ c.in_ok-write_columns.ensures c.put-2.ensures)

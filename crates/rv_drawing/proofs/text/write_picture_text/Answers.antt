@@ -1,5 +1,5 @@
 use Rattle.rv_drawing.specs.TextPicture.{legend_line, text_picture}
-use Rattle.rv_text.proofs.Writing.{beginning-both, beginning-longer, handed_on, written_behind}
+use Rattle.rv_text.proofs.Writing.{beginning-both, beginning-longer, handed_on, written_after}
 use Rattle.rv_drawing.proofs.text.write_picture_text.Goals as goal
 
 pub returns-in_err-write_scale : goal.returns-in_err-write_scale
@@ -25,4 +25,4 @@ returns-in_err-write_over g c =
 pub returns : goal.returns
 unfolding legend_line text_picture
 returns g c =
-    written_behind _ _ _ _ _ _ c.in_ok-write_scale.ensures (written_behind _ _ _ _ _ _ c.in_ok-write_rows.ensures (written_behind _ _ _ _ _ _ c.in_ok-write_interrupts.ensures (written_behind _ _ _ _ _ _ c.in_ok-write_over.ensures c.put.ensures)))
+    written_after _ _ _ _ _ _ c.in_ok-write_scale.ensures (written_after _ _ _ _ _ _ c.in_ok-write_rows.ensures (written_after _ _ _ _ _ _ c.in_ok-write_interrupts.ensures (written_after _ _ _ _ _ _ c.in_ok-write_over.ensures c.put.ensures)))

@@ -1,5 +1,5 @@
 use Rattle.rv_drawing.specs.TextPicture.{row_line}
-use Rattle.rv_text.proofs.Writing.{handed_on, beginning-both, beginning-longer, written_behind}
+use Rattle.rv_text.proofs.Writing.{handed_on, beginning-both, beginning-longer, written_after}
 use Rattle.rv_drawing.proofs.text.write_row.Goals as goal
 
 pub returns-in_err-write_pc : goal.returns-in_err-write_pc
@@ -20,4 +20,4 @@ returns-in_err-write_outcome_field g c =
 pub returns : goal.returns
 unfolding row_line
 returns g c =
-    written_behind _ _ _ _ _ _ c.in_ok-write_pc.ensures (written_behind _ _ _ _ _ _ c.in_ok-write_statement.ensures (written_behind _ _ _ _ _ _ c.in_ok-write_outcome_field.ensures c.write_line.ensures))
+    written_after _ _ _ _ _ _ c.in_ok-write_pc.ensures (written_after _ _ _ _ _ _ c.in_ok-write_statement.ensures (written_after _ _ _ _ _ _ c.in_ok-write_outcome_field.ensures c.write_line.ensures))

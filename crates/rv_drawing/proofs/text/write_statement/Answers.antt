@@ -1,6 +1,6 @@
 use Rattle.std.proofs.Common.{ap}
 use Rattle.rv_drawing.specs.TextPicture.{statement_field}
-use Rattle.rv_text.proofs.Writing.{handed_on, beginning-longer, beginning-same, written_behind, written_same}
+use Rattle.rv_text.proofs.Writing.{handed_on, beginning-longer, beginning-same, written_after, written_same}
 use Rattle.rv_drawing.proofs.text.write_statement.Goals as goal
 
 pub returns-in_err-write_plain : goal.returns-in_err-write_plain
@@ -11,4 +11,4 @@ returns-in_err-write_plain g c =
 pub returns : goal.returns
 unfolding statement_field
 returns g c =
-    written_same _ _ _ _ _ (ap statement_field c.statement-text.ensures) (written_behind _ _ _ _ _ _ c.in_ok-write_plain.ensures c.write_blanks.ensures)
+    written_same _ _ _ _ _ (ap statement_field c.statement-text.ensures) (written_after _ _ _ _ _ _ c.in_ok-write_plain.ensures c.write_blanks.ensures)

@@ -1,5 +1,5 @@
 use Rattle.rv_drawing.specs.Title.{row_end}
-use Rattle.rv_text.proofs.Writing.{beginning-longer, handed_on, written_behind}
+use Rattle.rv_text.proofs.Writing.{beginning-longer, handed_on, written_after}
 use Rattle.rv_drawing.proofs.title.write_row_end.Goals as goal
 
 pub returns-in_err-write_title_of_row : goal.returns-in_err-write_title_of_row
@@ -10,4 +10,4 @@ returns-in_err-write_title_of_row g c =
 pub returns : goal.returns
 unfolding row_end
 returns g c =
-    written_behind _ _ _ _ _ _ c.in_ok-write_title_of_row.ensures c.put.ensures
+    written_after _ _ _ _ _ _ c.in_ok-write_title_of_row.ensures c.put.ensures

@@ -1,5 +1,5 @@
 use Rattle.rv_drawing.specs.Wait.{producer_text}
-use Rattle.rv_text.proofs.Writing.{beginning-longer, handed_on, written_behind}
+use Rattle.rv_text.proofs.Writing.{beginning-longer, handed_on, written_after}
 use Rattle.rv_drawing.proofs.wait.write_producer.Goals as goal
 
 pub returns-in_err-put : goal.returns-in_err-put
@@ -10,4 +10,4 @@ returns-in_err-put g c =
 pub returns : goal.returns
 unfolding producer_text
 returns g c =
-    written_behind _ _ _ _ _ _ c.in_ok-put.ensures c.write_result.ensures
+    written_after _ _ _ _ _ _ c.in_ok-put.ensures c.write_result.ensures

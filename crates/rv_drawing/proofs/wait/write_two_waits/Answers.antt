@@ -1,4 +1,4 @@
-use Rattle.rv_text.proofs.Writing.{beginning-longer, handed_on, written_behind}
+use Rattle.rv_text.proofs.Writing.{beginning-longer, handed_on, written_after}
 use Rattle.rv_drawing.proofs.wait.write_two_waits.Goals as goal
 
 pub returns-in_err-write_producer : goal.returns-in_err-write_producer
@@ -7,4 +7,4 @@ returns-in_err-write_producer g c =
 
 pub returns : goal.returns
 returns g c =
-    written_behind _ _ _ _ _ _ c.in_ok-write_producer.ensures c.write_second_wait.ensures
+    written_after _ _ _ _ _ _ c.in_ok-write_producer.ensures c.write_second_wait.ensures

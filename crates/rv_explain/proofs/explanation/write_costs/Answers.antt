@@ -1,5 +1,5 @@
 use Rattle.rv_explain.specs.Explanation.{cost_text, waited_text}
-use Rattle.rv_text.proofs.Writing.{handed_on, written_behind, beginning-longer, beginning-both}
+use Rattle.rv_text.proofs.Writing.{handed_on, written_after, beginning-longer, beginning-both}
 use Rattle.rv_explain.proofs.explanation.write_costs.Goals as goal
 
 pub returns-in_err-write_cycles : goal.returns-in_err-write_cycles
@@ -45,9 +45,9 @@ returns-in_err-write_waited g c =
 pub returns : goal.returns
 unfolding cost_text waited_text
 returns g c =
-    written_behind _ _ _ _ _ _ c.in_ok-write_cycles.ensures
-    (written_behind _ _ _ _ _ _ c.in_ok-write_dispatches.ensures
-    (written_behind _ _ _ _ _ _ c.in_ok-write_work.ensures
-    (written_behind _ _ _ _ _ _ c.in_ok-write_worst.ensures
-    (written_behind _ _ _ _ _ _ c.in_ok-write_waited.ensures
+    written_after _ _ _ _ _ _ c.in_ok-write_cycles.ensures
+    (written_after _ _ _ _ _ _ c.in_ok-write_dispatches.ensures
+    (written_after _ _ _ _ _ _ c.in_ok-write_work.ensures
+    (written_after _ _ _ _ _ _ c.in_ok-write_worst.ensures
+    (written_after _ _ _ _ _ _ c.in_ok-write_waited.ensures
     c.write_hotspots.ensures))))

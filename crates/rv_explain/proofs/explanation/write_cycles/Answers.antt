@@ -1,6 +1,6 @@
 use Rattle.std.proofs.Common.{append-nil}
 use Rattle.rv_explain.specs.Explanation.{cycle_text}
-use Rattle.rv_text.proofs.Writing.{handed_on, written_behind, beginning-longer, beginning-both, beginning-same, Appends-same}
+use Rattle.rv_text.proofs.Writing.{handed_on, written_after, beginning-longer, beginning-both, beginning-same, Appends-same}
 use Rattle.rv_explain.proofs.explanation.write_cycles.Goals as goal
 
 pub returns-in_err-write_counts : goal.returns-in_err-write_counts
@@ -17,4 +17,4 @@ returns-in_err-write_fields g c =
 pub returns : goal.returns
 unfolding cycle_text
 returns g c =
-    written_behind _ _ _ _ _ _ c.in_ok-write_counts.ensures (written_behind _ _ _ _ _ _ (Appends-same _ _ _ _ (append-nil _) c.in_ok-write_fields.ensures) c.write_stalls.ensures)
+    written_after _ _ _ _ _ _ c.in_ok-write_counts.ensures (written_after _ _ _ _ _ _ (Appends-same _ _ _ _ (append-nil _) c.in_ok-write_fields.ensures) c.write_stalls.ensures)

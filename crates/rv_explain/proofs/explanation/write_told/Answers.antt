@@ -1,5 +1,5 @@
 use Rattle.rv_explain.specs.Explanation.{explanation}
-use Rattle.rv_text.proofs.Writing.{handed_on, written_behind, beginning-longer, beginning-both}
+use Rattle.rv_text.proofs.Writing.{handed_on, written_after, beginning-longer, beginning-both}
 use Rattle.rv_explain.proofs.explanation.write_told.Goals as goal
 
 pub returns-in_err-write_ending : goal.returns-in_err-write_ending
@@ -19,4 +19,4 @@ returns-in_err-write_interrupts g c =
 
 pub returns : goal.returns
 unfolding explanation
-returns g c = written_behind _ _ _ _ _ _ c.in_ok-write_ending.ensures (written_behind _ _ _ _ _ _ c.in_ok-write_exceptions.ensures (written_behind _ _ _ _ _ _ c.in_ok-write_interrupts.ensures c.write_costs.ensures))
+returns g c = written_after _ _ _ _ _ _ c.in_ok-write_ending.ensures (written_after _ _ _ _ _ _ c.in_ok-write_exceptions.ensures (written_after _ _ _ _ _ _ c.in_ok-write_interrupts.ensures c.write_costs.ensures))

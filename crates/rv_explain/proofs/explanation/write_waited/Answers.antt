@@ -1,5 +1,5 @@
 use Rattle.rv_explain.specs.Explanation.{waited_text}
-use Rattle.rv_text.proofs.Writing.{handed_on, written_behind, beginning-longer, beginning-both}
+use Rattle.rv_text.proofs.Writing.{handed_on, written_after, beginning-longer, beginning-both}
 use Rattle.rv_explain.proofs.explanation.write_waited.Goals as goal
 
 pub returns-in_err-write_waits : goal.returns-in_err-write_waits
@@ -26,7 +26,7 @@ returns-in_err-write_loads g c =
 pub returns : goal.returns
 unfolding waited_text
 returns g c =
-    written_behind _ _ _ _ _ _ c.in_ok-write_waits.ensures
-    (written_behind _ _ _ _ _ _ c.in_ok-write_waits-2.ensures
-    (written_behind _ _ _ _ _ _ c.in_ok-write_loads.ensures
+    written_after _ _ _ _ _ _ c.in_ok-write_waits.ensures
+    (written_after _ _ _ _ _ _ c.in_ok-write_waits-2.ensures
+    (written_after _ _ _ _ _ _ c.in_ok-write_loads.ensures
     c.write_drains.ensures))

@@ -1,7 +1,7 @@
 -- In every run a finished head does not wait, and the front keeps ahead.
-use Rattle.rv_hardware.proofs.Words.{◌≡◌, ℕ, ◌+◌, ◌-◌, ◌<◌, ◌≤◌, Bool, true, false, ◌&&◌, ◌⊎◌, List, [], ◌∷◌, ◌++◌, length, is_some, ◌==◌, Some, None, Option, nat_cmp, sym, refl, ap, ◌∙◌, subst, inl, inr, true≢false, append_assoc, append-nil, arith, length-append, leb-true, IsLegal, is_store, at_kind, Lines, Kind, Values, due, Each, with_oldest_draining, without_drained, Entry, FetchBuffer, Fetched, broadcast, Committing, commit_turn, commit_unless, IsCycle, any_prediction, execute, with_lines, Dispatching, dispatch, has_full_stations, drain, Hardware, issue, Turn, Report, last_from, stamp_of, Step, and_first, and_second, count, EveryBehind-at, Leads, kept_by_turns}
+use Rattle.rv_hardware.proofs.Words.{◌≡◌, ℕ, ◌+◌, ◌-◌, ◌<◌, ◌≤◌, Bool, true, false, ◌&&◌, ◌⊎◌, List, [], ◌∷◌, ◌++◌, length, is_some, ◌==◌, Some, None, Option, nat_cmp, sym, refl, ap, ◌∙◌, subst, inl, inr, true≢false, append_assoc, append-nil, arith, length-append, leb-true, IsLegal, is_store, at_kind, Lines, Kind, Values, due, Each, with_oldest_draining, without_drained, Entry, FetchBuffer, Fetched, broadcast, Committing, commit_turn, commit_unless, IsCycle, any_prediction, execute, with_lines, Dispatching, dispatch, has_full_stations, drain, Hardware, issue, Turn, Report, last_from, stamp_of, Step, and_first, and_second, count, EveryAfter-at, Leads, kept_by_turns}
 use Rattle.std.specs.FinSet as set
-use Rattle.rv_hardware.proofs.Marks.Cited.{IsKeptByBroadcast, broadcast-keeps, phases-keep, IsKeptByDispatch, dispatch-keeps, IsKeptByDrain, drain-keeps, HaltsBehind, IsHalted, words_of, halted-kept, IsKeptByIssue, issue-keeps, CommitTurn, fence_retires, executes, serial_faults, traps, retires, retires_last, commit_turn_is, Anything, anything_is_kept, Passed, History, began, went_on, begin, committing, dispatching, sent_all, history_is_legal, history_is_sound, history_passes, has_full_queue, WaitsFor, IsNew, HasShape}
+use Rattle.rv_hardware.proofs.Marks.Cited.{IsKeptByBroadcast, broadcast-keeps, phases-keep, IsKeptByDispatch, dispatch-keeps, IsKeptByDrain, drain-keeps, HaltsAfter, IsHalted, words_of, halted-kept, IsKeptByIssue, issue-keeps, CommitTurn, fence_retires, executes, serial_faults, traps, retires, retires_last, commit_turn_is, Anything, anything_is_kept, Passed, History, began, went_on, begin, committing, dispatching, sent_all, history_is_legal, history_is_sound, history_passes, has_full_queue, WaitsFor, IsNew, HasShape}
 use Rattle.rv_hardware.proofs.Laws.HeadsDoNotWait.Follow.{last_stamp, last_stamp-push, has_step, has_step-push, Follows, AllFollow, Committed, commit_leads_by}
 use Rattle.rv_hardware.proofs.Laws.NoIdleDispatch.{dispatch_leaves}
 use Rattle.rv_hardware.proofs.Laws.HeadsDoNotWait.Next.{Next, HasNext, next_executed}
@@ -40,14 +40,14 @@ module _ (v : Values) (legal : IsLegal v) where
   -- a front with nothing in flight and nothing fetched fetches
   module _ (now s : ℕ) (store_waits : Bool) (stale : set.FinSet nat_cmp) (front : FetchBuffer) (added : List Fetched) (new : Each (IsNew now) added) (width : front.width ≡ v.fetch_width) (room : front.capacity ≡ v.fetch_buffer)
       (goes_on : added ≡ [] → (front.halted ≡ true) ⊎ ((front.width ≡ 0) ⊎ (front.capacity - length front.entries ≡ 0))) where
-    fetches_one : (b : Bool) → front.halted ≡ b → HaltsBehind b [] → length front.entries ≡ 0 → added ≡ [] → ⊥
+    fetches_one : (b : Bool) → front.halted ≡ b → HaltsAfter b [] → length front.entries ≡ 0 → added ≡ [] → ⊥
     fetches_one b is behind empty given = grind (arith, true≢false)
 
     next_added : (more : List Fetched) → Each (IsNew now) more → (more ≡ [] → ⊥) → now ≤ s →
         Next (now + 1) (now + 1) s store_waits stale [] more
     next_added more are none_of le = grind arith
 
-    next_fetched : (es : List Entry) (fs : List Fetched) → front.entries ≡ fs → HaltsBehind front.halted (words_of es fs) →
+    next_fetched : (es : List Entry) (fs : List Fetched) → front.entries ≡ fs → HaltsAfter front.halted (words_of es fs) →
         ((f : Fetched) (gs : List Fetched) → es ≡ [] → fs ≡ f ∷ gs → (store_waits && is_store f.instruction) ≡ true) →
         Next (now + 1) now s store_waits stale es fs → Next (now + 1) (now + 1) s store_waits stale es (fs ++ added)
     next_fetched es fs given behind stores next = grind (arith, true≢false, next_added, fetches_one)
@@ -168,4 +168,4 @@ module _ (v : Values) {steps : List Step} {h : Hardware} (history : History v st
   follows first rest a b at =
       let all : AllFollow ((first ++ a ∷ []) ++ b ∷ rest) = subst AllFollow (at ∙ sym (append_assoc first (a ∷ []) (b ∷ rest))) (all_follow v history) in
       subst (λ w. Follows (stamp_of a) w b) (has_step-push first a)
-      (subst (λ n. Follows n (has_step (first ++ a ∷ [])) b) (last_stamp-push first a) (EveryBehind-at (λ before x. Follows (last_stamp before) (has_step before) x) (first ++ a ∷ []) rest b all))
+      (subst (λ n. Follows n (has_step (first ++ a ∷ [])) b) (last_stamp-push first a) (EveryAfter-at (λ before x. Follows (last_stamp before) (has_step before) x) (first ++ a ∷ []) rest b all))

@@ -1,5 +1,5 @@
 -- After a step the next instruction neither waits without need nor was it fetched late.
-use Rattle.rv_hardware.proofs.Words.{◌≡◌, ℕ, suc, ◌+◌, ◌<◌, ◌≤◌, max, Bool, true, false, ◌&&◌, ◌⊎◌, List, [], ◌∷◌, ◌++◌, length, is_some, Some, None, Option, option_map, nat_cmp, unwrap_or, sym, refl, ap, ◌∙◌, subst, inl, inr, true≢false, append_assoc, arith, length-append, is_fence_i, is_serialising, is_store, kind_of_word, Message, Cause, Fault, Instr, FenceI, Issue, Values, word_of, interrupt_cause, Stop, Each, Entry, Stage, Finished, Fetched, Committing, commit_turn, commit_unless, fence_instructions, with_fault, Hardware, broadcast_of, DoesNotWait, IsTrappedSoon, Ends, Turn, execution_of, written_of, is_store_row, last_that, needs_no_unit, stamp_of, Execution, Row, Step, Interrupt, Retired, Trap, by_test, not_both, EveryBehind, EveryBehind-append, Leads, leads_both, turns_within}
+use Rattle.rv_hardware.proofs.Words.{◌≡◌, ℕ, suc, ◌+◌, ◌<◌, ◌≤◌, max, Bool, true, false, ◌&&◌, ◌⊎◌, List, [], ◌∷◌, ◌++◌, length, is_some, Some, None, Option, option_map, nat_cmp, unwrap_or, sym, refl, ap, ◌∙◌, subst, inl, inr, true≢false, append_assoc, arith, length-append, is_fence_i, is_serialising, is_store, kind_of_word, Message, Cause, Fault, Instr, FenceI, Issue, Values, word_of, interrupt_cause, Stop, Each, Entry, Stage, Finished, Fetched, Committing, commit_turn, commit_unless, fence_instructions, with_fault, Hardware, broadcast_of, DoesNotWait, IsTrappedSoon, Ends, Turn, execution_of, written_of, is_store_row, last_that, needs_no_unit, stamp_of, Execution, Row, Step, Interrupt, Retired, Trap, by_test, not_both, EveryAfter, EveryAfter-append, Leads, leads_both, turns_within}
 use Rattle.std.specs.FinSet as set
 use Rattle.rv_hardware.proofs.Marks.Cited.{CommitTurn, Head, no_head, stale_head, unfinished, fence_waits, fence_writes, fence_retires, executes, serial_faults, traps, retires, retires_last, executed, written_back, retired_and_flushed, commit_turn_is, Anything, anything_is_kept, last_from-append, IsShaped, Shaped, Goes, Commits, commit_turn_keeps, MayRetire, may_retire_serial, may_retire_finished, retiring_is_one, row_at, SoundEntry, SoundFetched, SoundStage, kind_is_plain, serial_has_no_kind, row_decodes}
 use Rattle.rv_hardware.proofs.Laws.HeadsDoNotWait.Next.{IsKnownSince, HasReason, NextEntry, Next}
@@ -38,11 +38,11 @@ pub record Follows (c : ℕ) (store_waits : Bool) (b : Step) : Type 0 where
 
 -- each step follows the one before it
 abbrev pub AllFollow : List Step → Type 0
-AllFollow steps = EveryBehind (λ before b. Follows (last_stamp before) (has_step before) b) [] steps
+AllFollow steps = EveryAfter (λ before b. Follows (last_stamp before) (has_step before) b) [] steps
 
 follow-push : (steps : List Step) (b : Step) → AllFollow steps → Follows (last_stamp steps) (has_step steps) b →
     AllFollow (steps ++ b ∷ [])
-follow-push steps b all one = EveryBehind-append (λ before s. Follows (last_stamp before) (has_step before) s) [] steps (b ∷ []) all (one, tt)
+follow-push steps b all one = EveryAfter-append (λ before s. Follows (last_stamp before) (has_step before) s) [] steps (b ∷ []) all (one, tt)
 
 -- ---- what the oldest leaves
 

@@ -56,17 +56,17 @@ pub last_of : {X : Type 0} (P : X → Type 0) (x : X) (xs : List X) → LastIs P
 last_of P x xs last = grind arith
 
 -- how many words the buffer held
-abbrev pub held_behind : (ℕ → ℕ) → List Mark → ℕ → ℕ
-held_behind held [] = held
-held_behind held (m ∷ ms) = held_behind (with_word held m) ms
+abbrev pub held_after : (ℕ → ℕ) → List Mark → ℕ → ℕ
+held_after held [] = held
+held_after held (m ∷ ms) = held_after (with_word held m) ms
 
 held_more : (b : Bool) (h n k : ℕ) → k ≡ cond b (suc h) h + n → k ≡ h + cond b (suc n) n
 held_more b h n k is = grind arith
 
 -- the buffer held as many words as before, and those of the marks that are words
-pub held_count : (held : ℕ → ℕ) (ms : List Mark) (c : ℕ) → held_behind held ms c ≡ held c + count (is_word c) ms
+pub held_count : (held : ℕ → ℕ) (ms : List Mark) (c : ℕ) → held_after held ms c ≡ held c + count (is_word c) ms
 held_count held [] c = omega arith
-held_count held (m ∷ ms) c = held_more (is_word c m) (held c) (count (is_word c) ms) (held_behind (with_word held m) ms c) (held_count (with_word held m) ms c)
+held_count held (m ∷ ms) c = held_more (is_word c m) (held c) (count (is_word c) ms) (held_after (with_word held m) ms c) (held_count (with_word held m) ms c)
 
 -- one that goes on
 
@@ -164,13 +164,13 @@ followed_later v now held m n h = (omega (arith, h.0), h.1)
 module _ (v : Values) (now : ℕ) (last next : (ℕ → ℕ) → Mark → Type 0) where
   -- where nothing is fetched, at least so many were held
   joint_stays : (held : ℕ → ℕ) (m : Mark) (ms : List Mark) →
-      ((h : ℕ → ℕ) (x : Mark) → with_word h x now ≡ held_behind (with_word held m) ms now → last h x → next h x) →
+      ((h : ℕ → ℕ) (x : Mark) → with_word h x now ≡ held_after (with_word held m) ms now → last h x → next h x) →
       Joint v now last held m ms → Joint v (now + 1) next held m ms
   joint_stays held m ms f h = grind (arith, followed_later)
 
   -- where nothing is fetched, linked marks stay linked in the next cycle
   pub linked_stays : (held : ℕ → ℕ) (ms : List Mark) →
-      ((h : ℕ → ℕ) (x : Mark) → with_word h x now ≡ held_behind held ms now → last h x → next h x) → Linked v now last held ms →
+      ((h : ℕ → ℕ) (x : Mark) → with_word h x now ≡ held_after held ms now → last h x → next h x) → Linked v now last held ms →
       Linked v (now + 1) next held ms
   linked_stays held [] f h = tt
   linked_stays held (m ∷ ms) f h = (joint_stays held m ms f h.0, linked_stays (with_word held m) ms f h.1)

@@ -1,7 +1,7 @@
 -- What is in flight, or is fetched next, was fetched no later than the last step.
 use Rattle.rv_hardware.proofs.Words.{◌≡◌, ℕ, ◌+◌, ◌-◌, ◌≤◌, Bool, true, ◌⊎◌, List, [], ◌∷◌, ◌++◌, length, Some, None, Option, nat_cmp, sym, refl, ap, ◌∙◌, subst, true≢false, append_assoc, append-nil, arith, Lines, Kind, Values, due, interrupt_cause, Each, Entry, FetchBuffer, Fetched, broadcast, Committing, commit_unless, with_fault, IsCycle, any_prediction, with_lines, dispatch, drain, Hardware, issue, Turn, Report, written_of, EachNext, stamp_of, Step, Interrupt, Retired, Trap, Each-weaker, Leads}
 use Rattle.std.specs.FinSet as set
-use Rattle.rv_hardware.proofs.Marks.Cited.{IsKeptByBroadcast, broadcast-keeps, IsKeptByDispatch, dispatch-keeps, IsKeptByDrain, drain-keeps, IsKeptByIssue, issue-keeps, HaltsBehind, words_of, runs-empty, CommitTurn, fence_retires, executes, serial_faults, traps, retires, retires_last, executed, written_back, retired_with, retired_and_flushed, head_retired_entries, Anything, anything_is_kept, Passed, History, began, went_on, begin, committing, dispatching, history_is_legal, history_is_sound, history_passes, InCommit, commit_turns_keep, IsNew, row_at, SoundEntry, SoundFetched}
+use Rattle.rv_hardware.proofs.Marks.Cited.{IsKeptByBroadcast, broadcast-keeps, IsKeptByDispatch, dispatch-keeps, IsKeptByDrain, drain-keeps, IsKeptByIssue, issue-keeps, HaltsAfter, words_of, runs-empty, CommitTurn, fence_retires, executes, serial_faults, traps, retires, retires_last, executed, written_back, retired_with, retired_and_flushed, head_retired_entries, Anything, anything_is_kept, Passed, History, began, went_on, begin, committing, dispatching, history_is_legal, history_is_sound, history_passes, InCommit, commit_turns_keep, IsNew, row_at, SoundEntry, SoundFetched}
 use Rattle.rv_hardware.proofs.Laws.NoIdleFetch.Links.{LastIs, last_at, last_of}
 use Rattle.rv_hardware.proofs.Laws.NoIdleFetch.Rows.{stays_halted}
 
@@ -152,7 +152,7 @@ module _ (v : Values) {earlier : List Step} {old new : Hardware} {lines : Lines}
   something_is_there passed none none' =
       let here = (history_is_sound v (went_on before is)).always.halted.1 in
       let entries = ap (λ (h : Hardware). h.rob.entries) passed.others_stay ∙ none in
-      let runs = runs-empty new.front.halted (subst (HaltsBehind new.front.halted) (ap (λ es. words_of es new.front.entries) entries ∙ ap (words_of []) (passed.fetches.entries ∙ none')) here) in
+      let runs = runs-empty new.front.halted (subst (HaltsAfter new.front.halted) (ap (λ es. words_of es new.front.entries) entries ∙ ap (words_of []) (passed.fetches.entries ∙ none')) here) in
       let legal = (history_is_legal v before).pipeline in
       let sizes = passed.dispatches.basics.always.sizes in
       leaves_some d.front.entries passed.fetches.added d.front.halted d.front.width d.front.capacity v.fetch_width v.fetch_buffer sizes.width sizes.room (omega (arith, legal.fetch_width)) (omega (arith, legal.fetch_buffer))

@@ -2,7 +2,7 @@
 use Rattle.rv_hardware.proofs.Words.{◌≡◌, ℕ, ◌+◌, ◌-◌, ◌<◌, ◌≤◌, true, false, ◌⊎◌, List, [], ◌∷◌, ◌++◌, map, length, Some, None, Option, sym, refl, ap, ◌∙◌, subst, inl, inr, true≢false, append-nil, arith, length-append, cases_lt, Lines, Early, Values, due, Each, FetchBuffer, Fetched, Committing, IsCycle, any_prediction, execute, with_lines, Dispatching, Hardware, Report, rows_of, Row, Step, Each-weaker, Each-map, count}
 use Rattle.std.specs.FinSet as set
 use Rattle.rv_hardware.proofs.Marks.Cited.{fetch-cases, IsNew, count-as_of, Passed, History, began, went_on, is_buffered_mark, buffered_words, committing, issued_all, dispatching, cycle_passes, history_is_legal, history_is_sound, Mark, mark_of_row, mark_of_entry, mark_of_fetched, marks_in, marks, marks_at_entry, as_of_now, marks_settled, SoundRow, SoundFetched}
-use Rattle.rv_hardware.proofs.Laws.NoIdleFetch.Links.{with_word, IsBy, Followed, IsOpen, Linked, LastIs, held_behind, held_count, WasLinked, was_linked_kept, linked_stays, linked_on, linked_cut, linked_words, last_at}
+use Rattle.rv_hardware.proofs.Laws.NoIdleFetch.Links.{with_word, IsBy, Followed, IsOpen, Linked, LastIs, held_after, held_count, WasLinked, was_linked_kept, linked_stays, linked_on, linked_cut, linked_words, last_at}
 use Rattle.rv_hardware.proofs.Laws.NoIdleFetch.Phases.{size, size_of_marks, Uncut, LeftByBroadcast, commit_goes_by, drain_and_issue, broadcast_and_dispatch}
 
 -- the last mark after a squash: a row, or the instruction whose broadcast squashed the rest
@@ -76,15 +76,15 @@ module _ (v : Values) {earlier : List Step} {old new : Hardware} {lines : Lines}
       Followed v (old.cycle + 1) h x f
   squash_followed f given h x holds = grind arith
 
-  behind_squash : LastIs (Squashes v old.cycle) (marks_in all d) → d.front.entries ≡ [] → d.front.halted ≡ false →
+  after_squash : LastIs (Squashes v old.cycle) (marks_in all d) → d.front.entries ≡ [] → d.front.halted ≡ false →
       (fs : List Fetched) → passed.fetches.added ≡ fs → Next (marks_in all d ++ map mark_of_fetched fs)
-  behind_squash last none runs [] at = absurd (by_reason (passed.fetches.goes_on at))
+  after_squash last none runs [] at = absurd (by_reason (passed.fetches.goes_on at))
     where
       by_reason : (d.front.halted ≡ true) ⊎ ((d.front.width ≡ 0) ⊎ (d.front.capacity - length d.front.entries ≡ 0)) → ⊥
       by_reason (inl halted) = true≢false (sym halted ∙ runs)
       by_reason (inr (inl narrow)) = let legal = (history_is_legal v before).pipeline.fetch_width in omega (arith, narrow, passed.dispatches.basics.always.sizes.width, legal)
       by_reason (inr (inr full)) = let legal = (history_is_legal v before).pipeline.fetch_buffer in let empty = ap length none in omega (arith, full, empty, passed.dispatches.basics.always.sizes.room, legal)
-  behind_squash last none runs (f ∷ fs) at =
+  after_squash last none runs (f ∷ fs) at =
       let was = passed.dispatches.marks in
       let cut = linked_cut v old.cycle (IsOpen v old.front.halted old.cycle) (Squashes v old.cycle) (λ c. 0) (marks_in all d) was.0 last was.1 in
       let these = new_ones (f ∷ fs) at in
@@ -107,7 +107,7 @@ module _ (v : Values) {earlier : List Step} {old new : Hardware} {lines : Lines}
     on_followed f fs at same h x (inr (inr full)) = (omega (arith, same), inr (inr (rw same full)))
 
     -- the words fill the buffer
-    full_now : d.front.capacity - length d.front.entries ≡ 0 → v.fetch_buffer ≤ held_behind (λ c. 0) (marks_in all d) old.cycle
+    full_now : d.front.capacity - length d.front.entries ≡ 0 → v.fetch_buffer ≤ held_after (λ c. 0) (marks_in all d) old.cycle
     full_now full =
         let b = passed.dispatches.basics in
         let words = Each-weaker (SoundFetched old.cycle) (SoundFetched (old.cycle + 1)) (λ f w. (omega (arith, w.0), w.1)) d.front.entries b.fetched in
@@ -117,8 +117,8 @@ module _ (v : Values) {earlier : List Step} {old new : Hardware} {lines : Lines}
         let many = buffered_words all d.rob.entries d.front.entries in
         omega (arith, full, b.always.sizes.room, held, counts, settled, many)
 
-    stays_open : v.fetch_buffer ≤ held_behind (λ c. 0) (marks_in all d) old.cycle → (h : ℕ → ℕ) (x : Mark) →
-        with_word h x old.cycle ≡ held_behind (λ c. 0) (marks_in all d) old.cycle → IsOpen v old.front.halted old.cycle h x →
+    stays_open : v.fetch_buffer ≤ held_after (λ c. 0) (marks_in all d) old.cycle → (h : ℕ → ℕ) (x : Mark) →
+        with_word h x old.cycle ≡ held_after (λ c. 0) (marks_in all d) old.cycle → IsOpen v old.front.halted old.cycle h x →
         IsOpen v new.front.halted (old.cycle + 1) h x
     stays_open full h x same (inl halted) = inl (ap (λ (r : FetchBuffer). r.halted) (stays_halted is (uncut.1 ∙ halted)) ∙ uncut.1 ∙ halted)
     stays_open full h x same (inr (inl over)) = inr (inl (by_later x.retired over))
@@ -153,11 +153,11 @@ module _ (v : Values) {earlier : List Step} {old new : Hardware} {lines : Lines}
       Next (marks_in all d ++ map mark_of_fetched passed.fetches.added)
   by_squash (inl (inl uncut)) = goes_on uncut passed.fetches.added refl
   by_squash (inl (inr empty)) =
-      behind_squash
+      after_squash
       (subst (LastIs (Squashes v old.cycle)) (sym (ap (λ es. marks all es d.front.entries) empty.0 ∙ ap (λ fs. marks all [] fs) empty.1 ∙ append-nil (map mark_of_row (rows_of all)))) (last_row v old.cycle (rows_of all) passed.dispatches.basics.rows))
       empty.1 empty.2 passed.fetches.added refl
   by_squash (inr mended) =
-      behind_squash
+      after_squash
       (subst (LastIs (Squashes v old.cycle)) (sym (ap (λ es. marks all es d.front.entries) mended.entries ∙ ap (λ fs. marks all (mended.older ++ mended.last ∷ []) fs) mended.words ∙ marks_at_entry all mended.older [] mended.last []))
       (last_at (Squashes v old.cycle) (map mark_of_row (rows_of all) ++ map mark_of_entry mended.older) (mark_of_entry mended.last) (inr (mended.early, mended.sent))))
       mended.words mended.runs passed.fetches.added refl

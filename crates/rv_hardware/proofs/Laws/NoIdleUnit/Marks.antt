@@ -1,5 +1,5 @@
 -- Marks that go on keep it that no pipelined unit is idle while an instruction that is no load has its operands.
-use Rattle.rv_hardware.proofs.Words.{◌≡◌, ℕ, ◌≤◌, Bool, true, false, cond, not, ◌||◌, List, [], ◌∷◌, ◌++◌, map, is_some, IfSome, Some, None, Option, sym, refl, ap, ◌∙◌, subst, true≢false, append_assoc, arith, and_from, is_load, is_of_kind, is_serialising, kind_of_word, sources_of_word, Instr, Kind, Values, Each, Entry, Stage, Fetched, Hardware, broadcast_of, is_known_from, is_waiting, writes, has_operands, is_ready, last_from, last_that, Execution, Row, never_both, Each-append, EveryBehind, count, count-set-grows, EveryBehind-left, EveryBehind-set}
+use Rattle.rv_hardware.proofs.Words.{◌≡◌, ℕ, ◌≤◌, Bool, true, false, cond, not, ◌||◌, List, [], ◌∷◌, ◌++◌, map, is_some, IfSome, Some, None, Option, sym, refl, ap, ◌∙◌, subst, true≢false, append_assoc, arith, and_from, is_load, is_of_kind, is_serialising, kind_of_word, sources_of_word, Instr, Kind, Values, Each, Entry, Stage, Fetched, Hardware, broadcast_of, is_known_from, is_waiting, writes, has_operands, is_ready, last_from, last_that, Execution, Row, never_both, Each-append, EveryAfter, count, count-set-grows, EveryAfter-left, EveryAfter-set}
 use Rattle.rv_hardware.specs.InFlight.{is_known}
 use Rattle.rv_hardware.proofs.Marks.Cited.{IsBefore, writes_mark, IsKnownMark, OperandsKnown, Advances, mark_is_sent, Kept, last_from-append, Mark, mark_of_row, mark_of_entry, mark_of_fetched, broadcast_of_stage, marks_append, start_of_execution, start_of_stage, writer_serialises, SoundRow, AreSerialLast, older_plain, instructions_of, SoundEntry, SoundStage, is_of_kind_is}
 use Rattle.rv_hardware.proofs.Laws.OtherUnits.Rows.{begins_mark}
@@ -77,10 +77,10 @@ still_begins : (k : Kind) (v : Values) (now : ℕ) (xs : List Mark) (m n : Mark)
 still_begins k v now xs m n given h = grind (arith, never_both)
 
 -- marks that go on keep it that, where one could start but does not, so many that are older did
-pub busy_units_are_kept : (k : Kind) (j : ℕ) (v : Values) (now : ℕ) → Kept v now (EveryBehind (BusyUnits k j now) [])
+pub busy_units_are_kept : (k : Kind) (j : ℕ) (v : Values) (now : ℕ) → Kept v now (EveryAfter (BusyUnits k j now) [])
 busy_units_are_kept k j v now = record {
-  cut = λ xs ys h. EveryBehind-left (BusyUnits k j now) [] xs ys h;
-  set = λ xs ys m n a h. EveryBehind-set (BusyUnits k j now) xs ys m n (itself k j v now xs m n a)
+  cut = λ xs ys h. EveryAfter-left (BusyUnits k j now) [] xs ys h;
+  set = λ xs ys m n a h. EveryAfter-set (BusyUnits k j now) xs ys m n (itself k j v now xs m n a)
       (λ mid z busy may.
       let back = goes_back v now xs m n a in
       let grown = count-set-grows (begins_mark k now) xs mid m n (still_begins k v now xs m n a) in
@@ -142,25 +142,25 @@ module _ (v : Values) (k : Kind) (now : ℕ) where
 
   -- rows do not start any more
   pub rows_do_not_start : (bound : ℕ) (before : List Mark) (rows : List Row) → Each (SoundRow v bound) rows →
-      EveryBehind (λ b m. MayStart k now b m → ⊥) before (map mark_of_row rows)
+      EveryAfter (λ b m. MayStart k now b m → ⊥) before (map mark_of_row rows)
   rows_do_not_start bound before [] sound = tt
   rows_do_not_start bound before (row ∷ rows) sound = grind (arith, row_not_by, rows_do_not_start bound (before ++ mark_of_row row ∷ []) rows sound.1)
 
   -- fetched words cannot start yet
   pub words_do_not_start : (before : List Mark) (fs : List Fetched) →
-      EveryBehind (λ b m. MayStart k now b m → ⊥) before (map mark_of_fetched fs)
+      EveryAfter (λ b m. MayStart k now b m → ⊥) before (map mark_of_fetched fs)
   words_do_not_start before [] = tt
   words_do_not_start before (f ∷ fs) = ((λ may. may.dispatched), words_do_not_start (before ++ mark_of_fetched f ∷ []) fs)
 
   -- instructions that are not ready cannot start
   pub entries_do_not_start : (d i j : ℕ) (rows : List Row) (h : Hardware) (before es : List Entry) →
       Each (SoundEntry v d i j) before → Each (SoundEntry v d i j) es → AreSerialLast (instructions_of (before ++ es)) →
-      EveryBehind (λ b e. is_ready h k b e ≡ false) before es →
-      EveryBehind (λ b m. MayStart k now b m → ⊥) (map mark_of_row rows ++ map mark_of_entry before) (map mark_of_entry es)
+      EveryAfter (λ b e. is_ready h k b e ≡ false) before es →
+      EveryAfter (λ b m. MayStart k now b m → ⊥) (map mark_of_row rows ++ map mark_of_entry before) (map mark_of_entry es)
   entries_do_not_start d i j rows h before [] sounds sound last none = tt
   entries_do_not_start d i j rows h before (e ∷ es) sounds sound last none = (
     (λ may. absurd (true≢false (sym (may_is_ready d i j rows h before e sounds (older_plain before es e last) sound.0 may) ∙ none.0))),
-    subst (λ l. EveryBehind (λ b m. MayStart k now b m → ⊥) l (map mark_of_entry es))
+    subst (λ l. EveryAfter (λ b m. MayStart k now b m → ⊥) l (map mark_of_entry es))
         (ap (λ l. map mark_of_row rows ++ l) (marks_append before (e ∷ [])) ∙ sym (append_assoc (map mark_of_row rows) (map mark_of_entry before) (mark_of_entry e ∷ [])))
         (entries_do_not_start d i j rows h (before ++ e ∷ []) es (Each-append (SoundEntry v d i j) before (e ∷ []) sounds (sound.0, tt)) sound.1
         (subst (λ l. AreSerialLast (instructions_of l)) (sym (append_assoc before (e ∷ []) es)) last) none.1),

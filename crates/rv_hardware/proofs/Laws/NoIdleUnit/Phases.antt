@@ -1,5 +1,5 @@
 -- The issue phase leaves no pipelined unit idle, and the other phases keep it so.
-use Rattle.rv_hardware.proofs.Words.{◌≡◌, ℕ, suc, ◌+◌, ◌<◌, ◌≤◌, true, false, List, [], ◌∷◌, ◌++◌, map, length, nat_lt, nat_le, Some, None, sym, refl, ap, ◌∙◌, subst, append_assoc, append-nil, arith, ltb-false, le-ltb, eq-eqb, and_from, and_right, at_kind-for_each, with_kind-each, with_kind-other, with_kind-own, IsLegal, is_of_kind, kind_of_word, at_kind, for_each, with_kind, Issue, Lines, Kind, PerKind, Values, Each, Pool, free_pool, holding, holds_unit, started, Entry, with_lines, Hardware, cost_of, is_ready, issue, issue_kind, issue_turn, issued, path, Turn, Report, rows_of, Step, Each-append, Each-left, Each-weaker, Each-all, Each-filter, EveryBehind, count, count-set-one_more, EveryBehind-append, EveryBehind-right, EveryBehind-moved, EveryBehind-all, EveryBehind-weaker, Leads, turns_within, length-filter, count-count_by, count-length}
+use Rattle.rv_hardware.proofs.Words.{◌≡◌, ℕ, suc, ◌+◌, ◌<◌, ◌≤◌, true, false, List, [], ◌∷◌, ◌++◌, map, length, nat_lt, nat_le, Some, None, sym, refl, ap, ◌∙◌, subst, append_assoc, append-nil, arith, ltb-false, le-ltb, eq-eqb, and_from, and_right, at_kind-for_each, with_kind-each, with_kind-other, with_kind-own, IsLegal, is_of_kind, kind_of_word, at_kind, for_each, with_kind, Issue, Lines, Kind, PerKind, Values, Each, Pool, free_pool, holding, holds_unit, started, Entry, with_lines, Hardware, cost_of, is_ready, issue, issue_kind, issue_turn, issued, path, Turn, Report, rows_of, Step, Each-append, Each-left, Each-weaker, Each-all, Each-filter, EveryAfter, count, count-set-one_more, EveryAfter-append, EveryAfter-right, EveryAfter-moved, EveryAfter-all, EveryAfter-weaker, Leads, turns_within, length-filter, count-count_by, count-length}
 use Rattle.std.specs.FinSet as set
 use Rattle.rv_isa.specs.declared.operations.Kind.TheVariants as kind
 use Rattle.rv_units.specs.Pool.{started as started_unit}
@@ -33,31 +33,31 @@ module _ (v : Values) (legal : IsLegal v) (now : ℕ) (steps : List Step) (k : K
   units_here = (at_kind k v.kinds).units
 
   abbrev Busy : ℕ → Hardware → Type 0
-  Busy j h = Issues v legal now Anything (anything_is_kept v now) steps h × EveryBehind (BusyUnits k j now) [] (marks_in steps h) × (length (holding now (at_kind k h.units).starts) ≤ j)
+  Busy j h = Issues v legal now Anything (anything_is_kept v now) steps h × EveryAfter (BusyUnits k j now) [] (marks_in steps h) × (length (holding now (at_kind k h.units).starts) ≤ j)
 
-  never_busy : (j : ℕ) (before xs : List Mark) → EveryBehind (λ b m. MayStart k now b m → ⊥) before xs →
-      EveryBehind (BusyUnits k j now) before xs
-  never_busy j before xs h = EveryBehind-weaker (λ b m. MayStart k now b m → ⊥) (BusyUnits k j now) (λ b m never may. absurd (never may)) before xs h
+  never_busy : (j : ℕ) (before xs : List Mark) → EveryAfter (λ b m. MayStart k now b m → ⊥) before xs →
+      EveryAfter (BusyUnits k j now) before xs
+  never_busy j before xs h = EveryAfter-weaker (λ b m. MayStart k now b m → ⊥) (BusyUnits k j now) (λ b m never may. absurd (never may)) before xs h
 
   none_started : (j : ℕ) (h : Hardware) → Issues v legal now Anything (anything_is_kept v now) steps h →
-      EveryBehind (λ b e. is_ready h k b e ≡ false) [] h.rob.entries → EveryBehind (BusyUnits k j now) [] (marks_in steps h)
+      EveryAfter (λ b e. is_ready h k b e ≡ false) [] h.rob.entries → EveryAfter (BusyUnits k j now) [] (marks_in steps h)
   none_started j h p none =
       let rows : List Mark = map mark_of_row (rows_of steps) in
       let es : List Mark = map mark_of_entry h.rob.entries in
-      EveryBehind-append (BusyUnits k j now) [] rows (es ++ map mark_of_fetched h.front.entries) (never_busy j [] rows (rows_do_not_start v k now (now + 1) [] (rows_of steps) p.basics.rows))
-      (EveryBehind-append (BusyUnits k j now) rows es (map mark_of_fetched h.front.entries)
-      (never_busy j rows es (subst (λ l. EveryBehind (λ b m. MayStart k now b m → ⊥) l es) (append-nil rows) (entries_do_not_start v k now now (now + 1) now (rows_of steps) h [] h.rob.entries tt p.basics.entries p.basics.always.last none)))
+      EveryAfter-append (BusyUnits k j now) [] rows (es ++ map mark_of_fetched h.front.entries) (never_busy j [] rows (rows_do_not_start v k now (now + 1) [] (rows_of steps) p.basics.rows))
+      (EveryAfter-append (BusyUnits k j now) rows es (map mark_of_fetched h.front.entries)
+      (never_busy j rows es (subst (λ l. EveryAfter (λ b m. MayStart k now b m → ⊥) l es) (append-nil rows) (entries_do_not_start v k now now (now + 1) now (rows_of steps) h [] h.rob.entries tt p.basics.entries p.basics.always.last none)))
       (never_busy j (rows ++ es) (map mark_of_fetched h.front.entries) (words_do_not_start v k now (rows ++ es) h.front.entries)))
 
   module _ (j : ℕ) (h : Hardware) (older younger : List Entry) (e : Entry) (at : h.rob.entries ≡ older ++ e ∷ younger) (is : is_ready h k older e ≡ true)
-      (none : EveryBehind (λ before x. is_ready h k before x ≡ false) [] older) (p : Busy j h) where
+      (none : EveryAfter (λ before x. is_ready h k before x ≡ false) [] older) (p : Busy j h) where
     abbrev begun : Entry
     begun = started (record { cycle = h.cycle; cost = cost_of h k (path h older e) }) (message_at h older e) e
 
     evidence : Starts v now (map mark_of_row (rows_of steps) ++ map mark_of_entry older) (mark_of_entry e) (mark_of_entry begun)
     evidence = start_is v legal now Anything (anything_is_kept v now) steps k h older younger e at is p.0
 
-    after_start : EveryBehind (BusyUnits k (suc j) now) [] (marks_in steps (issued k h older e))
+    after_start : EveryAfter (BusyUnits k (suc j) now) [] (marks_in steps (issued k h older e))
     after_start =
         let rows : List Mark = map mark_of_row (rows_of steps) in
         let xs : List Mark = rows ++ map mark_of_entry older in
@@ -66,15 +66,15 @@ module _ (v : Values) (legal : IsLegal v) (now : ℕ) (steps : List Step) (k : K
         let n : Mark = mark_of_entry begun in
         let front = ap (λ r. r.entries) (access_keeps (path h older e) h).front in
         let olders = Each-left (SoundEntry v now (now + 1) now) older (e ∷ younger) (subst (Each (SoundEntry v now (now + 1) now)) at p.0.basics.entries) in
-        let old = EveryBehind-right (BusyUnits k j now) [] xs (m ∷ ys) (subst (EveryBehind (BusyUnits k j now) []) (ap (λ es. marks steps es h.front.entries) at ∙ marks_at_entry steps older younger e h.front.entries) p.1) in
+        let old = EveryAfter-right (BusyUnits k j now) [] xs (m ∷ ys) (subst (EveryAfter (BusyUnits k j now) []) (ap (λ es. marks steps es h.front.entries) at ∙ marks_at_entry steps older younger e h.front.entries) p.1) in
         let serial = cut_serial older (e ∷ younger) (subst (λ l. AreSerialLast (instructions_of l)) at p.0.basics.always.last) in
         let same_start : n.start ≡ Some evidence.start = ap (λ x. x.start) evidence.becomes in
         rw (started_entries k h older younger e at, front, marks_at_entry steps older younger begun h.front.entries)
-        (EveryBehind-append (BusyUnits k (suc j) now) [] xs (n ∷ ys)
-        (EveryBehind-append (BusyUnits k (suc j) now) [] rows (map mark_of_entry older) (never_busy (suc j) [] rows (rows_do_not_start v k now (now + 1) [] (rows_of steps) p.0.basics.rows))
-        (never_busy (suc j) rows (map mark_of_entry older) (subst (λ l. EveryBehind (λ b z. MayStart k now b z → ⊥) l (map mark_of_entry older)) (append-nil rows) (entries_do_not_start v k now now (now + 1) now (rows_of steps) h [] older tt olders serial none)))) (
+        (EveryAfter-append (BusyUnits k (suc j) now) [] xs (n ∷ ys)
+        (EveryAfter-append (BusyUnits k (suc j) now) [] rows (map mark_of_entry older) (never_busy (suc j) [] rows (rows_do_not_start v k now (now + 1) [] (rows_of steps) p.0.basics.rows))
+        (never_busy (suc j) rows (map mark_of_entry older) (subst (λ l. EveryAfter (λ b z. MayStart k now b z → ⊥) l (map mark_of_entry older)) (append-nil rows) (entries_do_not_start v k now now (now + 1) now (rows_of steps) h [] older tt olders serial none)))) (
           (λ may. absurd (has_begun may.not_yet)),
-          EveryBehind-moved (BusyUnits k j now) (BusyUnits k (suc j) now) (xs ++ m ∷ []) (xs ++ n ∷ [])
+          EveryAfter-moved (BusyUnits k j now) (BusyUnits k (suc j) now) (xs ++ m ∷ []) (xs ++ n ∷ [])
               (λ mid z busy may.
               let here : MayStart k now (xs ++ m ∷ mid) z = may_back now m n refl (λ known some. subst (IsBefore now) (ap (λ x. x.broadcast) evidence.becomes) (known some)) k xs mid z (subst (λ l. MayStart k now l z) (append_assoc xs (n ∷ []) mid) may) in
               let before = busy (subst (λ l. MayStart k now l z) (sym (append_assoc xs (m ∷ []) mid)) here) in
@@ -94,17 +94,17 @@ module _ (v : Values) (legal : IsLegal v) (now : ℕ) (steps : List Step) (k : K
   held_after j h older e cycle le = grind (arith, issued_units, with_kind-own, filter-append_length, fewer_held)
 
   busy_leads : (j : ℕ) (h : Hardware) (t : Turn Hardware) → j < units_here → IssueTurn k h t → Busy j h →
-      Leads (Issues v legal now Anything (anything_is_kept v now) steps) (Issues v legal now Anything (anything_is_kept v now) steps) t → Leads (Busy (suc j)) (λ g. EveryBehind (BusyUnits k units_here now) [] (marks_in steps g)) t
+      Leads (Issues v legal now Anything (anything_is_kept v now) steps) (Issues v legal now Anything (anything_is_kept v now) steps) t → Leads (Busy (suc j)) (λ g. EveryAfter (BusyUnits k units_here now) [] (marks_in steps g)) t
   busy_leads j h t lt given p goes = grind (arith, ltb-false, none_started, after_start, held_after)
 
   pub kind_is_busy : (h : Hardware) → Issues v legal now Anything (anything_is_kept v now) steps h →
-      Over now (at_kind k h.units) → EveryBehind (BusyUnits k units_here now) [] (marks_in steps (issue_kind k h))
+      Over now (at_kind k h.units) → EveryAfter (BusyUnits k units_here now) [] (marks_in steps (issue_kind k h))
   kind_is_busy h p over =
       let none = ap (λ l. length l) (none_holds now (at_kind k h.units).starts over) in
-      turns_within units_here Busy (λ g. EveryBehind (BusyUnits k units_here now) [] (marks_in steps g)) (issue_turn k)
+      turns_within units_here Busy (λ g. EveryAfter (BusyUnits k units_here now) [] (marks_in steps g)) (issue_turn k)
       (λ j g lt q. busy_leads j g (issue_turn k g) lt (issue_turn_is k g) q (issue_turn_keeps v legal now Anything (anything_is_kept v now) steps k g (issue_turn k g) (issue_turn_is k g) q.0))
       (λ g q. q.1) (at_kind k h.values.kinds).units 0 h (let same = ap (λ (w : Values). (at_kind k w.kinds).units) p.basics.always.sizes.values in omega (arith, same))
-      (p, EveryBehind-all (λ m. Unit {0}) (BusyUnits k 0 now) (λ b m u may. omega arith) [] (marks_in steps h) (Each-all (λ m. Unit {0}) (λ m. tt) (marks_in steps h)), omega (arith, none))
+      (p, EveryAfter-all (λ m. Unit {0}) (BusyUnits k 0 now) (λ b m u may. omega arith) [] (marks_in steps h) (Each-all (λ m. Unit {0}) (λ m. tt) (marks_in steps h)), omega (arith, none))
 
 -- the other phases leave the units as they are
 
@@ -161,7 +161,7 @@ module _ (v : Values) (legal : IsLegal v) (now : ℕ) (steps : List Step) (k : K
 
   -- what a kind's phase leaves is kept by the others
   abbrev BusyNow : List Mark → Type 0
-  BusyNow = EveryBehind (BusyUnits k (at_kind k v.kinds).units now) []
+  BusyNow = EveryAfter (BusyUnits k (at_kind k v.kinds).units now) []
 
   abbrev KeepsBusy : Hardware → Type 0
   KeepsBusy h = Issues v legal now BusyNow (busy_units_are_kept k (at_kind k v.kinds).units v now) steps h
@@ -180,7 +180,7 @@ module _ (v : Values) (legal : IsLegal v) (now : ℕ) (steps : List Step) (k : K
 -- the issue phase of all kinds
 module _ (v : Values) (legal : IsLegal v) (now : ℕ) (steps : List Step) (h : Hardware) (p : Issues v legal now Anything (anything_is_kept v now) steps h) where
   pub issue_is_busy : (k : Kind) → (at_kind k v.kinds).pipelined ≡ true → Over now (at_kind k h.units) →
-      EveryBehind (BusyUnits k (at_kind k v.kinds).units now) [] (marks_in steps (issue h))
+      EveryAfter (BusyUnits k (at_kind k v.kinds).units now) [] (marks_in steps (issue h))
   issue_is_busy kind.Alu line over =
       let a = issue_kind kind.Alu h in
       let m = issue_kind kind.Mul a in
@@ -229,7 +229,7 @@ over_of_history v k line (went_on {earlier} {old} {new} {lines} {report} before 
 pub units_are_busy : (v : Values) (k : Kind) → (at_kind k v.kinds).pipelined ≡ true →
     (earlier : List Step) (lines : Lines) (old new : Hardware) (report : Report) (R : List Mark → Type 0) →
     History v earlier old → Passed v R earlier lines old report new →
-    EveryBehind (BusyUnits k (at_kind k v.kinds).units old.cycle) [] (marks_in (earlier ++ report.steps) new)
+    EveryAfter (BusyUnits k (at_kind k v.kinds).units old.cycle) [] (marks_in (earlier ++ report.steps) new)
 units_are_busy v k line earlier lines old new report R before passed =
     let legal = history_is_legal v before in
     let now : ℕ = old.cycle in
@@ -239,9 +239,9 @@ units_are_busy v k line earlier lines old new report R before passed =
     let busy = issue_is_busy v legal now all (drained lines old) (with_marks v now now (now + 1) now now (now + 1) R Anything all (drained lines old) tt passed.drains) k line begins in
     let i : Hardware = issued_all lines old in
     let s : Hardware = sent_all lines old in
-    let issued = goes_later v now now (now + 1) now now (now + 1) now (now + 1) (now + 1) (now + 1) (EveryBehind (BusyUnits k n now) []) all i (omega arith) (omega arith) (omega arith) (omega arith) (with_marks v now now (now + 1) now now (now + 1) R (EveryBehind (BusyUnits k n now) []) all i busy passed.issues) in
-    let sent = broadcast_keeps v now (EveryBehind (BusyUnits k n now) []) (busy_units_are_kept k n v now) all i issued in
-    let dispatched = dispatch_keeps v now (EveryBehind (BusyUnits k n now) []) (busy_units_are_kept k n v now) all s (goes_later v now now (now + 1) (now + 1) now (now + 1) (now + 1) (now + 1) (now + 1) (now + 1) (EveryBehind (BusyUnits k n now) []) all s (omega arith) (omega arith) (omega arith) (omega arith) sent) in
-    rw (passed.new_marks) (EveryBehind-append (BusyUnits k n now) [] (marks_in all (dispatching lines old).hardware) (map mark_of_fetched passed.fetches.added) dispatched.marks
-    (EveryBehind-weaker (λ b m. MayStart k now b m → ⊥) (BusyUnits k n now) (λ b m never may. absurd (never may)) (marks_in all (dispatching lines old).hardware) (map mark_of_fetched passed.fetches.added)
+    let issued = goes_later v now now (now + 1) now now (now + 1) now (now + 1) (now + 1) (now + 1) (EveryAfter (BusyUnits k n now) []) all i (omega arith) (omega arith) (omega arith) (omega arith) (with_marks v now now (now + 1) now now (now + 1) R (EveryAfter (BusyUnits k n now) []) all i busy passed.issues) in
+    let sent = broadcast_keeps v now (EveryAfter (BusyUnits k n now) []) (busy_units_are_kept k n v now) all i issued in
+    let dispatched = dispatch_keeps v now (EveryAfter (BusyUnits k n now) []) (busy_units_are_kept k n v now) all s (goes_later v now now (now + 1) (now + 1) now (now + 1) (now + 1) (now + 1) (now + 1) (now + 1) (EveryAfter (BusyUnits k n now) []) all s (omega arith) (omega arith) (omega arith) (omega arith) sent) in
+    rw (passed.new_marks) (EveryAfter-append (BusyUnits k n now) [] (marks_in all (dispatching lines old).hardware) (map mark_of_fetched passed.fetches.added) dispatched.marks
+    (EveryAfter-weaker (λ b m. MayStart k now b m → ⊥) (BusyUnits k n now) (λ b m never may. absurd (never may)) (marks_in all (dispatching lines old).hardware) (map mark_of_fetched passed.fetches.added)
     (words_do_not_start v k now (marks_in all (dispatching lines old).hardware) passed.fetches.added)))

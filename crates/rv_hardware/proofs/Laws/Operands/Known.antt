@@ -1,5 +1,5 @@
 -- An instruction starts after the broadcasts of its operands' producers, and a load after those of all older stores.
-use Rattle.rv_hardware.proofs.Words.{◌≡◌, ℕ, Bool, true, false, cond, List, [], ◌∷◌, ◌++◌, map, is_some, IfSome, Some, None, Option, sym, ap, subst, is_load, is_store, is_target, kind_of_word, sources_of_word, target_of_word, Instr, Values, Each, Fetched, Hardware, last_from, last_that, Step, Each-set, Each-place, EveryBehind, EveryBehind-left, EveryBehind-append, EveryBehind-set, arith}
+use Rattle.rv_hardware.proofs.Words.{◌≡◌, ℕ, Bool, true, false, cond, List, [], ◌∷◌, ◌++◌, map, is_some, IfSome, Some, None, Option, sym, ap, subst, is_load, is_store, is_target, kind_of_word, sources_of_word, target_of_word, Instr, Values, Each, Fetched, Hardware, last_from, last_that, Step, Each-set, Each-place, EveryAfter, EveryAfter-left, EveryAfter-append, EveryAfter-set, arith}
 use Rattle.rv_hardware.proofs.Marks.Advance.{IsBefore, Advances, Starts, writes_mark, IsKnownMark, OperandsKnown, IsKnownStore}
 use Rattle.rv_hardware.proofs.Marks.History.{KeptMarks, History, marks_of_history}
 use Rattle.rv_hardware.proofs.Marks.Evidence.{last_from-append}
@@ -11,8 +11,8 @@ pub record Found (before : List Mark) (i : Option Instr) (cycle : ℕ) : Type 0 
   pub stores : is_load i ≡ true → Each (IsKnownStore cycle) before
 
 -- where a mark started, its operands and, for a load, all older stores were known
-abbrev pub StartsBehind : List Mark → Mark → Type 0
-StartsBehind before m = IfSome m.start (λ s. Found before m.instruction s.cycle)
+abbrev pub StartsAfter : List Mark → Mark → Type 0
+StartsAfter before m = IfSome m.start (λ s. Found before m.instruction s.cycle)
 
 -- a mark that goes on keeps its instruction and its broadcast
 record GoesOnWith (m n : Mark) : Type 0 where
@@ -65,32 +65,32 @@ module _ (m n : Mark) (goes : GoesOnWith m n) where
   found_goes_on : (xs mid : List Mark) (z : Mark) (o : Option Start) → IfSome o (λ s. Found (xs ++ m ∷ mid) z.instruction s.cycle) → IfSome o (λ s. Found (xs ++ n ∷ mid) z.instruction s.cycle)
   found_goes_on xs mid z o h = grind (arith, operands_go_on, stores_go_on)
 
-same_start : (xs : List Mark) (m n : Mark) → n.start ≡ m.start → n.instruction ≡ m.instruction → StartsBehind xs m → StartsBehind xs n
+same_start : (xs : List Mark) (m n : Mark) → n.start ≡ m.start → n.instruction ≡ m.instruction → StartsAfter xs m → StartsAfter xs n
 same_start xs m n start instruction h = rw (start, instruction) h
 
-none_started : (xs : List Mark) (n : Mark) → n.start ≡ None → StartsBehind xs n
+none_started : (xs : List Mark) (n : Mark) → n.start ≡ None → StartsAfter xs n
 none_started xs n none = rw none tt
 
-starts_now : (v : Values) (now : ℕ) (xs : List Mark) (m n : Mark) → Starts v now xs m n → StartsBehind xs n
+starts_now : (v : Values) (now : ℕ) (xs : List Mark) (m n : Mark) → Starts v now xs m n → StartsAfter xs n
 starts_now v now xs m n a = grind arith
 
-it_goes_on : (v : Values) (now : ℕ) (xs : List Mark) (m n : Mark) → Advances v now xs m n → StartsBehind xs m → StartsBehind xs n
+it_goes_on : (v : Values) (now : ℕ) (xs : List Mark) (m n : Mark) → Advances v now xs m n → StartsAfter xs m → StartsAfter xs n
 it_goes_on v now xs m n given h = grind (arith, same_start, starts_now)
 
-new_have_not_started : (before : List Mark) (fs : List Fetched) → EveryBehind StartsBehind before (map mark_of_fetched fs)
+new_have_not_started : (before : List Mark) (fs : List Fetched) → EveryAfter StartsAfter before (map mark_of_fetched fs)
 new_have_not_started before [] = tt
 new_have_not_started before (f ∷ fs) = (tt, new_have_not_started (before ++ mark_of_fetched f ∷ []) fs)
 
-pub starts_are_kept : (v : Values) → KeptMarks v (λ now ms. EveryBehind StartsBehind [] ms)
+pub starts_are_kept : (v : Values) → KeptMarks v (λ now ms. EveryAfter StartsAfter [] ms)
 starts_are_kept v = record {
   at_reset = tt;
   kept = λ now. record {
-    cut = λ xs ys h. EveryBehind-left StartsBehind [] xs ys h;
-    set = λ xs ys m n a h. EveryBehind-set StartsBehind xs ys m n (it_goes_on v now xs m n a) (λ mid z k. found_goes_on m n (goes_on v now xs m n a) xs mid z z.start k) h;
+    cut = λ xs ys h. EveryAfter-left StartsAfter [] xs ys h;
+    set = λ xs ys m n a h. EveryAfter-set StartsAfter xs ys m n (it_goes_on v now xs m n a) (λ mid z k. found_goes_on m n (goes_on v now xs m n a) xs mid z z.start k) h;
   };
-  more = λ now ms fs words h. EveryBehind-append StartsBehind [] ms (map mark_of_fetched fs) h (new_have_not_started ms fs);
+  more = λ now ms fs words h. EveryAfter-append StartsAfter [] ms (map mark_of_fetched fs) h (new_have_not_started ms fs);
 }
 
 -- in every history each mark started behind what it waits for
-pub history_starts_behind : (v : Values) {steps : List Step} {h : Hardware} → History v steps h → EveryBehind StartsBehind [] (marks_in steps h)
-history_starts_behind v history = marks_of_history v (λ now ms. EveryBehind StartsBehind [] ms) (starts_are_kept v) history
+pub history_starts_after : (v : Values) {steps : List Step} {h : Hardware} → History v steps h → EveryAfter StartsAfter [] (marks_in steps h)
+history_starts_after v history = marks_of_history v (λ now ms. EveryAfter StartsAfter [] ms) (starts_are_kept v) history

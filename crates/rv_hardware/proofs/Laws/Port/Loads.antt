@@ -1,5 +1,5 @@
 -- The cache's port serves one load at a time.
-use Rattle.rv_hardware.proofs.Words.{is_known as is_known_store, ◌≡◌, ℕ, ◌+◌, ◌≤◌, Bool, true, false, cond, not, ◌&&◌, ◌||◌, List, ℤ, is_some, IfSome, ◌==◌, Some, Option, refl, true≢false, arith, eq-eqb, leb-true, list_all, is_load, bytes_of, width_of, modulo_word, sum, Instr, Load, Kind, LoadForm, Values, is_aligned, is_in_ram, State, register_of, Entry, Hardware, FromCache, FromStores, Path, cost_of, has_port, may_load, path, path_of, with_access, result_of_word, layout_of, seen_behind, stores_behind, take, forwarded, sym, sym}
+use Rattle.rv_hardware.proofs.Words.{is_known as is_known_store, ◌≡◌, ℕ, ◌+◌, ◌≤◌, Bool, true, false, cond, not, ◌&&◌, ◌||◌, List, ℤ, is_some, IfSome, ◌==◌, Some, Option, refl, true≢false, arith, eq-eqb, leb-true, list_all, is_load, bytes_of, width_of, modulo_word, sum, Instr, Load, Kind, LoadForm, Values, is_aligned, is_in_ram, State, register_of, Entry, Hardware, FromCache, FromStores, Path, cost_of, has_port, may_load, path, path_of, with_access, result_of_word, layout_of, state_after, stores_after, take, forwarded, sym, sym}
 use Rattle.rv_hardware.proofs.Marks.Cited.{Mark, Start, HasShape}
 
 -- a load that takes its bytes from the cache: it gives no fault and costs another number of cycles than a forwarded one
@@ -35,7 +35,7 @@ module _ (v : Values) (h : Hardware) (shape : HasShape v h) (older : List Entry)
       ((cost_of h k (path_of h older s (Some (Load form rd rs1 offset))) == v.forward) ≡ false) →
       Goes_to_cache (Some (Load form rd rs1 offset))
   load_path form rd rs1 offset true true aligned inside (Some w) none other =
-      rw (aligned, inside) (from_cache (list_all is_some (take (bytes_of (width_of form)) (forwarded (stores_behind h older) (sum (register_of s rs1) (modulo_word offset)) (bytes_of (width_of form))))) (sum (register_of s rs1) (modulo_word offset)) (rw (aligned, inside) at other))
+      rw (aligned, inside) (from_cache (list_all is_some (take (bytes_of (width_of form)) (forwarded (stores_after h older) (sum (register_of s rs1) (modulo_word offset)) (bytes_of (width_of form))))) (sum (register_of s rs1) (modulo_word offset)) (rw (aligned, inside) at other))
   load_path form rd rs1 offset a b aligned inside w none other = grind (arith, true≢false)
 
   -- a load without a fault that costs another time than a forwarded one goes to the cache
@@ -56,7 +56,7 @@ port_by b c d f h = grind arith
 -- an instruction that may leave its station has the port that its path needs
 pub has_its_port : (h : Hardware) (older : List Entry) (e : Entry) → may_load h older e ≡ true →
     has_port h (path h older e) ≡ true
-has_its_port h older e may = port_by (is_load e.instruction) (list_all is_known_store (stores_behind h older)) (has_port h (path h older e)) (λ plain. path_without h older (seen_behind h older e.pc) e.instruction plain) may
+has_its_port h older e may = port_by (is_load e.instruction) (list_all is_known_store (stores_after h older)) (has_port h (path h older e)) (λ plain. path_without h older (state_after h older e.pc) e.instruction plain) may
 
 -- the port is not free earlier
 pub port_grows : (h : Hardware) (p : Path) → has_port h p ≡ true → h.port_free ≤ (with_access p h).port_free

@@ -1,6 +1,6 @@
 use Rattle.std.proofs.Common.{refl, sym, ap, ◌∙◌, option_copied}
 use Rattle.std.proofs.lemmas.Bool.{ne_eqb}
-use Rattle.rv_job.specs.Parts.{behind_separator}
+use Rattle.rv_job.specs.Parts.{after_separator}
 use Rattle.rv_job.proofs.Places.{next_place, no_separator_at_front}
 use Rattle.rv_job.proofs.parts.later_halves.Goals as goal
 use Rattle.rv_job.proofs.parts.later_halves.Goals.{then-text-place-eq10+in_default, else-text-place-eq10}
@@ -10,7 +10,7 @@ loop-place-preserved c =
     let next = next_place c.args.text.now c.loop-place.place c.loop-place-test.true c.loop-place.invariant in
     elim c.if-text-place-eq10.branch [
       | then-text-place-eq10+in_default w ↦
-          let none = sym (ap behind_separator w.split_at.ensures.back) ∙ sym w.behind_separator.ensures ∙ ap option_copied w.in_default.is in
+          let none = sym (ap after_separator w.split_at.ensures.back) ∙ sym w.after_separator.ensures ∙ ap option_copied w.in_default.is in
           next (no_separator_at_front _ _ none)
       | else-text-place-eq10 w ↦ next (rw (ne_eqb _ 10 w.if-text-place-eq10.false) refl)
     ]

@@ -1,5 +1,5 @@
 use Rattle.rv_json.specs.Json.{array}
-use Rattle.rv_text.proofs.Writing.{beginning-both, beginning-longer, handed_on, written_behind}
+use Rattle.rv_text.proofs.Writing.{beginning-both, beginning-longer, handed_on, written_after}
 use Rattle.rv_json.proofs.array.write_array.Goals as goal
 
 pub returns-in_err-put : goal.returns-in_err-put
@@ -15,4 +15,4 @@ returns-in_err-write_values g c =
 pub returns : goal.returns
 unfolding array
 returns g c =
-    written_behind _ _ _ _ _ _ c.in_ok-put.ensures (written_behind _ _ _ _ _ _ c.in_ok-write_values.ensures c.put-2.ensures)
+    written_after _ _ _ _ _ _ c.in_ok-put.ensures (written_after _ _ _ _ _ _ c.in_ok-write_values.ensures c.put-2.ensures)

@@ -1,5 +1,5 @@
 use Rattle.rv_json.specs.Entry.{entry_text}
-use Rattle.rv_text.proofs.Writing.{beginning-both, beginning-longer, handed_on, written_behind}
+use Rattle.rv_text.proofs.Writing.{beginning-both, beginning-longer, handed_on, written_after}
 use Rattle.rv_json.proofs.entry.write_entry.Goals as goal
 
 pub returns-in_err-write_head : goal.returns-in_err-write_head
@@ -15,4 +15,4 @@ returns-in_err-write_kind g c =
 pub returns : goal.returns
 unfolding entry_text
 returns g c =
-    written_behind _ _ _ _ _ _ c.in_ok-write_head.ensures (written_behind _ _ _ _ _ _ c.in_ok-write_kind.ensures c.write_stage.ensures)
+    written_after _ _ _ _ _ _ c.in_ok-write_head.ensures (written_after _ _ _ _ _ _ c.in_ok-write_kind.ensures c.write_stage.ensures)

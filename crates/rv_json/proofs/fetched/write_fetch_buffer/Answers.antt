@@ -1,4 +1,4 @@
-use Rattle.rv_text.proofs.Writing.{beginning-longer, handed_on, written_behind}
+use Rattle.rv_text.proofs.Writing.{beginning-longer, handed_on, written_after}
 use Rattle.rv_json.proofs.fetched.write_fetch_buffer.Goals as goal
 
 pub returns-in_err-write_array_member : goal.returns-in_err-write_array_member
@@ -6,4 +6,4 @@ returns-in_err-write_array_member g c =
     handed_on _ _ _ _ _ c.from_residual.ensures.1 (beginning-longer _ _ _ _ c.in_err-write_array_member.ensures)
 
 pub returns : goal.returns
-returns g c = written_behind _ _ _ _ _ _ c.in_ok-write_array_member.ensures c.write_next_fetch.ensures
+returns g c = written_after _ _ _ _ _ _ c.in_ok-write_array_member.ensures c.write_next_fetch.ensures

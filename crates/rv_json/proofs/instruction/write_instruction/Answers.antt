@@ -1,5 +1,5 @@
 use Rattle.rv_json.specs.Instruction.{instruction_json}
-use Rattle.rv_text.proofs.Writing.{beginning-both, beginning-longer, handed_on, written_behind}
+use Rattle.rv_text.proofs.Writing.{beginning-both, beginning-longer, handed_on, written_after}
 use Rattle.rv_json.proofs.instruction.write_instruction.Goals as goal
 
 pub returns-in_err-write_begin : goal.returns-in_err-write_begin
@@ -15,4 +15,4 @@ returns-in_err-write_details g c =
 pub returns : goal.returns
 unfolding instruction_json
 returns g c =
-    written_behind _ _ _ _ _ _ c.in_ok-write_begin.ensures (written_behind _ _ _ _ _ _ c.in_ok-write_details.ensures c.put.ensures)
+    written_after _ _ _ _ _ _ c.in_ok-write_begin.ensures (written_after _ _ _ _ _ _ c.in_ok-write_details.ensures c.put.ensures)

@@ -1,4 +1,4 @@
-use Rattle.rv_text.proofs.Writing.{beginning-both, beginning-longer, handed_on, written_behind}
+use Rattle.rv_text.proofs.Writing.{beginning-both, beginning-longer, handed_on, written_after}
 use Rattle.rv_json.proofs.json.write_object.Goals as goal
 
 pub returns-in_err-write_begin : goal.returns-in_err-write_begin
@@ -11,4 +11,4 @@ returns-in_err-write_members g c =
 
 pub returns : goal.returns
 returns g c =
-    written_behind _ _ _ _ _ _ c.in_ok-write_begin.ensures (written_behind _ _ _ _ _ _ c.in_ok-write_members.ensures c.put.ensures)
+    written_after _ _ _ _ _ _ c.in_ok-write_begin.ensures (written_after _ _ _ _ _ _ c.in_ok-write_members.ensures c.put.ensures)

@@ -1,5 +1,5 @@
 use Rattle.rv_json.specs.Json.{string}
-use Rattle.rv_text.proofs.Writing.{beginning-both, beginning-longer, handed_on, written_behind}
+use Rattle.rv_text.proofs.Writing.{beginning-both, beginning-longer, handed_on, written_after}
 use Rattle.rv_json.proofs.json.write_string.Goals as goal
 
 pub returns-in_err-put : goal.returns-in_err-put
@@ -15,4 +15,4 @@ returns-in_err-write_json_bytes g c =
 pub returns : goal.returns
 unfolding string
 returns g c =
-    written_behind _ _ _ _ _ _ c.in_ok-put.ensures (written_behind _ _ _ _ _ _ c.in_ok-write_json_bytes.ensures c.put-2.ensures)
+    written_after _ _ _ _ _ _ c.in_ok-put.ensures (written_after _ _ _ _ _ _ c.in_ok-write_json_bytes.ensures c.put-2.ensures)

@@ -1,5 +1,5 @@
 use Rattle.rv_json.specs.Listing.{line_text}
-use Rattle.rv_text.proofs.Writing.{beginning-both, beginning-longer, handed_on, written_behind}
+use Rattle.rv_text.proofs.Writing.{beginning-both, beginning-longer, handed_on, written_after}
 use Rattle.rv_json.proofs.listing.write_line.Goals as goal
 
 pub returns-in_err-write_place : goal.returns-in_err-write_place
@@ -20,4 +20,4 @@ returns-in_err-write_string g c =
 pub returns : goal.returns
 unfolding line_text
 returns g c =
-    written_behind _ _ _ _ _ _ c.in_ok-write_place.ensures (written_behind _ _ _ _ _ _ c.in_ok-write_key.ensures (written_behind _ _ _ _ _ _ c.in_ok-write_string.ensures c.put.ensures))
+    written_after _ _ _ _ _ _ c.in_ok-write_place.ensures (written_after _ _ _ _ _ _ c.in_ok-write_key.ensures (written_after _ _ _ _ _ _ c.in_ok-write_string.ensures c.put.ensures))

@@ -1,5 +1,5 @@
 use Rattle.rv_json.specs.Machine.{header_line}
-use Rattle.rv_text.proofs.Writing.{beginning-both, beginning-longer, handed_on, written_behind}
+use Rattle.rv_text.proofs.Writing.{beginning-both, beginning-longer, handed_on, written_after}
 use Rattle.rv_json.proofs.machine.write_header.Goals as goal
 
 pub returns-in_err-write_format : goal.returns-in_err-write_format
@@ -20,4 +20,4 @@ returns-in_err-write_machine g c =
 pub returns : goal.returns
 unfolding header_line
 returns g c =
-    written_behind _ _ _ _ _ _ c.in_ok-write_format.ensures (written_behind _ _ _ _ _ _ c.in_ok-write_key.ensures (written_behind _ _ _ _ _ _ c.in_ok-write_machine.ensures c.put.ensures))
+    written_after _ _ _ _ _ _ c.in_ok-write_format.ensures (written_after _ _ _ _ _ _ c.in_ok-write_key.ensures (written_after _ _ _ _ _ _ c.in_ok-write_machine.ensures c.put.ensures))

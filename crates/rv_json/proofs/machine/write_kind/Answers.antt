@@ -1,5 +1,5 @@
 use Rattle.rv_json.specs.Json.{also}
-use Rattle.rv_text.proofs.Writing.{beginning-longer, handed_on, written_behind}
+use Rattle.rv_text.proofs.Writing.{beginning-longer, handed_on, written_after}
 use Rattle.rv_json.proofs.machine.write_kind.Goals as goal
 
 pub returns-in_err-write_kind_key : goal.returns-in_err-write_kind_key
@@ -9,4 +9,4 @@ returns-in_err-write_kind_key g c =
 
 pub returns : goal.returns
 unfolding also
-returns g c = written_behind _ _ _ _ _ _ c.in_ok-write_kind_key.ensures c.write_kind_object.ensures
+returns g c = written_after _ _ _ _ _ _ c.in_ok-write_kind_key.ensures c.write_kind_object.ensures

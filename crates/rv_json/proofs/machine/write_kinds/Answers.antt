@@ -1,5 +1,5 @@
 use Rattle.rv_json.specs.Machine.{kinds_text}
-use Rattle.rv_text.proofs.Writing.{beginning-both, beginning-longer, handed_on, written_behind}
+use Rattle.rv_text.proofs.Writing.{beginning-both, beginning-longer, handed_on, written_after}
 use Rattle.rv_json.proofs.machine.write_kinds.Goals as goal
 
 pub returns-in_err-write_kind : goal.returns-in_err-write_kind
@@ -20,4 +20,4 @@ returns-in_err-write_kind-3 g c =
 pub returns : goal.returns
 unfolding kinds_text
 returns g c =
-    written_behind _ _ _ _ _ _ c.in_ok-write_kind.ensures (written_behind _ _ _ _ _ _ c.in_ok-write_kind-2.ensures (written_behind _ _ _ _ _ _ c.in_ok-write_kind-3.ensures c.write_kind-4.ensures))
+    written_after _ _ _ _ _ _ c.in_ok-write_kind.ensures (written_after _ _ _ _ _ _ c.in_ok-write_kind-2.ensures (written_after _ _ _ _ _ _ c.in_ok-write_kind-3.ensures c.write_kind-4.ensures))

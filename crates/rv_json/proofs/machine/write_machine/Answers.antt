@@ -1,5 +1,5 @@
 use Rattle.rv_json.specs.Machine.{machine_json}
-use Rattle.rv_text.proofs.Writing.{beginning-both, beginning-longer, handed_on, written_behind}
+use Rattle.rv_text.proofs.Writing.{beginning-both, beginning-longer, handed_on, written_after}
 use Rattle.rv_json.proofs.machine.write_machine.Goals as goal
 
 pub returns-in_err-write_numbers : goal.returns-in_err-write_numbers
@@ -25,4 +25,4 @@ returns-in_err-write_predictor g c =
 pub returns : goal.returns
 unfolding machine_json
 returns g c =
-    written_behind _ _ _ _ _ _ c.in_ok-write_numbers.ensures (written_behind _ _ _ _ _ _ c.in_ok-write_kinds.ensures (written_behind _ _ _ _ _ _ c.in_ok-write_cache.ensures (written_behind _ _ _ _ _ _ c.in_ok-write_predictor.ensures c.put.ensures)))
+    written_after _ _ _ _ _ _ c.in_ok-write_numbers.ensures (written_after _ _ _ _ _ _ c.in_ok-write_kinds.ensures (written_after _ _ _ _ _ _ c.in_ok-write_cache.ensures (written_after _ _ _ _ _ _ c.in_ok-write_predictor.ensures c.put.ensures)))

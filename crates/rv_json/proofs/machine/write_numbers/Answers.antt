@@ -1,5 +1,5 @@
 use Rattle.rv_json.specs.Machine.{numbers_text}
-use Rattle.rv_text.proofs.Writing.{beginning-both, beginning-longer, handed_on, written_behind}
+use Rattle.rv_text.proofs.Writing.{beginning-both, beginning-longer, handed_on, written_after}
 use Rattle.rv_json.proofs.machine.write_numbers.Goals as goal
 
 pub returns-in_err-write_sizes : goal.returns-in_err-write_sizes
@@ -20,4 +20,4 @@ returns-in_err-write_buffers g c =
 pub returns : goal.returns
 unfolding numbers_text
 returns g c =
-    written_behind _ _ _ _ _ _ c.in_ok-write_sizes.ensures (written_behind _ _ _ _ _ _ c.in_ok-write_widths.ensures (written_behind _ _ _ _ _ _ c.in_ok-write_buffers.ensures c.write_recovery.ensures))
+    written_after _ _ _ _ _ _ c.in_ok-write_sizes.ensures (written_after _ _ _ _ _ _ c.in_ok-write_widths.ensures (written_after _ _ _ _ _ _ c.in_ok-write_buffers.ensures c.write_recovery.ensures))

@@ -1,5 +1,5 @@
 use Rattle.rv_json.specs.Observed.{observed_text}
-use Rattle.rv_text.proofs.Writing.{beginning-both, beginning-longer, handed_on, written_behind}
+use Rattle.rv_text.proofs.Writing.{beginning-both, beginning-longer, handed_on, written_after}
 use Rattle.rv_json.proofs.observed.write_observed.Goals as goal
 
 pub returns-in_err-write_pc : goal.returns-in_err-write_pc
@@ -20,4 +20,4 @@ returns-in_err-write_csrs g c =
 pub returns : goal.returns
 unfolding observed_text
 returns g c =
-    written_behind _ _ _ _ _ _ c.in_ok-write_pc.ensures (written_behind _ _ _ _ _ _ c.in_ok-write_array_member.ensures (written_behind _ _ _ _ _ _ c.in_ok-write_csrs.ensures c.write_lines.ensures))
+    written_after _ _ _ _ _ _ c.in_ok-write_pc.ensures (written_after _ _ _ _ _ _ c.in_ok-write_array_member.ensures (written_after _ _ _ _ _ _ c.in_ok-write_csrs.ensures c.write_lines.ensures))

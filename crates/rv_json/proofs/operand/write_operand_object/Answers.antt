@@ -1,5 +1,5 @@
 use Rattle.rv_json.specs.Operand.{operand_json}
-use Rattle.rv_text.proofs.Writing.{beginning-both, beginning-longer, handed_on, written_behind}
+use Rattle.rv_text.proofs.Writing.{beginning-both, beginning-longer, handed_on, written_after}
 use Rattle.rv_json.proofs.operand.write_operand_object.Goals as goal
 
 pub returns-in_err-write_register : goal.returns-in_err-write_register
@@ -15,4 +15,4 @@ returns-in_err-write_known g c =
 pub returns : goal.returns
 unfolding operand_json
 returns g c =
-    written_behind _ _ _ _ _ _ c.in_ok-write_register.ensures (written_behind _ _ _ _ _ _ c.in_ok-write_known.ensures c.put.ensures)
+    written_after _ _ _ _ _ _ c.in_ok-write_register.ensures (written_after _ _ _ _ _ _ c.in_ok-write_known.ensures c.put.ensures)

@@ -1,5 +1,5 @@
 use Rattle.rv_json.specs.Registers.{csrs_json}
-use Rattle.rv_text.proofs.Writing.{beginning-both, beginning-longer, handed_on, written_behind}
+use Rattle.rv_text.proofs.Writing.{beginning-both, beginning-longer, handed_on, written_after}
 use Rattle.rv_json.proofs.registers.write_csr_object.Goals as goal
 
 pub returns-in_err-write_interrupts : goal.returns-in_err-write_interrupts
@@ -15,4 +15,4 @@ returns-in_err-write_trap g c =
 pub returns : goal.returns
 unfolding csrs_json
 returns g c =
-    written_behind _ _ _ _ _ _ c.in_ok-write_interrupts.ensures (written_behind _ _ _ _ _ _ c.in_ok-write_trap.ensures c.put.ensures)
+    written_after _ _ _ _ _ _ c.in_ok-write_interrupts.ensures (written_after _ _ _ _ _ _ c.in_ok-write_trap.ensures c.put.ensures)

@@ -1,5 +1,5 @@
 use Rattle.rv_json.specs.Set.{lines_text}
-use Rattle.rv_text.proofs.Writing.{beginning-both, beginning-longer, handed_on, written_behind}
+use Rattle.rv_text.proofs.Writing.{beginning-both, beginning-longer, handed_on, written_after}
 use Rattle.rv_json.proofs.set.write_set.Goals as goal
 
 pub returns-in_err-write_begin : goal.returns-in_err-write_begin
@@ -15,4 +15,4 @@ returns-in_err-write_array_member g c =
 pub returns : goal.returns
 unfolding lines_text
 returns g c =
-    written_behind _ _ _ _ _ _ c.in_ok-write_begin.ensures (written_behind _ _ _ _ _ _ c.in_ok-write_array_member.ensures c.put.ensures)
+    written_after _ _ _ _ _ _ c.in_ok-write_begin.ensures (written_after _ _ _ _ _ _ c.in_ok-write_array_member.ensures c.put.ensures)

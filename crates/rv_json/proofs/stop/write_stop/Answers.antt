@@ -1,5 +1,5 @@
 use Rattle.rv_json.specs.Stop.{stop_line}
-use Rattle.rv_text.proofs.Writing.{beginning-longer, handed_on, written_behind}
+use Rattle.rv_text.proofs.Writing.{beginning-longer, handed_on, written_after}
 use Rattle.rv_json.proofs.stop.write_stop.Goals as goal
 
 pub returns-in_err-write_end : goal.returns-in_err-write_end
@@ -9,4 +9,4 @@ returns-in_err-write_end g c =
 
 pub returns : goal.returns
 unfolding stop_line
-returns g c = written_behind _ _ _ _ _ _ c.in_ok-write_end.ensures c.put.ensures
+returns g c = written_after _ _ _ _ _ _ c.in_ok-write_end.ensures c.put.ensures

@@ -1,5 +1,5 @@
 use Rattle.rv_json.specs.Json.{begins}
-use Rattle.rv_text.proofs.Writing.{beginning-longer, handed_on, written_behind}
+use Rattle.rv_text.proofs.Writing.{beginning-longer, handed_on, written_after}
 use Rattle.rv_json.proofs.units.write_first.Goals as goal
 
 pub returns-in_err-write_opens : goal.returns-in_err-write_opens
@@ -9,4 +9,4 @@ returns-in_err-write_opens g c =
 
 pub returns : goal.returns
 unfolding begins
-returns g c = written_behind _ _ _ _ _ _ c.in_ok-write_opens.ensures c.write_array.ensures
+returns g c = written_after _ _ _ _ _ _ c.in_ok-write_opens.ensures c.write_array.ensures

@@ -1,5 +1,5 @@
 use Rattle.rv_json.specs.Units.{units_json}
-use Rattle.rv_text.proofs.Writing.{beginning-both, beginning-longer, handed_on, written_behind}
+use Rattle.rv_text.proofs.Writing.{beginning-both, beginning-longer, handed_on, written_after}
 use Rattle.rv_json.proofs.units.write_kinds.Goals as goal
 
 pub returns-in_err-write_first : goal.returns-in_err-write_first
@@ -25,4 +25,4 @@ returns-in_err-write_array_member-3 g c =
 pub returns : goal.returns
 unfolding units_json
 returns g c =
-    written_behind _ _ _ _ _ _ c.in_ok-write_first.ensures (written_behind _ _ _ _ _ _ c.in_ok-write_array_member.ensures (written_behind _ _ _ _ _ _ c.in_ok-write_array_member-2.ensures (written_behind _ _ _ _ _ _ c.in_ok-write_array_member-3.ensures c.put.ensures)))
+    written_after _ _ _ _ _ _ c.in_ok-write_first.ensures (written_after _ _ _ _ _ _ c.in_ok-write_array_member.ensures (written_after _ _ _ _ _ _ c.in_ok-write_array_member-2.ensures (written_after _ _ _ _ _ _ c.in_ok-write_array_member-3.ensures c.put.ensures)))

@@ -1,5 +1,5 @@
 use Rattle.rv_json.specs.Word.{word_text}
-use Rattle.rv_text.proofs.Writing.{beginning-longer, handed_on, written_behind}
+use Rattle.rv_text.proofs.Writing.{beginning-longer, handed_on, written_after}
 use Rattle.rv_json.proofs.word.write_word.Goals as goal
 
 pub returns-in_err-write_word_object : goal.returns-in_err-write_word_object
@@ -9,4 +9,4 @@ returns-in_err-write_word_object g c =
 
 pub returns : goal.returns
 unfolding word_text
-returns g c = written_behind _ _ _ _ _ _ c.in_ok-write_word_object.ensures c.put.ensures
+returns g c = written_after _ _ _ _ _ _ c.in_ok-write_word_object.ensures c.put.ensures

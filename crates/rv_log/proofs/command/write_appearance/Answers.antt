@@ -1,5 +1,5 @@
 use Rattle.rv_log.specs.Command.{appearance_text}
-use Rattle.rv_text.proofs.Writing.{beginning-both, beginning-longer, handed_on, written_behind}
+use Rattle.rv_text.proofs.Writing.{beginning-both, beginning-longer, handed_on, written_after}
 use Rattle.rv_log.proofs.command.write_appearance.Goals as goal
 
 pub returns-in_err-write_introduction : goal.returns-in_err-write_introduction
@@ -15,4 +15,4 @@ returns-in_err-write_statement g c =
 pub returns : goal.returns
 unfolding appearance_text
 returns g c =
-    written_behind _ _ _ _ _ _ c.in_ok-write_introduction.ensures (written_behind _ _ _ _ _ _ c.in_ok-write_statement.ensures c.put.ensures)
+    written_after _ _ _ _ _ _ c.in_ok-write_introduction.ensures (written_after _ _ _ _ _ _ c.in_ok-write_statement.ensures c.put.ensures)

@@ -1,5 +1,5 @@
 use Rattle.rv_log.specs.Log.{begin_text}
-use Rattle.rv_text.proofs.Writing.{beginning-longer, handed_on, written_behind}
+use Rattle.rv_text.proofs.Writing.{beginning-longer, handed_on, written_after}
 use Rattle.rv_log.proofs.cycle.write_begin.Goals as goal
 
 pub returns-in_err-write_head : goal.returns-in_err-write_head
@@ -10,4 +10,4 @@ returns-in_err-write_head g c =
 pub returns : goal.returns
 unfolding begin_text
 returns g c =
-    written_behind _ _ _ _ _ _ c.in_ok-write_head.ensures c.write_appearances.ensures
+    written_after _ _ _ _ _ _ c.in_ok-write_head.ensures c.write_appearances.ensures

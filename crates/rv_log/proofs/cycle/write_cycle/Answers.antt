@@ -1,5 +1,5 @@
 use Rattle.rv_log.specs.Log.{cycle_text}
-use Rattle.rv_text.proofs.Writing.{beginning-both, beginning-longer, handed_on, written_behind}
+use Rattle.rv_text.proofs.Writing.{beginning-both, beginning-longer, handed_on, written_after}
 use Rattle.rv_log.proofs.cycle.write_cycle.Goals as goal
 
 pub returns-in_err-write_rows : goal.returns-in_err-write_rows
@@ -20,4 +20,4 @@ returns-in_err-put g c =
 pub returns : goal.returns
 unfolding cycle_text
 returns g c =
-    written_behind _ _ _ _ _ _ c.in_ok-write_rows.ensures (written_behind _ _ _ _ _ _ c.in_ok-write_room.ensures (written_behind _ _ _ _ _ _ c.in_ok-put.ensures c.write_leaving.ensures))
+    written_after _ _ _ _ _ _ c.in_ok-write_rows.ensures (written_after _ _ _ _ _ _ c.in_ok-write_room.ensures (written_after _ _ _ _ _ _ c.in_ok-put.ensures c.write_leaving.ensures))

@@ -1,5 +1,5 @@
 use Rattle.rv_log.specs.Dependence.{dependences_at}
-use Rattle.rv_text.proofs.Writing.{beginning-longer, handed_on, written_behind}
+use Rattle.rv_text.proofs.Writing.{beginning-longer, handed_on, written_after}
 use Rattle.rv_log.proofs.dependence.write_dependences.Goals as goal
 
 pub returns-in_err-write_dependence_at : goal.returns-in_err-write_dependence_at
@@ -10,4 +10,4 @@ returns-in_err-write_dependence_at g c =
 pub returns : goal.returns
 unfolding dependences_at
 returns g c =
-    written_behind _ _ _ _ _ _ c.in_ok-write_dependence_at.ensures c.write_dependence_at-2.ensures
+    written_after _ _ _ _ _ _ c.in_ok-write_dependence_at.ensures c.write_dependence_at-2.ensures

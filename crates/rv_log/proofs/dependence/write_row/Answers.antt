@@ -1,5 +1,5 @@
 use Rattle.rv_log.specs.Dependence.{row_at}
-use Rattle.rv_text.proofs.Writing.{beginning-longer, handed_on, written_behind}
+use Rattle.rv_text.proofs.Writing.{beginning-longer, handed_on, written_after}
 use Rattle.rv_log.proofs.dependence.write_row.Goals as goal
 
 pub returns-in_err-write_events : goal.returns-in_err-write_events
@@ -10,4 +10,4 @@ returns-in_err-write_events g c =
 pub returns : goal.returns
 unfolding row_at
 returns g c =
-    written_behind _ _ _ _ _ _ c.in_ok-write_events.ensures c.write_dependences.ensures
+    written_after _ _ _ _ _ _ c.in_ok-write_events.ensures c.write_dependences.ensures

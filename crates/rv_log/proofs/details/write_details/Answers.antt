@@ -1,5 +1,5 @@
 use Rattle.rv_log.specs.Details.{details_line}
-use Rattle.rv_text.proofs.Writing.{beginning-both, beginning-longer, handed_on, written_behind}
+use Rattle.rv_text.proofs.Writing.{beginning-both, beginning-longer, handed_on, written_after}
 use Rattle.rv_log.proofs.details.write_details.Goals as goal
 
 pub returns-in_err-write_begin : goal.returns-in_err-write_begin
@@ -30,4 +30,4 @@ returns-in_err-write_waited g c =
 pub returns : goal.returns
 unfolding details_line
 returns g c =
-    written_behind _ _ _ _ _ _ c.in_ok-write_begin.ensures (written_behind _ _ _ _ _ _ c.in_ok-write_ending.ensures (written_behind _ _ _ _ _ _ c.in_ok-write_cost.ensures (written_behind _ _ _ _ _ _ c.in_ok-write_prediction.ensures (written_behind _ _ _ _ _ _ c.in_ok-write_waited.ensures c.put.ensures))))
+    written_after _ _ _ _ _ _ c.in_ok-write_begin.ensures (written_after _ _ _ _ _ _ c.in_ok-write_ending.ensures (written_after _ _ _ _ _ _ c.in_ok-write_cost.ensures (written_after _ _ _ _ _ _ c.in_ok-write_prediction.ensures (written_after _ _ _ _ _ _ c.in_ok-write_waited.ensures c.put.ensures))))

@@ -1,5 +1,5 @@
 use Rattle.rv_log.specs.Event.{ended_text}
-use Rattle.rv_text.proofs.Writing.{beginning-longer, handed_on, written_behind}
+use Rattle.rv_text.proofs.Writing.{beginning-longer, handed_on, written_after}
 use Rattle.rv_log.proofs.event.write_ended.Goals as goal
 
 pub returns-in_err-write_details : goal.returns-in_err-write_details
@@ -10,4 +10,4 @@ returns-in_err-write_details g c =
 pub returns : goal.returns
 unfolding ended_text
 returns g c =
-    written_behind _ _ _ _ _ _ c.in_ok-write_details.ensures c.write_end.ensures
+    written_after _ _ _ _ _ _ c.in_ok-write_details.ensures c.write_end.ensures

@@ -1,7 +1,7 @@
 use Rattle.std.proofs.Common.{ap}
 use Rattle.rv_log.specs.Event.{events_at, stage_at}
 use Rattle.rv_log.specs.declared.stage.Stage.TheVariants.{Execution, Retirement}
-use Rattle.rv_text.proofs.Writing.{Appends-same, beginning-both, beginning-longer, beginning-same, handed_on, written_behind, written_same}
+use Rattle.rv_text.proofs.Writing.{Appends-same, beginning-both, beginning-longer, beginning-same, handed_on, written_after, written_same}
 use Rattle.rv_log.proofs.event.write_events.Goals as goal
 
 pub returns-in_err-write_fetch_at : goal.returns-in_err-write_fetch_at
@@ -39,4 +39,4 @@ unfolding events_at
 returns g c =
     let execution = Appends-same _ _ _ _ (ap (stage_at c.args.cycle c.args.row.now.number Execution) c.issued.ensures) c.in_ok-write_stage_at-2.ensures in
     let retired = written_same _ _ _ _ _ (ap (stage_at c.args.cycle c.args.row.now.number Retirement) c.retired.ensures) c.write_stage_at-4.ensures in
-    written_behind _ _ _ _ _ _ c.in_ok-write_fetch_at.ensures (written_behind _ _ _ _ _ _ c.in_ok-write_stage_at.ensures (written_behind _ _ _ _ _ _ execution (written_behind _ _ _ _ _ _ c.in_ok-write_bus_wait_at.ensures (written_behind _ _ _ _ _ _ c.in_ok-write_stage_at-3.ensures retired))))
+    written_after _ _ _ _ _ _ c.in_ok-write_fetch_at.ensures (written_after _ _ _ _ _ _ c.in_ok-write_stage_at.ensures (written_after _ _ _ _ _ _ execution (written_after _ _ _ _ _ _ c.in_ok-write_bus_wait_at.ensures (written_after _ _ _ _ _ _ c.in_ok-write_stage_at-3.ensures retired))))

@@ -1,5 +1,5 @@
 use Rattle.rv_log.specs.Event.{fetched_text}
-use Rattle.rv_text.proofs.Writing.{beginning-longer, handed_on, written_behind}
+use Rattle.rv_text.proofs.Writing.{beginning-longer, handed_on, written_after}
 use Rattle.rv_log.proofs.event.write_fetched.Goals as goal
 
 pub returns-in_err-write_appearance : goal.returns-in_err-write_appearance
@@ -10,4 +10,4 @@ returns-in_err-write_appearance g c =
 pub returns : goal.returns
 unfolding fetched_text
 returns g c =
-    written_behind _ _ _ _ _ _ c.in_ok-write_appearance.ensures c.write_stage.ensures
+    written_after _ _ _ _ _ _ c.in_ok-write_appearance.ensures c.write_stage.ensures

@@ -1,4 +1,4 @@
-use Rattle.rv_text.proofs.Writing.{beginning-longer, handed_on, written_behind}
+use Rattle.rv_text.proofs.Writing.{beginning-longer, handed_on, written_after}
 use Rattle.rv_log.proofs.waited.write_operand.Goals as goal
 
 pub returns-in_err-put : goal.returns-in_err-put
@@ -7,4 +7,4 @@ returns-in_err-put g c =
 
 pub returns : goal.returns
 returns g c =
-    written_behind _ _ _ _ _ _ c.in_ok-put.ensures c.write_result.ensures
+    written_after _ _ _ _ _ _ c.in_ok-put.ensures c.write_result.ensures

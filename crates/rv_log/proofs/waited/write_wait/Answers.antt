@@ -1,5 +1,5 @@
 use Rattle.rv_log.specs.Waited.{wait_text}
-use Rattle.rv_text.proofs.Writing.{beginning-longer, handed_on, written_behind}
+use Rattle.rv_text.proofs.Writing.{beginning-longer, handed_on, written_after}
 use Rattle.rv_log.proofs.waited.write_wait.Goals as goal
 
 pub returns-in_err-write_cycles : goal.returns-in_err-write_cycles
@@ -10,4 +10,4 @@ returns-in_err-write_cycles g c =
 pub returns : goal.returns
 unfolding wait_text
 returns g c =
-    written_behind _ _ _ _ _ _ c.in_ok-write_cycles.ensures c.write_awaited.ensures
+    written_after _ _ _ _ _ _ c.in_ok-write_cycles.ensures c.write_awaited.ensures

@@ -1,5 +1,5 @@
 use Rattle.rv_profile.specs.Text.{last_cells}
-use Rattle.rv_text.proofs.Writing.{handed_on, written_behind, beginning-longer}
+use Rattle.rv_text.proofs.Writing.{handed_on, written_after, beginning-longer}
 use Rattle.rv_profile.proofs.text.write_last.Goals as goal
 
 pub returns-in_err-write_cells : goal.returns-in_err-write_cells
@@ -10,4 +10,4 @@ returns-in_err-write_cells g c =
 pub returns : goal.returns
 unfolding last_cells
 returns g c =
-    written_behind _ _ _ _ _ _ c.in_ok-write_cells.ensures c.write_head_cycles.ensures
+    written_after _ _ _ _ _ _ c.in_ok-write_cells.ensures c.write_head_cycles.ensures

@@ -1,4 +1,4 @@
-use Rattle.rv_text.proofs.Writing.{handed_on, written_behind, beginning-longer}
+use Rattle.rv_text.proofs.Writing.{handed_on, written_after, beginning-longer}
 use Rattle.rv_profile.proofs.text.write_line.Goals as goal
 
 pub returns-in_err-write_number : goal.returns-in_err-write_number
@@ -7,4 +7,4 @@ returns-in_err-write_number g c =
 
 pub returns : goal.returns
 returns g c =
-    written_behind _ _ _ _ _ _ c.in_ok-write_number.ensures c.write_statement.ensures
+    written_after _ _ _ _ _ _ c.in_ok-write_number.ensures c.write_statement.ensures

@@ -1,5 +1,5 @@
 use Rattle.rv_profile.specs.Text.{place_cells}
-use Rattle.rv_text.proofs.Writing.{handed_on, written_behind, beginning-longer}
+use Rattle.rv_text.proofs.Writing.{handed_on, written_after, beginning-longer}
 use Rattle.rv_profile.proofs.text.write_place.Goals as goal
 
 pub returns-in_err-write_address : goal.returns-in_err-write_address
@@ -10,4 +10,4 @@ returns-in_err-write_address g c =
 pub returns : goal.returns
 unfolding place_cells
 returns g c =
-    written_behind _ _ _ _ _ _ c.in_ok-write_address.ensures c.write_line_cells.ensures
+    written_after _ _ _ _ _ _ c.in_ok-write_address.ensures c.write_line_cells.ensures

@@ -1,5 +1,5 @@
 use Rattle.rv_profile.specs.Text.{table_text}
-use Rattle.rv_text.proofs.Writing.{handed_on, written_behind, beginning-longer}
+use Rattle.rv_text.proofs.Writing.{handed_on, written_after, beginning-longer}
 use Rattle.rv_profile.proofs.text.write_table.Goals as goal
 
 pub returns-in_err-write_head : goal.returns-in_err-write_head
@@ -10,4 +10,4 @@ returns-in_err-write_head g c =
 pub returns : goal.returns
 unfolding table_text
 returns g c =
-    written_behind _ _ _ _ _ _ c.in_ok-write_head.ensures c.write_words.ensures
+    written_after _ _ _ _ _ _ c.in_ok-write_head.ensures c.write_words.ensures

@@ -1,5 +1,5 @@
 use Rattle.rv_profile.specs.Text.{waits_cells}
-use Rattle.rv_text.proofs.Writing.{handed_on, written_behind, beginning-longer, beginning-both}
+use Rattle.rv_text.proofs.Writing.{handed_on, written_after, beginning-longer, beginning-both}
 use Rattle.rv_profile.proofs.text.write_waits.Goals as goal
 
 pub returns-in_err-write_wait : goal.returns-in_err-write_wait
@@ -20,4 +20,4 @@ returns-in_err-write_wait-3 g c =
 pub returns : goal.returns
 unfolding waits_cells
 returns g c =
-    written_behind _ _ _ _ _ _ c.in_ok-write_wait.ensures (written_behind _ _ _ _ _ _ c.in_ok-write_wait-2.ensures (written_behind _ _ _ _ _ _ c.in_ok-write_wait-3.ensures c.write_wait-4.ensures))
+    written_after _ _ _ _ _ _ c.in_ok-write_wait.ensures (written_after _ _ _ _ _ _ c.in_ok-write_wait-2.ensures (written_after _ _ _ _ _ _ c.in_ok-write_wait-3.ensures c.write_wait-4.ensures))

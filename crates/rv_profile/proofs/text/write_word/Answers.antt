@@ -1,5 +1,5 @@
 use Rattle.rv_profile.specs.Text.{word_line}
-use Rattle.rv_text.proofs.Writing.{handed_on, written_behind, beginning-longer, beginning-both}
+use Rattle.rv_text.proofs.Writing.{handed_on, written_after, beginning-longer, beginning-both}
 use Rattle.rv_profile.proofs.text.write_word.Goals as goal
 
 pub returns-in_err-write_place : goal.returns-in_err-write_place
@@ -20,4 +20,4 @@ returns-in_err-write_waits g c =
 pub returns : goal.returns
 unfolding word_line
 returns g c =
-    written_behind _ _ _ _ _ _ c.in_ok-write_place.ensures (written_behind _ _ _ _ _ _ c.in_ok-write_ended.ensures (written_behind _ _ _ _ _ _ c.in_ok-write_waits.ensures c.write_last.ensures))
+    written_after _ _ _ _ _ _ c.in_ok-write_place.ensures (written_after _ _ _ _ _ _ c.in_ok-write_ended.ensures (written_after _ _ _ _ _ _ c.in_ok-write_waits.ensures c.write_last.ensures))

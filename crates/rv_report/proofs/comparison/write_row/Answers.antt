@@ -1,5 +1,5 @@
 use Rattle.rv_report.specs.Comparison.{table_row}
-use Rattle.rv_text.proofs.Writing.{beginning-both, beginning-longer, handed_on, written_behind}
+use Rattle.rv_text.proofs.Writing.{beginning-both, beginning-longer, handed_on, written_after}
 use Rattle.rv_report.proofs.comparison.write_row.Goals as goal
 
 pub returns-in_err-write_counts : goal.returns-in_err-write_counts
@@ -15,4 +15,4 @@ returns-in_err-write_losses g c =
 pub returns : goal.returns
 unfolding table_row
 returns g c =
-    written_behind _ _ _ _ _ _ c.in_ok-write_counts.ensures (written_behind _ _ _ _ _ _ c.in_ok-write_losses.ensures c.write_name_and_end.ensures)
+    written_after _ _ _ _ _ _ c.in_ok-write_counts.ensures (written_after _ _ _ _ _ _ c.in_ok-write_losses.ensures c.write_name_and_end.ensures)

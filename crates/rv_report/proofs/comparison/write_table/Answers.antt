@@ -1,5 +1,5 @@
 use Rattle.rv_report.specs.Comparison.{table_of}
-use Rattle.rv_text.proofs.Writing.{handed_on, beginning-longer, written_behind}
+use Rattle.rv_text.proofs.Writing.{handed_on, beginning-longer, written_after}
 use Rattle.rv_report.proofs.comparison.write_table.Goals as goal
 
 pub returns-in_err-write_head : goal.returns-in_err-write_head
@@ -9,4 +9,4 @@ returns-in_err-write_head g c =
 
 pub returns : goal.returns
 unfolding table_of
-returns g c = written_behind _ _ _ _ _ _ c.in_ok-write_head.ensures c.write_rows.ensures
+returns g c = written_after _ _ _ _ _ _ c.in_ok-write_head.ensures c.write_rows.ensures

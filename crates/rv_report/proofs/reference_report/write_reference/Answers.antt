@@ -1,6 +1,6 @@
 use Rattle.rv_report.specs.ReferenceReport.{reference_report}
 use Rattle.rv_report.specs.State.{state_lines}
-use Rattle.rv_text.proofs.Writing.{handed_on, Appends-same, beginning-same, beginning-longer, beginning-both, written_behind}
+use Rattle.rv_text.proofs.Writing.{handed_on, Appends-same, beginning-same, beginning-longer, beginning-both, written_after}
 use Rattle.rv_report.proofs.reference_report.write_reference.Goals as goal
 
 pub returns-in_err-write_stop : goal.returns-in_err-write_stop
@@ -27,4 +27,4 @@ unfolding reference_report
 returns g c =
     let seen = c.observe.ensures in
     let state = Appends-same _ _ _ _ (λ i. state_lines (seen.pc i) (seen.registers i) (seen.csrs i) (seen.lines i)) c.in_ok-write_state.ensures in
-    written_behind _ _ _ _ _ _ c.in_ok-write_stop.ensures (written_behind _ _ _ _ _ _ c.in_ok-write_counts.ensures (written_behind _ _ _ _ _ _ state c.write_seen_memory.ensures))
+    written_after _ _ _ _ _ _ c.in_ok-write_stop.ensures (written_after _ _ _ _ _ _ c.in_ok-write_counts.ensures (written_after _ _ _ _ _ _ state c.write_seen_memory.ensures))

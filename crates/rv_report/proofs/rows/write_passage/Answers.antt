@@ -1,5 +1,5 @@
 use Rattle.rv_report.specs.Rows.{passage_text}
-use Rattle.rv_text.proofs.Writing.{beginning-both, beginning-longer, handed_on, written_behind}
+use Rattle.rv_text.proofs.Writing.{beginning-both, beginning-longer, handed_on, written_after}
 use Rattle.rv_report.proofs.rows.write_passage.Goals as goal
 
 pub returns-in_err-write_place : goal.returns-in_err-write_place
@@ -15,4 +15,4 @@ returns-in_err-write_entry g c =
 pub returns : goal.returns
 unfolding passage_text
 returns g c =
-    written_behind _ _ _ _ _ _ c.in_ok-write_place.ensures (written_behind _ _ _ _ _ _ c.in_ok-write_entry.ensures c.write_result.ensures)
+    written_after _ _ _ _ _ _ c.in_ok-write_place.ensures (written_after _ _ _ _ _ _ c.in_ok-write_entry.ensures c.write_result.ensures)

@@ -1,6 +1,6 @@
 use Rattle.rv_report.specs.RunReport.{end_lines}
 use Rattle.rv_report.specs.State.{state_lines}
-use Rattle.rv_text.proofs.Writing.{handed_on, beginning-longer, beginning-both, written_behind, written_same}
+use Rattle.rv_text.proofs.Writing.{handed_on, beginning-longer, beginning-both, written_after, written_same}
 use Rattle.rv_report.proofs.run_report.write_end.Goals as goal
 
 pub returns-in_err-write_stop : goal.returns-in_err-write_stop
@@ -19,4 +19,4 @@ unfolding end_lines
 returns g c =
     let seen = c.observe.ensures in
     let state = written_same _ _ _ _ _ (λ i. state_lines (seen.pc i) (seen.registers i) (seen.csrs i) (seen.lines i)) c.write_state.ensures in
-    written_behind _ _ _ _ _ _ c.in_ok-write_stop.ensures (written_behind _ _ _ _ _ _ c.in_ok-write_counts.ensures state)
+    written_after _ _ _ _ _ _ c.in_ok-write_stop.ensures (written_after _ _ _ _ _ _ c.in_ok-write_counts.ensures state)

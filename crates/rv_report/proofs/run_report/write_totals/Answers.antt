@@ -1,5 +1,5 @@
 use Rattle.rv_report.specs.RunReport.{end_text}
-use Rattle.rv_text.proofs.Writing.{handed_on, beginning-longer, written_behind}
+use Rattle.rv_text.proofs.Writing.{handed_on, beginning-longer, written_after}
 use Rattle.rv_report.proofs.run_report.write_totals.Goals as goal
 
 pub returns-in_err-write_end : goal.returns-in_err-write_end
@@ -9,4 +9,4 @@ returns-in_err-write_end g c =
 
 pub returns : goal.returns
 unfolding end_text
-returns g c = written_behind _ _ _ _ _ _ c.in_ok-write_end.ensures c.write_memory.ensures
+returns g c = written_after _ _ _ _ _ _ c.in_ok-write_end.ensures c.write_memory.ensures

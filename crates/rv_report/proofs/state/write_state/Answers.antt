@@ -1,7 +1,7 @@
 use Rattle.std.proofs.Common.{append-nil}
 use Rattle.rv_text.specs.Line.{word_line}
 use Rattle.rv_report.specs.State.{state_lines}
-use Rattle.rv_text.proofs.Writing.{handed_on, Appends-same, beginning-same, beginning-longer, beginning-both, written_behind}
+use Rattle.rv_text.proofs.Writing.{handed_on, Appends-same, beginning-same, beginning-longer, beginning-both, written_after}
 use Rattle.rv_report.proofs.state.write_state.Goals as goal
 
 pub returns-in_err-write_fields : goal.returns-in_err-write_fields
@@ -19,4 +19,4 @@ pub returns : goal.returns
 unfolding state_lines word_line
 returns g c =
     let pc = Appends-same _ _ _ _ (append-nil _) c.in_ok-write_fields.ensures in
-    written_behind _ _ _ _ _ _ pc (written_behind _ _ _ _ _ _ c.in_ok-write_registers.ensures c.write_csrs.ensures)
+    written_after _ _ _ _ _ _ pc (written_after _ _ _ _ _ _ c.in_ok-write_registers.ensures c.write_csrs.ensures)

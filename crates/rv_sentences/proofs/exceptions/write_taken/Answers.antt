@@ -1,5 +1,5 @@
 use Rattle.rv_sentences.specs.Exception.{taken_text}
-use Rattle.rv_text.proofs.Writing.{handed_on, written_behind, beginning-longer, beginning-both}
+use Rattle.rv_text.proofs.Writing.{handed_on, written_after, beginning-longer, beginning-both}
 use Rattle.rv_sentences.proofs.exceptions.write_taken.Goals as goal
 
 pub returns-in_err-put : goal.returns-in_err-put
@@ -19,4 +19,4 @@ returns-in_err-write_place g c =
 
 pub returns : goal.returns
 unfolding taken_text
-returns g c = written_behind _ _ _ _ _ _ c.in_ok-put.ensures (written_behind _ _ _ _ _ _ c.in_ok-write_cause.ensures (written_behind _ _ _ _ _ _ c.in_ok-write_place.ensures c.write_handler.ensures))
+returns g c = written_after _ _ _ _ _ _ c.in_ok-put.ensures (written_after _ _ _ _ _ _ c.in_ok-write_cause.ensures (written_after _ _ _ _ _ _ c.in_ok-write_place.ensures c.write_handler.ensures))

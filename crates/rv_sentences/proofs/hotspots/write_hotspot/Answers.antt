@@ -1,6 +1,6 @@
 use Rattle.std.proofs.Common.{ap}
 use Rattle.rv_sentences.specs.Hotspot.{hotspot_text, loads_there}
-use Rattle.rv_text.proofs.Writing.{handed_on, written_behind, written_same, beginning-both, beginning-longer}
+use Rattle.rv_text.proofs.Writing.{handed_on, written_after, written_same, beginning-both, beginning-longer}
 use Rattle.rv_sentences.proofs.hotspots.write_hotspot.Goals as goal
 
 pub returns-in_err-write_place : goal.returns-in_err-write_place
@@ -17,5 +17,5 @@ returns-in_err-write_share g c =
 pub returns : goal.returns
 unfolding hotspot_text
 returns g c =
-    written_behind _ _ _ _ _ _ c.in_ok-write_place.ensures
-    (written_behind _ _ _ _ _ _ c.in_ok-write_share.ensures (written_same _ _ _ _ _ (ap loads_there c.at.ensures) c.write_loads_there.ensures))
+    written_after _ _ _ _ _ _ c.in_ok-write_place.ensures
+    (written_after _ _ _ _ _ _ c.in_ok-write_share.ensures (written_same _ _ _ _ _ (ap loads_there c.at.ensures) c.write_loads_there.ensures))

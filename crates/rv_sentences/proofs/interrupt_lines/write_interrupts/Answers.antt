@@ -1,5 +1,5 @@
 use Rattle.rv_sentences.specs.Interrupt.{interrupts_text}
-use Rattle.rv_text.proofs.Writing.{handed_on, written_behind, beginning-longer, beginning-both}
+use Rattle.rv_text.proofs.Writing.{handed_on, written_after, beginning-longer, beginning-both}
 use Rattle.rv_sentences.proofs.interrupt_lines.write_interrupts.Goals as goal
 
 pub returns-in_err-write_line : goal.returns-in_err-write_line
@@ -14,4 +14,4 @@ returns-in_err-write_line-2 g c =
 
 pub returns : goal.returns
 unfolding interrupts_text
-returns g c = written_behind _ _ _ _ _ _ c.in_ok-write_line.ensures (written_behind _ _ _ _ _ _ c.in_ok-write_line-2.ensures c.write_line-3.ensures)
+returns g c = written_after _ _ _ _ _ _ c.in_ok-write_line.ensures (written_after _ _ _ _ _ _ c.in_ok-write_line-2.ensures c.write_line-3.ensures)

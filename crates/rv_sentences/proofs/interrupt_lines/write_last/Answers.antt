@@ -1,5 +1,5 @@
 use Rattle.rv_sentences.specs.Interrupt.{last_text}
-use Rattle.rv_text.proofs.Writing.{handed_on, written_behind, written_same, beginning-longer, beginning-same}
+use Rattle.rv_text.proofs.Writing.{handed_on, written_after, written_same, beginning-longer, beginning-same}
 use Rattle.rv_sentences.proofs.Cases.{otherwise}
 use Rattle.rv_sentences.proofs.interrupt_lines.write_last.Goals as goal
 
@@ -12,4 +12,4 @@ returns-in_err-write_last_cycle g c =
 pub returns : goal.returns
 unfolding last_text
 returns g c =
-    written_same _ _ _ _ _ (otherwise c.args.series.now.count 1 _ _ c.if-series-eq1.false) (written_behind _ _ _ _ _ _ c.in_ok-write_last_cycle.ensures c.write_place.ensures)
+    written_same _ _ _ _ _ (otherwise c.args.series.now.count 1 _ _ c.if-series-eq1.false) (written_after _ _ _ _ _ _ c.in_ok-write_last_cycle.ensures c.write_place.ensures)

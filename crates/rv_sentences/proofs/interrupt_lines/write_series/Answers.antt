@@ -1,5 +1,5 @@
 use Rattle.rv_sentences.specs.Interrupt.{series_text}
-use Rattle.rv_text.proofs.Writing.{handed_on, written_behind, beginning-longer, beginning-both}
+use Rattle.rv_text.proofs.Writing.{handed_on, written_after, beginning-longer, beginning-both}
 use Rattle.rv_sentences.proofs.interrupt_lines.write_series.Goals as goal
 
 pub returns-in_err-write_first : goal.returns-in_err-write_first
@@ -14,4 +14,4 @@ returns-in_err-write_place g c =
 
 pub returns : goal.returns
 unfolding series_text
-returns g c = written_behind _ _ _ _ _ _ c.in_ok-write_first.ensures (written_behind _ _ _ _ _ _ c.in_ok-write_place.ensures c.write_last.ensures)
+returns g c = written_after _ _ _ _ _ _ c.in_ok-write_first.ensures (written_after _ _ _ _ _ _ c.in_ok-write_place.ensures c.write_last.ensures)

@@ -1,5 +1,5 @@
 use Rattle.rv_sentences.specs.Exception.{kind_text}
-use Rattle.rv_text.proofs.Writing.{handed_on, written_behind, beginning-longer, beginning-both}
+use Rattle.rv_text.proofs.Writing.{handed_on, written_after, beginning-longer, beginning-both}
 use Rattle.rv_sentences.proofs.kind_lines.write_kind.Goals as goal
 
 pub returns-in_err-write_counted : goal.returns-in_err-write_counted
@@ -14,4 +14,4 @@ returns-in_err-write_cycles g c =
 
 pub returns : goal.returns
 unfolding kind_text
-returns g c = written_behind _ _ _ _ _ _ c.in_ok-write_counted.ensures (written_behind _ _ _ _ _ _ c.in_ok-write_cycles.ensures c.write_place.ensures)
+returns g c = written_after _ _ _ _ _ _ c.in_ok-write_counted.ensures (written_after _ _ _ _ _ _ c.in_ok-write_cycles.ensures c.write_place.ensures)

@@ -1,6 +1,6 @@
 use Rattle.std.proofs.Common.{ap}
 use Rattle.rv_sentences.specs.Exception.{kinds_text, others_text}
-use Rattle.rv_text.proofs.Writing.{handed_on, written_behind, written_same, beginning-longer, beginning-both}
+use Rattle.rv_text.proofs.Writing.{handed_on, written_after, written_same, beginning-longer, beginning-both}
 use Rattle.rv_sentences.proofs.kind_lines.write_kinds.Goals as goal
 
 pub returns-in_err-put : goal.returns-in_err-put
@@ -16,5 +16,5 @@ returns-in_err-write_kind_lines g c =
 pub returns : goal.returns
 unfolding kinds_text
 returns g c =
-    written_behind _ _ _ _ _ _ c.in_ok-put.ensures
-    (written_behind _ _ _ _ _ _ c.in_ok-write_kind_lines.ensures (written_same _ _ _ _ _ (ap others_text c.others.ensures) c.write_others.ensures))
+    written_after _ _ _ _ _ _ c.in_ok-put.ensures
+    (written_after _ _ _ _ _ _ c.in_ok-write_kind_lines.ensures (written_same _ _ _ _ _ (ap others_text c.others.ensures) c.write_others.ensures))

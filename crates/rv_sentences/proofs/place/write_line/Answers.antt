@@ -1,5 +1,5 @@
 use Rattle.rv_sentences.specs.Place.{line_text}
-use Rattle.rv_text.proofs.Writing.{handed_on, written_behind, beginning-longer, beginning-both}
+use Rattle.rv_text.proofs.Writing.{handed_on, written_after, beginning-longer, beginning-both}
 use Rattle.rv_sentences.proofs.place.write_line.Goals as goal
 
 pub returns-in_err-write_number : goal.returns-in_err-write_number
@@ -15,4 +15,4 @@ returns-in_err-write_statement g c =
 
 pub returns : goal.returns
 unfolding line_text
-returns g c = written_behind _ _ _ _ _ _ c.in_ok-write_number.ensures (written_behind _ _ _ _ _ _ c.in_ok-write_statement.ensures c.put.ensures)
+returns g c = written_after _ _ _ _ _ _ c.in_ok-write_number.ensures (written_after _ _ _ _ _ _ c.in_ok-write_statement.ensures c.put.ensures)

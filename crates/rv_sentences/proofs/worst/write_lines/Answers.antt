@@ -1,5 +1,5 @@
 use Rattle.rv_sentences.proofs.WorstLines.{some_worst}
-use Rattle.rv_text.proofs.Writing.{handed_on, written_behind, written_same, beginning-longer, beginning-same}
+use Rattle.rv_text.proofs.Writing.{handed_on, written_after, written_same, beginning-longer, beginning-same}
 use Rattle.rv_sentences.proofs.worst.write_lines.Goals as goal
 
 pub returns-in_err-put-in-len1-up : goal.returns-in_err-put-in-len1-up
@@ -10,4 +10,4 @@ returns-in_err-put-in-len1-up g c =
 pub returns-in_ok-put-in-len1-up : goal.returns-in_ok-put-in-len1-up
 returns-in_ok-put-in-len1-up g c =
     let some = some_worst c.args.listing.now c.args.branches.now c.args.worst.now c.in-len1-up.len_at_least in
-    written_same _ _ _ _ _ some (written_behind _ _ _ _ _ _ c.in_ok-put-in-len1-up.ensures c.write_each.ensures)
+    written_same _ _ _ _ _ some (written_after _ _ _ _ _ _ c.in_ok-put-in-len1-up.ensures c.write_each.ensures)

@@ -1,6 +1,6 @@
 use Rattle.rv_states.specs.Counts.{counts_text}
 use Rattle.rv_json.specs.Json.{also}
-use Rattle.rv_text.proofs.Writing.{beginning-both, beginning-longer, handed_on, written_behind}
+use Rattle.rv_text.proofs.Writing.{beginning-both, beginning-longer, handed_on, written_after}
 use Rattle.rv_states.proofs.counts.write_counts.Goals as goal
 
 pub returns-in_err-write_stall : goal.returns-in_err-write_stall
@@ -16,4 +16,4 @@ returns-in_err-write_key g c =
 pub returns : goal.returns
 unfolding counts_text also
 returns g c =
-    written_behind _ _ _ _ _ _ c.in_ok-write_stall.ensures (written_behind _ _ _ _ _ _ c.in_ok-write_key.ensures c.write_count_object.ensures)
+    written_after _ _ _ _ _ _ c.in_ok-write_stall.ensures (written_after _ _ _ _ _ _ c.in_ok-write_key.ensures c.write_count_object.ensures)

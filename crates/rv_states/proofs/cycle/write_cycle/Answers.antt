@@ -1,5 +1,5 @@
 use Rattle.rv_states.specs.Cycle.{cycle_line}
-use Rattle.rv_text.proofs.Writing.{beginning-both, beginning-longer, handed_on, written_behind}
+use Rattle.rv_text.proofs.Writing.{beginning-both, beginning-longer, handed_on, written_after}
 use Rattle.rv_states.proofs.cycle.write_cycle.Goals as goal
 
 pub returns-in_err-write_begin : goal.returns-in_err-write_begin
@@ -20,4 +20,4 @@ returns-in_err-write_array_member-2 g c =
 pub returns : goal.returns
 unfolding cycle_line
 returns g c =
-    written_behind _ _ _ _ _ _ c.in_ok-write_begin.ensures (written_behind _ _ _ _ _ _ c.in_ok-write_array_member.ensures (written_behind _ _ _ _ _ _ c.in_ok-write_array_member-2.ensures c.write_rest.ensures))
+    written_after _ _ _ _ _ _ c.in_ok-write_begin.ensures (written_after _ _ _ _ _ _ c.in_ok-write_array_member.ensures (written_after _ _ _ _ _ _ c.in_ok-write_array_member-2.ensures c.write_rest.ensures))

@@ -1,5 +1,5 @@
 use Rattle.rv_states.specs.Cycle.{rest_text}
-use Rattle.rv_text.proofs.Writing.{beginning-both, beginning-longer, handed_on, written_behind}
+use Rattle.rv_text.proofs.Writing.{beginning-both, beginning-longer, handed_on, written_after}
 use Rattle.rv_states.proofs.cycle.write_rest.Goals as goal
 
 pub returns-in_err-write_counts : goal.returns-in_err-write_counts
@@ -15,4 +15,4 @@ returns-in_err-write_state g c =
 pub returns : goal.returns
 unfolding rest_text
 returns g c =
-    written_behind _ _ _ _ _ _ c.in_ok-write_counts.ensures (written_behind _ _ _ _ _ _ c.in_ok-write_state.ensures c.put.ensures)
+    written_after _ _ _ _ _ _ c.in_ok-write_counts.ensures (written_after _ _ _ _ _ _ c.in_ok-write_state.ensures c.put.ensures)

@@ -1,5 +1,5 @@
 use Rattle.rv_states.specs.Cycle.{start_line}
-use Rattle.rv_text.proofs.Writing.{beginning-both, beginning-longer, handed_on, written_behind}
+use Rattle.rv_text.proofs.Writing.{beginning-both, beginning-longer, handed_on, written_after}
 use Rattle.rv_states.proofs.cycle.write_start.Goals as goal
 
 pub returns-in_err-write_next_cycle : goal.returns-in_err-write_next_cycle
@@ -15,4 +15,4 @@ returns-in_err-write_array_member g c =
 pub returns : goal.returns
 unfolding start_line
 returns g c =
-    written_behind _ _ _ _ _ _ c.in_ok-write_next_cycle.ensures (written_behind _ _ _ _ _ _ c.in_ok-write_array_member.ensures c.write_rest.ensures)
+    written_after _ _ _ _ _ _ c.in_ok-write_next_cycle.ensures (written_after _ _ _ _ _ _ c.in_ok-write_array_member.ensures c.write_rest.ensures)

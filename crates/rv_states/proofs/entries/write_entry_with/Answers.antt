@@ -1,5 +1,5 @@
 use Rattle.rv_states.specs.Entries.{entry_json}
-use Rattle.rv_text.proofs.Writing.{beginning-both, beginning-longer, handed_on, written_behind}
+use Rattle.rv_text.proofs.Writing.{beginning-both, beginning-longer, handed_on, written_after}
 use Rattle.rv_states.proofs.entries.write_entry_with.Goals as goal
 
 pub returns-in_err-write_entry : goal.returns-in_err-write_entry
@@ -15,4 +15,4 @@ returns-in_err-write_operands g c =
 pub returns : goal.returns
 unfolding entry_json
 returns g c =
-    written_behind _ _ _ _ _ _ c.in_ok-write_entry.ensures (written_behind _ _ _ _ _ _ c.in_ok-write_operands.ensures c.put.ensures)
+    written_after _ _ _ _ _ _ c.in_ok-write_entry.ensures (written_after _ _ _ _ _ _ c.in_ok-write_operands.ensures c.put.ensures)

@@ -3,7 +3,7 @@ use Rattle.std.specs.Io.KnownBytes.{Appends}
 use Rattle.rv_isa.specs.declared.values.Values.{Values}
 use Rattle.rv_core.specs.declared.outcome.Progress.{Progress}
 use Rattle.rv_text.specs.Written.{IsWritten}
-use Rattle.rv_text.proofs.Writing.{beginning-longer, beginning-same, handed_on, written_behind}
+use Rattle.rv_text.proofs.Writing.{beginning-longer, beginning-same, handed_on, written_after}
 use Rattle.rv_states.specs.States.{begun_text, head_text, opening_text}
 use Rattle.rv_states.proofs.moment.write_first.Goals as goal
 
@@ -20,4 +20,4 @@ returns g c =
     let now = g.W.Write.contents c.write_begun.new.writer in
     let first = subst (λ (v : Values). Appends (g.W.Write.contents c.args.writer.now) opened (opening_text c.args.from c.args.listing.now v)) c.values.ensures c.in_ok-write_opening.ensures in
     let begins = subst (λ (p : Progress). IsWritten c.write_begun.result opened now (begun_text c.args.from c.args.rows.now c.args.pipeline.now p)) c.no_cycle.ensures c.write_begun.ensures in
-    written_behind c.write_begun.result _ _ _ _ _ first begins
+    written_after c.write_begun.result _ _ _ _ _ first begins

@@ -1,4 +1,4 @@
-use Rattle.rv_text.proofs.Writing.{beginning-longer, handed_on, written_behind}
+use Rattle.rv_text.proofs.Writing.{beginning-longer, handed_on, written_after}
 use Rattle.rv_states.specs.States.{opening_text}
 use Rattle.rv_states.proofs.moment.write_opening.Goals as goal
 
@@ -9,4 +9,4 @@ returns-in_err-write_header g c =
 
 pub returns : goal.returns
 unfolding opening_text
-returns g c = written_behind c.write_listing.result _ _ _ _ _ c.in_ok-write_header.ensures c.write_listing.ensures
+returns g c = written_after c.write_listing.result _ _ _ _ _ c.in_ok-write_header.ensures c.write_listing.ensures

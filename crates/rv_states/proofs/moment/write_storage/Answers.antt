@@ -1,4 +1,4 @@
-use Rattle.rv_text.proofs.Writing.{beginning-longer, handed_on, written_behind}
+use Rattle.rv_text.proofs.Writing.{beginning-longer, handed_on, written_after}
 use Rattle.rv_states.specs.States.{storage_text}
 use Rattle.rv_states.proofs.moment.write_storage.Goals as goal
 
@@ -9,4 +9,4 @@ returns-in_err-write_memory g c =
 
 pub returns : goal.returns
 unfolding storage_text
-returns g c = written_behind c.write_sets.result _ _ _ _ _ c.in_ok-write_memory.ensures c.write_sets.ensures
+returns g c = written_after c.write_sets.result _ _ _ _ _ c.in_ok-write_memory.ensures c.write_sets.ensures

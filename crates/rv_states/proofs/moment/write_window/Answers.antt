@@ -1,4 +1,4 @@
-use Rattle.rv_text.proofs.Writing.{beginning-longer, handed_on, written_behind}
+use Rattle.rv_text.proofs.Writing.{beginning-longer, handed_on, written_after}
 use Rattle.rv_states.specs.States.{window_text}
 use Rattle.rv_states.proofs.moment.write_window.Goals as goal
 
@@ -9,4 +9,4 @@ returns-in_err-write_storage g c =
 
 pub returns : goal.returns
 unfolding window_text
-returns g c = written_behind c.write_start.result _ _ _ _ _ c.in_ok-write_storage.ensures c.write_start.ensures
+returns g c = written_after c.write_start.result _ _ _ _ _ c.in_ok-write_storage.ensures c.write_start.ensures

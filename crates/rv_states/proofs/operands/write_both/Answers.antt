@@ -1,4 +1,4 @@
-use Rattle.rv_text.proofs.Writing.{beginning-longer, handed_on, written_behind}
+use Rattle.rv_text.proofs.Writing.{beginning-longer, handed_on, written_after}
 use Rattle.rv_states.proofs.operands.write_both.Goals as goal
 
 pub returns-in_err-write_operand_member : goal.returns-in_err-write_operand_member
@@ -7,4 +7,4 @@ returns-in_err-write_operand_member g c =
 
 pub returns : goal.returns
 returns g c =
-    written_behind _ _ _ _ _ _ c.in_ok-write_operand_member.ensures c.write_operand_member-2.ensures
+    written_after _ _ _ _ _ _ c.in_ok-write_operand_member.ensures c.write_operand_member-2.ensures

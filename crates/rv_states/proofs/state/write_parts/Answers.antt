@@ -1,5 +1,5 @@
 use Rattle.rv_states.specs.State.{parts_text}
-use Rattle.rv_text.proofs.Writing.{beginning-both, beginning-longer, handed_on, written_behind}
+use Rattle.rv_text.proofs.Writing.{beginning-both, beginning-longer, handed_on, written_after}
 use Rattle.rv_states.proofs.state.write_parts.Goals as goal
 
 pub returns-in_err-write_units_of : goal.returns-in_err-write_units_of
@@ -15,4 +15,4 @@ returns-in_err-write_queue_of g c =
 pub returns : goal.returns
 unfolding parts_text
 returns g c =
-    written_behind _ _ _ _ _ _ c.in_ok-write_units_of.ensures (written_behind _ _ _ _ _ _ c.in_ok-write_queue_of.ensures c.write_port.ensures)
+    written_after _ _ _ _ _ _ c.in_ok-write_units_of.ensures (written_after _ _ _ _ _ _ c.in_ok-write_queue_of.ensures c.write_port.ensures)

@@ -1,5 +1,5 @@
 use Rattle.rv_states.specs.State.{state_json}
-use Rattle.rv_text.proofs.Writing.{beginning-both, beginning-longer, handed_on, written_behind}
+use Rattle.rv_text.proofs.Writing.{beginning-both, beginning-longer, handed_on, written_after}
 use Rattle.rv_states.proofs.state.write_state_object.Goals as goal
 
 pub returns-in_err-write_observed_of : goal.returns-in_err-write_observed_of
@@ -20,4 +20,4 @@ returns-in_err-write_parts g c =
 pub returns : goal.returns
 unfolding state_json
 returns g c =
-    written_behind _ _ _ _ _ _ c.in_ok-write_observed_of.ensures (written_behind _ _ _ _ _ _ c.in_ok-write_in_flight.ensures (written_behind _ _ _ _ _ _ c.in_ok-write_parts.ensures c.put.ensures))
+    written_after _ _ _ _ _ _ c.in_ok-write_observed_of.ensures (written_after _ _ _ _ _ _ c.in_ok-write_in_flight.ensures (written_after _ _ _ _ _ _ c.in_ok-write_parts.ensures c.put.ensures))

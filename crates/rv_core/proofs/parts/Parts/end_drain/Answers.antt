@@ -1,5 +1,5 @@
 use Rattle.rv_core.proofs.Words.{◌≡◌, ◌<◌, ap, ◌∙◌, without_drained, Store as QueuedStore, end_drain, Hardware, stores_of, Queue, IsSound, hardware_of, IsRetiredStore, IsSoundHardware, queue_of, Inside}
-use Rattle.rv_core.proofs.Phases.Drained.{kept_when_drained, none_drains, without_drained_behind}
+use Rattle.rv_core.proofs.Phases.Drained.{kept_when_drained, none_drains, without_drained_after}
 use Rattle.rv_core.proofs.Phases.Stored.{sound_with_cache, parts_with_cache, view_with_cache}
 use Rattle.rv_core.proofs.parts.Parts.end_drain.Goals as goal
 
@@ -20,7 +20,7 @@ queued {p = p} before is =
     is
     ∙ ap (λ (q : Queue). record q { stores = without_drained q.stores }) before.tied.queued
     ∙ ap (λ l. record { stores = l; capacity = h.values.store_queue })
-    (without_drained_behind h.committed (stores_of h.rob.retired h.rob.entries) (none_drains h.rob.retired h.rob.entries))
+    (without_drained_after h.committed (stores_of h.rob.retired h.rob.entries) (none_drains h.rob.retired h.rob.entries))
 
 pub invariant_of-self : goal.invariant_of-self
 invariant_of-self c =

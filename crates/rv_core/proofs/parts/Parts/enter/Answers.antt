@@ -1,4 +1,4 @@
-use Rattle.rv_core.proofs.Words.{◌≡◌, ◌<◌, ◌&&◌, length, None, sym, refl, ap, ◌∙◌, subst, arith, leb-false, is_branch_or_jump, is_store, kind_of_word, target_of_word, pushed, mends_early, entry_of_fetched, reason_of, Hardware, are_full_for, with_instruction, with_jump, with_store, with_target, IsSound, hardware_of, status_behind, values_in}
+use Rattle.rv_core.proofs.Words.{◌≡◌, ◌<◌, ◌&&◌, length, None, sym, refl, ap, ◌∙◌, subst, arith, leb-false, is_branch_or_jump, is_store, kind_of_word, target_of_word, pushed, mends_early, entry_of_fetched, reason_of, Hardware, are_full_for, with_instruction, with_jump, with_store, with_target, IsSound, hardware_of, status_after, values_in}
 use Rattle.rv_core.proofs.Phases.Entered.{entered_parts, entered-is, entered-sound}
 use Rattle.rv_core.proofs.Ties.Dispatch.{Goes, full-is, goes}
 use Rattle.rv_core.proofs.Ties.Queue.{can_enter}
@@ -71,7 +71,7 @@ left-is c =
     let stores = c.enter_store.ensures ∙ ap (λ n. with_store (is_store f.instruction) n p.stores) seq in
     let stations = c.station.ensures
     ∙ ap (λ n. with_instruction
-    (status_behind (values_in p.registers) p.rob.retired p.rob.entries) n f.pc f.instruction p.stations) seq in
+    (status_after (values_in p.registers) p.rob.retired p.rob.entries) n f.pc f.instruction p.stations) seq in
     let jump = mends_early p.values.recovery && is_branch_or_jump f.instruction in
     let rename =
     c.checkpoint_jump.ensures ∙ ap (with_jump jump c.next_number-seq.result) c.define_target.ensures.defined

@@ -1,4 +1,4 @@
-use Rattle.rv_core.proofs.Words.{◌≡◌, true, false, ◌&&◌, length, nat_le, sym, refl, ap, ◌∙◌, is_store, kind_of_word, has_full_stations, stores_behind, are_full_for, hardware_of}
+use Rattle.rv_core.proofs.Words.{◌≡◌, true, false, ◌&&◌, length, nat_le, sym, refl, ap, ◌∙◌, is_store, kind_of_word, has_full_stations, stores_after, are_full_for, hardware_of}
 use Rattle.rv_core.proofs.Ties.Dispatch.{full-is, reason-is}
 use Rattle.rv_core.proofs.parts.Parts.reason_to_wait.Goals as goal
 use Rattle.rv_core.proofs.parts.Parts.reason_to_wait.Goals.{After-are_full_for, After-waits_for_queue}
@@ -13,7 +13,7 @@ station c =
 
 queue : (c : After-waits_for_queue) →
     (is_store c.args.fetched.now.instruction && nat_le c.self.inside.values.store_queue
-    (length (stores_behind (hardware_of c.self.inside) c.self.inside.rob.entries))) ≡ c.waits_for_queue.result
+    (length (stores_after (hardware_of c.self.inside) c.self.inside.rob.entries))) ≡ c.waits_for_queue.result
 queue c = sym (c.waits_for_queue.ensures
     ∙ ap (λ q. is_store c.args.fetched.now.instruction && nat_le q.capacity (length q.stores)) c.self.invariant.tied.queued)
 

@@ -1,7 +1,7 @@
 use Rattle.rv_core.proofs.Words.{◌≡◌, ℕ, ◌+◌, ◌*◌, ◌<◌, ◌≢◌, length, IfSome, Some, None, Option, option_map, sym, ap, ◌∙◌, subst, is_store, target_of_word, Message, Entry, Hardware, broadcast_of, with_result, StaleWords, without_checkpoint, IsHead, IsSound, hardware_of, registers_with, without_target, IsLegalWrite, IsSoundHardware, AreTied, Inside}
 use Rattle.rv_core.proofs.Ties.Closed.{closed-is, closed-sound}
-use Rattle.rv_core.proofs.Retired.Head.{IsTarget, tied_behind_head}
-use Rattle.rv_core.proofs.Retired.Sound.{sound_behind_head}
+use Rattle.rv_core.proofs.Retired.Head.{IsTarget, tied_after_head}
+use Rattle.rv_core.proofs.Retired.Sound.{sound_after_head}
 use Rattle.rv_core.proofs.Retired.Write.{legal_write, target_written, write_is_covered}
 use Rattle.rv_core.proofs.parts.Parts.retire.Goals as goal
 
@@ -46,7 +46,7 @@ write c = legal c.self.invariant c.self.view_is c.requires.head c.requires.known
 sound : (c : goal.After-self-1) → IsSoundHardware (next c)
 sound c =
     let at = head c.self.inside c.self.view_is c.requires.head in
-    sound_behind_head (hardware_of c.self.inside) c.args.entry.now at.0 c.args.message.now c.self.invariant.sound at.1
+    sound_after_head (hardware_of c.self.inside) c.args.entry.now at.0 c.args.message.now c.self.invariant.sound at.1
     (subst (λ (x : Hardware). x.rob.retired < 8 * x.cycle + 8) (sym c.self.view_is) c.requires.room) (write c)
 
 tied : (c : goal.After-self-1) → AreTied (next c) (left c).rename (left c).stations (left c).bus (left c).stores
@@ -55,7 +55,7 @@ tied c =
     let at = head p c.self.view_is c.requires.head in
     let seq = p.rob.retired in
     let behind =
-    tied_behind_head (hardware_of p) c.args.entry.now at.0 c.args.message.now p.rename p.stations p.bus p.stores
+    tied_after_head (hardware_of p) c.args.entry.now at.0 c.args.message.now p.rename p.stations p.bus p.stores
     c.self.invariant.tied c.self.invariant.sound.stores.each at.1 c.requires.known
     (target c) (write c) in
     record {

@@ -1,6 +1,6 @@
 use Rattle.rv_core.proofs.Words.{◌≡◌, ◌+◌, ◌*◌, ◌<◌, [], sym, ap, ◌∙◌, subst, ReorderBuffer, head_retired, Hardware, flushed, IsHead, hardware_of, registers_with, IsSoundHardware, Inside}
 use Rattle.rv_core.proofs.Retired.Flushed.{emptied}
-use Rattle.rv_core.proofs.Retired.Serial.{sound_behind_serial}
+use Rattle.rv_core.proofs.Retired.Serial.{sound_after_serial}
 use Rattle.rv_core.proofs.Retired.Squashed.{AreSquashed, squashed-is, squashed-sound}
 use Rattle.rv_core.proofs.parts.Parts.serialise.Goals as goal
 
@@ -32,7 +32,7 @@ sound : (c : goal.After-redirect) → IsSoundHardware (next c (hardware_of c.sel
 sound c =
     let head = subst (λ (x : Hardware). IsHead x c.args.entry.now) (sym c.self.view_is) c.requires.head in
     let room = subst (λ (x : Hardware). x.rob.retired < 8 * x.cycle + 8) (sym c.self.view_is) c.requires.room in
-    sound_behind_serial (hardware_of c.self.inside) c.args.entry.now head.0 c.args.next c.args.written c.self.invariant.sound
+    sound_after_serial (hardware_of c.self.inside) c.args.entry.now head.0 c.args.next c.args.written c.self.invariant.sound
     head.1 room
 
 same : (c : goal.After-redirect) →

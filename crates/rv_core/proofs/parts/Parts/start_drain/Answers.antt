@@ -1,5 +1,5 @@
 use Rattle.rv_core.proofs.Words.{◌≡◌, ◌+◌, Bool, true, false, List, length, Some, None, Option, sym, refl, ap, ◌∙◌, subst, true≢false, arith, StoreAccess, Memory, Contents, access_cost, accessed_sets, oldest_to_drain, with_oldest_draining, Store as QueuedStore, start_drain, with_drained, Hardware, stores_of, IsSome, IsTrue, IsAccess, seen_after, Queue, IsSound, hardware_of, IsDescribedCache, IsSoundHardware, queue_of, Inside}
-use Rattle.rv_core.proofs.Phases.Drained.{below_when_draining, draining_behind, none_drains, oldest_behind, oldest_is_legal, retired_when_draining}
+use Rattle.rv_core.proofs.Phases.Drained.{below_when_draining, draining_after, none_drains, oldest_after, oldest_is_legal, retired_when_draining}
 use Rattle.rv_core.proofs.Phases.Stored.{sound_with_cache, parts_with_cache, view_with_cache, with_cache}
 use Rattle.rv_core.proofs.parts.Parts.start_drain.Goals as goal
 
@@ -8,7 +8,7 @@ oldest : {p : Inside} → IsSound p → oldest_to_drain p.stores.stores ≡ olde
 oldest {p = p} before =
     let h = hardware_of p in
     ap (λ (q : Queue). oldest_to_drain q.stores) before.tied.queued
-    ∙ oldest_behind h.committed (stores_of h.rob.retired h.rob.entries) (none_drains h.rob.retired h.rob.entries)
+    ∙ oldest_after h.committed (stores_of h.rob.retired h.rob.entries) (none_drains h.rob.retired h.rob.entries)
 
 nothing_starts : (h : Hardware) (found : Option StoreAccess) (can_drain : Bool) → (IsSome found → IsTrue can_drain) →
     can_drain ≡ false → h ≡ start_drain found h
@@ -56,7 +56,7 @@ queued {p = p} {access = access} before is left =
     left
     ∙ ap (λ (q : Queue). record q { stores = with_oldest_draining q.stores }) before.tied.queued
     ∙ ap (λ l. record { stores = l; capacity = h.values.store_queue })
-    (draining_behind h.committed (stores_of h.rob.retired h.rob.entries) access (is_oldest before is))
+    (draining_after h.committed (stores_of h.rob.retired h.rob.entries) access (is_oldest before is))
 
 described : (c : goal.After-self-1) → IsDescribedCache c.self.inside.values c.write-cost.new.self
 described c = record {

@@ -1,7 +1,7 @@
 use Rattle.std.proofs.Common.{◌≡◌, length}
 use Rattle.rv_asm.specs.Layout.{body_of}
 use Rattle.rv_asm.specs.Read.{tokens_in}
-use Rattle.rv_refusal.proofs.statement.behind_labels.Given as goal
+use Rattle.rv_refusal.proofs.statement.after_labels.Given as goal
 
 -- what stands after the labels of what is left stands after all
 abbrev pub invariant-loop-rest : goal.invariant-loop-rest
