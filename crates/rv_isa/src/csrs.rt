@@ -34,29 +34,32 @@ static CSRS: [Csr; 15] = [
     Mimpid, Mhartid, Mconfigptr,
 ];
 
+// Each register's address and name, in the order of the variants.
+static ROWS: [(u32, &str); 15] = [
+    (0x300, "mstatus"),
+    (0x301, "misa"),
+    (0x304, "mie"),
+    (0x305, "mtvec"),
+    (0x310, "mstatush"),
+    (0x340, "mscratch"),
+    (0x341, "mepc"),
+    (0x342, "mcause"),
+    (0x343, "mtval"),
+    (0x344, "mip"),
+    (0xf11, "mvendorid"),
+    (0xf12, "marchid"),
+    (0xf13, "mimpid"),
+    (0xf14, "mhartid"),
+    (0xf15, "mconfigptr"),
+];
+
 impl Csr {
     /// The register's address and name.
     pub fn row(self) -> (u32, &'static str)
         ensures address { result.0 ≡ (row_of self).0 }
         ensures name { result.1.now ≡ (row_of self).1 }
     {
-        match self {
-            Mstatus => (0x300, "mstatus"),
-            Misa => (0x301, "misa"),
-            Mie => (0x304, "mie"),
-            Mtvec => (0x305, "mtvec"),
-            Mstatush => (0x310, "mstatush"),
-            Mscratch => (0x340, "mscratch"),
-            Mepc => (0x341, "mepc"),
-            Mcause => (0x342, "mcause"),
-            Mtval => (0x343, "mtval"),
-            Mip => (0x344, "mip"),
-            Mvendorid => (0xf11, "mvendorid"),
-            Marchid => (0xf12, "marchid"),
-            Mimpid => (0xf13, "mimpid"),
-            Mhartid => (0xf14, "mhartid"),
-            Mconfigptr => (0xf15, "mconfigptr"),
-        }
+        ROWS[self as usize]
     }
 
     /// The register at an address, or `None` where there is none.

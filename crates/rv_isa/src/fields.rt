@@ -97,8 +97,9 @@ impl<const HALF: u32, const STEP: u32> Signed<HALF, STEP> {
         ensures valid { IsSome result ↔ IsSigned HALF STEP value }
         ensures field { IfSome result (λ a. a ≡ value) }
     {
-        let (half, number) = (i64::from(HALF), i64::from(value));
-        if -half <= number && number < half && value.unsigned_abs().is_multiple_of(STEP) {
+        let size = value.unsigned_abs();
+        let is_in_range = if value < 0 { size <= HALF } else { size < HALF };
+        if is_in_range && size.is_multiple_of(STEP) {
             Some(Signed { value })
         } else {
             None

@@ -164,6 +164,10 @@ static PIPELINED: PerKind<Place> = PerKind {
     mem: inside!("mem", "pipelined"),
 };
 
+static RECOVERY: Place = top!("recovery");
+
+static PREDICTOR_KIND: Place = inside!("predictor", "kind");
+
 fn kind_row(kind: Kind, key: KindKey) -> &'static NumberRow
     ensures row { shown_row result.now ≡ kind_row kind key }
     ensures text { result.now.place.text.now ≡ joined (kind_row kind key).place.table (kind_row kind key).place.name }
@@ -229,9 +233,9 @@ impl Key {
     {
         match self {
             Key::Number(key) => key.row().place,
-            Key::Recovery => top!("recovery"),
+            Key::Recovery => RECOVERY,
             Key::Pipelined(kind) => *PIPELINED.get(kind),
-            Key::PredictorKind => inside!("predictor", "kind"),
+            Key::PredictorKind => PREDICTOR_KIND,
         }
     }
 }
