@@ -169,34 +169,37 @@ pub fn alu_op(funct7: u32, funct3: u32) -> Option<AluOp>
     }
 }
 
+// The fields funct7 and funct3 of each operation, in the order of the variants.
+static OP_FUNCTS: [(u32, u32); 21] = [
+    (0b000_0000, 0b000), // Add
+    (0b010_0000, 0b000), // Sub
+    (0b000_0000, 0b001), // Sll
+    (0b000_0000, 0b010), // Slt
+    (0b000_0000, 0b011), // Sltu
+    (0b000_0000, 0b100), // Xor
+    (0b000_0000, 0b101), // Srl
+    (0b010_0000, 0b101), // Sra
+    (0b000_0000, 0b110), // Or
+    (0b000_0000, 0b111), // And
+    (0b000_0001, 0b000), // Mul
+    (0b000_0001, 0b001), // Mulh
+    (0b000_0001, 0b010), // Mulhsu
+    (0b000_0001, 0b011), // Mulhu
+    (0b000_0001, 0b100), // Div
+    (0b000_0001, 0b101), // Divu
+    (0b000_0001, 0b110), // Rem
+    (0b000_0001, 0b111), // Remu
+    (0b001_0000, 0b010), // Sh1add
+    (0b001_0000, 0b100), // Sh2add
+    (0b001_0000, 0b110), // Sh3add
+];
+
 pub fn op_funct(operation: AluOp) -> (u32, u32)
     ensures funct7_fits { result.0 < 128 }
     ensures funct3_fits { result.1 < 8 }
     ensures listed { (word : ℕ) → by_rows table word OP result.1 result.0 ≡ Some (op operation word) }
 {
-    match operation {
-        AluOp::Add => (0b000_0000, 0b000),
-        AluOp::Sub => (0b010_0000, 0b000),
-        AluOp::Sll => (0b000_0000, 0b001),
-        AluOp::Slt => (0b000_0000, 0b010),
-        AluOp::Sltu => (0b000_0000, 0b011),
-        AluOp::Xor => (0b000_0000, 0b100),
-        AluOp::Srl => (0b000_0000, 0b101),
-        AluOp::Sra => (0b010_0000, 0b101),
-        AluOp::Or => (0b000_0000, 0b110),
-        AluOp::And => (0b000_0000, 0b111),
-        AluOp::Mul => (0b000_0001, 0b000),
-        AluOp::Mulh => (0b000_0001, 0b001),
-        AluOp::Mulhsu => (0b000_0001, 0b010),
-        AluOp::Mulhu => (0b000_0001, 0b011),
-        AluOp::Div => (0b000_0001, 0b100),
-        AluOp::Divu => (0b000_0001, 0b101),
-        AluOp::Rem => (0b000_0001, 0b110),
-        AluOp::Remu => (0b000_0001, 0b111),
-        AluOp::Sh1add => (0b001_0000, 0b010),
-        AluOp::Sh2add => (0b001_0000, 0b100),
-        AluOp::Sh3add => (0b001_0000, 0b110),
-    }
+    OP_FUNCTS[operation as usize]
 }
 
 /// The operation on a CSR; 4 more is the same with an immediate.
