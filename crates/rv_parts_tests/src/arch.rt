@@ -5,7 +5,7 @@ mod control_registers;
 mod instructions;
 mod programs;
 
-use crate::checks::{check_equal, check_equal_at, check_true};
+use crate::checks::{check_equal, check_equal_at, check_true, check_true_at};
 use cases::{
     Case, HIGH, LOW, PLAIN, TIMER, arrivals, check, check_csr, check_each, holds, machine,
 };
@@ -191,8 +191,8 @@ fn check_timer(rt: &impl Abort, alloc: Global, cycle: u64, interrupts: u32) {
     let mut reference = machine(rt, alloc, &TIMER_PROGRAM, 0);
     let outcome = run_reference(&mut reference, &arrivals(rt, alloc, cycle, TIMER), 1000);
     let seen = reference.observe();
-    check_equal(rt, outcome.stop, Stop::Breakpoint);
-    check_equal(rt, outcome.interrupts, u64::from(interrupts));
+    check_true_at(rt, cycle, outcome.stop == Stop::Breakpoint);
+    check_true_at(rt, cycle, outcome.interrupts == u64::from(interrupts));
     holds(rt, &seen, 5, 0x37);
     holds(rt, &seen, 30, interrupts);
 }

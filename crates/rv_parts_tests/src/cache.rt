@@ -1,6 +1,6 @@
 ghost use Rattle.std.specs.Prelude.{◌≡◌, ◌+◌, ◌%◌, ◌≤◌, ◌++◌, length, IfSome};
 
-use crate::checks::check_equal;
+use crate::checks::{check_equal, check_equal_at};
 use crate::halves::Halves;
 use rv_cache::Cache;
 use rv_isa::{Description, Values};
@@ -141,9 +141,9 @@ fn an_access_is_aligned_and_lies_in_the_cached_memory(rt: HostRuntime) {
     let cache = small_cache(&rt, alloc, small_ram(&rt, alloc), 1);
     let end = A + 4096;
     for (address, count) in [(A, 4), (A + 2, 2), (end - 1, 1), (end - 4, 4)] {
-        check_equal(&rt, cache.can_access(address, count), true);
+        check_equal_at(&rt, address, cache.can_access(address, count), true);
     }
     for (address, count) in [(A + 2, 4), (A + 1, 2), (A - 4, 4), (end, 1), (A, 3)] {
-        check_equal(&rt, cache.can_access(address, count), false);
+        check_equal_at(&rt, address, cache.can_access(address, count), false);
     }
 }

@@ -2,14 +2,13 @@
 
 ghost use Rattle.std.specs.Prelude.{IsTrue};
 
-use std::fmt::Debug;
 use std::process::Abort;
 
 /// Checks that two values are equal.
-pub(crate) fn check_equal<T: PartialEq + Debug + Drop>(rt: &impl Abort, left: T, right: T)
+pub(crate) fn check_equal<T: PartialEq + Drop>(rt: &impl Abort, left: T, right: T)
     ensures equal { IsTrue (T.eq left right) }
 {
-    assert_eq!(rt; left, right);
+    assert!(rt; left == right);
 }
 
 /// Checks that a condition holds.
@@ -20,15 +19,10 @@ pub(crate) fn check_true(rt: &impl Abort, condition: bool)
 }
 
 /// Checks that two values are equal, at a word or an address that a failure names.
-pub(crate) fn check_equal_at<T: PartialEq + Debug + Drop>(
-    rt: &impl Abort,
-    word: u32,
-    left: T,
-    right: T,
-)
+pub(crate) fn check_equal_at<T: PartialEq + Drop>(rt: &impl Abort, word: u32, left: T, right: T)
     ensures equal { IsTrue (T.eq left right) }
 {
-    assert_eq!(rt; left, right, "at {word:08x}");
+    assert!(rt; left == right, "at {word:08x}");
 }
 
 /// Checks that a condition holds, at a number that a failure names.

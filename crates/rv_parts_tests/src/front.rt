@@ -106,27 +106,22 @@ fn plain_predictors_follow_jumps_and_backward_branches(rt: HostRuntime) {
     }
 }
 
-// Checks what a predictor of a kind says of the backward branch, and of the forward one once it was taken.
-fn check_described(
-    rt: &impl Abort,
-    alloc: Global,
-    kind: PredictorKind,
-    backward: u32,
-    forward_since: u32,
-) {
+// Checks what a predictor of the kind with a name says of the backward branch, and of the forward one once it was taken.
+fn check_described(rt: &impl Abort, alloc: Global, name: &str, backward: u32, forward_since: u32) {
+    let kind = PredictorKind::named(name).expect(rt, "a kind");
     let mut predictor = DescribedPredictor::new(alloc, kind, 64).expect(rt, "a predictor");
     let answer = predictor.predict(BASE, BRANCH_BACKWARD);
     predictor.learn(BASE, BRANCH_FORWARD, BASE + 8);
     let since = predictor.predict(BASE, BRANCH_FORWARD);
-    check_equal(rt, (kind, answer, since), (kind, backward, forward_since));
+    assert!(rt; (answer, since) == (backward, forward_since), "{name}");
 }
 
 #[test]
 fn a_described_predictor_answers_and_learns_as_its_kind(rt: HostRuntime) {
     let alloc = rt.alloc();
-    check_described(&rt, alloc, PredictorKind::NotTaken, BASE + 4, BASE + 4);
-    check_described(&rt, alloc, PredictorKind::BackwardTaken, BASE - 4, BASE + 4);
-    check_described(&rt, alloc, PredictorKind::Bimodal, BASE + 4, BASE + 8);
+    check_described(&rt, alloc, "not_taken", BASE + 4, BASE + 4);
+    check_described(&rt, alloc, "backward_taken", BASE - 4, BASE + 4);
+    check_described(&rt, alloc, "bimodal", BASE + 4, BASE + 8);
 }
 
 // RAM with some words at its front.
@@ -158,7 +153,8 @@ fn entry(pc: u32, word: Option<u32>, predicted: u32, cycle: u64) -> Fetched {
 
 // Checks the oldest word that the front holds, and takes it.
 fn check_taken(rt: &impl Abort, front: &mut Front, expected: Fetched) {
-    check_equal(rt, front.peek().copied(), Some(expected));
+    let pc = expected.pc;
+    check_equal_at(rt, pc, front.peek().copied(), Some(expected));
     front.take();
 }
 

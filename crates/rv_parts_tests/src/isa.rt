@@ -8,7 +8,8 @@ mod images;
 mod store_bytes;
 mod values;
 
-use crate::checks::check_equal;
+use crate::checks::check_equal_at;
+use rv_decode::encode;
 use rv_isa::{
     AluOp, BranchOffset, Condition, CsrAddress, CsrImmediate, CsrOp, CsrSource, Immediate,
     ImmediateOp, Instr, JumpOffset, Kind, LoadForm, Reg, ShiftAmount, ShiftOp, UpperImmediate,
@@ -20,7 +21,7 @@ fn x(number: u8) -> Reg {
     Reg::new(number).unwrap_or(Reg::ZERO)
 }
 
-// Checks the sources, the target and the kind of an instruction. A failure shows the instruction.
+// Checks the sources, the target and the kind of an instruction. A failure shows the word.
 fn check_operands(
     rt: &impl Abort,
     instruction: Instr,
@@ -29,15 +30,15 @@ fn check_operands(
     written: Option<Reg>,
     unit: Option<Kind>,
 ) {
-    check_equal(
+    check_equal_at(
         rt,
+        encode(&instruction),
         (
-            instruction,
             sources(&instruction),
             target(&instruction),
             kind(&instruction),
         ),
-        (instruction, [first, second], written, unit),
+        ([first, second], written, unit),
     );
 }
 

@@ -1,6 +1,6 @@
 ghost use Rattle.std.specs.Prelude.{◌≤◌};
 
-use crate::checks::{check_equal, check_true};
+use crate::checks::{check_equal, check_true, check_true_at};
 use rv_isa::{Description, Reg, Values};
 use rv_rename::RenameMap;
 use std::alloc::Global;
@@ -40,12 +40,12 @@ fn check_round(rt: &impl Abort, map: &mut RenameMap, first: u64)
     define(rt, map, x1, first + 2);
     check_true(rt, map.is_full());
     map.retire(x1, first);
-    check_equal(rt, map.lookup(x1), Some(first + 2));
-    check_equal(rt, map.lookup(x2), Some(first + 1));
+    check_true_at(rt, first, map.lookup(x1) == Some(first + 2));
+    check_true_at(rt, first, map.lookup(x2) == Some(first + 1));
     map.retire(x2, first + 1);
-    check_equal(rt, map.lookup(x2), None);
+    check_true_at(rt, first, map.lookup(x2).is_none());
     map.retire(x1, first + 2);
-    check_equal(rt, map.lookup(x1), None);
+    check_true_at(rt, first, map.lookup(x1).is_none());
 }
 
 #[test]

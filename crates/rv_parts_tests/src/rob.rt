@@ -1,6 +1,6 @@
 ghost use Rattle.std.specs.Prelude.{◌<◌};
 
-use crate::checks::{check_equal, check_true};
+use crate::checks::{check_equal, check_equal_at, check_true};
 use rv_isa::{Cause, Description, Fault, Issue, Message, Values};
 use rv_rob::{Entry, Rob, Stage};
 use std::alloc::Global;
@@ -62,16 +62,16 @@ fn check_round(rt: &impl Abort, rob: &mut Rob, round: u32)
     let (first_pc, second_pc) = (8 * round, 8 * round + 4);
     let oldest = u64::from(2 * round);
     let youngest = oldest + 1;
-    check_equal(rt, push(rt, rob, first_pc), oldest);
-    check_equal(rt, push(rt, rob, second_pc), youngest);
-    check_equal(rt, rob.retired(), oldest);
-    check_equal(rt, pc_of(rob.get(youngest)), Some(second_pc));
-    check_equal(rt, pc_of(rob.get(youngest + 1)), None);
-    check_equal(rt, pc_of(rob.head()), Some(first_pc));
-    check_equal(rt, pc_of(rob.youngest()), Some(second_pc));
+    check_equal_at(rt, round, push(rt, rob, first_pc), oldest);
+    check_equal_at(rt, round, push(rt, rob, second_pc), youngest);
+    check_equal_at(rt, round, rob.retired(), oldest);
+    check_equal_at(rt, round, pc_of(rob.get(youngest)), Some(second_pc));
+    check_equal_at(rt, round, pc_of(rob.get(youngest + 1)), None);
+    check_equal_at(rt, round, pc_of(rob.head()), Some(first_pc));
+    check_equal_at(rt, round, pc_of(rob.youngest()), Some(second_pc));
     rob.pop_head();
-    check_equal(rt, pc_of(rob.get(oldest)), None);
-    check_equal(rt, pc_of(rob.head()), Some(second_pc));
+    check_equal_at(rt, round, pc_of(rob.get(oldest)), None);
+    check_equal_at(rt, round, pc_of(rob.head()), Some(second_pc));
     rob.pop_head();
     check_true(rt, rob.is_empty());
     rob.pop_head();

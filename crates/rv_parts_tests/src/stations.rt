@@ -56,9 +56,9 @@ fn issue(rt: &impl Abort, stations: &mut Stations, seq: u64, value: u32) {
     let taken = stations
         .take_oldest_ready(Kind::Alu, 0, |_| true)
         .expect(rt, "a ready instruction");
-    check_equal(rt, taken.ready.seq, seq);
-    check_equal(rt, taken.ready.first, value);
-    check_equal(rt, taken.ready.second, value);
+    check_true_at(rt, seq, taken.ready.seq == seq);
+    check_true_at(rt, seq, taken.ready.first == value);
+    check_true_at(rt, seq, taken.ready.second == value);
 }
 
 // Puts instructions with numbers from one on into stations, each of which has an operand twice.
@@ -127,8 +127,8 @@ fn take_after(rt: &impl Abort, stations: &mut Stations, passed: usize, seq: u64,
     let taken = stations
         .take_oldest_ready(Kind::Alu, passed, |_| true)
         .expect(rt, "a ready instruction");
-    check_equal(rt, taken.ready.seq, seq);
-    check_equal(rt, taken.passed, still);
+    check_true_at(rt, seq, taken.ready.seq == seq);
+    check_true_at(rt, seq, taken.passed == still);
 }
 
 #[test]

@@ -32,7 +32,7 @@ fn put(rt: &impl Abort, queue: &mut StoreQueue, seq: u64, address: u32, bytes: &
 }
 
 // What a plain list of stores gives for one byte: the last that was put in and covers it.
-#[derive(Clone, Copy, Debug)]
+#[derive(Clone, Copy)]
 struct PlainStore {
     seq: u64,
     address: u32,

@@ -9,7 +9,7 @@ use std::process::Abort;
 use std::test::Fail;
 
 // A job that is refused, and why.
-#[derive(Clone, Copy, Debug)]
+#[derive(Clone, Copy)]
 pub(crate) struct Refused {
     pub(crate) job: &'static [u8],
     pub(crate) why: &'static [u8],

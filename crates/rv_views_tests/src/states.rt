@@ -28,7 +28,7 @@ fn told_of(rt: &impl Abort, alloc: Global, form: Form, program: &[&str]) -> Vec<
         &mut output,
     )
     .expect(rt, "room");
-    assert_eq!(rt; stop, Stop::Limit);
+    assert!(rt; stop == Stop::Limit);
     output
 }
 

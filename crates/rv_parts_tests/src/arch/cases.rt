@@ -1,6 +1,6 @@
 //! A program on the reference, and what it leaves.
 
-use crate::checks::{check_equal, check_equal_at, check_true};
+use crate::checks::{check_equal, check_equal_at, check_true, check_true_at};
 use crate::words::bytes_of;
 use rv_arch::{Observed, Reference, Stop, run_reference};
 use rv_isa::{Arrival, Arrivals, Line, Lines};
@@ -114,7 +114,7 @@ fn check_registers(rt: &impl Abort, seen: &Observed, registers: &[(usize, u32)])
 /// Checks a register. A failure shows its number.
 pub(super) fn holds(rt: &impl Abort, seen: &Observed, register: usize, value: u32) {
     check_true(rt, register < 32);
-    check_equal(rt, (register, seen.regs[register]), (register, value));
+    check_true_at(rt, register as u64, seen.regs[register] == value);
 }
 
 /// Checks the control and status register at an address.

@@ -140,7 +140,7 @@ fn due_interrupt_is_the_first_enabled(rt: HostRuntime) {
     for (enabled, lines, code) in &DUE_INTERRUPTS {
         let mut csrs = Csrs::reset();
         write(&rt, &mut csrs, 0x304, *enabled);
-        check_equal(&rt, csrs.due_interrupt(*lines), None);
+        check_equal_at(&rt, *enabled, csrs.due_interrupt(*lines), None);
         write(&rt, &mut csrs, 0x300, 8);
         check_equal_at(&rt, *enabled, csrs.due_interrupt(*lines), *code);
     }

@@ -272,7 +272,7 @@ fn check_retires(
     written: Option<(Reg, u32)>,
 ) {
     let step = RefStep::Retired { pc, word, written };
-    check_equal(rt, reference.step(LOW), step);
+    check_equal_at(rt, word, reference.step(LOW), step);
 }
 
 // lui x6,0x80010, jalr x0,0(x6): the jump retires, and the fetch after RAM faults.

@@ -1,4 +1,4 @@
-use crate::checks::{check_equal, check_true};
+use crate::checks::{check_equal, check_true, check_true_at};
 use rv_isa::{Description, Values};
 use rv_units::Bus;
 use std::alloc::Global;
@@ -23,12 +23,12 @@ fn granted(bus: &mut Bus, cycle: u64) -> Option<u64> {
     }
 }
 
-// Checks which results are granted in a cycle. A failure shows the cycle and the number.
+// Checks which results are granted in a cycle. A failure shows the cycle.
 fn broadcast(rt: &impl Abort, bus: &mut Bus, cycle: u64, numbers: &[u64]) {
     for number in numbers {
-        check_equal(rt, (cycle, granted(bus, cycle)), (cycle, Some(*number)));
+        check_true_at(rt, cycle, granted(bus, cycle) == Some(*number));
     }
-    check_equal(rt, (cycle, granted(bus, cycle)), (cycle, None));
+    check_true_at(rt, cycle, granted(bus, cycle).is_none());
 }
 
 #[test]

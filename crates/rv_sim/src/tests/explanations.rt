@@ -12,7 +12,7 @@ use rv_command::Command;
 pub(crate) const EXPLAIN: Command = Command::Explain { limit: 100 };
 
 /// A program, and a line of the explanation of its run.
-#[derive(Clone, Copy, Debug)]
+#[derive(Clone, Copy)]
 pub(crate) struct Told {
     pub(crate) program: &'static str,
     pub(crate) line: &'static str,

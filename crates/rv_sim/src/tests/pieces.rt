@@ -100,10 +100,8 @@ fn check_pieces(rt: &impl Abort, alloc: Global, bytes: &[u8], recovery: Recovery
     let pieces = told_in_pieces(rt, alloc, bytes, recovery, 1);
     assert_eq!(rt; whole.steps.len(), steps);
     assert!(rt; pieces.steps.as_slice() == whole.steps.as_slice());
-    assert_eq!(rt;
-        (pieces.cycles, pieces.busy, pieces.stalls),
-        (whole.cycles, whole.busy, whole.stalls)
-    );
+    assert_eq!(rt; (pieces.cycles, pieces.busy), (whole.cycles, whole.busy));
+    assert!(rt; pieces.stalls == whole.stalls);
 }
 
 #[test]

@@ -1,9 +1,9 @@
 use crate::tests::guesses::{Guesses, next_word};
-use rv_arch::Reference;
+use rv_arch::{Observed, Reference};
 use rv_core::{Core, run};
 use rv_front::NotTaken;
 use rv_hardware::Step;
-use rv_isa::{Arrivals, Description, Image, Recovery, Values};
+use rv_isa::{Arrivals, Csr, Description, Image, Recovery, Values};
 use std::alloc::Global;
 use std::process::Abort;
 
@@ -92,6 +92,35 @@ fn is_same_at(core: &Core, reference: &Reference, address: u32) -> bool {
         && core.is_stale(address) == reference.is_stale(address)
 }
 
+// The control and status registers that a program or a trap can change.
+const CHANGING: [Csr; 7] = [
+    Csr::Mstatus,
+    Csr::Mie,
+    Csr::Mtvec,
+    Csr::Mscratch,
+    Csr::Mepc,
+    Csr::Mcause,
+    Csr::Mtval,
+];
+
+// Whether each control and status register reads the same.
+fn has_same_csrs(left: &Observed, right: &Observed) -> bool {
+    for csr in &CHANGING {
+        if left.csrs.value(*csr, left.lines) != right.csrs.value(*csr, right.lines) {
+            return false;
+        }
+    }
+    true
+}
+
+// Whether two machines show the same but for their memory.
+fn is_seen_alike(left: &Observed, right: &Observed) -> bool {
+    left.pc == right.pc
+        && left.regs == right.regs
+        && left.lines == right.lines
+        && has_same_csrs(left, right)
+}
+
 // Whether programs see the same, in memory from four bytes before RAM to four bytes after it.
 fn is_same(core: &Core, reference: &Reference, ram_base: u32) -> bool {
     for offset in 0..RAM_SIZE + 8 {
@@ -100,7 +129,7 @@ fn is_same(core: &Core, reference: &Reference, ram_base: u32) -> bool {
             return false;
         }
     }
-    core.observe() == reference.observe()
+    is_seen_alike(&core.observe(), &reference.observe())
 }
 
 // Whether the reference takes all reported steps and then shows what the core shows.

@@ -28,7 +28,7 @@ fn each_is_refused(rt: &impl Abort, alloc: Global, refused: &[&[&str]]) -> Resul
 fn is_taken(rt: &impl Abort, alloc: Global, texts: &[&str], command: Command) -> Result<(), Fail> {
     let given = words(alloc, texts)?;
     let taken = parse_words(alloc, given.as_slice()).ok();
-    assert_eq!(rt; taken, Some(command));
+    assert!(rt; taken == Some(command), "{texts:?}");
     Ok(())
 }
 

@@ -20,7 +20,10 @@ fn the_first_field_with_the_fault_is_named(rt: HostRuntime) -> Result<(), Fail> 
         (NotToml, None),
     ];
     for (fault, field) in &CASES {
-        assert_eq!(&rt; field_at_fault(rt.alloc(), ENTRIES, *fault)?, *field);
+        assert!(&rt;
+            field_at_fault(rt.alloc(), ENTRIES, *fault)? == *field,
+            "{fault:?}"
+        );
     }
     Ok(())
 }
@@ -32,7 +35,7 @@ fn a_text_that_is_no_toml_has_no_field(rt: HostRuntime) -> Result<(), Fail> {
         b"arrival = [{cycle='1'}",
         WrongKind { entry: 1 },
     )?;
-    assert_eq!(&rt; field, None);
+    assert!(&rt; field.is_none());
     Ok(())
 }
 
@@ -41,6 +44,6 @@ fn of_an_entry_too_many_no_field_is_at_fault(rt: HostRuntime) -> Result<(), Fail
     let alloc = rt.alloc();
     let text = long_list(alloc, "", "7,", 100_000, "{cycle=7,line='x'}")?;
     let fault = OutOfRange { entry: 100_001 };
-    assert_eq!(&rt; field_at_fault(alloc, text.as_bytes(), fault)?, None);
+    assert!(&rt; field_at_fault(alloc, text.as_bytes(), fault)?.is_none());
     Ok(())
 }

@@ -36,7 +36,7 @@ fn a_result_that_waits_for_the_bus_is_in_a_stage_of_its_own(rt: HostRuntime) {
         &listing,
         &mut text,
     );
-    assert_eq!(&rt; stop, Ok(Stop::Limit));
+    assert!(&rt; stop == Ok(Stop::Limit));
     assert!(&rt; text.as_slice().ends_with(LAST_CYCLE));
 }
 
@@ -70,6 +70,6 @@ fn an_instruction_depends_on_the_one_whose_result_it_waits_for(rt: HostRuntime) 
         &listing,
         &mut text,
     );
-    assert_eq!(&rt; stop, Ok(Stop::Limit));
+    assert!(&rt; stop == Ok(Stop::Limit));
     assert!(&rt; text.as_slice().ends_with(WAKING));
 }

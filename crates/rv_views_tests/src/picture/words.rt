@@ -91,7 +91,7 @@ fn at_breakpoint(over: Option<u64>) -> RunEnd {
 fn two_words_in_characters(rt: HostRuntime) {
     for (rows, expected) in [(Rows::All, EXPECTED), (Rows::Unsquashed, UNSQUASHED)] {
         let (end, text) = picture_of(&rt, rt.alloc(), &PROGRAM, 0, rows);
-        assert_eq!(rt; end, at_breakpoint(None));
+        assert!(rt; end == at_breakpoint(None));
         assert_eq!(rt; text.as_slice(), expected.as_bytes());
     }
 }
@@ -106,7 +106,7 @@ fn the_cycles_from_one_on_are_shown_and_after_the_end_of_a_run_nothing(rt: HostR
         (6, NOTHING, Some(5)),
     ] {
         let (end, text) = picture_of(&rt, rt.alloc(), &PROGRAM, from, Rows::All);
-        assert_eq!(rt; end, at_breakpoint(over));
+        assert!(rt; end == at_breakpoint(over), "from {from}");
         assert_eq!(rt; text.as_slice(), shown.as_bytes());
     }
 }
@@ -119,7 +119,7 @@ const STALE: [u8; 12] = [
 #[test]
 fn the_row_whose_stale_word_ended_the_run_says_so(rt: HostRuntime) {
     let (end, text) = picture_of(&rt, rt.alloc(), &STALE, 0, Rows::Unsquashed);
-    assert_eq!(rt; end.stop, Stop::Stale(0x8000_0008));
+    assert!(rt; end.stop == Stop::Stale(0x8000_0008));
     let text = String::from_utf8(text).expect(&rt, "ASCII");
     let row = "\n80000008 00100113                         stale            ";
     let (before, after) = text.split_once(row).expect(&rt, "the row");

@@ -43,11 +43,8 @@ fn a_cycle_reports_its_own_steps_and_its_stop(rt: HostRuntime) {
     let mut core = core(&rt, alloc, &described(&rt, Values::standard()), &ADDITION);
     for _ in 0..4 {
         let report = core.cycle(Lines::default());
-        assert_eq!(&rt; (report.steps.len(), report.stop), (0, None));
+        assert!(&rt; (report.steps.len(), report.stop) == (0, None));
     }
     let report = core.cycle(Lines::default());
-    assert_eq!(&rt;
-        (report.steps.len(), report.stop),
-        (2, Some(Stop::Breakpoint))
-    );
+    assert!(&rt; (report.steps.len(), report.stop) == (2, Some(Stop::Breakpoint)));
 }
