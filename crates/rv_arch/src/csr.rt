@@ -5,7 +5,7 @@ use std::error::Error;
 use std::fmt;
 
 /// The source of a CSR instruction.
-#[derive(Clone, Copy, PartialEq, Eq)]
+#[derive(Clone, Copy)]
 pub struct CsrOperand {
     /// The value of the register, or the immediate.
     pub value: u32,

@@ -15,7 +15,7 @@ const INTERRUPT: u32 = 0x8000_0000;
 ///
 /// A field of a register that has but one legal value isn't kept. `mtvec` has mode 0 or 1, and
 /// `mepc` is a multiple of 4.
-#[derive(Clone, Copy, PartialEq, Eq)]
+#[derive(Clone, Copy)]
 pub struct Csrs {
     mstatus_mie: bool,
     mstatus_mpie: bool,

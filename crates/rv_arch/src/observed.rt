@@ -2,7 +2,7 @@ use crate::csrs::Csrs;
 use rv_isa::Lines;
 
 /// What programs and reports see of a machine, but for its memory.
-#[derive(Clone, Copy, PartialEq, Eq)]
+#[derive(Clone, Copy)]
 pub struct Observed {
     /// The address of the next instruction.
     pub pc: u32,

@@ -3,7 +3,7 @@ ghost use Rattle.std.specs.Prelude.{◌≡◌, ◌+◌, ◌<◌, ◌^◌, if◌t
 use rv_isa::{Cause, Reg};
 
 /// What one step of the reference was.
-#[derive(Clone, Copy, Debug, PartialEq, Eq)]
+#[derive(Clone, Copy, PartialEq, Eq)]
 pub enum RefStep {
     /// The instruction `word` at `pc` retired. `written` is the register that it wrote, never x0,
     /// with the value.
@@ -30,7 +30,7 @@ pub enum RefStep {
 }
 
 /// Why a run ended.
-#[derive(Clone, Copy, Debug, PartialEq, Eq)]
+#[derive(Clone, Copy, PartialEq, Eq)]
 pub enum Stop {
     /// The limit of steps or cycles was reached.
     Limit,
@@ -43,7 +43,7 @@ pub enum Stop {
 }
 
 /// What a run of the reference did.
-#[derive(Clone, Copy, Debug, PartialEq, Eq)]
+#[derive(Clone, Copy, PartialEq, Eq)]
 pub struct RefOutcome {
     /// The number of steps: retirements, traps and interrupts.
     pub steps: u64,

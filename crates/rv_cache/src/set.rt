@@ -10,7 +10,7 @@ use rv_memory::Backing;
 use std::marker::Model;
 
 /// What an access found in its set.
-#[derive(Clone, Copy, Debug)]
+#[derive(Clone, Copy)]
 pub struct Access {
     pub is_hit: bool,
     /// The line that the set dropped to make room.
@@ -18,7 +18,7 @@ pub struct Access {
 }
 
 /// The lines of a set, most recently used first.
-#[derive(Debug, Drop)]
+#[derive(Drop)]
 pub struct Set {
     lines: ArrayVec<CacheLine, 16>,
 }

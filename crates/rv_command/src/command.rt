@@ -22,7 +22,7 @@ pub const MOST_CYCLES_SHOWN: u64 = 1_000;
 pub const MOST_CYCLES_TOLD: u64 = 10_000;
 
 /// What the program is asked to do.
-#[derive(Clone, Copy, Debug, PartialEq, Eq)]
+#[derive(Clone, Copy, PartialEq, Eq)]
 pub enum Command {
     /// Run a job on the core, with at most so many cycles, and with a line for each step where a trace
     /// is asked for.

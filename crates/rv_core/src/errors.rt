@@ -42,7 +42,7 @@ impl fmt::Display for NewError {
 impl Error for NewError {}
 
 /// A run that ended when out of memory, at the end of its last whole cycle: what it did up to there.
-#[derive(Debug, Drop)]
+#[derive(Drop)]
 pub struct OutOfMemory {
     /// The steps in program order.
     pub steps: Vec<Step>,

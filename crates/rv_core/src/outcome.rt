@@ -3,7 +3,7 @@ use rv_arch::Stop;
 use rv_hardware::{Stall, StallCounts, Step};
 
 /// What a cycle did.
-#[derive(Debug, Drop)]
+#[derive(Drop)]
 pub struct CycleReport {
     /// The steps in program order.
     pub steps: ArrayVec<Step, 8>,
@@ -24,7 +24,7 @@ pub(crate) struct CycleEnd {
 }
 
 /// What a run did.
-#[derive(Debug, Drop)]
+#[derive(Drop)]
 pub struct Outcome {
     /// The steps in program order.
     pub steps: Vec<Step>,
@@ -41,7 +41,7 @@ pub struct Outcome {
 }
 
 /// The counts of a run so far.
-#[derive(Clone, Copy, Debug, PartialEq, Eq)]
+#[derive(Clone, Copy)]
 pub struct Progress {
     /// The cycles that dispatched nothing, by the reason.
     pub stalls: StallCounts,

@@ -12,7 +12,7 @@ use rv_isa::Arrivals;
 use std::io::Write;
 
 /// What a run came to that was watched.
-#[derive(Clone, Copy, Debug)]
+#[derive(Clone, Copy)]
 pub struct Ended<R> {
     /// The counts of its cycles.
     pub progress: Progress,

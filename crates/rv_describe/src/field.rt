@@ -13,7 +13,7 @@ use std::alloc::{AllocError, Global};
 use toml::{Table, Value};
 
 /// A field of an entry of a list of arrivals.
-#[derive(Clone, Copy, Debug, PartialEq, Eq)]
+#[derive(Clone, Copy, PartialEq, Eq)]
 pub enum Field {
     /// `cycle`, from which on the line has its level.
     Cycle,

@@ -4,7 +4,7 @@ ghost use Rattle.rv_front.specs.FetchBuffer.{stop_after};
 use rv_isa::Instr;
 
 /// A word in the fetch buffer.
-#[derive(Clone, Copy, Debug, PartialEq, Eq)]
+#[derive(Clone, Copy, PartialEq, Eq)]
 pub struct Fetched {
     /// The address that it was fetched from.
     pub pc: u32,
@@ -19,7 +19,7 @@ pub struct Fetched {
 }
 
 /// Why a cycle's fetch stopped.
-#[derive(Clone, Copy, Debug, PartialEq, Eq)]
+#[derive(Clone, Copy, PartialEq, Eq)]
 pub enum FetchStop {
     /// It took as many words as the front fetches in a cycle.
     Width,

@@ -1,5 +1,5 @@
 /// Why a cycle dispatched nothing: what the first instruction that waited, waited for.
-#[derive(Clone, Copy, Debug, PartialEq, Eq)]
+#[derive(Clone, Copy, PartialEq, Eq)]
 pub enum Stall {
     /// The fetch buffer is empty.
     Fetch,
@@ -14,7 +14,7 @@ pub enum Stall {
 }
 
 /// How many cycles dispatched nothing, by the reason.
-#[derive(Clone, Copy, Debug, Default, PartialEq, Eq)]
+#[derive(Clone, Copy, Default, PartialEq, Eq)]
 pub struct StallCounts {
     pub fetch: u64,
     pub serial: u64,

@@ -3,7 +3,7 @@ ghost use Rattle.std.specs.Prelude.{◌≡◌};
 use rv_isa::{Cause, Reg};
 
 /// The execution of a retired instruction.
-#[derive(Clone, Copy, Debug, PartialEq, Eq)]
+#[derive(Clone, Copy, PartialEq, Eq)]
 pub struct Execution {
     /// The cycle in which it left its reservation station.
     pub issued: u64,
@@ -14,7 +14,7 @@ pub struct Execution {
 }
 
 /// An instruction that retired, and when it passed through the hardware.
-#[derive(Clone, Copy, Debug, PartialEq, Eq)]
+#[derive(Clone, Copy, PartialEq, Eq)]
 pub struct Row {
     /// Its address.
     pub pc: u32,
@@ -33,7 +33,7 @@ pub struct Row {
 }
 
 /// What the hardware reports of an instruction or an interrupt, in program order.
-#[derive(Clone, Copy, Debug, PartialEq, Eq)]
+#[derive(Clone, Copy, PartialEq, Eq)]
 pub enum Step {
     /// An instruction retired.
     Retired(Row),

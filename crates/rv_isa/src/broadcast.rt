@@ -2,7 +2,7 @@ use crate::causes::Fault;
 use crate::store_bytes::StoreBytes;
 
 /// What a store writes to memory.
-#[derive(Clone, Copy, Debug, PartialEq, Eq)]
+#[derive(Clone, Copy, PartialEq, Eq)]
 pub struct StoreAccess {
     /// The first byte's address.
     pub address: u32,
@@ -11,7 +11,7 @@ pub struct StoreAccess {
 }
 
 /// What a broadcast on the common data bus carries of an instruction's result.
-#[derive(Clone, Copy, Debug, Default, PartialEq, Eq)]
+#[derive(Clone, Copy, Default, PartialEq, Eq)]
 pub struct Message {
     /// The value for the instruction's target register, 0 where it faults.
     pub value: u32,

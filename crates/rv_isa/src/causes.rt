@@ -2,7 +2,7 @@ ghost use Rattle.std.specs.Prelude.{◌≡◌};
 
 /// The cause of an exception, as `mcause` names it (Privileged Architecture 20211203, 3.1.15,
 /// table 3.6).
-#[derive(Clone, Copy, Debug, PartialEq, Eq)]
+#[derive(Clone, Copy, PartialEq, Eq)]
 pub enum Cause {
     InstructionAddressMisaligned,
     InstructionAccessFault,
@@ -38,7 +38,7 @@ impl Cause {
 
 /// An exception: its cause, and the word that `mtval` gets (Privileged Architecture 20211203,
 /// 3.1.16).
-#[derive(Clone, Copy, Debug, PartialEq, Eq)]
+#[derive(Clone, Copy, PartialEq, Eq)]
 pub struct Fault {
     pub cause: Cause,
     pub value: u32,

@@ -10,7 +10,7 @@ use Csr::{
 
 /// A control and status register of machine mode (Privileged Architecture 20211203, 2.2, tables 2.5
 /// and 2.6).
-#[derive(Clone, Copy, PartialEq, Eq)]
+#[derive(Clone, Copy)]
 pub enum Csr {
     Mstatus,
     Misa,

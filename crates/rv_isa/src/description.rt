@@ -8,7 +8,7 @@ use crate::values::{CacheValues, Values};
 use std::marker::Model;
 
 /// A machine description whose values all are in their ranges.
-#[derive(Clone, Copy, PartialEq, Eq)]
+#[derive(Clone, Copy)]
 pub struct Description {
     legal: Values,
 }

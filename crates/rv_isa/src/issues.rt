@@ -1,5 +1,5 @@
 /// The start of an execution: the instruction leaves its reservation station for a unit.
-#[derive(Clone, Copy, Debug, PartialEq, Eq)]
+#[derive(Clone, Copy, PartialEq, Eq)]
 pub struct Issue {
     /// The cycle of the start.
     pub cycle: u64,

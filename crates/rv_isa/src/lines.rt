@@ -1,5 +1,5 @@
 /// An interrupt line of the hart (Privileged Architecture 20211203, 3.1.9).
-#[derive(Clone, Copy, PartialEq, Eq)]
+#[derive(Clone, Copy)]
 pub enum Line {
     Software,
     Timer,
@@ -7,7 +7,7 @@ pub enum Line {
 }
 
 /// The levels of the three interrupt lines.
-#[derive(Clone, Copy, Debug, Default, PartialEq, Eq)]
+#[derive(Clone, Copy, Default, PartialEq, Eq)]
 pub struct Lines {
     pub software: bool,
     pub timer: bool,
@@ -15,7 +15,7 @@ pub struct Lines {
 }
 
 /// A change of one interrupt line.
-#[derive(Clone, Copy, PartialEq, Eq)]
+#[derive(Clone, Copy)]
 pub struct Arrival {
     /// The first cycle in which the line has the level; a step number on the one-at-a-time machine.
     pub cycle: u64,

@@ -6,7 +6,7 @@ use crate::operations::Width;
 use std::marker::Model;
 
 /// The bytes that a store writes, at the lowest address first: at most four.
-#[derive(Clone, Copy, Debug, PartialEq, Eq)]
+#[derive(Clone, Copy, PartialEq, Eq)]
 pub struct StoreBytes {
     bytes: [u8; 4],
     count: usize,

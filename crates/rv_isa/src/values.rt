@@ -2,7 +2,7 @@ use crate::keys::{KindKey, NumberKey};
 use crate::per_kind::PerKind;
 
 /// When a wrong prediction of a branch or a jump is mended.
-#[derive(Clone, Copy, Debug, PartialEq, Eq)]
+#[derive(Clone, Copy, PartialEq, Eq)]
 pub enum Recovery {
     /// When the instruction retires.
     Commit,
@@ -27,7 +27,7 @@ impl Recovery {
 }
 
 /// Which branch predictor guides the fetch.
-#[derive(Clone, Copy, Debug, PartialEq, Eq)]
+#[derive(Clone, Copy, PartialEq, Eq)]
 pub enum PredictorKind {
     /// No branch is taken.
     NotTaken,
@@ -55,7 +55,7 @@ impl PredictorKind {
 }
 
 /// The execution units and reservation stations of one kind.
-#[derive(Clone, Copy, Debug, PartialEq, Eq)]
+#[derive(Clone, Copy, PartialEq, Eq)]
 pub struct KindValues {
     /// The number of reservation stations, 1 to 64.
     pub stations: u32,
@@ -68,7 +68,7 @@ pub struct KindValues {
 }
 
 /// The data cache.
-#[derive(Clone, Copy, Debug, PartialEq, Eq)]
+#[derive(Clone, Copy, PartialEq, Eq)]
 pub struct CacheValues {
     /// The number of sets, a power of two from 1 to 256.
     pub sets: u32,
@@ -85,7 +85,7 @@ pub struct CacheValues {
 }
 
 /// The branch predictor.
-#[derive(Clone, Copy, Debug, PartialEq, Eq)]
+#[derive(Clone, Copy, PartialEq, Eq)]
 pub struct PredictorValues {
     pub kind: PredictorKind,
     /// The number of entries of each table, 1 to 4096.
@@ -93,7 +93,7 @@ pub struct PredictorValues {
 }
 
 /// What a report dumps of memory.
-#[derive(Clone, Copy, Debug, PartialEq, Eq)]
+#[derive(Clone, Copy, PartialEq, Eq)]
 pub struct ReportValues {
     /// The address of the first word, a multiple of 4.
     pub dump_address: u32,
@@ -103,7 +103,7 @@ pub struct ReportValues {
 
 /// What a machine description says, a field for each of its keys. The values may be out of range:
 /// a [`Description`](crate::Description) holds values that are legal.
-#[derive(Clone, Copy, Debug, PartialEq, Eq)]
+#[derive(Clone, Copy, PartialEq, Eq)]
 pub struct Values {
     /// The address of RAM, a multiple of 4096 up to 0xff000000.
     pub ram_base: u32,

@@ -12,7 +12,7 @@ use std::alloc::{AllocError, Global};
 use std::marker::Model;
 
 /// RAM: one range of addresses, whose front may be kept from stores.
-#[derive(Debug, Drop)]
+#[derive(Drop)]
 pub struct Ram {
     base: u32,
     size: u32,

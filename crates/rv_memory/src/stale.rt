@@ -14,7 +14,7 @@ use std::marker::Model;
 /// Each word has the number of the round in which it was marked last, and it is stale where that
 /// is the present round. Making all words fresh begins another round, so it costs the same however
 /// many words there are; only after the last round that can be counted it goes over them all.
-#[derive(Debug, Drop)]
+#[derive(Drop)]
 pub struct StaleMap {
     base: u32,
     round: u32,

@@ -32,7 +32,7 @@ pub struct View {
 }
 
 /// How the run of a picture ended.
-#[derive(Clone, Copy, Debug, PartialEq, Eq)]
+#[derive(Clone, Copy, PartialEq, Eq)]
 pub struct RunEnd {
     /// Why it ended.
     pub stop: Stop,

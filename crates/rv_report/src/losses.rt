@@ -1,7 +1,7 @@
 use crate::totals::Totals;
 
 /// What a run of the core lost cycles to.
-#[derive(Clone, Copy, Debug, PartialEq, Eq)]
+#[derive(Clone, Copy, PartialEq, Eq)]
 pub struct Losses {
     /// Branches and jumps that retired, and after which the program did not go on where that was predicted at their fetch.
     pub mispredicted: u64,

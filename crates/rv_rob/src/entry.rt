@@ -4,7 +4,7 @@ ghost use Rattle.std.specs.Prelude.{◌≡◌};
 use rv_isa::{Instr, Issue, Message};
 
 /// How far an instruction in flight has come.
-#[derive(Clone, Copy, Debug, PartialEq, Eq)]
+#[derive(Clone, Copy, PartialEq, Eq)]
 pub enum Stage {
     /// It waits for its operands, for a unit, or for the head.
     Waiting,
@@ -38,7 +38,7 @@ impl Stage {
 }
 
 /// An instruction in flight.
-#[derive(Clone, Copy, Debug, PartialEq, Eq)]
+#[derive(Clone, Copy, PartialEq, Eq)]
 pub struct Entry {
     pub pc: u32,
     /// The fetched word, or None where the pc lies outside RAM.

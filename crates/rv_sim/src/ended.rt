@@ -7,7 +7,7 @@ use rv_job::{FaultLines, SimError};
 use std::io::Write;
 
 /// How a task ended that was done.
-#[derive(Clone, Copy, Debug, PartialEq, Eq)]
+#[derive(Clone, Copy)]
 pub struct Ended {
     /// The exit status.
     pub status: u8,

@@ -3,7 +3,7 @@ ghost use Rattle.std.specs.Prelude.{◌≡◌};
 use std::marker::Model;
 
 /// A line of a source text.
-#[derive(Debug, Drop)]
+#[derive(Drop)]
 pub struct SourceLine {
     number: usize,
     text: Vec<u8>,

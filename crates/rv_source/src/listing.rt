@@ -9,7 +9,7 @@ use std::alloc::{AllocError, Global};
 use std::marker::Model;
 
 /// Which line of a source text each word of an image comes from.
-#[derive(Debug, Drop)]
+#[derive(Drop)]
 pub struct Listing {
     base: u32,
     lines: Vec<SourceLine>,

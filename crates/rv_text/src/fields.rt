@@ -10,7 +10,7 @@ use itoa::Buffer;
 use std::io::Write;
 
 /// What a line of a report gives after its name, or a cell of a table.
-#[derive(Clone, Copy, Debug)]
+#[derive(Clone, Copy)]
 pub enum Value {
     Count(u64),
     Word(u32),
@@ -19,7 +19,7 @@ pub enum Value {
 }
 
 /// A line of a report.
-#[derive(Clone, Copy, Debug)]
+#[derive(Clone, Copy)]
 pub struct Field<'a> {
     pub name: &'a str,
     pub value: Value,
