@@ -1,5 +1,9 @@
 -- What is counted of the cycles of a run is what their reports tell, with each cycle that comes.
-use Rattle.rv_core.proofs.Words.{◌≡◌, ℕ, ◌+◌, ◌≤◌, max, Bool, cond, not, List, [], ◌∷◌, ◌++◌, length, ◌==◌, None, Option, sym, refl, ap, ◌∙◌, append_assoc, append-nil, arith, length-append, Arrival, Report, NoneStops, busy_of, counted_stall, is_silent, longest_gap_from, stalls_from, stalls_of, steps_of, count_by-le-length, GuidedCycles, GuidedHardware, guided_ended as ended, Stall, StallCounts, Step, IsBounded, last_stall_of, progress_after, progress_of, silence_after, silence_from, IsRun, Progress}
+use Rattle.rv_core.proofs.Words.{◌≡◌, ℕ, ◌+◌, ◌-◌, ◌≤◌, take, drop, subst, lines_at, Lines, IsGuidedCycle, IsCommitStop, IsNextCycle, report_with, max, Bool, cond, not, List, [], ◌∷◌, ◌++◌, length, ◌==◌, None, Option, sym, refl, ap, ◌∙◌, append_assoc, append-nil, arith, length-append, Arrival, Report, NoneStops, busy_of, counted_stall, is_silent, longest_gap_from, stalls_from, stalls_of, steps_of, count_by-le-length, GuidedCycles, GuidedHardware, guided_ended as ended, Stall, StallCounts, Step, IsBounded, last_stall_of, progress_after, progress_of, silence_after, silence_from, IsRun, Progress}
+use Rattle.std.proofs.Math.Seq.{drop-append_seam}
+use Rattle.std.proofs.lemmas.List.{take_all}
+use Rattle.rv_core.specs.Told.{AppendsCycle}
+use Rattle.rv_core.specs.declared.outcome.CycleEnd.{CycleEnd}
 use Rattle.std.proofs.lemmas.List.Sums.{sum_by_push}
 
 -- ---- each count, with one more report at the end
@@ -99,3 +103,27 @@ module _ (arrivals : List Arrival) where
   pub told_nothing : (h : GuidedHardware) (progress : Progress) (steps : List Step) → progress ≡ progress_of [] → steps ≡ [] →
       IsRun arrivals h h [] steps progress.stalls progress.busy progress.cycles progress.longest_gap
   told_nothing h progress steps counts none = told_of h h [] progress steps ended counts none
+
+-- ---- a cycle of a run
+
+-- the steps after those that were there before
+pub listed_after : (old new steps : List Step) (before : ℕ) → before ≡ length old → new ≡ old ++ steps →
+    take (length new - before) (drop before new) ≡ steps
+listed_after old new steps before is appended =
+    rw (is, appended, drop-append_seam old steps) (take_all (length (old ++ steps) - length old) steps (omega (arith, length-append old steps)))
+
+-- a cycle that was counted with the lines of its number is the run's next
+pub next_cycle : {arrivals : List Arrival} {old new : GuidedHardware} {steps steps' : List Step} {progress progress' : Progress}
+    (lines : Lines) (end : CycleEnd) (done : AppendsCycle lines old new steps steps' end) →
+    lines ≡ lines_at arrivals old.hardware.cycle → IsCommitStop end.stop →
+    progress' ≡ progress_after (report_with done.0 end) progress →
+    IsNextCycle arrivals old new steps steps' progress progress' end.stop
+next_cycle {old = old} {new = new} lines end done are reason counts = record {
+  report = report_with done.0 end;
+  cycle = subst (λ l. IsGuidedCycle l old (report_with done.0 end) new) are done.3;
+  few = done.2;
+  steps_are = done.1;
+  counted = counts;
+  stop_is = refl;
+  reason = reason;
+}

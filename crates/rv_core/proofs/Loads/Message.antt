@@ -1,9 +1,37 @@
 -- The value that a load takes from the older stores and the cache is that of its effect.
-use Rattle.rv_core.proofs.Words.{◌≡◌, ℕ, ◌+◌, ◌-◌, ◌≤◌, List, ◌++◌, length, take, slice_range, None, Option, sym, refl, ap, ◌∙◌, subst, arith, number_of, bytes_of, is_sign_extended, width_of, pc_plus_4, LoadForm, Memory, number_at, extended, loads, State, Contents, forwarded, Store, bytes_after, effect_message, writes, IsAfter, IsOverRam, bytes_over, load_fault, path_of}
+use Rattle.rv_core.proofs.Words.{◌≡◌, ℕ, ◌+◌, ◌-◌, ◌≤◌, List, ◌++◌, length, take, slice_range, None, Option, sym, refl, ap, ◌∙◌, subst, arith, number_of, bytes_of, is_sign_extended, width_of, pc_plus_4, Cause, LoadForm, Width, Layout, fault_message, IsAccess, Memory, number_at, extended, loads, State, Contents, forwarded, Store, bytes_after, effect_message, writes, IsAfter, IsOverRam, bytes_over, load_fault, path_of}
 use Rattle.rv_core.proofs.Loads.Bytes.{bytes_from_cache, bytes_from_stores}
-use Rattle.rv_core.proofs.Loads.Effect.{PathFacts, load_gives, load_within, path_facts}
+use Rattle.rv_core.proofs.Loads.Effect.{PathFacts, aligned_width, load_faults, load_gives, load_within, path_facts}
 use Rattle.rv_core.specs.declared.load.Path.{Path}
-use Rattle.rv_core.specs.declared.load.Path.TheVariants.{FromStores, FromCache}
+use Rattle.rv_core.specs.declared.load.Path.TheVariants.{Without, FromStores, FromCache}
+
+-- what is known by the path that was found
+found : (layout : Layout) (ss : List Store) (address count : ℕ) (path : Path) → path_of layout ss address count ≡ path →
+    PathFacts (load_fault layout address count) (forwarded ss address count) count path
+found layout ss address count path is =
+    subst (λ p. PathFacts (load_fault layout address count) (forwarded ss address count) count p) is
+    (path_facts (load_fault layout address count) (forwarded ss address count) count)
+
+-- a load that faults gives its fault
+pub from_fault : (cache : Contents Memory) (ss : List Store) (s : State) (form : LoadForm) (rd address : ℕ) (cause : Cause) →
+    path_of cache.backing.layout ss address (bytes_of (width_of form)) ≡ Without cause →
+    fault_message cause address ≡ effect_message None (loads cache.backing.layout s form rd address)
+from_fault cache ss s form rd address cause is =
+    sym (load_faults cache.backing.layout address s form rd cause
+    (found cache.backing.layout ss address (bytes_of (width_of form)) (Without cause) is))
+
+-- a load that accesses the cache reads as many bytes as it may
+pub accesses : (cache : Contents Memory) (ss : List Store) → IsOverRam cache → (width : Width) (address count : ℕ)
+    (overlay : List (Option ℕ)) → path_of cache.backing.layout ss address (bytes_of width) ≡ FromCache overlay →
+    count ≡ bytes_of width → IsAccess cache address count
+accesses cache ss over width address count overlay is same =
+    let within =
+    load_within cache.backing.layout address (bytes_of width)
+    (found cache.backing.layout ss address (bytes_of width) (FromCache overlay) is).0 in
+    rw same (
+      aligned_width width address within.0,
+      (omega (arith, over.base, within.1), omega (arith, over.base, over.size, within.2)),
+    )
 
 module _ (cache : Contents Memory) (ss : List Store) (over : IsOverRam cache) (s : State) (behind : IsAfter cache ss s)
     (form : LoadForm) (rd address : ℕ) where
@@ -42,19 +70,13 @@ module _ (cache : Contents Memory) (ss : List Store) (over : IsOverRam cache) (s
         ap (λ v. effect_message None (writes s rd v (pc_plus_4 s.pc))) (sym value)
         ∙ sym (load_gives cache.backing.layout address s form rd fault)
 
-  facts : (path : Path) → path_of cache.backing.layout ss address count ≡ path →
-      PathFacts (load_fault cache.backing.layout address count) (forwarded ss address count) count path
-  facts path is =
-      subst (λ p. PathFacts (load_fault cache.backing.layout address count) (forwarded ss address count) count p) is
-      (path_facts (load_fault cache.backing.layout address count) (forwarded ss address count) count)
-
   -- a load whose bytes all come from the stores gives its effect
   pub from_stores : (overlay : List (Option ℕ)) (below : List ℕ) →
       path_of cache.backing.layout ss address count ≡ FromStores overlay →
       effect_message None (writes s rd (value_over overlay below) (pc_plus_4 s.pc))
       ≡ effect_message None (loads cache.backing.layout s form rd address)
   from_stores overlay below is =
-      let known = facts (FromStores overlay) is in
+      let known = found cache.backing.layout ss address count (FromStores overlay) is in
       gives known.0 overlay below known.1
       (bytes_from_stores cache.base (length cache.bytes) ss cache.bytes refl behind.inside address (width_of form) (from known.0)
       (to known.0) below known.2)
@@ -65,7 +87,7 @@ module _ (cache : Contents Memory) (ss : List Store) (over : IsOverRam cache) (s
       effect_message None (writes s rd (value_over overlay (slice_range cache.bytes place (place + count) ++ padding))
       (pc_plus_4 s.pc)) ≡ effect_message None (loads cache.backing.layout s form rd address)
   from_cache overlay padding is =
-      let known = facts (FromCache overlay) is in
+      let known = found cache.backing.layout ss address count (FromCache overlay) is in
       gives known.0 overlay (slice_range cache.bytes place (place + count) ++ padding) known.1
       (bytes_from_cache cache.base (length cache.bytes) ss cache.bytes refl behind.inside address (width_of form) (from known.0)
       (to known.0) padding)

@@ -1,5 +1,6 @@
 -- What the turns of the commit phase have taken, with what is still to come, is the definition's commit phase.
-use Rattle.rv_core.proofs.Words.{◌≡◌, ℕ, ◌+◌, ◌<◌, ◌≤◌, List, [], ◌++◌, length, Some, None, Option, sym, refl, ap, ◌∙◌, append_assoc, append-nil, arith, length-append, due, Committing, commit, commit_turn, commit_unless, Hardware, Ends, repeated, Step, IsKept, and_step, committing, turn_left, HeadTurn}
+use Rattle.rv_core.proofs.Words.{◌≡◌, ℕ, ◌+◌, ◌*◌, ◌<◌, ◌≤◌, List, [], ◌++◌, length, Some, None, Option, sym, refl, ap, ◌∙◌, append_assoc, append-nil, arith, length-append, due, Committing, commit, commit_turn, commit_unless, Hardware, Ends, repeated, Step, IsKept, and_step, committing, turn_left, HeadTurn}
+use Rattle.std.proofs.Common.{Fits, rules, w32}
 use Rattle.std.specs.FinSet as set
 use Rattle.rv_core.proofs.Phases.Turned.{turned-ends, turned-goes}
 use Rattle.rv_core.specs.declared.head.HeadTurn.TheVariants.{GoesOn}
@@ -79,3 +80,16 @@ pub committed_all : (start h : Hardware) (old new : List Step) (done left : ℕ)
     left ≡ 0 → committing h before.steps ≡ commit set.contains start
 committed_all start h old new done left before none =
     ap (λ n. repeated (commit_turn set.contains) n (committing h before.steps)) (sym none) ∙ before.to_come
+
+-- before a further turn of a width of eight at most, one more instruction can be counted, and one more step has room
+module _ {start h : Hardware} {old new : List Step} {done left : ℕ} (before : AreCommitted start h old new done left) (few : done < 8) where
+  pub counts_one : start.rob.retired ≤ 8 * start.cycle → h.rob.retired < 8 * h.cycle + 8
+  counts_one numbers = omega (arith, before.retired, before.cycle, numbers, few)
+
+  pub has_room : (room now : ℕ) → now ≡ room → length old + 8 ≤ room → length new < now
+  has_room room now same enough =
+      omega (arith, before.few, ap length before.appended, length-append old before.steps, same, enough, few)
+
+-- the cause of an interrupt is a word
+pub interrupt_fits : (code : ℕ) → code ≤ 11 → Fits w32 (2147483648 + code)
+interrupt_fits code at_most = search rules

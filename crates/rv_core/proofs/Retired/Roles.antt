@@ -1,15 +1,43 @@
 -- The turn that a head has by its role is the definition's.
-use Rattle.rv_core.proofs.Words.{◌≡◌, arith, false, true, Stale, Message, stop_after, turn_ended, turn_left, flushed, with_result, eq-eqb, ne_eqb, ◌≢◌, row_of, List, [], ◌∷◌, slice_get, Some, None, Option, nat_cmp, sym, refl, ap, ◌∙◌, is_serialising, Instr, word_of, Entry, Committing, commit_turn, commit_turn_of, execute_head, finish_broadcast, head_turn, Hardware, broadcast_of, Ends, Step, IsHead, committing, instruction_of_access, role_of, CsrAccess as Access, WaitsForResult}
+use Rattle.rv_core.proofs.Words.{◌≡◌, ℕ, ◌+◌, ◌≤◌, arith, IsKept, false, true, Stale, Message, stop_after, turn_ended, turn_left, flushed, with_result, eq-eqb, ne_eqb, ◌≢◌, row_of, List, [], ◌∷◌, slice_get, Some, None, Option, nat_cmp, sym, refl, ap, ◌∙◌, is_serialising, Instr, word_of, Entry, Committing, commit_turn, commit_turn_of, execute_head, finish_broadcast, head_turn, Hardware, broadcast_of, Ends, Step, IsHead, committing, instruction_of_access, role_of, CsrAccess as Access, WaitsForResult}
 use Rattle.std.specs.FinSet as set
 use Rattle.rv_isa.specs.declared.causes.Fault.{Fault}
 use Rattle.rv_hardware.specs.Commit.{finish_head, with_fault}
 use Rattle.rv_hardware.specs.Retirement.{written_of}
+use Rattle.rv_rob.specs.ReorderBuffer.{ReorderBuffer, after_head}
+use Rattle.rv_hardware.specs.Squash.{with_trap}
 use Rattle.rv_core.specs.declared.head.HeadTurn.TheVariants as head
 use Rattle.rv_core.specs.declared.head.Role.TheVariants.{CsrAccess}
 
 first_of : (entries : List Entry) (e : Entry) → slice_get entries 0 ≡ Some e → (younger : List Entry) × (entries ≡ e ∷ younger)
 first_of [] e is = absurd (cc)
 first_of (x ∷ xs) e is = (xs, ap (λ l. l ∷ xs) cc)
+
+none_of : (entries : List Entry) → slice_get entries 0 ≡ None → entries ≡ []
+none_of [] none = refl
+none_of (e ∷ entries) none = absurd (cc)
+
+-- with nothing in flight the phase ends
+pub turn_of_none : (h : Hardware) (steps : List Step) → slice_get h.rob.entries 0 ≡ None →
+    commit_turn set.contains (committing h steps) ≡ Ends (committing h steps)
+turn_of_none h steps none = ap (λ l. commit_turn_of set.contains l (committing h steps)) (none_of h.rob.entries none)
+
+-- what no turn changes, by what the turn leaves
+pub kept : (h : Hardware) → IsKept h h
+kept h = record { values = refl; cycle = refl; retired = omega arith }
+
+pub kept_trapped : (h next : Hardware) (cause value : ℕ) → next ≡ with_trap cause value h → IsKept h next
+kept_trapped h next cause value is = rw is (record { values = refl; cycle = refl; retired = omega arith })
+
+counts_one : (r : ReorderBuffer) (entries : List Entry) → (after_head r entries).retired ≤ r.retired + 1
+counts_one r [] = omega arith
+counts_one r (e ∷ entries) = omega arith
+
+pub kept_retired : (h next : Hardware) (e : Entry) (m : Message) → next ≡ with_result e m h → IsKept h next
+kept_retired h next e m is = rw is (record { values = refl; cycle = refl; retired = counts_one h.rob h.rob.entries })
+
+pub kept_flushed : (h next : Hardware) (e : Entry) (m : Message) → next ≡ flushed (with_result e m h) → IsKept h next
+kept_flushed h next e m is = rw is (record { values = refl; cycle = refl; retired = counts_one h.rob h.rob.entries })
 
 -- the first entry is the head
 pub first_is_head : (h : Hardware) (e : Entry) → slice_get h.rob.entries 0 ≡ Some e → IsHead h e

@@ -1,5 +1,7 @@
-use Rattle.rv_core.proofs.Words.{◌≡◌, ◌+◌, ◌-◌, [], ◌∷◌, ◌++◌, take, replicate, slice_range, None, sym, ap, ◌∙◌, number_of, bytes_of, is_sign_extended, width_of, modulo_word, pc_plus_4, sum, extended, effect_message, writes, older_than, bytes_over, path_of}
-use Rattle.rv_core.proofs.Loads.Message.{from_cache, from_stores}
+use Rattle.rv_core.proofs.Words.{◌≡◌, ◌+◌, ◌-◌, [], ◌∷◌, ◌++◌, take, replicate, slice_range, None, sym, ap, ◌∙◌, number_of, bytes_of, is_sign_extended, width_of, modulo_word, pc_plus_4, sum, extended, effect_message, fault_message, writes, older_than, bytes_over, path_of}
+use Rattle.rv_cache.specs.Cache.{access_cost}
+use Rattle.rv_core.specs.Access.{cost_by, defined_path, port_free_by}
+use Rattle.rv_core.proofs.Loads.Message.{accesses, from_cache, from_fault, from_stores}
 use Rattle.rv_core.proofs.load.load.Goals as goal
 
 pub returns-in-FromStores-clause-message : goal.returns-in-FromStores-clause-message
@@ -39,3 +41,34 @@ returns-in-FromCache-clause-message c = λ s at behind.
     ∙ from_cache cache stores c.requires.over_ram s behind form rd address c.in-FromCache.overlay padding
     ((λ j. path_of cache.backing.layout stores (sym c.address-place.ensures j) (bytes_of (sym c.width-width.ensures j)))
     ∙ sym c.path_of.ensures ∙ c.in-FromCache.is)
+
+pub read-cost-requires : goal.read-cost-requires
+read-cost-requires c = record {
+  access = accesses c.args.cache.now (older_than c.args.ready.now.seq c.args.queue.now.stores) c.requires.over_ram
+      c.width-width.result c.address-place.result c.bytes.result c.in-FromCache.overlay (sym c.path_of.ensures ∙ c.in-FromCache.is)
+      c.bytes.ensures;
+}
+
+pub returns-in-Without-clause-message : goal.returns-in-Without-clause-message
+returns-in-Without-clause-message c = λ s at behind.
+    c.faulted.ensures
+    ∙ ap (fault_message c.in-Without.cause) c.address-place.ensures
+    ∙ from_fault c.args.cache.now (older_than c.args.ready.now.seq c.args.queue.now.stores) s c.args.form c.args.rd
+    (sum c.args.ready.now.first (modulo_word c.args.offset)) c.in-Without.cause
+    ((λ j. path_of c.args.cache.now.backing.layout (older_than c.args.ready.now.seq c.args.queue.now.stores) (sym c.address-place.ensures j) (bytes_of (sym c.width-width.ensures j)))
+    ∙ sym c.path_of.ensures ∙ c.in-Without.is)
+
+pub returns-in-FromCache-clause-cost : goal.returns-in-FromCache-clause-cost
+returns-in-FromCache-clause-cost c =
+    c.read-cost.ensures.cost ∙ ap (access_cost c.args.cache.now) c.address-place.ensures
+    ∙ sym (ap (λ p. cost_by c.args.times.now c.args.cache.now (defined_path (sum c.args.ready.now.first (modulo_word c.args.offset)) p))
+    ((λ j. path_of c.args.cache.now.backing.layout (older_than c.args.ready.now.seq c.args.queue.now.stores) (sym c.address-place.ensures j) (bytes_of (sym c.width-width.ensures j)))
+    ∙ sym c.path_of.ensures ∙ c.in-FromCache.is))
+
+pub returns-in-FromCache-clause-port : goal.returns-in-FromCache-clause-port
+returns-in-FromCache-clause-port c =
+    ap (λ n. c.args.times.now.cycle + n)
+    (c.from.ensures ∙ c.read-cost.ensures.cost ∙ ap (access_cost c.args.cache.now) c.address-place.ensures)
+    ∙ sym (ap (λ p. port_free_by c.args.times.now c.args.cache.now (defined_path (sum c.args.ready.now.first (modulo_word c.args.offset)) p))
+    ((λ j. path_of c.args.cache.now.backing.layout (older_than c.args.ready.now.seq c.args.queue.now.stores) (sym c.address-place.ensures j) (bytes_of (sym c.width-width.ensures j)))
+    ∙ sym c.path_of.ensures ∙ c.in-FromCache.is))

@@ -1,6 +1,6 @@
-use Rattle.rv_core.proofs.Words.{◌≡◌, ◌+◌, ◌-◌, [], ◌∷◌, ◌++◌, Some, sym, refl, ap, ◌∙◌, subst, arith, Committing, commit, commit_unless, Hardware, AreTaught, lessons_of, Step, and_step, committing, turn_left}
+use Rattle.rv_core.proofs.Words.{◌≡◌, ◌+◌, ◌-◌, ◌<◌, ◌≤◌, vec_capacity, [], ◌∷◌, ◌++◌, Some, sym, refl, ap, ◌∙◌, subst, arith, Committing, commit, commit_unless, Hardware, AreTaught, lessons_of, Step, and_step, committing, turn_left}
 use Rattle.std.specs.FinSet as set
-use Rattle.rv_core.proofs.Retired.Loop.{none_committed, committed_all, committed_whole, committed_more, interrupted, steps_with}
+use Rattle.rv_core.proofs.Retired.Loop.{none_committed, committed_all, committed_whole, committed_more, counts_one, has_room, interrupt_fits, interrupted, steps_with}
 use Rattle.rv_core.proofs.Retired.Taught.{none_taught, taught_all, taught_at_end, teaching_begins, teaching_goes}
 use Rattle.rv_core.proofs.parts.Parts.commit.Goals as goal
 use Rattle.rv_core.proofs.parts.Parts.commit.Goals.{After-loop, In-Some, In-Ends}
@@ -114,3 +114,18 @@ loop-preserved g c = (
       c.commit_head.new.self (c.commit_head.ensures.turn.left c.loop.invariant.0.steps) _ c.in-GoesOn.is
       c.commit_head.ensures.turn.learns,
 )
+
+pub overflow_add-code : goal.overflow_add-code
+overflow_add-code g c = interrupt_fits c.in-Some.code c.in-Some.ensures.code
+
+pub commit_head-requires-clause-retired : goal.commit_head-requires-clause-retired
+commit_head-requires-clause-retired g c =
+    let few : c.loop.counter < 8 = omega (arith, c.loop-test.true, c.self.invariant.sound.legal.pipeline.commit_width) in
+    counts_one c.loop.invariant.0 few c.requires.numbers
+
+pub commit_head-requires-clause-room : goal.commit_head-requires-clause-room
+commit_head-requires-clause-room g c =
+    let few : c.loop.counter < 8 = omega (arith, c.loop-test.true, c.self.invariant.sound.legal.pipeline.commit_width) in
+    subst (λ n. n < vec_capacity c.loop.steps) (sym c.loop.steps.ok.0)
+    (has_room c.loop.invariant.0 few (vec_capacity c.args.steps.now) (vec_capacity c.loop.steps) c.loop.invariant.1
+    (subst (λ n. n + 8 ≤ vec_capacity c.args.steps.now) c.args.steps.now.ok.0 c.requires.room))

@@ -1,6 +1,6 @@
 use Rattle.rv_core.proofs.Words.{◌≡◌, true, false, None, slice_get, sym, refl, ap, ◌∙◌, subst, word_of, is_serialising, Entry, Hardware, IsHead, turn_left}
 use Rattle.std.specs.FinSet as set
-use Rattle.rv_core.proofs.Retired.Roles.{ended_as, first_is_head, heads_agree, turn_finishes, turn_of_stale}
+use Rattle.rv_core.proofs.Retired.Roles.{ended_as, first_is_head, heads_agree, kept, turn_finishes, turn_of_none, turn_of_stale}
 use Rattle.rv_core.proofs.Retired.Taught.{learns_at}
 use Rattle.rv_core.proofs.parts.Parts.commit_head.Goals as goal
 use Rattle.rv_core.proofs.parts.Parts.commit_head.Goals.{After-is_stale}
@@ -78,3 +78,23 @@ returns-then-is_serialising-clause-turn g c =
       appended = c.end_with.ensures.items;
       learns = learns_at _ _ told _ _ (ap (λ (x : Hardware). x.pc) c.self-then-is_serialising.view_is) c.end_with.ensures.taught;
     }
+
+pub returns-in_default-clause-turn : goal.returns-in_default-clause-turn
+returns-in_default-clause-turn g c =
+    record {
+      told = None;
+      left = λ steps.
+          turn_of_none c.args.self.now steps
+          (ap (λ (h : Hardware). slice_get h.rob.entries 0) (sym c.self.view_is) ∙ sym c.in_default.ensures);
+      appended = refl;
+      learns = refl;
+    }
+
+pub returns-in_default-clause-kept : goal.returns-in_default-clause-kept
+returns-in_default-clause-kept g c = kept c.args.self.now
+
+pub returns-then-is_stale-clause-kept : goal.returns-then-is_stale-clause-kept
+returns-then-is_stale-clause-kept g c = kept c.args.self.now
+
+pub returns-then-waits_for_result-clause-kept : goal.returns-then-waits_for_result-clause-kept
+returns-then-waits_for_result-clause-kept g c = kept c.args.self.now

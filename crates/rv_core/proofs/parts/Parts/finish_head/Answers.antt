@@ -1,7 +1,7 @@
 use Rattle.rv_core.proofs.Words.{◌≡◌, ◌∷◌, [], ◌++◌, ℕ, Some, None, slice_get, option_map, sym, refl, ap, ◌∙◌, Hardware, IsHead, committing, row_of, flushed, turn_ended, turn_left}
 use Rattle.rv_hardware.specs.Retirement.{written_of}
 use Rattle.rv_core.specs.declared.head.HeadTurn.TheVariants as turn
-use Rattle.rv_core.proofs.Retired.Roles.{ended_as, first_is_head, retires_last, retires_on, traps_by, turn_finishes}
+use Rattle.rv_core.proofs.Retired.Roles.{ended_as, first_is_head, kept_flushed, kept_retired, kept_trapped, retires_last, retires_on, traps_by, turn_finishes, turn_of_none}
 use Rattle.rv_core.proofs.Retired.Taught.{learns_at}
 use Rattle.rv_core.proofs.parts.Parts.finish_head.Goals as goal
 use Rattle.rv_core.proofs.parts.Parts.finish_head.Goals.{After-append, In-Some}
@@ -98,3 +98,24 @@ returns-clause-turn g c =
       learns = learns_at _ _ told _ _ (sym (ap (λ (x : Hardware). x.pc) flushed_is))
           (rw (← c.unwrap_or.ensures) c.learn.ensures);
     }
+
+pub returns-in_default-clause-turn : goal.returns-in_default-clause-turn
+returns-in_default-clause-turn g c =
+    record {
+      told = None;
+      left = λ steps.
+          turn_of_none c.args.self.now steps
+          (ap (λ (h : Hardware). slice_get h.rob.entries 0) (sym c.self.view_is) ∙ sym c.in_default.ensures);
+      appended = refl;
+      learns = refl;
+    }
+
+pub returns-in-Some-fault-clause-kept : goal.returns-in-Some-fault-clause-kept
+returns-in-Some-fault-clause-kept g c = kept_trapped c.args.self.now c.trap-step.new.self _ _ c.trap-step.ensures.hardware
+
+pub returns-then-message-entry-clause-kept : goal.returns-then-message-entry-clause-kept
+returns-then-message-entry-clause-kept g c = kept_retired c.args.self.now c.retire.new.self c.in-Some.head.now c.in-Some-message_of.message c.retire.ensures
+
+pub returns-clause-kept : goal.returns-clause-kept
+returns-clause-kept g c = kept_flushed c.args.self.now c.flush.new.self c.in-Some.head.now c.in-Some-message_of.message
+    (c.flush.ensures ∙ ap flushed c.retire.ensures)
