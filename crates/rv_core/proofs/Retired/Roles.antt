@@ -4,7 +4,7 @@ use Rattle.std.specs.FinSet as set
 use Rattle.rv_isa.specs.declared.causes.Fault.{Fault}
 use Rattle.rv_hardware.specs.Commit.{finish_head, with_fault}
 use Rattle.rv_hardware.specs.Retirement.{written_of}
-use Rattle.rv_rob.specs.ReorderBuffer.{ReorderBuffer, after_head}
+use Rattle.rv_rob.specs.ReorderBuffer.{ReorderBuffer, after_head, head_retired}
 use Rattle.rv_hardware.specs.Squash.{with_trap}
 use Rattle.rv_core.specs.declared.head.HeadTurn.TheVariants as head
 use Rattle.rv_core.specs.declared.head.Role.TheVariants.{CsrAccess}
@@ -22,22 +22,37 @@ pub turn_of_none : (h : Hardware) (steps : List Step) → slice_get h.rob.entrie
     commit_turn set.contains (committing h steps) ≡ Ends (committing h steps)
 turn_of_none h steps none = ap (λ l. commit_turn_of set.contains l (committing h steps)) (none_of h.rob.entries none)
 
+retires_one : (r : ReorderBuffer) (entries : List Entry) → (after_head r entries).retired ≤ r.retired + 1
+retires_one r [] = omega arith
+retires_one r (e ∷ entries) = omega arith
+
 -- what no turn changes, by what the turn leaves
 pub kept : (h : Hardware) → IsKept h h
 kept h = record { values = refl; cycle = refl; retired = omega arith }
 
+pub kept_as : (h next : Hardware) → next.values ≡ h.values → next.cycle ≡ h.cycle → next.rob ≡ h.rob → IsKept h next
+kept_as h next values cycle rob =
+    record { values = values; cycle = cycle; retired = omega (arith, ap (λ (r : ReorderBuffer). r.retired) rob) }
+
+pub kept_from : (h now next : Hardware) → IsKept h now → now.rob ≡ h.rob → IsKept now next → IsKept h next
+kept_from h now next before rob after = record {
+  values = after.values ∙ before.values;
+  cycle = after.cycle ∙ before.cycle;
+  retired = omega (arith, after.retired, ap (λ (r : ReorderBuffer). r.retired) rob);
+}
+
+pub kept_serial : (h next : Hardware) (pc : ℕ) (registers : List ℕ) →
+    next ≡ flushed (record h { pc = pc; registers = registers; rob = head_retired h.rob }) → IsKept h next
+kept_serial h next pc registers is = rw is (record { values = refl; cycle = refl; retired = retires_one h.rob h.rob.entries })
+
 pub kept_trapped : (h next : Hardware) (cause value : ℕ) → next ≡ with_trap cause value h → IsKept h next
 kept_trapped h next cause value is = rw is (record { values = refl; cycle = refl; retired = omega arith })
 
-counts_one : (r : ReorderBuffer) (entries : List Entry) → (after_head r entries).retired ≤ r.retired + 1
-counts_one r [] = omega arith
-counts_one r (e ∷ entries) = omega arith
-
 pub kept_retired : (h next : Hardware) (e : Entry) (m : Message) → next ≡ with_result e m h → IsKept h next
-kept_retired h next e m is = rw is (record { values = refl; cycle = refl; retired = counts_one h.rob h.rob.entries })
+kept_retired h next e m is = rw is (record { values = refl; cycle = refl; retired = retires_one h.rob h.rob.entries })
 
 pub kept_flushed : (h next : Hardware) (e : Entry) (m : Message) → next ≡ flushed (with_result e m h) → IsKept h next
-kept_flushed h next e m is = rw is (record { values = refl; cycle = refl; retired = counts_one h.rob h.rob.entries })
+kept_flushed h next e m is = rw is (record { values = refl; cycle = refl; retired = retires_one h.rob h.rob.entries })
 
 -- the first entry is the head
 pub first_is_head : (h : Hardware) (e : Entry) → slice_get h.rob.entries 0 ≡ Some e → IsHead h e

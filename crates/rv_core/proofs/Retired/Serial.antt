@@ -1,5 +1,6 @@
 -- The hardware of which a serialising head has left is sound.
-use Rattle.rv_core.proofs.Words.{◌≡◌, ℕ, ◌+◌, ◌*◌, ◌<◌, List, ◌∷◌, length, Option, ap, ◌∙◌, arith, length-set, Store as QueuedStore, ReorderBuffer, head_retired, Entry, Hardware, AreBelow-weaken, registers_with, IsSoundHardware}
+use Rattle.rv_core.proofs.Words.{◌≡◌, ℕ, ◌+◌, ◌*◌, ◌<◌, List, ◌∷◌, length, Option, ap, ◌∙◌, arith, length-set, Store as QueuedStore, ReorderBuffer, head_retired, Entry, Hardware, AreBelow-weaken, registers_with, IsSoundHardware, IsSound, StaleWords, Inside}
+use Rattle.rv_arch.specs.Csr.{Kept}
 use Rattle.rv_core.proofs.Retired.Head.{buffer_after}
 use Rattle.rv_core.proofs.Retired.Sound.{entries_after_head}
 
@@ -24,4 +25,28 @@ sound_after_serial h e es pc written sound entries room = record {
         (omega (arith, ap (λ (r : ReorderBuffer). r.retired) (buffer_after h.rob e es entries))) sound.stores.older;
   };
   fetched = sound.fetched;
+}
+
+-- CSRs and stale words bear on nothing in flight
+pub sound_apart : (p : Inside) (csrs : Kept) (stale : StaleWords) → IsSound p → stale.base ≡ p.stale.base → stale.size ≡ p.stale.size →
+    IsSound (record p { csrs = csrs; stale = stale })
+sound_apart p csrs stale before base size = record {
+  sound = record {
+    legal = before.sound.legal;
+    cycles = before.sound.cycles;
+    port = before.sound.port;
+    registers = before.sound.registers;
+    cache = before.sound.cache;
+    entries = before.sound.entries;
+    stores = before.sound.stores;
+    fetched = before.sound.fetched;
+  };
+  tied = record {
+    renamed = before.tied.renamed;
+    stationed = before.tied.stationed;
+    pending = before.tied.pending;
+    queued = before.tied.queued;
+  };
+  stale_base = base ∙ before.stale_base;
+  stale_size = size ∙ before.stale_size;
 }

@@ -1,5 +1,7 @@
 -- At reset memory holds the image, and zeros after it.
-use Rattle.rv_core.proofs.Words.{◌≡◌, ℕ, ◌+◌, ◌-◌, List, ◌++◌, length, drop, replicate, ap, arith, drop-replicate}
+use Rattle.std.proofs.Common.{rules}
+use Rattle.std.proofs.lemmas.List.{length-replicate}
+use Rattle.rv_core.proofs.Words.{◌≡◌, ℕ, ◌+◌, ◌-◌, ◌≤◌, sym, refl, ◌∙◌, subst, Bool, true, false, if◌then◌else◌, [], List, ◌++◌, IsLegal, Values, Hardware, reset_hardware, mends_early, for_each, empty, empty_pool, empty_bus, Renaming, bus_of, hardware_of, queue_of, renaming_of, stations_of, IsSound, IsSoundHardware, Inside, length-append, length, drop, replicate, ap, arith, drop-replicate}
 
 -- an image that is written over zeros has zeros after it
 pub image_over_zeros : (size : ℕ) (image : List ℕ) →
@@ -7,3 +9,57 @@ pub image_over_zeros : (size : ℕ) (image : List ℕ) →
 image_over_zeros size image =
     let none : 0 + length image ≡ length image = omega arith in
     rw none (ap (λ (rest : List ℕ). image ++ rest) (drop-replicate (length image) size 0))
+
+-- ---- the parts at reset
+
+-- the hardware at reset is sound
+sound-at_reset : (values : Values) (image : List ℕ) (start : ℕ) → IsLegal values → length image ≤ values.ram_size →
+    IsSoundHardware (reset_hardware values image start)
+sound-at_reset values image start legal fits = record {
+  legal = legal;
+  cycles = omega arith;
+  port = omega arith;
+  registers = refl;
+  cache = record {
+    base = refl;
+    values = refl;
+    bytes =
+        length-append image (replicate (values.ram_size - length image) 0)
+        ∙ ap (λ n. length image + n) (length-replicate (values.ram_size - length image) 0)
+        ∙ omega (arith, fits);
+    layout = refl;
+  };
+  entries = record {
+    capacity = refl;
+    within = omega arith;
+    numbers = omega arith;
+    each = search rules;
+    serial = search rules;
+  };
+  stores = record { each = search rules; older = search rules };
+  fetched = search rules;
+}
+
+no_checkpoint : (early : Bool) → empty 0 ≡ record { capacity = 0; producers = []; checkpoints = if early then [] else [] }
+no_checkpoint true = refl
+no_checkpoint false = refl
+
+-- parts that stand for the hardware at reset, with nothing in flight, are sound
+pub reset-sound : (p : Inside) (values : Values) (image : List ℕ) (start : ℕ) → IsLegal values → length image ≤ values.ram_size →
+    hardware_of p ≡ reset_hardware values image start → p.rename ≡ empty values.rob →
+    p.stations ≡ for_each empty_pool values.kinds → p.bus ≡ empty_bus values →
+    p.stores ≡ record { stores = []; capacity = values.store_queue } → p.stale.base ≡ values.ram_base →
+    p.stale.size ≡ values.ram_size → IsSound p
+reset-sound p values image start legal fits is rename stations bus stores base size = record {
+  sound = subst IsSoundHardware (sym is) (sound-at_reset values image start legal fits);
+  tied = record {
+    renamed =
+        rename ∙ ap (λ (r : Renaming). record r { capacity = values.rob }) (no_checkpoint (mends_early values.recovery))
+        ∙ sym (ap (λ (h : Hardware). renaming_of h.values h.rob) is);
+    stationed = stations ∙ sym (ap (λ (h : Hardware). stations_of h.values h.registers h.rob) is);
+    pending = bus ∙ sym (ap (λ (h : Hardware). bus_of h.values h.rob) is);
+    queued = stores ∙ sym (ap queue_of is);
+  };
+  stale_base = base ∙ sym (ap (λ (h : Hardware). h.values.ram_base) is);
+  stale_size = size ∙ sym (ap (λ (h : Hardware). h.values.ram_size) is);
+}

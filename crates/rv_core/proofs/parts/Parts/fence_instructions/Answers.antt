@@ -1,5 +1,7 @@
-use Rattle.rv_core.proofs.Words.{◌≡◌, Bool, false, [], Some, sym, ap, ◌∙◌, subst, true≢false, FenceI, Entry, Hardware, Ends, IsTrue, Queue, IsHead, IsSound, hardware_of, Inside}
-use Rattle.rv_core.proofs.Retired.Fence.{fence_waits_for_stores, fence_waits_for_port, queue_beside_fence}
+use Rattle.rv_core.proofs.Words.{◌≡◌, Bool, false, filter, is_committed, committing, with_write_back, StaleWords, [], Some, sym, ap, ◌∙◌, subst, true≢false, FenceI, Entry, Hardware, Ends, IsTrue, Queue, IsHead, IsSound, hardware_of, Inside}
+use Rattle.rv_core.proofs.Retired.Fence.{fence_waits_for_cache, fence_waits_for_stores, fence_waits_for_port, queue_beside_fence, takes_time}
+use Rattle.rv_core.proofs.Retired.Roles.{kept, kept_as, kept_from, kept_serial}
+use Rattle.rv_core.proofs.Retired.Serial.{sound_apart}
 use Rattle.rv_core.proofs.parts.Parts.fence_instructions.Goals as goal
 use Rattle.rv_core.proofs.parts.Parts.fence_instructions.Goals.{then-not-is_empty-via-then-not-is_empty, then-not-is_empty-via-else-not-is_empty+then-not-is_port_idle}
 
@@ -27,3 +29,35 @@ returns-then-not-is_empty-clause-turn c steps =
       | then-not-is_empty-via-else-not-is_empty+then-not-is_port_idle w ↦
           fence_waits_for_port c.args.self.now c.args.entry.now steps (sym w.is_port_idle.ensures ∙ w.if-not-is_port_idle.true)
     ])
+
+pub returns-then-not-is_empty-clause-kept : goal.returns-then-not-is_empty-clause-kept
+returns-then-not-is_empty-clause-kept c = kept c.args.self.now
+
+pub returns-then-write_back-gt0-clause-turn : goal.returns-then-write_back-gt0-clause-turn
+returns-then-write_back-gt0-clause-turn c = λ steps.
+    ap Ends (fence_waits_for_cache c.args.self.now c.args.entry.now steps
+    (ap (λ (h : Hardware). h.committed) (sym c.self.view_is)
+    ∙ ap (filter is_committed) (c.is_empty.ensures.0 c.if-not-is_empty.false))
+    (sym c.is_port_idle.ensures ∙ c.if-not-is_port_idle.false)
+    (takes_time c.args.self.now c.write_back.result c.write_back.ensures.time c.if-write_back-gt0.true)
+    ∙ ap (λ h. committing h steps) (sym c.write_back.ensures.hardware))
+
+pub returns-then-write_back-gt0-clause-kept : goal.returns-then-write_back-gt0-clause-kept
+returns-then-write_back-gt0-clause-kept c =
+    let is = c.write_back.ensures.hardware in
+    kept_as c.args.self.now c.write_back.new.self (ap (λ (h : Hardware). h.values) is) (ap (λ (h : Hardware). h.cycle) is)
+    (ap (λ (h : Hardware). h.rob) is)
+
+pub invariant_of-self : goal.invariant_of-self
+invariant_of-self c =
+    sound_apart c.self-2.inside c.self-2.inside.csrs c.clear.new.self c.self-2.invariant
+    (ap (λ (s : StaleWords). s.base) c.clear.ensures.cleared) (ap (λ (s : StaleWords). s.size) c.clear.ensures.cleared)
+
+pub returns-clause-kept : goal.returns-clause-kept
+returns-clause-kept c =
+    let now = hardware_of (record c.self-2.inside { stale = c.clear.new.self }) in
+    let is : hardware_of c.self-2.inside ≡ with_write_back c.args.self.now = c.self-2.view_is ∙ c.write_back.ensures.hardware in
+    let rob : now.rob ≡ c.args.self.now.rob = ap (λ (h : Hardware). h.rob) is in
+    kept_from c.args.self.now now c.serialise.new.self
+    (kept_as c.args.self.now now (ap (λ (h : Hardware). h.values) is) (ap (λ (h : Hardware). h.cycle) is) rob) rob
+    (kept_serial now c.serialise.new.self _ _ c.serialise.ensures.hardware)
