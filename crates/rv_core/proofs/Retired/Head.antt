@@ -1,5 +1,5 @@
 -- The head retires: rename map, stations, bus and queue are those of the instructions after it.
-use Rattle.rv_core.proofs.Words.{◌≡◌, ℕ, ◌+◌, ◌<◌, Bool, false, not, ◌≢◌, List, [], ◌∷◌, ◌++◌, map, length, IfSome, if◌then◌else◌, ◌==◌, Some, None, filter, Option, sym, refl, ap, ◌∙◌, arith, get_or-set_other, get_or-set_same, eq-eqb, ne_eqb, is_branch_or_jump, is_store, is_target, target_of_word, at_kind, Message, Kind, PerKind, Values, with_register, ReorderBuffer, after_head, head_retired, Entry, Stage, mends_early, Hardware, broadcast_of, is_waiting, stores_of, with_value, committed_store, with_result, by_kind-same, Queue, Pool, Pending, Checkpoint, Renaming, checkpoint_without_oldest, retired, without_checkpoint, without_oldest, Producer, with_commit, without_target, IsLegalWrite, AreTied, bus_of, checkpoints_of, operand_by, pending_of, pool_of_kind, producer_of, producers_of, producers_with, renaming_of, stations_of, status_with, values_in, waiting_from}
+use Rattle.rv_core.proofs.Words.{◌≡◌, ℕ, ◌+◌, ◌<◌, Bool, true, false, not, ◌≢◌, List, [], ◌∷◌, ◌++◌, map, length, IfSome, if◌then◌else◌, ◌==◌, Some, None, filter, Option, sym, refl, ap, ◌∙◌, arith, get_or-set_other, get_or-set_same, eq-eqb, ne_eqb, is_branch_or_jump, is_store, is_target, target_of_word, at_kind, Message, Kind, PerKind, Values, with_register, ReorderBuffer, after_head, head_retired, Entry, Stage, mends_early, Hardware, broadcast_of, is_waiting, stores_of, with_value, committed_store, with_result, by_kind-same, Queue, Pool, Pending, Checkpoint, Renaming, checkpoint_without_oldest, retired, without_checkpoint, without_oldest, Producer, with_commit, without_target, IsLegalWrite, AreTied, bus_of, checkpoints_of, operand_by, pending_of, pool_of_kind, producer_of, producers_of, producers_with, renaming_of, stations_of, status_with, values_in, waiting_from}
 use Rattle.rv_core.proofs.Ties.Stations.{busy-at}
 use Rattle.rv_core.proofs.Retired.Stores.{AreRetired, queued_after_head}
 
@@ -108,7 +108,17 @@ renamed_from : (capacity seq : ℕ) (target : Option ℕ) (is_jump : Bool) (es :
       producers = producers_of (seq + 1) es;
       checkpoints = if is_early then checkpoints_of [] (seq + 1) es else [];
     }
-renamed_from capacity seq target is_jump es is_early = grind (arith, oldest_goes, noted_goes, younger_stay, without_head)
+renamed_from capacity seq None is_jump es false = refl
+renamed_from capacity seq None is_jump es true =
+    ap (λ cs. record { capacity = capacity; producers = producers_of (seq + 1) es; checkpoints = cs })
+    (noted_goes seq [] (checkpoints_of [] (seq + 1) es) (younger_stay seq [] (seq + 1) es (omega arith)) is_jump)
+renamed_from capacity seq (Some r) is_jump es false =
+    ap (λ ps. record { capacity = capacity; producers = ps; checkpoints = [] }) (oldest_goes r seq (producers_of (seq + 1) es))
+renamed_from capacity seq (Some r) is_jump es true = λ i. record {
+  capacity = capacity;
+  producers = oldest_goes r seq (producers_of (seq + 1) es) i;
+  checkpoints = without_head r seq es is_jump i;
+}
 
 pub renamed_after_head : (values : Values) (capacity seq : ℕ) (e : Entry) (es : List Entry) →
     without_checkpoint seq (without_target seq (target_of_word e.instruction)

@@ -1,4 +1,4 @@
-use Rattle.rv_core.proofs.Words.{ap, ◌∙◌, sym, hardware_of, KindValues, path_cost}
+use Rattle.rv_core.proofs.Words.{ap, ◌∙◌, sym, hardware_of, KindValues, Layout, path_cost}
 use Rattle.rv_stations.specs.Waiting.{ready_taken}
 use Rattle.rv_core.specs.Access.{path_of_ready}
 use Rattle.rv_core.proofs.Issued.Executed.{Execution}
@@ -66,3 +66,17 @@ returns-clause-passed c =
     (ap ready_taken c.in-Some.is) (executed (goal.at.returns-clause-passed c).After-start)
     c.hold_unit.ensures c.start.ensures c.take_ready.ensures.others c.accept.ensures
     c.in-Some.taken.passed (rw c.in-Some.is at c.take_ready.ensures.passed)
+
+pub execute-executed-requires-clause-over_ram : goal.execute-executed-requires-clause-over_ram
+execute-executed-requires-clause-over_ram c =
+    let cache = c.self.invariant.sound.cache in
+    record {
+      base = cache.base ∙ sym (ap (λ (l : Layout). l.base) cache.layout);
+      size = cache.bytes ∙ sym (ap (λ (l : Layout). l.size) cache.layout);
+    }
+
+pub execute-executed-requires-clause-cycle : goal.execute-executed-requires-clause-cycle
+execute-executed-requires-clause-cycle c = c.self.invariant.sound.cycles
+
+pub accept-requires-clause-cycle : goal.accept-requires-clause-cycle
+accept-requires-clause-cycle c = c.self.invariant.sound.cycles

@@ -1,6 +1,6 @@
 use Rattle.rv_core.proofs.Words.{◌≡◌, List, slice_get, sym, ap, ◌∙◌, commit_turn, head_turn, Hardware, Step, IsHead, committing}
 use Rattle.std.specs.FinSet as set
-use Rattle.rv_core.proofs.Retired.Roles.{first_is_head, turn_of_head, turn_accesses, waits_not}
+use Rattle.rv_core.proofs.Retired.Roles.{first_is_head, kept, turn_of_head, turn_of_none, turn_accesses, waits_not}
 use Rattle.rv_core.proofs.parts.Parts.serial_head.Goals as goal
 use Rattle.rv_core.proofs.parts.Parts.serial_head.Goals.{After-role_of, In-Some}
 
@@ -37,3 +37,14 @@ returns-in-WaitsForResult-clause-turn c steps =
     let at = goal.at.returns-in-WaitsForResult-clause-turn c in
     absurd (waits_not c.in-Some.head.now.instruction (sym c.role_of.ensures ∙ c.in-WaitsForResult.is)
     (c.requires.serial c.in-Some.head.now (head at.In-Some)))
+
+pub returns-in_default-clause-turn : goal.returns-in_default-clause-turn
+returns-in_default-clause-turn c steps =
+    turn_of_none c.args.self.now steps
+    (ap (λ (h : Hardware). slice_get h.rob.entries 0) (sym c.self.view_is) ∙ sym c.in_default.ensures)
+
+pub returns-in_default-clause-kept : goal.returns-in_default-clause-kept
+returns-in_default-clause-kept c = kept c.args.self.now
+
+pub returns-in-WaitsForResult-clause-kept : goal.returns-in-WaitsForResult-clause-kept
+returns-in-WaitsForResult-clause-kept c = kept c.args.self.now

@@ -1,4 +1,4 @@
-use Rattle.rv_core.proofs.Words.{◌≡◌, ◌^◌, false, ◌++◌, nat_le, sym, ap, ◌∙◌, arith, leb-false, by_cycle, report_with}
+use Rattle.rv_core.proofs.Words.{◌≡◌, ◌^◌, ◌≤◌, false, ◌++◌, length, nat_le, sym, ap, ◌∙◌, subst, arith, leb-false, leb-true, Hardware, by_cycle, report_with}
 use Rattle.rv_hardware.proofs.AnyPrediction.{any_cycle}
 use Rattle.rv_core.proofs.Guiding.{cycle_from, cycle_with}
 use Rattle.rv_core.proofs.pipeline.Pipeline.next_cycle.Goals as goal
@@ -21,3 +21,18 @@ returns-clause-cycled g c = λ counted.
     let listed : c.listed.result.items ≡ done.0 =
     c.listed.ensures ∙ c.as_slice.ensures.value ∙ done.1 ∙ ap (λ l. l ++ done.0) c.clear.ensures.items in
     cycle_with (ap (λ steps. report_with steps end) (sym listed)) (cycle_from (c.deref_mut.ensures.value ∙ c.self.view_is) done.3)
+
+pub listed-requires : goal.listed-requires
+listed-requires g c =
+    let done = c.advance-end.ensures.cycle in
+    subst (λ l. length l ≤ 8) (sym (c.as_slice.ensures.value ∙ done.1 ∙ ap (λ l. l ++ done.0) c.clear.ensures.items)) done.2
+
+pub returns-then-is_exhausted-clause-cycled : goal.returns-then-is_exhausted-clause-cycled
+returns-then-is_exhausted-clause-cycled g c = λ counted.
+    let over = leb-true (2 ^ 40) c.self.inside.parts.value.cycle (sym c.is_exhausted.ensures.exhausted ∙ c.if-is_exhausted.true) in
+    absurd (omega (arith, counted, over, ap (λ (h : Hardware). h.cycle) c.self.view_is))
+
+pub returns-clause-exhausted : goal.returns-clause-exhausted
+returns-clause-exhausted g c = λ all.
+    let within = leb-false (2 ^ 40) c.self.inside.parts.value.cycle (sym c.is_exhausted.ensures.exhausted ∙ c.if-is_exhausted.false) in
+    absurd (omega (arith, all, within, ap (λ (h : Hardware). h.cycle) c.self.view_is))
