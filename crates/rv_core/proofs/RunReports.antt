@@ -110,7 +110,8 @@ module _ (arrivals : List Arrival) where
 pub listed_after : (old new steps : List Step) (before : ℕ) → before ≡ length old → new ≡ old ++ steps →
     take (length new - before) (drop before new) ≡ steps
 listed_after old new steps before is appended =
-    rw (is, appended, drop-append_seam old steps) (take_all (length (old ++ steps) - length old) steps (omega (arith, length-append old steps)))
+    rw (is, appended, drop-append_seam old steps)
+    (take_all (length (old ++ steps) - length old) steps (omega (arith, length-append old steps)))
 
 -- a cycle that was counted with the lines of its number is the run's next
 pub next_cycle : {arrivals : List Arrival} {old new : GuidedHardware} {steps steps' : List Step} {progress progress' : Progress}

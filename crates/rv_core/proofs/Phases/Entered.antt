@@ -1,4 +1,4 @@
--- The parts with an instruction that was dispatched into them are sound, and stand for the hardware with it.
+-- The parts with an instruction that was dispatched into them are sound, and stand for the hardware with it; the turns of dispatch are the definition's.
 use Rattle.rv_core.proofs.Words.{◌≡◌, ℕ, ◌+◌, ◌<◌, ◌&&◌, sym, ap, ◌∙◌, Stall, dispatch_turn, GoesOn, dispatch_told, dispatching, List, [], ◌∷◌, drop, IfSome, slice_get, Some, None, All, refl, All-head, is_branch_or_jump, is_store, target_of_word, pushed, FetchBuffer, Fetched, mends_early, entry_of_fetched, reason_of, Hardware, All-drop, next_number, with_instruction, with_jump, with_store, with_target, IsSound, hardware_of, IsDecoded, status_after, values_in, Inside}
 use Rattle.rv_hardware.specs.Dispatch.{dispatch_turn_of, dispatch_unless}
 use Rattle.rv_hardware.specs.declared.report.Stall.TheVariants.{Fetch}
@@ -54,13 +54,18 @@ module _ (p : Inside) (h : Hardware) (view : hardware_of p ≡ h) where
   pub turn_enters : (f : Fetched) (front : FetchBuffer) (next : Hardware) (dispatched : ℕ) →
       slice_get p.front.entries 0 ≡ Some f → reason_of (hardware_of p) f ≡ None →
       front ≡ record p.front { entries = drop 1 p.front.entries } →
-      next ≡ record (hardware_of (record p { front = front })) { rob = pushed (entry_of_fetched (hardware_of (record p { front = front })) f) p.rob } →
+      next ≡ record (hardware_of (record p { front = front })) {
+        rob = pushed (entry_of_fetched (hardware_of (record p { front = front })) f) p.rob;
+      } →
       dispatch_turn (dispatching h dispatched) ≡ dispatch_told None next dispatched
   turn_enters f front next dispatched first waits_not rest is =
       ap (λ x. dispatch_turn (dispatching x dispatched)) (sym view)
       ∙ ap (λ l. dispatch_turn_of l (dispatching (hardware_of p) dispatched)) (first_and_rest p.front.entries f first)
       ∙ ap (λ r. dispatch_unless r f (drop 1 p.front.entries) (dispatching (hardware_of p) dispatched)) waits_not
-      ∙ sym (ap (λ b. GoesOn (dispatching (record (hardware_of p) { rob = pushed (entry_of_fetched (hardware_of p) f) p.rob; front = b }) (dispatched + 1))) rest)
+      ∙ sym (ap (λ b. GoesOn (dispatching (record (hardware_of p) {
+        rob = pushed (entry_of_fetched (hardware_of p) f) p.rob;
+        front = b;
+      }) (dispatched + 1))) rest)
       ∙ sym (ap (λ x. GoesOn (dispatching x (dispatched + 1))) is)
 
 -- the parts without the oldest fetched word are sound

@@ -1,4 +1,4 @@
--- The hardware of which a serialising head has left is sound.
+-- The hardware of which a serialising head has left is sound, and so it is with other CSRs and stale words.
 use Rattle.rv_core.proofs.Words.{◌≡◌, ℕ, ◌+◌, ◌*◌, ◌<◌, List, ◌∷◌, length, Option, ap, ◌∙◌, arith, length-set, Store as QueuedStore, ReorderBuffer, head_retired, Entry, Hardware, AreBelow-weaken, registers_with, IsSoundHardware, IsSound, StaleWords, Inside}
 use Rattle.rv_arch.specs.Csr.{Kept}
 use Rattle.rv_core.proofs.Retired.Head.{buffer_after}
@@ -28,8 +28,8 @@ sound_after_serial h e es pc written sound entries room = record {
 }
 
 -- CSRs and stale words bear on nothing in flight
-pub sound_apart : (p : Inside) (csrs : Kept) (stale : StaleWords) → IsSound p → stale.base ≡ p.stale.base → stale.size ≡ p.stale.size →
-    IsSound (record p { csrs = csrs; stale = stale })
+pub sound_apart : (p : Inside) (csrs : Kept) (stale : StaleWords) → IsSound p → stale.base ≡ p.stale.base →
+    stale.size ≡ p.stale.size → IsSound (record p { csrs = csrs; stale = stale })
 sound_apart p csrs stale before base size = record {
   sound = record {
     legal = before.sound.legal;

@@ -1,4 +1,4 @@
--- At reset memory holds the image, and zeros after it.
+-- At reset memory holds the image, and zeros after it, and the parts with nothing in flight are sound.
 use Rattle.std.proofs.Common.{rules}
 use Rattle.std.proofs.lemmas.List.{length-replicate}
 use Rattle.rv_core.proofs.Words.{◌≡◌, ℕ, ◌+◌, ◌-◌, ◌≤◌, sym, refl, ◌∙◌, subst, Bool, true, false, if◌then◌else◌, [], List, ◌++◌, IsLegal, Values, Hardware, reset_hardware, mends_early, for_each, empty, empty_pool, empty_bus, Renaming, bus_of, hardware_of, queue_of, renaming_of, stations_of, IsSound, IsSoundHardware, Inside, length-append, length, drop, replicate, ap, arith, drop-replicate}

@@ -1,6 +1,4 @@
 use Rattle.rv_core.proofs.Words.{◌≡◌, ◌+◌, ◌-◌, [], ◌∷◌, ◌++◌, take, replicate, slice_range, None, sym, ap, ◌∙◌, number_of, bytes_of, is_sign_extended, width_of, modulo_word, pc_plus_4, sum, extended, effect_message, fault_message, writes, older_than, bytes_over, path_of}
-use Rattle.rv_cache.specs.Cache.{access_cost}
-use Rattle.rv_core.specs.Access.{cost_by, defined_path, port_free_by}
 use Rattle.rv_core.proofs.Loads.Message.{accesses, from_cache, from_fault, from_stores}
 use Rattle.rv_core.proofs.load.load.Goals as goal
 
@@ -51,24 +49,10 @@ read-cost-requires c = record {
 
 pub returns-in-Without-clause-message : goal.returns-in-Without-clause-message
 returns-in-Without-clause-message c = λ s at behind.
+    let cache = c.args.cache.now in
+    let stores = older_than c.args.ready.now.seq c.args.queue.now.stores in
     c.faulted.ensures
     ∙ ap (fault_message c.in-Without.cause) c.address-place.ensures
-    ∙ from_fault c.args.cache.now (older_than c.args.ready.now.seq c.args.queue.now.stores) s c.args.form c.args.rd
-    (sum c.args.ready.now.first (modulo_word c.args.offset)) c.in-Without.cause
-    ((λ j. path_of c.args.cache.now.backing.layout (older_than c.args.ready.now.seq c.args.queue.now.stores) (sym c.address-place.ensures j) (bytes_of (sym c.width-width.ensures j)))
+    ∙ from_fault cache stores s c.args.form c.args.rd (sum c.args.ready.now.first (modulo_word c.args.offset)) c.in-Without.cause
+    ((λ j. path_of cache.backing.layout stores (sym c.address-place.ensures j) (bytes_of (sym c.width-width.ensures j)))
     ∙ sym c.path_of.ensures ∙ c.in-Without.is)
-
-pub returns-in-FromCache-clause-cost : goal.returns-in-FromCache-clause-cost
-returns-in-FromCache-clause-cost c =
-    c.read-cost.ensures.cost ∙ ap (access_cost c.args.cache.now) c.address-place.ensures
-    ∙ sym (ap (λ p. cost_by c.args.times.now c.args.cache.now (defined_path (sum c.args.ready.now.first (modulo_word c.args.offset)) p))
-    ((λ j. path_of c.args.cache.now.backing.layout (older_than c.args.ready.now.seq c.args.queue.now.stores) (sym c.address-place.ensures j) (bytes_of (sym c.width-width.ensures j)))
-    ∙ sym c.path_of.ensures ∙ c.in-FromCache.is))
-
-pub returns-in-FromCache-clause-port : goal.returns-in-FromCache-clause-port
-returns-in-FromCache-clause-port c =
-    ap (λ n. c.args.times.now.cycle + n)
-    (c.from.ensures ∙ c.read-cost.ensures.cost ∙ ap (access_cost c.args.cache.now) c.address-place.ensures)
-    ∙ sym (ap (λ p. port_free_by c.args.times.now c.args.cache.now (defined_path (sum c.args.ready.now.first (modulo_word c.args.offset)) p))
-    ((λ j. path_of c.args.cache.now.backing.layout (older_than c.args.ready.now.seq c.args.queue.now.stores) (sym c.address-place.ensures j) (bytes_of (sym c.width-width.ensures j)))
-    ∙ sym c.path_of.ensures ∙ c.in-FromCache.is))
