@@ -113,6 +113,9 @@ listed_after old new steps before is appended =
     rw (is, appended, drop-append_seam old steps)
     (take_all (length (old ++ steps) - length old) steps (omega (arith, length-append old steps)))
 
+pub before_within : (old new steps : List Step) (before : ℕ) → before ≡ length old → new ≡ old ++ steps → before ≤ length new
+before_within old new steps before is appended = omega (arith, is, ap length appended, length-append old steps)
+
 -- a cycle that was counted with the lines of its number is the run's next
 pub next_cycle : {arrivals : List Arrival} {old new : GuidedHardware} {steps steps' : List Step} {progress progress' : Progress}
     (lines : Lines) (end : CycleEnd) (done : AppendsCycle lines old new steps steps' end) →

@@ -1,5 +1,5 @@
 use Rattle.rv_core.proofs.Words.{List, ap, ◌∙◌, lines_at, Step, progress_after, report_with}
-use Rattle.rv_core.proofs.RunReports.{listed_after, next_cycle}
+use Rattle.rv_core.proofs.RunReports.{before_within, listed_after, next_cycle}
 use Rattle.rv_core.proofs.outcome.Progress.run_cycle.Goals as goal
 
 pub returns-clause-cycle : goal.returns-clause-cycle
@@ -11,3 +11,9 @@ returns-clause-cycle g c =
     ∙ ap (λ (steps : List Step). progress_after (report_with steps c.advance-end.result) c.args.self.now)
     (listed_after c.args.steps.now.items c.as_slice.result.now done.0 c.len-before.result (c.len-before.ensures ∙ c.args.steps.now.ok.0)
     (c.as_slice.ensures.value ∙ done.1)))
+
+pub slice_bounds-count-count : goal.slice_bounds-count-count
+slice_bounds-count-count g c =
+    let done = c.advance-end.ensures.cycle in
+    before_within c.args.steps.now.items c.as_slice.result.now done.0 c.len-before.result
+    (c.len-before.ensures ∙ c.args.steps.now.ok.0) (c.as_slice.ensures.value ∙ done.1)
