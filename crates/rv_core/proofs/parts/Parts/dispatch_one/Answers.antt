@@ -1,5 +1,5 @@
-use Rattle.rv_core.proofs.Words.{◌∙◌, sym}
-use Rattle.rv_core.proofs.Phases.Entered.{decoded-first, sound-taken, turn_enters, turn_waits, turn_without, waits_not_taken}
+use Rattle.rv_core.proofs.Words.{◌∙◌, sym, ap, kind_of_word, Fetched}
+use Rattle.rv_core.proofs.Phases.Entered.{decoded-first, one_first, sound-taken, turn_enters, turn_waits, turn_without, waits_not_taken}
 use Rattle.rv_core.proofs.parts.Parts.dispatch_one.Goals as goal
 
 pub returns-in_default : goal.returns-in_default
@@ -13,6 +13,13 @@ returns-in-Some-reason_to_wait c = λ dispatched.
 
 pub invariant_of-self : goal.invariant_of-self
 invariant_of-self c = sound-taken c.self.inside c.take-fetched.new.self c.self.invariant c.take-fetched.ensures.rest
+
+pub enter-requires-clause-kind : goal.enter-requires-clause-kind
+enter-requires-clause-kind c =
+    c.kind_of-kind.ensures
+    ∙ ap (λ (f : Fetched). kind_of_word f.instruction)
+    (one_first c.self.inside.front.entries c.in-Some.fetched.now c.take-fetched.result (sym c.in-Some.ensures)
+    c.take-fetched.ensures.first)
 
 pub enter-requires-clause-waits_not : goal.enter-requires-clause-waits_not
 enter-requires-clause-waits_not c =

@@ -15,6 +15,9 @@ head g c =
 pub retire-requires-clause-head : goal.retire-requires-clause-head
 retire-requires-clause-head g c = head g (goal.at.retire-requires-clause-head g c).In-Some
 
+pub retire-requires-clause-known : goal.retire-requires-clause-known
+retire-requires-clause-known g c = sym c.message_of.ensures ∙ c.in-Some-message_of.is
+
 pub returns-in_default-message_of-clause-turn : goal.returns-in_default-message_of-clause-turn
 returns-in_default-message_of-clause-turn g c =
     let e = c.in-Some.head.now in
