@@ -3,6 +3,7 @@ pub mod Description
 pub mod Document
 pub mod Entries
 pub mod Fault
+pub mod FaultName
 pub mod Field
 pub mod Held
 pub mod Setting

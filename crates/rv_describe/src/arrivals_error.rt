@@ -1,31 +1,27 @@
 ghost use Rattle.std.specs.Prelude.{◌≡◌};
 ghost use Rattle.rv_describe.specs.Entries.{entry_of};
+ghost use Rattle.rv_describe.specs.FaultName.{arrivals_kind};
 
-use thiserror::Error;
+use std::error::Error;
+use std::fmt;
 
 /// Why a list of arrivals was refused. A fault that stands earlier here is found first, over the
 /// whole text; entries are counted from 1, and the first with such a fault is named.
-#[derive(Clone, Copy, Debug, PartialEq, Eq, Error)]
+#[derive(Clone, Copy, Debug, PartialEq, Eq)]
 pub enum ArrivalsError {
     /// The bytes are no UTF-8, or no TOML document.
-    #[error("NotToml")]
     NotToml,
     /// A name beside `arrival`, or a field beside `cycle`, `line` and `level`.
-    #[error("UnknownKey")]
     UnknownKey,
     /// An entry that is no table, lacks `cycle` or `line`, or has a field of another type. Entry 1
     /// where `arrival` is no array.
-    #[error("WrongKind {entry}")]
     WrongKind { entry: usize },
     /// An entry whose cycle, line or level is not one of those allowed, or that stands after the
     /// 100,000th.
-    #[error("OutOfRange {entry}")]
     OutOfRange { entry: usize },
     /// An entry with a cycle below that of the one before.
-    #[error("Unsorted {entry}")]
     Unsorted { entry: usize },
     /// Memory was refused.
-    #[error("Memory")]
     Memory,
 }
 
@@ -41,4 +37,38 @@ impl ArrivalsError {
             _ => 0,
         }
     }
+
+    /// The fault's name, and a space where the number of an entry stands after it.
+    #[tactic(auto, unfolding(crate::specs::FaultName::arrivals_kind))]
+    pub fn kind(self) -> &'static str
+        ensures { result.now ≡ arrivals_kind self }
+    {
+        match self {
+            ArrivalsError::NotToml => "NotToml",
+            ArrivalsError::UnknownKey => "UnknownKey",
+            ArrivalsError::WrongKind { .. } => "WrongKind ",
+            ArrivalsError::OutOfRange { .. } => "OutOfRange ",
+            ArrivalsError::Unsorted { .. } => "Unsorted ",
+            ArrivalsError::Memory => "Memory",
+        }
+    }
 }
+
+impl fmt::Display for ArrivalsError {
+    ghost use Rattle.std.specs.Prelude.{Some};
+    ghost use Rattle.rv_describe.specs.FaultName.{arrivals_fault_text};
+
+    ghost output = { λ error. Some (arrivals_fault_text error) };
+
+    #[tactic(auto, unfolding(crate::specs::FaultName::number_text))]
+    fn fmt<W: fmt::Write>(&self, f: &mut fmt::Formatter<W>) -> fmt::Result {
+        match self {
+            ArrivalsError::WrongKind { entry }
+            | ArrivalsError::OutOfRange { entry }
+            | ArrivalsError::Unsorted { entry } => write!(f, "{}{entry}", self.kind()),
+            _ => f.write_str(self.kind()),
+        }
+    }
+}
+
+impl Error for ArrivalsError {}
