@@ -1,24 +1,22 @@
 ghost use Rattle.std.specs.Prelude.{◌≡◌};
-ghost use Rattle.rv_job.specs.Fault.{arrivals_kind, arrivals_line, described_line, description_kind, description_line, fault_line, fault_status, unfit_line};
+ghost use Rattle.rv_job.specs.Fault.{arrivals_line, assembly_line, described_line, description_line, fault_line, fault_status, gap, unfit_line};
 ghost use Rattle.rv_text.specs.Written.{IsWritten};
 
 use crate::errors::SimError;
 use itoa::Buffer;
+use rv_asm::AsmError;
 use rv_describe::{ArrivalsError, DescriptionError, key_name};
-use rv_text::{ReportError, put, put_all};
+use rv_text::{ReportError, put_all};
 use std::io::Write;
 
-#[tactic(auto, unfolding(crate::specs::Fault::description_kind))]
-fn description_kind(error: DescriptionError) -> &'static str
-    ensures { result.now ≡ description_kind error }
+// What stands between the name of a description's fault and the key that it names.
+#[tactic(auto, unfolding(crate::specs::Fault::gap))]
+fn gap(error: DescriptionError) -> &'static str
+    ensures { result.now ≡ gap error }
 {
     match error {
-        DescriptionError::NotToml => "NotToml",
-        DescriptionError::UnknownKey => "UnknownKey",
-        DescriptionError::WrongKind { .. } => "WrongKind ",
-        DescriptionError::OutOfRange { .. } => "OutOfRange ",
-        DescriptionError::NotPowerOfTwo { .. } => "NotPowerOfTwo ",
-        DescriptionError::Memory => "Memory",
+        DescriptionError::NotToml | DescriptionError::UnknownKey | DescriptionError::Memory => "",
+        _ => " ",
     }
 }
 
@@ -30,9 +28,10 @@ fn write_description_fault<W: Write>(
 ) -> Result<(), ReportError>
     ensures { IsWritten result (W.contents writer.old) (W.contents writer.new) (description_line error) }
 {
-    let kind = description_kind(error).as_bytes();
+    let name = error.name().as_bytes();
+    let gap = gap(error).as_bytes();
     let key = key_name(error.place()).as_bytes();
-    put_all(writer, &[b"error: description: ", kind, key, b"\n"])
+    put_all(writer, &[b"error: description: ", name, gap, key, b"\n"])
 }
 
 // The line that reports the fault of one of several descriptions, with its number and the key that the fault names.
@@ -46,11 +45,12 @@ fn write_described_fault<W: Write>(
 {
     let mut buffer = Buffer::new();
     let number = buffer.format(number).as_bytes();
-    let kind = description_kind(error).as_bytes();
+    let name = error.name().as_bytes();
+    let gap = gap(error).as_bytes();
     let key = key_name(error.place()).as_bytes();
     put_all(
         writer,
-        &[b"error: description ", number, b": ", kind, key, b"\n"],
+        &[b"error: description ", number, b": ", name, gap, key, b"\n"],
     )
 }
 
@@ -67,26 +67,12 @@ fn write_unfit<W: Write>(writer: &mut W, number: usize) -> Result<(), ReportErro
     )
 }
 
-#[tactic(auto, unfolding(crate::specs::Fault::arrivals_kind))]
-fn arrivals_kind(error: ArrivalsError) -> &'static str
-    ensures { result.now ≡ arrivals_kind error }
-{
-    match error {
-        ArrivalsError::NotToml => "NotToml",
-        ArrivalsError::UnknownKey => "UnknownKey",
-        ArrivalsError::WrongKind { .. } => "WrongKind ",
-        ArrivalsError::OutOfRange { .. } => "OutOfRange ",
-        ArrivalsError::Unsorted { .. } => "Unsorted ",
-        ArrivalsError::Memory => "Memory",
-    }
-}
-
 // The line that reports a fault of arrivals, with the number of the entry that it names.
 #[tactic(auto, unfolding(crate::specs::Fault::arrivals_line, crate::specs::Fault::entry_text))]
 fn write_arrivals_fault<W: Write>(writer: &mut W, error: ArrivalsError) -> Result<(), ReportError>
     ensures { IsWritten result (W.contents writer.old) (W.contents writer.new) (arrivals_line error) }
 {
-    let kind = arrivals_kind(error).as_bytes();
+    let kind = error.kind().as_bytes();
     let entry = error.entry();
     if entry == 0 {
         return put_all(writer, &[b"error: arrivals: ", kind, b"\n"]);
@@ -96,30 +82,32 @@ fn write_arrivals_fault<W: Write>(writer: &mut W, error: ArrivalsError) -> Resul
     put_all(writer, &[b"error: arrivals: ", kind, number, b"\n"])
 }
 
+// The line that reports the assembly's first fault.
+#[tactic(auto, unfolding(crate::specs::Fault::assembly_line))]
+fn write_assembly_fault<W: Write>(writer: &mut W, error: AsmError) -> Result<(), ReportError>
+    ensures { IsWritten result (W.contents writer.old) (W.contents writer.new) (assembly_line error) }
+{
+    let mut buffer = Buffer::new();
+    let line = buffer.format(error.line).as_bytes();
+    let name = error.fault.name().as_bytes();
+    put_all(
+        writer,
+        &[b"error: assembly line ", line, b": ", name, b"\n"],
+    )
+}
+
 /// Writes the line that reports a fault.
 #[tactic(auto, unfolding(crate::specs::Fault::fault_line))]
 pub(crate) fn write_fault<W: Write>(writer: &mut W, error: SimError) -> Result<(), ReportError>
     ensures { IsWritten result (W.contents writer.old) (W.contents writer.new) (fault_line error) }
 {
     match error {
-        SimError::TooLong => put(writer, b"error: job too long\n"),
-        SimError::TooManyDescriptions => put(writer, b"error: too many descriptions\n"),
         SimError::Description(error) => write_description_fault(writer, error),
         SimError::Described { number, error } => write_described_fault(writer, number, error),
         SimError::Arrivals(error) => write_arrivals_fault(writer, error),
-        SimError::Assembly(error) => {
-            let mut buffer = Buffer::new();
-            let line = buffer.format(error.line).as_bytes();
-            let name = error.fault.name().as_bytes();
-            put_all(
-                writer,
-                &[b"error: assembly line ", line, b": ", name, b"\n"],
-            )
-        }
-        SimError::ImageDoesNotFit => put(writer, b"error: image does not fit\n"),
+        SimError::Assembly(error) => write_assembly_fault(writer, error),
         SimError::DoesNotFit { number } => write_unfit(writer, number),
-        SimError::Memory => put(writer, b"error: memory\n"),
-        SimError::WriteFailed => put(writer, b"error: output\n"),
+        _ => put_all(writer, &[b"error: ", error.what_failed().as_bytes(), b"\n"]),
     }
 }
 

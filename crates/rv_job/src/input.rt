@@ -3,22 +3,38 @@ ghost use Rattle.rv_job.specs.Input.{IsInputOf};
 
 use crate::job::MOST_BYTES;
 use std::alloc::Global;
+use std::error::Error;
+use std::fmt;
 use std::io::Read;
-use thiserror::Error;
 
 /// How many bytes one read asks for at most.
 const CHUNK: usize = 16_384;
 
 /// Why the input could not be read.
-#[derive(Clone, Copy, Debug, PartialEq, Eq, Error)]
+#[derive(Clone, Copy, Debug, PartialEq, Eq)]
 pub enum InputError {
     /// A read answered an error.
-    #[error("input")]
     Failed,
     /// Memory was refused.
-    #[error("memory")]
     Memory,
 }
+
+impl fmt::Display for InputError {
+    ghost use Rattle.std.specs.Prelude.{Some};
+    ghost use Rattle.rv_job.specs.Fault.{input_fault_text};
+
+    ghost output = { λ error. Some (input_fault_text error) };
+
+    #[tactic(auto, unfolding(crate::specs::Fault::input_fault_text, crate::specs::Fault::what_failed))]
+    fn fmt<W: fmt::Write>(&self, f: &mut fmt::Formatter<W>) -> fmt::Result {
+        f.write_str(match self {
+            InputError::Failed => "input",
+            InputError::Memory => "memory",
+        })
+    }
+}
+
+impl Error for InputError {}
 
 /// Reads to the end, or until 33,554,433 bytes are held, one more than a job may have.
 pub fn read_input<R: Read>(alloc: Global, reader: &mut R) -> Result<Vec<u8>, InputError>

@@ -7,6 +7,7 @@ pub returns : goal.returns
 unfolding described_line
 returns g c =
     let number_is = c.as_bytes-number.ensures.value ∙ c.format.ensures.text in
-    let kind_is = c.as_bytes-kind.ensures.value ∙ c.description_kind.ensures in
+    let name_is = c.as_bytes-name.ensures.value ∙ c.name.ensures in
+    let gap_is = c.as_bytes-gap.ensures.value ∙ c.gap.ensures in
     let key_is = c.as_bytes-key.ensures.value ∙ c.key_name.ensures ∙ ap text_at c.place.ensures in
-    rw (← number_is, ← kind_is, ← key_is) c.put_all.ensures
+    rw (← number_is, ← name_is, ← gap_is, ← key_is) c.put_all.ensures

@@ -6,6 +6,7 @@ use Rattle.rv_job.proofs.faults.write_description_fault.Goals as goal
 pub returns : goal.returns
 unfolding description_line
 returns g c =
-    let kind_is = c.as_bytes-kind.ensures.value ∙ c.description_kind.ensures in
+    let name_is = c.as_bytes-name.ensures.value ∙ c.name.ensures in
+    let gap_is = c.as_bytes-gap.ensures.value ∙ c.gap.ensures in
     let key_is = c.as_bytes-key.ensures.value ∙ c.key_name.ensures ∙ ap text_at c.place.ensures in
-    rw (← kind_is, ← key_is) c.put_all.ensures
+    rw (← name_is, ← gap_is, ← key_is) c.put_all.ensures
