@@ -29,8 +29,10 @@ pub fn read_image_text(alloc: Global, text: &[u8]) -> Result<DescribedImage, Sim
 {
     let parts = read_parts(text)?;
     let description = read_machine(alloc, parts.description)?;
-    let image = read_image(alloc, description.values().ram_base, parts.assembly)?;
-    Ok(DescribedImage { description, image })
+    match read_image(alloc, description.values().ram_base, parts.assembly) {
+        Ok(image) => Ok(DescribedImage { description, image }),
+        Err(error) => Err(error),
+    }
 }
 
 /// Writes the line that says how many bytes an image has, and where execution starts.

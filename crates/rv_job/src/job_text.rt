@@ -85,12 +85,14 @@ pub(crate) fn read_unassembled(alloc: Global, text: &[u8]) -> Result<Unassembled
 {
     let parts = read_parts(text)?;
     let description = read_machine(alloc, parts.description)?;
-    let arrivals = read_changes(alloc, parts.arrivals)?;
-    Ok(Unassembled {
-        description,
-        arrivals,
-        assembly: parts.assembly,
-    })
+    match read_changes(alloc, parts.arrivals) {
+        Ok(arrivals) => Ok(Unassembled {
+            description,
+            arrivals,
+            assembly: parts.assembly,
+        }),
+        Err(error) => Err(error),
+    }
 }
 
 /// The job of an image, if it fits. Fails by `ImageDoesNotFit`.
@@ -131,6 +133,8 @@ pub fn read_job(alloc: Global, text: &[u8]) -> Result<Job, SimError>
 {
     let read = read_unassembled(alloc, text)?;
     let values = read.description.values();
-    let image = read_image(alloc, values.ram_base, read.assembly)?;
-    job_of(read.description, read.arrivals, image)
+    match read_image(alloc, values.ram_base, read.assembly) {
+        Ok(image) => job_of(read.description, read.arrivals, image),
+        Err(error) => Err(error),
+    }
 }

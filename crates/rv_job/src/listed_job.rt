@@ -45,9 +45,11 @@ pub fn read_listed_job(alloc: Global, text: &[u8]) -> Result<ListedJob, SimError
     let read = read_unassembled(alloc, text)?;
     let values = read.description.values();
     let listed = read_listed_image(alloc, values.ram_base, read.assembly)?;
-    let job = job_of(read.description, read.arrivals, listed.image)?;
-    Ok(ListedJob {
-        job,
-        listing: listed.listing,
-    })
+    match job_of(read.description, read.arrivals, listed.image) {
+        Ok(job) => Ok(ListedJob {
+            job,
+            listing: listed.listing,
+        }),
+        Err(error) => Err(error),
+    }
 }

@@ -50,7 +50,7 @@ fn after_separator(text: &[u8]) -> Option<&[u8]>
 {
     let count = count_before_line_feed(text);
     let (line, rest) = text.split_at(count);
-    if line != SEPARATOR && line != SEPARATOR_RETURNED {
+    if !is_separator(line) {
         return None;
     }
     match rest.split_first() {

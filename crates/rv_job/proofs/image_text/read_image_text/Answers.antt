@@ -14,9 +14,8 @@ returns-in_err-description-clause-refused c =
     refused_on (RefusesImage c.args.text.now) _ _ c.from_residual-in_err-description.ensures.1
     (description c.in_ok-parts.ensures.length (rw (← c.in_ok-parts.ensures.parts) c.in_err-description.ensures.refused))
 
-pub returns-in_err-image-clause-refused : goal.returns-in_err-image-clause-refused
-returns-in_err-image-clause-refused c =
+pub returns-in-Err-clause-refused : goal.returns-in-Err-clause-refused
+returns-in-Err-clause-refused c =
     let parts_are = c.in_ok-parts.ensures.parts in
     let described : Describes c.args.text.now c.in_ok-description.description = rw (← parts_are) c.in_ok-description.ensures.machine in
-    refused_on (RefusesImage c.args.text.now) _ _ c.from_residual-in_err-image.ensures.1
-    (assembly c.in_ok-parts.ensures.length described (rw (← parts_are, ← c.values.ensures.values) c.in_err-image.ensures.refused))
+    assembly c.in_ok-parts.ensures.length described (rw (← parts_are, ← c.values.ensures.values) c.in-Err.ensures.refused)

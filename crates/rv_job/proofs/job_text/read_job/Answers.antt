@@ -1,28 +1,22 @@
-use Rattle.std.proofs.Common.{sym}
-use Rattle.rv_job.specs.JobRefusal.{RefusesJob, assembly}
+use Rattle.rv_job.specs.JobRefusal.{assembly}
 use Rattle.rv_job.specs.JobText.{Assembles}
-use Rattle.rv_job.proofs.HandedOn.{refused_on}
 use Rattle.rv_job.proofs.job_text.read_job.Goals as goal
-use Rattle.rv_job.proofs.job_text.read_job.Goals.{In_ok-image}
+use Rattle.rv_job.proofs.job_text.read_job.Goals.{In-Ok}
 
-pub returns-in_err-image-clause-refused : goal.returns-in_err-image-clause-refused
-returns-in_err-image-clause-refused c =
+pub returns-in-Err-clause-refused : goal.returns-in-Err-clause-refused
+returns-in-Err-clause-refused c =
     let read = c.in_ok-read.ensures in
-    refused_on (RefusesJob c.args.text.now) _ _ c.from_residual-in_err-image.ensures.1
-    (assembly read.length read.machine read.arrivals
-    (rw (← read.assembly, ← c.values-values.ensures.values) c.in_err-image.ensures.refused))
+    assembly read.length read.machine read.arrivals (rw (← read.assembly, ← c.values-values.ensures.values) c.in-Err.ensures.refused)
 
-assembled : (c : In_ok-image) → Assembles c.args.text.now c.in_ok-read.read.description c.in_ok-image.image
-assembled c = rw (← c.in_ok-read.ensures.assembly, ← c.values-values.ensures.values) c.in_ok-image.ensures.image
+assembled : (c : In-Ok) → Assembles c.args.text.now c.in_ok-read.read.description c.in-Ok.image
+assembled c = rw (← c.in_ok-read.ensures.assembly, ← c.values-values.ensures.values) c.in-Ok.ensures.image
 
-pub returns-clause-job : goal.returns-clause-job
-returns-clause-job c =
+pub returns-in-Ok-clause-job : goal.returns-in-Ok-clause-job
+returns-in-Ok-clause-job c =
     let read = c.in_ok-read.ensures in
-    c.job_of.ensures.job c.args.text.now read.length read.machine read.arrivals
-    (assembled (goal.at.returns-clause-job c).In_ok-image)
+    c.job_of.ensures.job c.args.text.now read.length read.machine read.arrivals (assembled (goal.at.returns-in-Ok-clause-job c).In-Ok)
 
-pub returns-clause-refused : goal.returns-clause-refused
-returns-clause-refused c =
+pub returns-in-Ok-clause-refused : goal.returns-in-Ok-clause-refused
+returns-in-Ok-clause-refused c =
     let read = c.in_ok-read.ensures in
-    c.job_of.ensures.refused c.args.text.now read.length read.machine read.arrivals
-    (assembled (goal.at.returns-clause-refused c).In_ok-image)
+    c.job_of.ensures.refused c.args.text.now read.length read.machine read.arrivals (assembled (goal.at.returns-in-Ok-clause-refused c).In-Ok)

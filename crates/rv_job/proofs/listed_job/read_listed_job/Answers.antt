@@ -1,4 +1,3 @@
-use Rattle.std.proofs.Common.{sym}
 use Rattle.rv_job.specs.JobRefusal.{RefusesJob, assembly}
 use Rattle.rv_job.specs.JobText.{Assembles}
 use Rattle.rv_job.proofs.HandedOn.{refused_on}
@@ -15,21 +14,20 @@ returns-in_err-listed-clause-refused c =
 assembled : (c : In_ok-listed) → Assembles c.args.text.now c.in_ok-read.read.description c.in_ok-listed.listed.image
 assembled c = rw (← c.in_ok-read.ensures.assembly, ← c.values-values.ensures.values) c.in_ok-listed.ensures.image
 
-pub returns-in_err-job-clause-refused : goal.returns-in_err-job-clause-refused
-returns-in_err-job-clause-refused c =
+pub returns-in-Err-clause-refused : goal.returns-in-Err-clause-refused
+returns-in-Err-clause-refused c =
     let read = c.in_ok-read.ensures in
-    refused_on (RefusesJob c.args.text.now) _ _ c.from_residual-in_err-job.ensures.1
-    (c.in_err-job.ensures.refused c.args.text.now read.length read.machine read.arrivals
-    (assembled (goal.at.returns-in_err-job-clause-refused c).In_ok-listed))
+    c.in-Err.ensures.refused c.args.text.now read.length read.machine read.arrivals
+    (assembled (goal.at.returns-in-Err-clause-refused c).In_ok-listed)
 
-pub returns-clause-job : goal.returns-clause-job
-returns-clause-job c =
+pub returns-in-Ok-clause-job : goal.returns-in-Ok-clause-job
+returns-in-Ok-clause-job c =
     let read = c.in_ok-read.ensures in
     record {
       job =
-          c.in_ok-job.ensures.job c.args.text.now read.length read.machine read.arrivals
-          (assembled (goal.at.returns-clause-job c).In_ok-listed);
+          c.in-Ok.ensures.job c.args.text.now read.length read.machine read.arrivals
+          (assembled (goal.at.returns-in-Ok-clause-job c).In_ok-listed);
       listing =
-          rw (c.in_ok-job.ensures.description, ← read.assembly, ← c.values-values.ensures.values)
+          rw (c.in-Ok.ensures.description, ← read.assembly, ← c.values-values.ensures.values)
           c.in_ok-listed.ensures.listing;
     }
