@@ -66,12 +66,12 @@ fn write_lines<W: Write>(
 ) -> Result<(), ReportError>
     ensures { IsWritten result (W.contents writer.old) (W.contents writer.new) (worst_lines listing.now branches.now worst.now) }
 {
-    match worst {
-        [] => Ok(()),
-        [_, ..] => {
-            put(writer, b"The lines with the most wrong predictions:\n")?;
-            write_each(writer, listing, branches, worst)
-        }
+    if worst.is_empty() {
+        return Ok(());
+    }
+    match put(writer, b"The lines with the most wrong predictions:\n") {
+        Ok(()) => write_each(writer, listing, branches, worst),
+        Err(error) => Err(error),
     }
 }
 
