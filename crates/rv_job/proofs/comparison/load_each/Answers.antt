@@ -1,4 +1,5 @@
-use Rattle.std.proofs.Common.{◌+◌, take, sym, subst}
+use Rattle.std.proofs.Common.{◌+◌, take, sym, subst, arith}
+use Rattle.std.proofs.lemmas.List.{take_all}
 use Rattle.rv_job.specs.Comparison.{AreLoaded, RefusesLoading}
 use Rattle.rv_job.proofs.Compared.{loaded_more, refused_at}
 use Rattle.rv_job.proofs.HandedOn.{refused_on}
@@ -22,3 +23,8 @@ loop-place-preserved c =
     subst (AreLoaded c.args.program.now (take (c.loop-place.place + 1) c.args.descriptions.now)) (sym c.in-Ok.ensures.items)
     (loaded_more c.args.program.now c.args.descriptions.now c.loop-place.place c.loop-place-test.true c.loop-place.jobs.items c.loop-place.invariant
     c.index-descriptions-place.result c.index-descriptions-place.is c.in_ok-job.job c.in_ok-job.ensures.job)
+
+pub returns : goal.returns
+returns c =
+    let all = take_all c.loop-place.place c.args.descriptions.now (omega (arith, c.loop-place-test.false)) in
+    record { jobs = subst (λ machines. AreLoaded c.args.program.now machines c.loop-place.jobs.items) all c.loop-place.invariant; refused = tt }
