@@ -26,9 +26,12 @@ faulty_by_few number None = omega arith
 faulty_by_few number (Some fault) = omega arith
 
 -- a line more is read
-module _ (number count : ℕ) (fault : Option AsmFault) (line : List ℕ) (lines behind : List (List ℕ)) (lines_are : lines ≡ line ∷ behind) (fault_is : fault ≡ fault_of_line (line_in line)) where
+module _ (number count : ℕ) (line : List ℕ) (lines behind : List (List ℕ)) (lines_are : lines ≡ line ∷ behind) where
+  abbrev fault : Option AsmFault
+  fault = fault_of_line (line_in line)
+
   line_is : faulty_from number lines ≡ faulty_by number fault ++ faulty_from (number + 1) behind
-  line_is = ap (faulty_from number) lines_are ∙ ap (λ f. faulty_by number f ++ faulty_from (number + 1) behind) (sym fault_is)
+  line_is = ap (faulty_from number) lines_are
 
   pub shown_next : (all shown : List Faulty) → all ≡ shown ++ take (20 - count) (faulty_from number lines) → all ≡ (shown ++ take (20 - count) (faulty_by number fault)) ++ take (20 - (count + length (faulty_by number fault))) (faulty_from (number + 1) behind)
   shown_next all shown before =

@@ -59,10 +59,10 @@ fn line_of_key(alloc: Global, key: Key, part: &[u8]) -> Result<Option<KeyLine<'_
     ensures { IfOk result (λ found. option_map key_line found ≡ line_of_key key part.entry.now) }
 {
     let name = text_of(key);
-    if let Some(found) = first_named(alloc, Wanted::Named(name), part)? {
-        return Ok(Some(found));
+    match first_named(alloc, Wanted::Named(name), part) {
+        Ok(None) => first_named(alloc, Wanted::Named(table_of(key)), part),
+        found => found,
     }
-    first_named(alloc, Wanted::Named(table_of(key)), part)
 }
 
 // Appends the line at fault of a key, if it is found.
@@ -74,9 +74,10 @@ fn add_line_of_key(
 ) -> Result<(), AllocError>
     ensures { OnOk result (out.new.items ≡ out.old.items ++ option_map_or key_line_text (line_of_key key part.now) []) }
 {
-    match line_of_key(alloc, key, part)? {
-        Some(found) => add_key_line(out, &found),
-        None => Ok(()),
+    match line_of_key(alloc, key, part) {
+        Ok(Some(found)) => add_key_line(out, &found),
+        Ok(None) => Ok(()),
+        Err(refused) => Err(refused),
     }
 }
 
@@ -142,9 +143,10 @@ fn add_unknown_among(
 ) -> Result<(), AllocError>
     ensures { OnOk result (out.new.items ≡ out.old.items ++ unknown_among (map (λ name. name.now) known.now) part.now) }
 {
-    match first_named(alloc, Wanted::Unknown(known), part)? {
-        Some(found) => add_unknown_line(alloc, out, known, &found),
-        None => add_text(out, b"expected: keys and tables of a description\n"),
+    match first_named(alloc, Wanted::Unknown(known), part) {
+        Ok(Some(found)) => add_unknown_line(alloc, out, known, &found),
+        Ok(None) => add_text(out, b"expected: keys and tables of a description\n"),
+        Err(refused) => Err(refused),
     }
 }
 

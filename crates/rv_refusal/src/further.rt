@@ -96,6 +96,18 @@ impl Faults {
         self.count += 1;
         Ok(())
     }
+
+    // Counts the fault of its own that a line has, if it has one.
+    fn add_line(&mut self, alloc: Global, number: usize, line: &[u8]) -> Result<(), AllocError>
+        requires { self.old.count ≤ 2 ^ 63 }
+        ensures shown { OnOk result (self.new.shown.items
+            ≡ self.old.shown.items ++ take (20 - self.old.count) (faulty_by number (fault_of_line (line_in line.now)))) }
+        ensures count { OnOk result (self.new.count
+            ≡ self.old.count + length (faulty_by number (fault_of_line (line_in line.now)))) }
+    {
+        let fault = fault_of_line(alloc, line)?;
+        self.add(number, fault)
+    }
 }
 
 // Of the lines of a text, numbered from here on, those that have a fault of their own.
@@ -115,8 +127,7 @@ fn faulty_from(alloc: Global, number: usize, text: &[u8]) -> Result<Faults, Allo
     let mut rest = Some(text);
     while let Some(unread) = rest {
         let (line, behind) = first_line(unread);
-        let fault = fault_of_line(alloc, line)?;
-        faults.add(number, fault)?;
+        faults.add_line(alloc, number, line)?;
         number += 1;
         rest = behind;
     }
@@ -148,6 +159,15 @@ fn add_more(out: &mut Vec<u8>, count: usize) -> Result<(), AllocError>
     )
 }
 
+// Appends the lines on lines with a fault, and how many more have one.
+fn add_faults(out: &mut Vec<u8>, before: usize, faults: &Faults) -> Result<(), AllocError>
+    ensures { OnOk result (out.new.items
+        ≡ out.old.items ++ (flat_map (λ line. place_line before line.number line.fault) faults.now.shown.items ++ more_line faults.now.count)) }
+{
+    add_faulty(out, before, faults.shown.as_slice())?;
+    add_more(out, faults.count)
+}
+
 /// Appends the lines on those that have a fault of their own after the one with a number.
 #[tactic(auto, unfolding(crate::specs::Further::further_lines, crate::specs::Further::more_line))]
 pub(crate) fn add_further(
@@ -163,6 +183,5 @@ pub(crate) fn add_further(
         return Ok(());
     };
     let faults = faulty_from(alloc, number + 1, rest)?;
-    add_faulty(out, before, faults.shown.as_slice())?;
-    add_more(out, faults.count)
+    add_faults(out, before, &faults)
 }

@@ -4,6 +4,7 @@ ghost use Rattle.rv_isa.specs.Key.{joined};
 ghost use Rattle.rv_refusal.specs.KeyLine.{first_named, is_wanted, key_line, named_line, table_after, wanted_line};
 
 use crate::name_on::{key_on, table_on};
+use crate::text::add_all;
 use rv_asm::first_line;
 use std::alloc::{AllocError, Global};
 
@@ -52,8 +53,7 @@ fn joined(alloc: Global, table: Option<&[u8]>, name: &[u8]) -> Result<Vec<u8>, A
 {
     let mut full = Vec::new(alloc);
     if let Some(table) = table {
-        full.extend_from_slice(table)?;
-        full.extend_from_slice(b".")?;
+        add_all(&mut full, &[table, b"."])?;
     }
     full.extend_from_slice(name)?;
     Ok(full)

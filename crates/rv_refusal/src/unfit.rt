@@ -5,7 +5,7 @@ ghost use Rattle.rv_refusal.specs.Unfit.{image_size, sizes_lines, unfit_lines, u
 
 use crate::text::add_all;
 use itoa::Buffer;
-use rv_asm::{AsmFault, assemble};
+use rv_asm::{AsmError, AsmFault, assemble};
 use rv_describe::{DescriptionError, read_description};
 use rv_isa::Description;
 use rv_job::cut_into_parts;
@@ -29,7 +29,12 @@ fn image_size(alloc: Global, base: u32, assembly: &[u8]) -> Result<Option<usize>
 {
     match assemble(alloc, assembly, base) {
         Ok(image) => Ok(Some(image.bytes.len())),
-        Err(error) if error.fault == AsmFault::Memory => Err(AllocError),
+        Err(
+            AsmError {
+                fault: AsmFault::Memory,
+                ..
+            },
+        ) => Err(AllocError),
         Err(_) => Ok(None),
     }
 }

@@ -1,8 +1,0 @@
-use Rattle.std.proofs.Common.{arith}
-use Rattle.std.proofs.lemmas.Grind.{common_steps}
-use Rattle.rv_refusal.specs.Described.{line_of_key}
-use Rattle.rv_refusal.proofs.described.line_of_key.Goals as goal
-
-pub returns-in-Some : goal.returns-in-Some
-unfolding line_of_key
-returns-in-Some c = grind (arith, common_steps)
