@@ -19,3 +19,4 @@ pub mod Range
 pub mod Refusal
 pub mod Statement
 pub mod Unfit
+pub mod Usage

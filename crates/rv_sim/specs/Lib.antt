@@ -6,10 +6,6 @@ pub mod ReferenceReport
 pub mod Refused
 pub mod SimulationReport
 pub mod CoreReport
-pub mod PictureReport
-pub mod LogReport
-pub mod ExplanationReport
-pub mod ProfileReport
-pub mod StatesReport
+pub mod RunView
 pub mod Task
 pub mod Comparison

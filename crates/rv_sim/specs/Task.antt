@@ -25,14 +25,11 @@ use Rattle.rv_states.specs.declared.form.Form.TheVariants.{Lines, Page}
 use Rattle.rv_text.specs.Written.{AppendsBeginning}
 use Rattle.rv_sim.specs.Comparison.{IsComparisonTable}
 use Rattle.rv_sim.specs.CoreReport.{IsSimulation}
-use Rattle.rv_sim.specs.ExplanationReport.{IsExplanationOf}
-use Rattle.rv_sim.specs.LogReport.{IsLogOf}
-use Rattle.rv_sim.specs.PictureReport.{IsPictureOf}
-use Rattle.rv_sim.specs.ProfileReport.{IsProfileOf}
 use Rattle.rv_sim.specs.ReferenceReport.{IsReferenceReport}
-use Rattle.rv_sim.specs.StatesReport.{IsStatesOf}
-use Rattle.rv_sim.specs.declared.{ended.Ended.Ended, states.Stretch.Stretch, task.Task.Task}
-use Rattle.rv_sim.specs.declared.task.Task.TheVariants.{Run, Reference, Check, Picture, Log, States, Explain, Profile, Compare}
+use Rattle.rv_sim.specs.RunView.{IsViewOf}
+use Rattle.rv_sim.specs.declared.{ended.Ended.Ended, run_view.{RunView.RunView, Stretch.Stretch}, task.Task.Task}
+use Rattle.rv_sim.specs.declared.run_view.RunView.TheVariants as view
+use Rattle.rv_sim.specs.declared.task.Task.TheVariants.{Run, Reference, Check, Show, Compare}
 
 -- the options of a command; which words of memory a report shows is the job's to say
 abbrev pub asked : Bool → ℕ → Options
@@ -56,23 +53,22 @@ viewed text retired from cycles = record { form = form_of text; rows = rows_of r
 abbrev pub stretch_of : StatesForm → ℕ → ℕ → Stretch
 stretch_of form from limit = record { form = form; from = from; limit = limit }
 
--- a task writes the states of some cycles of the run of an input's job
-abbrev pub AsksForStates : StatesForm → ℕ → ℕ → List ℕ → Task → Type 0
-AsksForStates form from limit input (States listed stretch) = IsListedJobOf input listed × (stretch ≡ stretch_of form from limit)
-AsksForStates form from limit input _ = ⊥
+-- a task shows a view of the run of an input's job
+abbrev pub AsksForView : RunView → List ℕ → Task → Type 0
+AsksForView view input (Show listed asked_view) = IsListedJobOf input listed × (asked_view ≡ view)
+AsksForView view input _ = ⊥
 
 -- a task is what a command asks of an input
 abbrev pub Asks : Command → List ℕ → Task → Type 0
 Asks (command.Run trace limit) input (Run job options) = IsJobOf input job × (options ≡ asked trace limit)
 Asks (command.Reference limit) input (Reference job options) = IsJobOf input job × (options ≡ asked false limit)
 Asks command.Check input (Check made) = IsDescribedImageOf input made
-Asks (command.Picture text retired from cycles) input (Picture listed view) =
-    IsListedJobOf input listed × (view ≡ viewed text retired from cycles)
-Asks (command.Log limit) input (Log listed asked_limit) = IsListedJobOf input listed × (asked_limit ≡ limit)
-Asks (command.States from limit) input task = AsksForStates Lines from limit input task
-Asks (command.Page from limit) input task = AsksForStates Page from limit input task
-Asks (command.Explain limit) input (Explain listed asked_limit) = IsListedJobOf input listed × (asked_limit ≡ limit)
-Asks (command.Profile limit) input (Profile listed asked_limit) = IsListedJobOf input listed × (asked_limit ≡ limit)
+Asks (command.Picture text retired from cycles) input task = AsksForView (view.Picture (viewed text retired from cycles)) input task
+Asks (command.Log limit) input task = AsksForView (view.Log limit) input task
+Asks (command.States from limit) input task = AsksForView (view.States (stretch_of Lines from limit)) input task
+Asks (command.Page from limit) input task = AsksForView (view.States (stretch_of Page from limit)) input task
+Asks (command.Explain limit) input task = AsksForView (view.Explanation limit) input task
+Asks (command.Profile limit) input task = AsksForView (view.Profile limit) input task
 Asks (command.Compare limit) input (Compare comparison asked_limit) = IsComparisonOf input comparison × (asked_limit ≡ limit)
 Asks _ input _ = ⊥
 
@@ -94,11 +90,7 @@ abbrev pub predictor_of : Task → PredictorValues
 predictor_of (Run job options) = job.description.predictor
 predictor_of (Reference job options) = job.description.predictor
 predictor_of (Check made) = made.description.predictor
-predictor_of (Picture listed view) = listed.job.description.predictor
-predictor_of (Log listed limit) = listed.job.description.predictor
-predictor_of (States listed stretch) = listed.job.description.predictor
-predictor_of (Explain listed limit) = listed.job.description.predictor
-predictor_of (Profile listed limit) = listed.job.description.predictor
+predictor_of (Show listed view) = listed.job.description.predictor
 predictor_of (Compare comparison limit) = standard_values.predictor
 
 -- the exit status of a run
@@ -126,16 +118,8 @@ Shows (Run job options) predictor text ended =
 Shows (Reference job options) predictor text ended =
     (stop : Stop) × IsReferenceReport job options stop text × (ended ≡ ended_by stop None)
 Shows (Check made) predictor text ended = (text ≡ image_line (length made.image.bytes) made.image.start) × (ended ≡ done)
-Shows (Picture listed view) predictor text ended =
-    (end : RunEnd) × IsPictureOf listed predictor view end text × (ended ≡ ended_by end.stop end.over)
-Shows (Log listed limit) predictor text ended =
-    (stop : Stop) × IsLogOf listed predictor limit stop text × (ended ≡ ended_by stop None)
-Shows (States listed stretch) predictor text ended =
-    (stop : Stop) × IsStatesOf listed predictor stretch stop text × (ended ≡ ended_by stop None)
-Shows (Explain listed limit) predictor text ended =
-    (stop : Stop) × IsExplanationOf listed predictor limit stop text × (ended ≡ ended_by stop None)
-Shows (Profile listed limit) predictor text ended =
-    (stop : Stop) × IsProfileOf listed predictor limit stop text × (ended ≡ ended_by stop None)
+Shows (Show listed view) predictor text ended =
+    (end : RunEnd) × IsViewOf listed predictor view end text × (ended ≡ ended_by end.stop end.over)
 Shows (Compare comparison limit) predictor text ended = IsComparisonTable comparison limit text × (ended ≡ done)
 
 -- a task asks for memory, but for one that only says which image a job makes

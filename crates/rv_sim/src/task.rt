@@ -3,18 +3,14 @@ ghost use Rattle.rv_isa.specs.Description.{IsLegalPredictor};
 ghost use Rattle.rv_job.specs.Fault.{fault_line, fault_status};
 ghost use Rattle.rv_job.specs.FaultStream.{Tells};
 ghost use Rattle.rv_job.specs.JobRefusal.{RefusesJob};
-ghost use Rattle.rv_sim.specs.Task.{Asks, AsksForStates, Refuses, Ends, asked, done, ended_after, ended_by, form_of, predictor_of, rows_of, stop_status};
+ghost use Rattle.rv_sim.specs.Task.{Asks, AsksForView, Refuses, Ends, asked, done, ended_after, ended_by, form_of, predictor_of, rows_of, stop_status};
 
 use crate::boxed_predictor::BoxedPredictor;
 use crate::compare::compare;
 use crate::ended::Ended;
-use crate::explain::explain;
-use crate::log::log;
-use crate::picture::picture;
-use crate::profile::profile;
 use crate::reference::reference;
+use crate::run_view::{RunView, Stretch, show};
 use crate::simulate::simulate;
-use crate::states::{Stretch, states};
 use rv_arch::Stop;
 use rv_command::Command;
 use rv_isa::{PredictorValues, Values};
@@ -37,16 +33,8 @@ pub enum Task {
     Reference { job: Job, options: Options },
     /// Say which image the job makes.
     Check { made: DescribedImage },
-    /// Run a job on the core, and show a view of its cycles.
-    Picture { listed: ListedJob, view: View },
-    /// Run a job on the core, up to so many cycles, and write the log of the run.
-    Log { listed: ListedJob, limit: u64 },
-    /// Run a job on the core, and write the states of a stretch of its cycles.
-    States { listed: ListedJob, stretch: Stretch },
-    /// Run a job on the core, up to so many cycles, and say what the run came to.
-    Explain { listed: ListedJob, limit: u64 },
-    /// Run a job on the core, up to so many cycles, and count what became of the instructions at each address.
-    Profile { listed: ListedJob, limit: u64 },
+    /// Run a job on the core, and show a view of the run.
+    Show { listed: ListedJob, view: RunView },
     /// Run a program on several machines, up to so many cycles on each, and write a table of what the runs came to.
     Compare { comparison: Comparison, limit: u64 },
 }
@@ -64,11 +52,7 @@ impl Task {
                 .values()
                 .predictor,
             Task::Check { made } => made.description.values().predictor,
-            Task::Picture { listed, .. }
-            | Task::Log { listed, .. }
-            | Task::States { listed, .. }
-            | Task::Explain { listed, .. }
-            | Task::Profile { listed, .. } => listed.job.description.values().predictor,
+            Task::Show { listed, .. } => listed.job.description.values().predictor,
             Task::Compare { .. } => Values::standard().predictor,
         }
     }
@@ -102,20 +86,13 @@ const fn rows(are_unsquashed: bool) -> Rows
     }
 }
 
-// Reads a job of which the states of some cycles are to be written in a form.
-fn read_states(
-    alloc: Global,
-    form: StatesForm,
-    from: u64,
-    limit: u64,
-    input: &[u8],
-) -> Result<Task, SimError>
-    ensures task { IfOk result (AsksForStates form from limit input.now) }
+// Reads a job of whose run a view is to be shown.
+fn read_view(alloc: Global, view: RunView, input: &[u8]) -> Result<Task, SimError>
+    ensures task { IfOk result (AsksForView view input.now) }
     ensures refused { IfErr result (RefusesJob input.now) }
 {
     let listed = read_listed_job(alloc, input)?;
-    let stretch = Stretch { form, from, limit };
-    Ok(Task::States { listed, stretch })
+    Ok(Task::Show { listed, view })
 }
 
 fn read_task(alloc: Global, command: &Command, input: &[u8]) -> Result<Task, SimError>
@@ -143,36 +120,27 @@ fn read_task(alloc: Global, command: &Command, input: &[u8]) -> Result<Task, Sim
             from,
             cycles,
         } => {
-            let listed = read_listed_job(alloc, input)?;
             let view = View {
                 form: form(*text),
                 rows: rows(*retired),
                 from: *from,
                 cycles: *cycles,
             };
-            Ok(Task::Picture { listed, view })
+            read_view(alloc, RunView::Picture(view), input)
         }
-        Command::Log { limit } => {
-            let listed = read_listed_job(alloc, input)?;
-            let limit = *limit;
-            Ok(Task::Log { listed, limit })
-        }
+        Command::Log { limit } => read_view(alloc, RunView::Log { limit: *limit }, input),
         Command::States { from, limit } => {
-            read_states(alloc, StatesForm::Lines, *from, *limit, input)
+            let (form, from, limit) = (StatesForm::Lines, *from, *limit);
+            read_view(alloc, RunView::States(Stretch { form, from, limit }), input)
         }
         Command::Page { from, limit } => {
-            read_states(alloc, StatesForm::Page, *from, *limit, input)
+            let (form, from, limit) = (StatesForm::Page, *from, *limit);
+            read_view(alloc, RunView::States(Stretch { form, from, limit }), input)
         }
         Command::Explain { limit } => {
-            let listed = read_listed_job(alloc, input)?;
-            let limit = *limit;
-            Ok(Task::Explain { listed, limit })
+            read_view(alloc, RunView::Explanation { limit: *limit }, input)
         }
-        Command::Profile { limit } => {
-            let listed = read_listed_job(alloc, input)?;
-            let limit = *limit;
-            Ok(Task::Profile { listed, limit })
-        }
+        Command::Profile { limit } => read_view(alloc, RunView::Profile { limit: *limit }, input),
         Command::Compare { limit } => {
             let comparison = read_comparison(alloc, input)?;
             let limit = *limit;
@@ -238,7 +206,7 @@ fn ended_by(stop: Stop, over: Option<u64>) -> Ended
     Ended { status, over }
 }
 
-// How a task ended, or why it failed, after its run.
+// How a task ended, or why it failed, after the run that it reports.
 fn ended(run: Result<Stop, SimError>) -> Result<Ended, SimError>
     ensures { result ≡ ended_after (λ stop. ended_by stop None) run }
 {
@@ -248,8 +216,8 @@ fn ended(run: Result<Stop, SimError>) -> Result<Ended, SimError>
     }
 }
 
-// How a picture ended, or why it failed, after its run.
-fn ended_picture(run: Result<RunEnd, SimError>) -> Result<Ended, SimError>
+// How a view of a run ended, or why it failed, after its run.
+fn ended_view(run: Result<RunEnd, SimError>) -> Result<Ended, SimError>
     ensures { result ≡ ended_after (λ end. ended_by end.stop end.over) run }
 {
     match run {
@@ -287,19 +255,7 @@ pub fn finish<W: Write>(
             write_image_line(output, &made.image)?;
             Ok(DONE)
         }
-        Task::Picture { listed, view } => {
-            ended_picture(picture(alloc, listed, predictor, view, output))
-        }
-        Task::Log { listed, limit } => { ended(log(alloc, listed, predictor, *limit, output)) }
-        Task::States { listed, stretch } => {
-            ended(states(alloc, listed, predictor, stretch, output))
-        }
-        Task::Explain { listed, limit } => {
-            ended(explain(alloc, listed, predictor, *limit, output))
-        }
-        Task::Profile { listed, limit } => {
-            ended(profile(alloc, listed, predictor, *limit, output))
-        }
+        Task::Show { listed, view } => { ended_view(show(alloc, listed, predictor, view, output)) }
         Task::Compare { comparison, limit } => {
             ended_table(compare(alloc, comparison, *limit, output))
         }

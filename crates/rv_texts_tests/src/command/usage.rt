@@ -1,7 +1,7 @@
 use super::refused;
 use crate::checks::{check_bytes, check_told};
 use rv_job::FaultLines;
-use rv_usage::show_usage;
+use rv_refusal::show_usage;
 use std::alloc::Global;
 use std::process::Abort;
 use std::test::Fail;

@@ -1,7 +1,7 @@
 ghost use Rattle.std.specs.Prelude.{◌≡◌, IfSome, None};
 ghost use Rattle.clap.specs.Words.{kind_of};
 ghost use Rattle.clap.specs.declared.error.kind.ErrorKind.TheVariants.{OutOfMemory};
-ghost use Rattle.rv_usage.specs.Usage.{HasHint, ShowsUsage, hint_of};
+ghost use Rattle.rv_refusal.specs.Usage.{HasHint, ShowsUsage, hint_of};
 
 use clap::Error;
 use clap::error::ErrorKind;
