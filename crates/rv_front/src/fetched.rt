@@ -4,7 +4,7 @@ ghost use Rattle.rv_front.specs.FetchBuffer.{stop_after};
 use rv_isa::Instr;
 
 /// A word in the fetch buffer.
-#[derive(Clone, Copy, PartialEq, Eq)]
+#[derive(Clone, Copy)]
 pub struct Fetched {
     /// The address that it was fetched from.
     pub pc: u32,

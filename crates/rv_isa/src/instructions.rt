@@ -10,7 +10,7 @@ use crate::operations::{Condition, CsrOp, ImmediateOp, Kind, LoadForm, ShiftOp, 
 use crate::registers::Reg;
 
 /// The source of a CSR instruction, in bits 19 to 15 of its word (Unprivileged ISA 20191213, 9.1).
-#[derive(Clone, Copy, PartialEq, Eq)]
+#[derive(Clone, Copy)]
 pub enum CsrSource {
     /// A register, whose value is the source.
     Register(Reg),
@@ -20,7 +20,7 @@ pub enum CsrSource {
 
 /// One instruction of RV32IM with Zicsr, Zifencei and Zba's shifted additions, or of machine mode
 /// (Unprivileged ISA 20191213, 24; Privileged Architecture 20211203, 3.3).
-#[derive(Clone, Copy, PartialEq, Eq)]
+#[derive(Clone, Copy)]
 pub enum Instr {
     /// `rd` becomes the immediate times 4096.
     Lui {

@@ -1,7 +1,7 @@
 ghost use Rattle.std.specs.Prelude.{None};
 
 use crate::checks::{check_equal, check_equal_at, check_true};
-use crate::words::bytes_of;
+use crate::words::{bytes_of, code_of};
 use rv_decode::decode;
 use rv_front::{
     BackwardTaken, Bimodal, DescribedPredictor, FetchStop, Fetched, Flow, Front, NotTaken,
@@ -154,7 +154,17 @@ fn entry(pc: u32, word: Option<u32>, predicted: u32, cycle: u64) -> Fetched {
 // Checks the oldest word that the front holds, and takes it.
 fn check_taken(rt: &impl Abort, front: &mut Front, expected: Fetched) {
     let pc = expected.pc;
-    check_equal_at(rt, pc, front.peek().copied(), Some(expected));
+    let found = front.peek().copied().expect(rt, "a fetched word");
+    check_equal_at(rt, pc, found.pc, pc);
+    check_equal_at(rt, pc, found.word, expected.word);
+    check_equal_at(
+        rt,
+        pc,
+        code_of(found.instruction),
+        code_of(expected.instruction),
+    );
+    check_equal_at(rt, pc, found.predicted, expected.predicted);
+    check_equal_at(rt, pc, found.cycle, expected.cycle);
     front.take();
 }
 
@@ -222,15 +232,16 @@ fn fetched_instruction(front: &mut Front, ram: &Ram, pc: u32) -> Option<Option<I
 
 #[test]
 fn fetch_decodes_each_word(rt: HostRuntime) {
-    const CASES: [(u32, Option<Instr>); 3] = [
+    // The word of each instruction; `ecall` stands at the second address.
+    const CASES: [(u32, Option<u32>); 3] = [
         (BASE, None),
-        (BASE + 4, Some(Instr::Ecall)),
+        (BASE + 4, Some(0x0000_0073)),
         (BASE - 4, None),
     ];
     let ram = ram_with(&rt, rt.alloc(), &[0, 0x0000_0073]);
     let mut front = new_front(&rt, rt.alloc());
-    for (pc, instruction) in &CASES {
-        let found = fetched_instruction(&mut front, &ram, *pc);
-        check_equal_at(&rt, *pc, found, Some(*instruction));
+    for (pc, code) in &CASES {
+        let found = fetched_instruction(&mut front, &ram, *pc).expect(&rt, "a fetched word");
+        check_equal_at(&rt, *pc, code_of(found), *code);
     }
 }

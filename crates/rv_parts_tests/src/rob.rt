@@ -129,17 +129,28 @@ fn finished(pc: u32, predicted_next: u32) -> Entry {
     }
 }
 
+// Checks an entry, whose word is no instruction.
+fn check_entry(rt: &impl Abort, found: Option<&Entry>, expected: Entry) {
+    let found = found.expect(rt, "an entry");
+    check_equal(rt, found.pc, expected.pc);
+    check_equal(rt, found.word, expected.word);
+    check_true(rt, found.instruction.is_none());
+    check_equal(rt, found.predicted_next, expected.predicted_next);
+    check_equal(rt, found.fetched, expected.fetched);
+    check_equal(rt, found.dispatched, expected.dispatched);
+    check_equal(rt, found.stage, expected.stage);
+}
+
 #[test]
 fn entry_keeps_the_issue_and_the_whole_message(rt: HostRuntime) {
     let mut rob = empty_rob(&rt, rt.alloc(), 2);
     let seq = push(&rt, &mut rob, 0x8000_0000);
     let other = push(&rt, &mut rob, 0x8000_0004);
     rob.start(seq, issue(), message());
-    check_equal(&rt, rob.head().copied(), Some(running(0x8000_0000)));
+    check_entry(&rt, rob.head(), running(0x8000_0000));
     rob.finish(seq, 3);
     rob.correct_prediction(seq, 0x8000_0040);
     rob.finish(9, 3);
-    let finished = finished(0x8000_0000, 0x8000_0040);
-    check_equal(&rt, rob.head().copied(), Some(finished));
-    check_equal(&rt, rob.get(other).copied(), Some(waiting(0x8000_0004)));
+    check_entry(&rt, rob.head(), finished(0x8000_0000, 0x8000_0040));
+    check_entry(&rt, rob.get(other), waiting(0x8000_0004));
 }

@@ -1,5 +1,7 @@
-//! The words of a program as bytes.
+//! The words of a program as bytes, and instructions as words.
 
+use rv_decode::encode;
+use rv_isa::Instr;
 use std::alloc::Global;
 use std::process::Abort;
 
@@ -12,4 +14,12 @@ pub(crate) fn bytes_of(rt: &impl Abort, alloc: Global, words: &[u32]) -> Vec<u8>
             .expect(rt, "room for a word");
     }
     bytes
+}
+
+/// The word of an instruction. Two instructions are the same where their words are, since `decode` leads back from each.
+pub(crate) fn code_of(instruction: Option<Instr>) -> Option<u32> {
+    match instruction {
+        Some(instruction) => Some(encode(&instruction)),
+        None => None,
+    }
 }

@@ -38,7 +38,7 @@ impl Stage {
 }
 
 /// An instruction in flight.
-#[derive(Clone, Copy, PartialEq, Eq)]
+#[derive(Clone, Copy)]
 pub struct Entry {
     pub pc: u32,
     /// The fetched word, or None where the pc lies outside RAM.
