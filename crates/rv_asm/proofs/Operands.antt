@@ -5,7 +5,7 @@ use Rattle.std.specs.List.{slice_split, onto_first}
 use Rattle.std.specs.Option.{option_map}
 use Rattle.std.proofs.lemmas.List.{map-append}
 use Rattle.std.proofs.lemmas.Simd.{map-map}
-use Rattle.rv_asm.specs.Operand.{Operand, Indirect, Value, based, expression, in_parentheses, operand, operands_in, operands_of, is_comma}
+use Rattle.rv_asm.specs.Operand.{Expression, Operand, Indirect, Value, based, expression, in_parentheses, operand, operands_in, operands_of, is_comma}
 use Rattle.rv_asm.specs.Read.{operand_of, token_of}
 use Rattle.rv_asm.specs.Token as spec
 use Rattle.rv_asm.specs.Token.{LeftParenthesis, Name, RightParenthesis}
@@ -47,21 +47,55 @@ module _ (all : Option (List Operand)) (piece : List spec.Token) (rest others : 
   pub joined-operand : (o : read.Operand) → Some (operand_of o) ≡ operand piece → joined operand_of (done ++ o ∷ []) (operands_in others) ≡ all
   joined-operand o read_is = joined-push operand_of done o (operands_in others) ∙ joined-found (Some (operand_of o)) read_is
 
+-- four tokens or more are no expression
+expression-long : (t u v w : spec.Token) (rest : List spec.Token) → expression (t ∷ u ∷ v ∷ w ∷ rest) ≡ None
+expression-long (spec.Name name) spec.Plus (spec.Number number) w rest = refl
+expression-long (spec.Name name) spec.Minus (spec.Number number) w rest = refl
+expression-long spec.Minus (spec.Number number) v w rest = refl
+expression-long _ _ _ w rest = refl
+
+based-none : (offset : Option Expression) → based offset None ≡ None
+based-none None = refl
+based-none (Some offset) = refl
+
+-- by the number of its tokens an operand is an expression, or one before a name in parentheses
+operand-four : (t u v w : spec.Token) → based (expression (t ∷ [])) (in_parentheses u v w) ≡ operand (t ∷ u ∷ v ∷ w ∷ [])
+operand-four (spec.Text bytes) u v w = refl
+operand-four _ u v w = refl
+
+operand-five : (t u v w x : spec.Token) → based (expression (t ∷ u ∷ [])) (in_parentheses v w x) ≡ operand (t ∷ u ∷ v ∷ w ∷ x ∷ [])
+operand-five (spec.Text bytes) u v w x = refl
+operand-five _ u v w x = refl
+
+operand-six : (t u v w x y : spec.Token) → based (expression (t ∷ u ∷ v ∷ [])) (in_parentheses w x y) ≡ operand (t ∷ u ∷ v ∷ w ∷ x ∷ y ∷ [])
+operand-six (spec.Text bytes) u v w x y = refl
+operand-six _ u v w x y = refl
+
+operand-many : (t u v w x y z : spec.Token) (rest : List spec.Token) → operand (t ∷ u ∷ v ∷ w ∷ x ∷ y ∷ z ∷ rest) ≡ None
+operand-many t u v w x y z rest = is_expression t ∙ ap (option_map Value) (expression-long t u v w (x ∷ y ∷ z ∷ rest)) where
+  is_expression : (t : spec.Token) → operand (t ∷ u ∷ v ∷ w ∷ x ∷ y ∷ z ∷ rest) ≡ option_map Value (expression (t ∷ u ∷ v ∷ w ∷ x ∷ y ∷ z ∷ rest))
+  is_expression (spec.Text bytes) = refl
+  is_expression _ = refl
+
 -- what stands before a name in parentheses is its offset
 module _ (name : List ℕ) where
   ended : (offset : List Token) → List spec.Token
   ended offset = map token_of offset ++ LeftParenthesis ∷ Name name ∷ RightParenthesis ∷ []
 
+  -- an offset of four tokens or more is none
+  long-offset : (t u v w x y z : spec.Token) (offset rest : List spec.Token) → based (expression (t ∷ u ∷ v ∷ w ∷ offset)) (Some name) ≡ operand (t ∷ u ∷ v ∷ w ∷ x ∷ y ∷ z ∷ rest)
+  long-offset t u v w x y z offset rest = ap (λ found. based found (Some name)) (expression-long t u v w offset) ∙ sym (operand-many t u v w x y z rest)
+
   operand-ended : (found : Option Operand) (offset : List Token) → (length offset ≡ 0 → found ≡ Some (Indirect None name)) → (0 < length offset → found ≡ based (expression (map token_of offset)) (Some name)) → found ≡ operand (ended offset)
   unfolding ended
   operand-ended found [] alone behind = alone refl
-  operand-ended found (a ∷ []) alone behind = let is = behind (omega arith) in search rules
-  operand-ended found (a ∷ b ∷ []) alone behind = let is = behind (omega arith) in search rules
-  operand-ended found (a ∷ b ∷ c ∷ []) alone behind = let is = behind (omega arith) in search rules
-  operand-ended found (a ∷ b ∷ c ∷ d ∷ []) alone behind = let is = behind (omega arith) in search rules
-  operand-ended found (a ∷ b ∷ c ∷ d ∷ e ∷ []) alone behind = let is = behind (omega arith) in search rules
-  operand-ended found (a ∷ b ∷ c ∷ d ∷ e ∷ f ∷ []) alone behind = let is = behind (omega arith) in search rules
-  operand-ended found (a ∷ b ∷ c ∷ d ∷ e ∷ f ∷ g ∷ offset) alone behind = let is = behind (omega arith) in search rules
+  operand-ended found (a ∷ []) alone behind = behind (omega arith) ∙ operand-four (token_of a) _ _ _
+  operand-ended found (a ∷ b ∷ []) alone behind = behind (omega arith) ∙ operand-five (token_of a) _ _ _ _
+  operand-ended found (a ∷ b ∷ c ∷ []) alone behind = behind (omega arith) ∙ operand-six (token_of a) _ _ _ _ _
+  operand-ended found (a ∷ b ∷ c ∷ d ∷ []) alone behind = behind (omega arith) ∙ long-offset (token_of a) _ _ _ _ _ _ _ _
+  operand-ended found (a ∷ b ∷ c ∷ d ∷ e ∷ []) alone behind = behind (omega arith) ∙ long-offset (token_of a) _ _ _ _ _ _ _ _
+  operand-ended found (a ∷ b ∷ c ∷ d ∷ e ∷ f ∷ []) alone behind = behind (omega arith) ∙ long-offset (token_of a) _ _ _ _ _ _ _ _
+  operand-ended found (a ∷ b ∷ c ∷ d ∷ e ∷ f ∷ g ∷ offset) alone behind = behind (omega arith) ∙ long-offset (token_of a) _ _ _ _ _ _ _ _
 
   pub operand-indirect : (found : Option Operand) (tokens offset behind : List Token) → tokens ≡ offset ++ behind → map token_of behind ≡ LeftParenthesis ∷ Name name ∷ RightParenthesis ∷ [] → (length offset ≡ 0 → found ≡ Some (Indirect None name)) → (0 < length offset → found ≡ based (expression (map token_of offset)) (Some name)) → found ≡ operand (map token_of tokens)
   unfolding ended
@@ -75,10 +109,16 @@ in_parentheses-none _ _ _ other = refl
 -- without a name in parentheses at its end, an operand of three tokens or more is an expression
 operand-long : (tokens : List Token) → 3 ≤ length tokens → ((name : List ℕ) → map token_of (drop (length tokens - 3) tokens) ≢ (LeftParenthesis ∷ Name name ∷ RightParenthesis ∷ [])) → option_map Value (expression (map token_of tokens)) ≡ operand (map token_of tokens)
 operand-long (a ∷ b ∷ c ∷ []) long other = let none = in_parentheses-none (token_of a) (token_of b) (token_of c) other in search rules
-operand-long (a ∷ b ∷ c ∷ d ∷ []) long other = let none = in_parentheses-none (token_of b) (token_of c) (token_of d) other in search rules
-operand-long (a ∷ b ∷ c ∷ d ∷ e ∷ []) long other = let none = in_parentheses-none (token_of c) (token_of d) (token_of e) other in search rules
-operand-long (a ∷ b ∷ c ∷ d ∷ e ∷ f ∷ []) long other = let none = in_parentheses-none (token_of d) (token_of e) (token_of f) other in search rules
-operand-long (a ∷ b ∷ c ∷ d ∷ e ∷ f ∷ g ∷ tokens) long other = search rules
+operand-long (a ∷ b ∷ c ∷ d ∷ []) long other =
+    let none = in_parentheses-none (token_of b) (token_of c) (token_of d) other in
+    ap (option_map Value) (expression-long (token_of a) _ _ _ _) ∙ sym (based-none _) ∙ ap (based _) (sym none) ∙ operand-four (token_of a) _ _ _
+operand-long (a ∷ b ∷ c ∷ d ∷ e ∷ []) long other =
+    let none = in_parentheses-none (token_of c) (token_of d) (token_of e) other in
+    ap (option_map Value) (expression-long (token_of a) _ _ _ _) ∙ sym (based-none _) ∙ ap (based _) (sym none) ∙ operand-five (token_of a) _ _ _ _
+operand-long (a ∷ b ∷ c ∷ d ∷ e ∷ f ∷ []) long other =
+    let none = in_parentheses-none (token_of d) (token_of e) (token_of f) other in
+    ap (option_map Value) (expression-long (token_of a) _ _ _ _) ∙ sym (based-none _) ∙ ap (based _) (sym none) ∙ operand-six (token_of a) _ _ _ _ _
+operand-long (a ∷ b ∷ c ∷ d ∷ e ∷ f ∷ g ∷ tokens) long other = ap (option_map Value) (expression-long (token_of a) _ _ _ _) ∙ sym (operand-many (token_of a) _ _ _ _ _ _ _)
 operand-long _ long other = absurd (omega arith)
 
 pub operand-direct : (found : Option Operand) (tokens behind : List Token) → behind ≡ drop (length tokens - 3) tokens → ((name : List ℕ) → map token_of behind ≢ (LeftParenthesis ∷ Name name ∷ RightParenthesis ∷ [])) → (length tokens < 3 → found ≡ operand (map token_of tokens)) → (3 ≤ length tokens → found ≡ option_map Value (expression (map token_of tokens))) → found ≡ operand (map token_of tokens)

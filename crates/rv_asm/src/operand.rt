@@ -29,6 +29,18 @@ pub enum Operand<'a> {
     Text(&'a [u8]),
 }
 
+/// A symbol plus or minus the number that a token is, if the token before it is a sign.
+fn sum<'a>(symbol: &'a [u8], sign: Token<'_>, number: Token<'_>) -> Option<Expression<'a>>
+    ensures { option_map expression_of result
+        ≡ expression (Name symbol.entry.now ∷ token_of sign.entry ∷ token_of number.entry ∷ []) }
+{
+    match (sign, number) {
+        (Token::Plus, Token::Number(number)) => Some(Expression::Sum(symbol, i64::from(number))),
+        (Token::Minus, Token::Number(number)) => Some(Expression::Sum(symbol, -i64::from(number))),
+        _ => None,
+    }
+}
+
 /// The expression that tokens spell.
 fn read_expression<'a>(tokens: &[Token<'a>]) -> Option<Expression<'a>>
     ensures { option_map expression_of result ≡ expression (tokens_in tokens.now) }
@@ -37,12 +49,7 @@ fn read_expression<'a>(tokens: &[Token<'a>]) -> Option<Expression<'a>>
         [Token::Number(number)] => Some(Expression::Number(i64::from(*number))),
         [Token::Minus, Token::Number(number)] => Some(Expression::Number(-i64::from(*number))),
         [Token::Name(symbol)] => Some(Expression::Symbol(symbol)),
-        [Token::Name(symbol), Token::Plus, Token::Number(number)] => {
-            Some(Expression::Sum(symbol, i64::from(*number)))
-        }
-        [Token::Name(symbol), Token::Minus, Token::Number(number)] => {
-            Some(Expression::Sum(symbol, -i64::from(*number)))
-        }
+        [Token::Name(symbol), sign, number] => sum(symbol, *sign, *number),
         _ => None,
     }
 }
