@@ -1,5 +1,6 @@
-ghost use Rattle.std.specs.Prelude.{◌≡◌, None, OnOk, IfOk};
+ghost use Rattle.std.specs.Prelude.{◌≡◌, ◌≤◌, ◌∷◌, [], None, OnOk, IfOk, IfSome, drop, length};
 ghost use Rattle.std.specs.List.{list_any};
+ghost use Rattle.std.specs.Option.{option_map_or};
 ghost use Rattle.rv_asm.specs.Answer.{RefusedBy};
 ghost use Rattle.rv_asm.specs.Faults.{label_fault, redefines};
 ghost use Rattle.rv_asm.specs.Layout.{defined, labelled, labels_of, body_of, number_of};
@@ -36,6 +37,20 @@ pub enum Definition {
 #[derive(Drop)]
 pub struct Symbols<'a> {
     defined: BTreeMap<&'a [u8], Definition>,
+}
+
+/// The label that a line begins with: a name before a colon.
+fn first_label<'a>(tokens: &[Token<'a>]) -> Option<&'a [u8]>
+    ensures labels { labels_of (tokens_in tokens.now)
+        ≡ option_map_or (λ name. name.now ∷ labels_of (tokens_in (drop 2 tokens.now))) result [] }
+    ensures body { body_of (tokens_in tokens.now)
+        ≡ option_map_or (λ _. body_of (tokens_in (drop 2 tokens.now))) result (tokens_in tokens.now) }
+    ensures in_range { IfSome result (λ _. 2 ≤ length tokens.now) }
+{
+    match tokens {
+        [Token::Name(name), Token::Colon, ..] => Some(name),
+        _ => None,
+    }
 }
 
 impl<'a> Symbols<'a> {
@@ -79,22 +94,15 @@ impl<'a> Symbols<'a> {
     {
         let mut rest = tokens;
         let mut starts = false;
-        loop {
-            match rest {
-                [first, second, others @ ..] => match (*first, *second) {
-                    (Token::Name(name), Token::Colon) => {
-                        if self.get(name).is_some() {
-                            return Err(AsmFault::DuplicateSymbol);
-                        }
-                        self.define(name, here)?;
-                        starts |= is_start(name);
-                        rest = others;
-                    }
-                    _ => return Ok((rest, starts)),
-                },
-                _ => return Ok((rest, starts)),
+        while let Some(name) = first_label(rest) {
+            if self.get(name).is_some() {
+                return Err(AsmFault::DuplicateSymbol);
             }
+            self.define(name, here)?;
+            starts |= is_start(name);
+            rest = &rest[2..];
         }
+        Ok((rest, starts))
     }
 
     /// Whether the name right after `.equ` is defined.
