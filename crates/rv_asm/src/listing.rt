@@ -73,7 +73,10 @@ fn push_words(
 fn reach_before(end: Reach, records: &[Record<'_>]) -> Reach
     ensures { result ≡ reach_before end (kept_in records.now) }
 {
-    records.first().map_or(end, |record| record.reach)
+    match records.first() {
+        Some(record) => record.reach,
+        None => end,
+    }
 }
 
 /// Appends the words of a section.

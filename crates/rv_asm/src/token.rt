@@ -112,7 +112,12 @@ fn number(word: &[u8]) -> Option<u32>
 fn word_length(bytes: &[u8]) -> usize
     ensures { result ≡ prefix_len is_name_byte bytes.now }
 {
-    bytes.iter().take_while(|byte| is_name_byte(**byte)).count()
+    for (count, byte) in bytes.iter().enumerate() {
+        if !is_name_byte(*byte) {
+            return count;
+        }
+    }
+    bytes.len()
 }
 
 // How many bytes of a string stand before its closing quote.
