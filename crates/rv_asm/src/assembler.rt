@@ -80,8 +80,5 @@ pub fn assemble(alloc: Global, text: &[u8], base: u32) -> Result<Image, AsmError
         layout: &layout,
         base,
     };
-    match image_of(alloc, &program) {
-        Ok(image) => Ok(image),
-        Err(error) => Err(error),
-    }
+    image_of(alloc, &program)
 }

@@ -73,6 +73,7 @@ pub fn instructions(
         ≡ instructions operation fields address number }
 {
     let Fields { rd, rs1, rs2, csr } = fields;
+    let away = distance(number, address);
     let instruction = match operation {
         Operation::Lui => Instr::Lui {
             rd,
@@ -84,7 +85,7 @@ pub fn instructions(
         },
         Operation::Jal => Instr::Jal {
             rd,
-            offset: jump_offset(distance(number, address))?,
+            offset: jump_offset(away)?,
         },
         Operation::Jalr => Instr::Jalr {
             rd,
@@ -95,7 +96,7 @@ pub fn instructions(
             condition,
             rs1,
             rs2,
-            offset: branch_offset(distance(number, address))?,
+            offset: branch_offset(away)?,
         },
         Operation::Load(form) => Instr::Load {
             form,
@@ -136,9 +137,7 @@ pub fn instructions(
             source: CsrSource::Immediate(natural(number)?),
         },
         Operation::LoadNumber => return Ok(load_number(rd, signed_word(number))),
-        Operation::LoadAddress => {
-            return Ok(load_address(rd, signed_word(distance(number, address))));
-        }
+        Operation::LoadAddress => return Ok(load_address(rd, signed_word(away))),
     };
     Ok((instruction, None))
 }

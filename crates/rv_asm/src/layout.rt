@@ -96,10 +96,14 @@ impl<'a> Layout<'a> {
         ensures records { self.new.records ≡ self.old.records }
     {
         self.reach = advance(&self.symbols, statement, operands, self.reach)?;
-        if let Statement::Constant(name, number) = *statement {
-            self.symbols.define(name, Definition::Constant(number))?;
+        match *statement {
+            Statement::Nothing => Ok(true),
+            Statement::Constant(name, number) => {
+                self.symbols.define(name, Definition::Constant(number))?;
+                Ok(false)
+            }
+            _ => Ok(false),
         }
-        Ok(matches!(statement, Statement::Nothing))
     }
 
     /// Adds a form with its operands. The answer is whether its statement has no effect.

@@ -1,16 +1,21 @@
 use Rattle.std.proofs.Common.{rules, ◌∙◌, sym}
+use Rattle.std.proofs.lemmas.Result.{IfOk-weaker}
 use Rattle.rv_asm.proofs.Kept.{same_fault, same_image}
 use Rattle.rv_asm.proofs.assembler.assemble.Goals as goal
 
-pub returns-in-Ok-clause-clean : goal.returns-in-Ok-clause-clean
-returns-in-Ok-clause-clean c =
-    rw c.in_ok-layout.ensures.clean
-    (sym (same_fault c.args.base c.args.text.now _ _ c.in_ok-layout.ensures.tells c.in_ok-layout.ensures.kept) ∙ c.in-Ok.ensures.clean)
+pub returns-clause-clean : goal.returns-clause-clean
+returns-clause-clean c =
+    IfOk-weaker c.image_of.result _ _
+    (λ image clean. rw c.in_ok-layout.ensures.clean
+    (sym (same_fault c.args.base c.args.text.now _ _ c.in_ok-layout.ensures.tells c.in_ok-layout.ensures.kept) ∙ clean))
+    c.image_of.ensures.clean
 
-pub returns-in-Ok-clause-bytes : goal.returns-in-Ok-clause-bytes
-returns-in-Ok-clause-bytes c =
-    same_image c.args.base c.args.text.now _ _ c.in_ok-layout.ensures.tells c.in_ok-layout.ensures.kept
-    c.in-Ok.image.bytes c.in-Ok.ensures.bytes
+pub returns-clause-bytes : goal.returns-clause-bytes
+returns-clause-bytes c =
+    IfOk-weaker c.image_of.result _ _
+    (λ image bytes. same_image c.args.base c.args.text.now _ _ c.in_ok-layout.ensures.tells c.in_ok-layout.ensures.kept
+    image.bytes bytes)
+    c.image_of.ensures.bytes
 
 pub returns-clause-refused : goal.returns-clause-refused
 returns-clause-refused c =
