@@ -72,9 +72,12 @@ fn has_unknown_fields(entries: &[Value]) -> bool
 fn first_with(entries: &[Value], fault: ValueFault) -> Option<usize>
     ensures { result ≡ position (λ entry. is_fault (choice_fault (reading_of (view entry))) fault) entries.now }
 {
-    entries
-        .iter()
-        .position(|entry| is_fault(choice_fault(reading_of(entry)), fault))
+    for (index, entry) in entries.iter().enumerate() {
+        if is_fault(choice_fault(reading_of(entry)), fault) {
+            return Some(index);
+        }
+    }
+    None
 }
 
 // The arrivals of the entries that give one, where memory suffices.

@@ -52,9 +52,10 @@ pub fn arrival_of(entry: &Value) -> Option<Arrival>
 pub fn has_unknown_field(entry: &Value) -> bool
     ensures { result ≡ has_unknown_field (view entry.now) }
 {
-    entry
-        .as_table()
-        .is_some_and(|table| has_other_name(table, &["cycle", "line", "level"]))
+    match entry.as_table() {
+        Some(table) => has_other_name(table, &["cycle", "line", "level"]),
+        None => false,
+    }
 }
 
 /// The arrival with these values, where each is allowed.

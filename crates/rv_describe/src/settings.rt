@@ -52,11 +52,10 @@ fn name_at(table: &Table, key: Key) -> Option<&str>
 fn kind_values(table: &Table, kind: Kind) -> KindValues
     ensures { result ≡ kind_with (number (table_view table.now)) (is_pipelined (table_view table.now)) kind }
 {
-    let number_at = |key| number(table, NumberKey::OfKind(kind, key));
     KindValues {
-        stations: number_at(KindKey::Stations),
-        units: number_at(KindKey::Units),
-        latency: number_at(KindKey::Latency),
+        stations: number(table, NumberKey::OfKind(kind, KindKey::Stations)),
+        units: number(table, NumberKey::OfKind(kind, KindKey::Units)),
+        latency: number(table, NumberKey::OfKind(kind, KindKey::Latency)),
         pipelined: is_pipelined(table, kind),
     }
 }

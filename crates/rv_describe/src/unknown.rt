@@ -45,7 +45,13 @@ fn same_table(table: Option<&str>, other: Option<&str>) -> bool
 fn is_key(table: Option<&str>, name: &str) -> bool
     ensures { result ≡ is_key (option_copied table.entry) name.now }
 {
-    all_keys().iter().any(|key| same_table(key.place().table, table) && key.place().name == name)
+    for key in all_keys() {
+        let place = key.place();
+        if same_table(place.table, table) && place.name == name {
+            return true;
+        }
+    }
+    false
 }
 
 // Some key is in this table.
@@ -53,9 +59,12 @@ fn is_key(table: Option<&str>, name: &str) -> bool
 fn is_table(name: &str) -> bool
     ensures { result ≡ is_table name.now }
 {
-    all_keys()
-        .iter()
-        .any(|key| same_table(key.place().table, Some(name)))
+    for key in all_keys() {
+        if same_table(key.place().table, Some(name)) {
+            return true;
+        }
+    }
+    false
 }
 
 // Some name in a table of keys is none of its keys.
@@ -74,9 +83,10 @@ fn unknown_among(name: &str, table: &Table) -> bool
 fn unknown_within(name: &str, value: &Value) -> bool
     ensures { result ≡ unknown_within name.now (view value.now) }
 {
-    value
-        .as_table()
-        .is_some_and(|table| unknown_among(name, table))
+    match value.as_table() {
+        Some(table) => unknown_among(name, table),
+        None => false,
+    }
 }
 
 fn unknown_at_top(name: &str, value: &Value) -> bool
