@@ -1,6 +1,6 @@
-use Rattle.rv_core.proofs.Words.{◌≡◌, true, false, None, slice_get, sym, refl, ap, ◌∙◌, subst, word_of, is_serialising, Entry, Hardware, IsHead, turn_left}
+use Rattle.rv_core.proofs.Words.{◌≡◌, true, false, None, slice_get, sym, ap, ◌∙◌, subst, word_of, is_serialising, Entry, Hardware, IsHead, turn_left}
 use Rattle.std.specs.FinSet as set
-use Rattle.rv_core.proofs.Retired.Roles.{ended_as, first_is_head, heads_agree, kept, turn_finishes, turn_of_none, turn_of_stale}
+use Rattle.rv_core.proofs.Retired.Roles.{ended_as, first_is_head, heads_agree, kept, turn_ends, turn_finishes, turn_of_none, turn_of_stale}
 use Rattle.rv_core.proofs.Retired.Taught.{learns_at}
 use Rattle.rv_core.proofs.parts.Parts.commit_head.Goals as goal
 use Rattle.rv_core.proofs.parts.Parts.commit_head.Goals.{After-is_stale}
@@ -46,25 +46,15 @@ finish_head-requires-clause-plain g c =
 pub returns-then-is_stale-clause-turn : goal.returns-then-is_stale-clause-turn
 returns-then-is_stale-clause-turn g c =
     let at = (goal.at.returns-then-is_stale-clause-turn g c).After-is_stale in
-    record {
-      told = None;
-      left = λ steps.
-          turn_of_stale c.args.self.now c.in-Some.head.now steps (head g at) (stale g at ∙ c.if-is_stale.true);
-      appended = refl;
-      learns = refl;
-    }
+    turn_ends c.args.self.now c.args.steps.now.items _ _ (λ steps.
+    turn_of_stale c.args.self.now c.in-Some.head.now steps (head g at) (stale g at ∙ c.if-is_stale.true))
 
 pub returns-then-waits_for_result-clause-turn : goal.returns-then-waits_for_result-clause-turn
 returns-then-waits_for_result-clause-turn g c =
     let at = (goal.at.returns-then-waits_for_result-clause-turn g c).After-is_stale in
-    record {
-      told = None;
-      left = λ steps.
-          turn_finishes c.args.self.now c.in-Some.head.now steps None (head g at) (stale g at ∙ c.if-is_stale.false)
-          (c.waits_for_result.ensures.role c.if-waits_for_result.true) (c.waits_for_result.ensures.unknown c.if-waits_for_result.true);
-      appended = refl;
-      learns = refl;
-    }
+    turn_ends c.args.self.now c.args.steps.now.items _ None (λ steps.
+    turn_finishes c.args.self.now c.in-Some.head.now steps None (head g at) (stale g at ∙ c.if-is_stale.false)
+    (c.waits_for_result.ensures.role c.if-waits_for_result.true) (c.waits_for_result.ensures.unknown c.if-waits_for_result.true))
 
 pub returns-then-is_serialising-clause-turn : goal.returns-then-is_serialising-clause-turn
 returns-then-is_serialising-clause-turn g c =
@@ -81,14 +71,8 @@ returns-then-is_serialising-clause-turn g c =
 
 pub returns-in_default-clause-turn : goal.returns-in_default-clause-turn
 returns-in_default-clause-turn g c =
-    record {
-      told = None;
-      left = λ steps.
-          turn_of_none c.args.self.now steps
-          (ap (λ (h : Hardware). slice_get h.rob.entries 0) (sym c.self.view_is) ∙ sym c.in_default.ensures);
-      appended = refl;
-      learns = refl;
-    }
+    turn_of_none c.args.self.now c.args.steps.now.items _
+    (ap (λ (h : Hardware). slice_get h.rob.entries 0) (sym c.self.view_is) ∙ sym c.in_default.ensures)
 
 pub returns-in_default-clause-kept : goal.returns-in_default-clause-kept
 returns-in_default-clause-kept g c = kept c.args.self.now

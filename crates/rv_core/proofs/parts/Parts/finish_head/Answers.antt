@@ -1,7 +1,7 @@
-use Rattle.rv_core.proofs.Words.{◌≡◌, ◌∷◌, [], ◌++◌, ℕ, Some, None, slice_get, option_map, sym, refl, ap, ◌∙◌, Hardware, IsHead, committing, row_of, flushed, turn_ended, turn_left}
+use Rattle.rv_core.proofs.Words.{◌≡◌, ◌∷◌, [], ◌++◌, ℕ, Some, None, slice_get, option_map, sym, ap, ◌∙◌, Hardware, IsHead, committing, row_of, flushed, turn_ended, turn_left}
 use Rattle.rv_hardware.specs.Retirement.{written_of}
 use Rattle.rv_core.specs.declared.head.HeadTurn.TheVariants as turn
-use Rattle.rv_core.proofs.Retired.Roles.{ended_as, first_is_head, kept_flushed, kept_retired, kept_trapped, retires_last, retires_on, traps_by, turn_finishes, turn_of_none}
+use Rattle.rv_core.proofs.Retired.Roles.{ended_as, first_is_head, kept_flushed, kept_retired, kept_trapped, retires_last, retires_on, traps_by, turn_ends, turn_finishes, turn_of_none}
 use Rattle.rv_core.proofs.Retired.Taught.{learns_at}
 use Rattle.rv_core.proofs.parts.Parts.finish_head.Goals as goal
 use Rattle.rv_core.proofs.parts.Parts.finish_head.Goals.{After-append, In-Some}
@@ -22,13 +22,9 @@ pub returns-in_default-message_of-clause-turn : goal.returns-in_default-message_
 returns-in_default-message_of-clause-turn g c =
     let e = c.in-Some.head.now in
     let at = head g (goal.at.returns-in_default-message_of-clause-turn g c).In-Some in
-    record {
-      told = None;
-      left = λ steps. turn_finishes c.args.self.now e steps None at (c.requires.fresh e at) (c.requires.plain e at)
-          (sym c.message_of.ensures ∙ c.in_default-message_of.is);
-      appended = refl;
-      learns = refl;
-    }
+    turn_ends c.args.self.now c.args.steps.now.items _ None (λ steps.
+    turn_finishes c.args.self.now e steps None at (c.requires.fresh e at) (c.requires.plain e at)
+    (sym c.message_of.ensures ∙ c.in_default-message_of.is))
 
 pub returns-in-Some-fault-clause-turn : goal.returns-in-Some-fault-clause-turn
 returns-in-Some-fault-clause-turn g c =
@@ -104,14 +100,8 @@ returns-clause-turn g c =
 
 pub returns-in_default-clause-turn : goal.returns-in_default-clause-turn
 returns-in_default-clause-turn g c =
-    record {
-      told = None;
-      left = λ steps.
-          turn_of_none c.args.self.now steps
-          (ap (λ (h : Hardware). slice_get h.rob.entries 0) (sym c.self.view_is) ∙ sym c.in_default.ensures);
-      appended = refl;
-      learns = refl;
-    }
+    turn_of_none c.args.self.now c.args.steps.now.items _
+    (ap (λ (h : Hardware). slice_get h.rob.entries 0) (sym c.self.view_is) ∙ sym c.in_default.ensures)
 
 pub returns-in-Some-fault-clause-kept : goal.returns-in-Some-fault-clause-kept
 returns-in-Some-fault-clause-kept g c = kept_trapped c.args.self.now c.trap-step.new.self _ _ c.trap-step.ensures.hardware

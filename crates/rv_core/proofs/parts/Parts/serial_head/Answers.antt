@@ -1,6 +1,6 @@
 use Rattle.rv_core.proofs.Words.{◌≡◌, List, slice_get, sym, ap, ◌∙◌, commit_turn, head_turn, Hardware, Step, IsHead, committing}
 use Rattle.std.specs.FinSet as set
-use Rattle.rv_core.proofs.Retired.Roles.{first_is_head, kept, turn_of_head, turn_of_none, turn_accesses, waits_not}
+use Rattle.rv_core.proofs.Retired.Roles.{ends_with_none, first_is_head, kept, turn_of_head, turn_accesses, waits_not}
 use Rattle.rv_core.proofs.parts.Parts.serial_head.Goals as goal
 use Rattle.rv_core.proofs.parts.Parts.serial_head.Goals.{After-role_of, In-Some}
 
@@ -40,7 +40,7 @@ returns-in-WaitsForResult-clause-turn c steps =
 
 pub returns-in_default-clause-turn : goal.returns-in_default-clause-turn
 returns-in_default-clause-turn c steps =
-    turn_of_none c.args.self.now steps
+    ends_with_none c.args.self.now steps
     (ap (λ (h : Hardware). slice_get h.rob.entries 0) (sym c.self.view_is) ∙ sym c.in_default.ensures)
 
 pub returns-in_default-clause-kept : goal.returns-in_default-clause-kept
