@@ -1,5 +1,4 @@
-ghost use Rattle.std.specs.Prelude.{◌≡◌, ◌+◌, ◌*◌, ◌^◌, ◌≤◌, ◌<◌, [], filter, length, vec_len, vec_capacity, nat_le, IfOk};
-ghost use Rattle.std.specs.FinSet as set;
+ghost use Rattle.std.specs.Prelude.{◌≡◌, ◌+◌, ◌*◌, ◌^◌, ◌≤◌, ◌<◌, [], filter, length, vec_len, vec_capacity, nat_le, ◌⊎◌, Ok, Err, IfOk, IfErr};
 ghost use Rattle.rv_isa.specs.PerKind.{for_each};
 ghost use Rattle.rv_front.specs.FetchBuffer.{FetchesInto};
 ghost use Rattle.rv_front.specs.Predictors.{answers_of};
@@ -77,12 +76,27 @@ impl Parts {
         requires { length image.now.bytes ≤ description.now.ram_size }
         ensures { IfOk result (λ parts. parts.value ≡ reset_hardware description.now image.now.bytes image.now.start) }
     {
-        let front = Front::new(alloc, description, image.start)?;
-        let (cache, stale) = memory_at_reset(alloc, description, image)?;
-        let (rob, rename, stores) = empty_buffers(alloc, description)?;
-        let (stations, units, bus) = empty_units(alloc, description)?;
+        let values = description.values();
+        let memory = all_three(
+            Front::new(alloc, description, image.start),
+            cache_at_reset(alloc, description, image),
+            StaleMap::new(alloc, values.ram_base, values.ram_size),
+        );
+        let buffers = all_three(
+            Rob::new(alloc, description),
+            RenameMap::new(alloc, description),
+            StoreQueue::new(alloc, description),
+        );
+        let execution = all_three(
+            Stations::new(alloc, description),
+            Units::new(alloc, description),
+            Bus::new(alloc, description),
+        );
+        let ((front, cache, stale), (rob, rename, stores), (stations, units, bus)) = all_three(
+            memory, buffers, execution,
+        )?;
         let parts = Parts {
-            values: description.values(),
+            values,
             pc: image.start,
             registers: [0; 32],
             csrs: Csrs::reset(),
@@ -187,48 +201,29 @@ pub(crate) fn squash_all(
     stores.squash_uncommitted();
 }
 
-// The cache over RAM with an image at its front, and no stale word.
-fn memory_at_reset(
+// The cache over RAM with an image at its front.
+fn cache_at_reset(
     alloc: Global,
     description: &Description,
     image: &Image,
-) -> Result<(Cache<Ram>, StaleMap), AllocError>
+) -> Result<Cache<Ram>, AllocError>
     requires { length image.now.bytes ≤ description.now.ram_size }
-    ensures cache { IfOk result (λ made. made.0 ≡ (reset_hardware description.now image.now.bytes image.now.start).cache) }
-    ensures stale { IfOk result (λ made. made.1 ≡ record { base = description.now.ram_base; size = description.now.ram_size; words = set.empty }) }
+    ensures { IfOk result (λ cache. cache ≡ (reset_hardware description.now image.now.bytes image.now.start).cache) }
 {
     let values = description.values();
     let mut ram = Ram::new(alloc, values.ram_base, values.ram_size, values.rom_bytes)?;
     ram.load(image.bytes.as_slice());
-    let stale = StaleMap::new(alloc, values.ram_base, values.ram_size)?;
-    let cache = Cache::new(alloc, ram, values.ram_base, description)?;
-    Ok((cache, stale))
+    Cache::new(alloc, ram, values.ram_base, description)
 }
 
-fn empty_units(
-    alloc: Global,
-    description: &Description,
-) -> Result<(Stations, Units, Bus), AllocError>
-    ensures stations { IfOk result (λ made. made.0 ≡ for_each empty_pool description.now.kinds) }
-    ensures units { IfOk result (λ made. made.1 ≡ for_each free_pool description.now.kinds) }
-    ensures bus { IfOk result (λ made. made.2 ≡ empty_bus description.now) }
+// Three parts, where there was memory for each: a caller that makes them owns none of them at an exit.
+fn all_three<A: Drop, B: Drop, C: Drop>(
+    first: Result<A, AllocError>,
+    second: Result<B, AllocError>,
+    third: Result<C, AllocError>,
+) -> Result<(A, B, C), AllocError>
+    ensures made { IfOk result (λ parts. (first ≡ Ok parts.0) × (second ≡ Ok parts.1) × (third ≡ Ok parts.2)) }
+    ensures refused { IfErr result (λ e. (first ≡ Err e) ⊎ ((second ≡ Err e) ⊎ (third ≡ Err e))) }
 {
-    let bus = Bus::new(alloc, description)?;
-    let units = Units::new(alloc, description)?;
-    let stations = Stations::new(alloc, description)?;
-    Ok((stations, units, bus))
-}
-
-fn empty_buffers(
-    alloc: Global,
-    description: &Description,
-) -> Result<(Rob, RenameMap, StoreQueue), AllocError>
-    ensures rob { IfOk result (λ made. made.0 ≡ empty description.now.rob) }
-    ensures rename { IfOk result (λ made. made.1 ≡ no_producers description.now.rob) }
-    ensures stores { IfOk result (λ made. made.2 ≡ record { stores = []; capacity = description.now.store_queue }) }
-{
-    let rob = Rob::new(alloc, description)?;
-    let rename = RenameMap::new(alloc, description)?;
-    let stores = StoreQueue::new(alloc, description)?;
-    Ok((rob, rename, stores))
+    Ok((first?, second?, third?))
 }

@@ -1,9 +1,10 @@
 use Rattle.rv_core.proofs.Words.{◌≡◌, ℕ, ◌%◌, ◌<◌, [], length, replicate, sym, ap, ◌∙◌, arith, overwritten, Memory, Contents, memory_at_reset as reset_bytes, layout_of, base_divides, line_divides}
+use Rattle.std.proofs.lemmas.Result.{IfOk-weaker}
 use Rattle.rv_core.proofs.Ties.Reset.{image_over_zeros}
-use Rattle.rv_core.proofs.parts.memory_at_reset.Goals as goal
+use Rattle.rv_core.proofs.parts.cache_at_reset.Goals as goal
 
-pub new-requires-3-clause-lines : goal.new-requires-3-clause-lines
-new-requires-3-clause-lines c =
+pub new-requires-2-clause-lines : goal.new-requires-2-clause-lines
+new-requires-2-clause-lines c =
     let sized : length c.load.new.self.bytes ≡ c.load.new.self.layout.size = c.load.ensures.sized in
     let kept : c.load.new.self.layout.size ≡ c.in_ok-ram.ram.layout.size = ap (λ m. m.layout.size) c.load.ensures.loaded in
     let made : c.in_ok-ram.ram.layout.size ≡ c.values-values.result.ram_size = ap (λ m. m.layout.size) c.in_ok-ram.ensures in
@@ -17,8 +18,8 @@ new-requires-3-clause-lines c =
     ap (λ n. n % c.args.description.now.cache.line) (sized ∙ kept ∙ made)
     ∙ (ap (λ v. values.ram_size % v.cache.line) (sym c.values-values.ensures.values) ∙ whole)
 
-pub returns-clause-cache : goal.returns-clause-cache
-returns-clause-cache c =
+pub returns : goal.returns
+returns c =
     let d = c.args.description.now in
     let image = c.args.image.now.bytes in
     let ram : c.load.new.self ≡ record { layout = layout_of d; bytes = reset_bytes d image } =
@@ -36,4 +37,4 @@ returns-clause-cache c =
       sets = replicate d.cache.sets [];
       backing = memory;
     } in
-    c.in_ok-cache.ensures ∙ (λ i. made (c.values-values.ensures.values i).ram_base (ram i))
+    IfOk-weaker c.new-2.result _ _ (λ cache is. is ∙ (λ i. made (c.values-values.ensures.values i).ram_base (ram i))) c.new-2.ensures
