@@ -1,11 +1,11 @@
-pub mod Words
-pub mod Guiding
-pub mod Issued
-pub mod Loads
-pub mod Phases
-pub mod Retired
 pub mod RunReports
-pub mod RunStops
 pub mod Shown
-pub mod Ties
-pub mod TrueRun
+mod Words
+mod Guiding
+mod Issued
+mod Loads
+mod Phases
+mod Retired
+mod RunStops
+mod Ties
+mod TrueRun
