@@ -1,2 +1,3 @@
 pub mod InFlight
 mod Moving
+mod Youngest

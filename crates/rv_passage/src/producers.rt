@@ -1,6 +1,4 @@
-ghost use Rattle.std.specs.Prelude.{◌≡◌, ◌==◌, option_and_then, reverse};
-ghost use Rattle.std.specs.List.{find};
-ghost use Rattle.std.specs.Option.{option_copied};
+ghost use Rattle.std.specs.Prelude.{◌≡◌, Some, option_and_then};
 ghost use Rattle.rv_isa.specs.Instruction.{kind_of_word, target_of_word};
 ghost use Rattle.rv_isa.specs.Operands.{sources_of};
 ghost use Rattle.rv_passage.specs.Producers.{broadcast_among, is_to_come, is_writer, other_than, producer_among, producer_by, producers_among, producers_for};
@@ -91,25 +89,17 @@ fn is_to_come(row: &Passage) -> bool
     kind_of(&row.instruction).is_some() && row.broadcast.is_none()
 }
 
-fn youngest_writer(older: &[Passage], register: Reg) -> Option<&Passage>
-    ensures { option_copied result ≡ find (is_writer register) (reverse older.now) }
-{
-    older.iter().rev().find(|row| is_writer(row, register))
-}
-
-fn with_number(older: &[Passage], number: u64) -> Option<&Passage>
-    ensures { option_copied result ≡ find (λ row. row.number == number) (reverse older.now) }
-{
-    older.iter().rev().find(|row| row.number == number)
-}
-
 fn broadcast_among(older: &[Passage], number: u64) -> Option<u64>
     ensures { result ≡ broadcast_among older.now number }
 {
-    match with_number(older, number) {
-        Some(row) => row.broadcast,
-        None => None,
+    let mut left = older;
+    while let Some((row, before)) = left.split_last() {
+        if row.number == number {
+            return row.broadcast;
+        }
+        left = before;
     }
+    None
 }
 
 fn producer_by(row: &Passage, register: Reg) -> Option<Producer>
@@ -127,14 +117,25 @@ fn producer_by(row: &Passage, register: Reg) -> Option<Producer>
     }
 }
 
+// The youngest of the older instructions that writes a register, where its result is still to come.
+fn producer_of(older: &[Passage], register: Reg) -> Option<Producer>
+    ensures { result ≡ producer_among older.now (Some register) }
+{
+    let mut left = older;
+    while let Some((row, before)) = left.split_last() {
+        if is_writer(row, register) {
+            return producer_by(row, register);
+        }
+        left = before;
+    }
+    None
+}
+
 fn producer_among(older: &[Passage], source: Option<Reg>) -> Option<Producer>
     ensures { result ≡ producer_among older.now source }
 {
-    let Some(register) = source else {
-        return None;
-    };
-    match youngest_writer(older, register) {
-        Some(row) => producer_by(row, register),
+    match source {
+        Some(register) => producer_of(older, register),
         None => None,
     }
 }
