@@ -1,10 +1,9 @@
 -- What is reported of a fault, and the status that the program ends with.
-use Rattle.std.specs.Prelude.{ℕ, ◌==◌, if◌then◌else◌, List, [], ◌++◌, codes, decimal}
+use Rattle.std.specs.Prelude.{ℕ, List, [], ◌++◌, codes, decimal}
 use Rattle.rv_asm.specs.FaultName.{fault_name}
 use Rattle.rv_asm.specs.declared.fault.AsmError.{AsmError}
-use Rattle.rv_describe.specs.Entries.{entry_of}
 use Rattle.rv_describe.specs.Fault.{place_of}
-use Rattle.rv_describe.specs.FaultName.{arrivals_kind, description_fault_name}
+use Rattle.rv_describe.specs.FaultName.{arrivals_fault_text, description_fault_name}
 use Rattle.rv_isa.specs.Key.{text_at}
 use Rattle.rv_describe.specs.declared.{arrivals_error.ArrivalsError.ArrivalsError, description_error.DescriptionError.DescriptionError}
 use Rattle.rv_describe.specs.declared.description_error.DescriptionError.TheVariants as described
@@ -30,13 +29,9 @@ described_line number error =
     codes "error: description " ++ (decimal number ++ (codes ": "
     ++ (description_fault_name error ++ (gap error ++ (text_at (place_of error) ++ codes "\n")))))
 
--- the number of an entry, from 1; 0 is no entry's
-unfoldable pub entry_text : ℕ → List ℕ
-entry_text entry = if entry == 0 then [] else decimal entry
-
 -- the line of a fault of arrivals, with the entry that it names
 unfoldable pub arrivals_line : ArrivalsError → List ℕ
-arrivals_line error = codes "error: arrivals: " ++ (arrivals_kind error ++ (entry_text (entry_of error) ++ codes "\n"))
+arrivals_line error = codes "error: arrivals: " ++ (arrivals_fault_text error ++ codes "\n")
 
 -- the line of an image that does not fit one of several descriptions, with its number
 unfoldable pub unfit_line : ℕ → List ℕ

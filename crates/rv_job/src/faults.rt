@@ -68,18 +68,21 @@ fn write_unfit<W: Write>(writer: &mut W, number: usize) -> Result<(), ReportErro
 }
 
 // The line that reports a fault of arrivals, with the number of the entry that it names.
-#[tactic(auto, unfolding(crate::specs::Fault::arrivals_line, crate::specs::Fault::entry_text))]
+#[tactic(auto, unfolding(crate::specs::Fault::arrivals_line, rv_describe::specs::FaultName::number_text))]
 fn write_arrivals_fault<W: Write>(writer: &mut W, error: ArrivalsError) -> Result<(), ReportError>
     ensures { IsWritten result (W.contents writer.old) (W.contents writer.new) (arrivals_line error) }
 {
     let kind = error.kind().as_bytes();
-    let entry = error.entry();
-    if entry == 0 {
-        return put_all(writer, &[b"error: arrivals: ", kind, b"\n"]);
+    match error {
+        ArrivalsError::WrongKind { entry }
+        | ArrivalsError::OutOfRange { entry }
+        | ArrivalsError::Unsorted { entry } => {
+            let mut buffer = Buffer::new();
+            let number = buffer.format(entry).as_bytes();
+            put_all(writer, &[b"error: arrivals: ", kind, number, b"\n"])
+        }
+        _ => put_all(writer, &[b"error: arrivals: ", kind, b"\n"]),
     }
-    let mut buffer = Buffer::new();
-    let number = buffer.format(entry).as_bytes();
-    put_all(writer, &[b"error: arrivals: ", kind, number, b"\n"])
 }
 
 // The line that reports the assembly's first fault.
