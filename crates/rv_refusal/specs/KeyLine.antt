@@ -1,5 +1,5 @@
 -- The lines on which the keys of a description stand.
-use Rattle.std.specs.Prelude.{ℕ, ◌+◌, ◌==◌, Bool, not, List, [], ◌∷◌, map, if◌then◌else◌, Option, Some, None, option_map, option_and_then}
+use Rattle.std.specs.Prelude.{ℕ, ◌+◌, ◌==◌, Bool, not, List, [], ◌∷◌, map, if◌then◌else◌, Option, Some, None, option_map, option_and_then, option_copied}
 use Rattle.std.specs.{List.list_any, List.slice_split, Option.option_map_or, Option.option_or, Str.bytes_eq}
 use Rattle.rv_isa.specs.Key.{joined}
 use Rattle.rv_refusal.specs.NameOn.{NameOn, key_on, table_on}
@@ -15,7 +15,7 @@ pub record KeyLine : Type 0 where
 
 -- the bytes of the line that the program holds
 abbrev pub key_line : Found → KeyLine
-key_line found = record { number = found.number; line = found.line.now; before = found.before; name = found.name.items }
+key_line found = record { number = found.number; line = found.line.now; before = found.before; name = joined (option_copied found.table) found.name.now }
 
 -- the line with a number, where a name stands on it in a table
 abbrev pub line_of : ℕ → Option (List ℕ) → List ℕ → NameOn → KeyLine

@@ -5,7 +5,7 @@ ghost use Rattle.rv_asm.specs.Layout.{body_of};
 ghost use Rattle.rv_asm.specs.Meaning.{fits_width};
 ghost use Rattle.rv_asm.specs.Read.{operand_of, tokens_in};
 ghost use Rattle.rv_asm.specs.Statement.{is_implied};
-ghost use Rattle.rv_refusal.specs.Culprit.{culprit_among, culprit_of, culprit_on, definition_on, defines, has_unknown_register, holds_register, holds_value, is_culprit, is_misfit, is_of_definition, is_of_operands, is_of_register, is_of_shape, is_past_csrs, is_too_wide, is_unnamed, is_wrong_value, marked, may_be_out_of_range, only, operand_at, operand_of_fault, operands_on, unless_empty};
+ghost use Rattle.rv_refusal.specs.Culprit.{culprit_among, culprit_of, culprit_on, definition_on, defines, has_unknown_register, holds_register, holds_value, is_culprit, is_misfit, is_of_operands, is_past_csrs, is_too_wide, is_wrong_value, marked, may_be_out_of_range, only, operand_at, operand_of_fault, operands_on, unless_empty};
 
 use crate::operand_tokens::{add_operands, from_register, operand_at};
 use crate::statement::after_labels;
@@ -31,18 +31,14 @@ fn holds_register(place: Place) -> bool
     )
 }
 
-fn is_unnamed(name: &[u8]) -> bool
-    ensures { result ≡ is_unnamed name.now }
+// Whether a name is written in the place of a register that is none.
+fn has_unknown_register(written: Option<Operand<'_>>) -> bool
+    ensures { result ≡ option_map_or has_unknown_register (option_map operand_of written.entry) false }
 {
-    register_named(name).is_none()
-}
-
-// Whether an operand has a name in the place of a register that is none.
-fn has_unknown_register(operand: Operand<'_>) -> bool
-    ensures { result ≡ has_unknown_register (operand_of operand.entry) }
-{
-    match operand {
-        Operand::Value(Expression::Symbol(name)) | Operand::Indirect(_, name) => is_unnamed(name),
+    match written {
+        Some(Operand::Value(Expression::Symbol(name)) | Operand::Indirect(_, name)) => {
+            register_named(name).is_none()
+        }
         _ => false,
     }
 }
@@ -57,16 +53,6 @@ fn is_past_csrs(operand: Operand<'_>) -> bool
     }
 }
 
-// Whether the value of an operand at a place is the one that may be out of range.
-fn may_be_out_of_range(place: Place, operand: Operand<'_>) -> bool
-    ensures { result ≡ may_be_out_of_range place (operand_of operand.entry) }
-{
-    match place {
-        Place::Csr => is_past_csrs(operand),
-        _ => holds_value(place),
-    }
-}
-
 // Whether no operand is written that a place takes.
 fn is_misfit(place: Place, written: Option<Operand<'_>>) -> bool
     ensures { result ≡ is_misfit place (option_map operand_of written.entry) }
@@ -77,22 +63,16 @@ fn is_misfit(place: Place, written: Option<Operand<'_>>) -> bool
     }
 }
 
-// The same of a name in a register's place that is none, and of a value that may be out of range.
-fn is_unknown_register(written: Option<Operand<'_>>) -> bool
-    ensures { result ≡ option_map_or has_unknown_register (option_map operand_of written.entry) false }
-{
-    match written {
-        Some(operand) => has_unknown_register(operand),
-        None => false,
-    }
-}
-
-fn is_out_of_range(place: Place, written: Option<Operand<'_>>) -> bool
+// Whether the value that is written at a place is the one that may be out of range.
+fn may_be_out_of_range(place: Place, written: Option<Operand<'_>>) -> bool
     ensures { result ≡ option_map_or (may_be_out_of_range place) (option_map operand_of written.entry) false }
 {
-    match written {
-        Some(operand) => may_be_out_of_range(place, operand),
-        None => false,
+    let Some(operand) = written else {
+        return false;
+    };
+    match place {
+        Place::Csr => is_past_csrs(operand),
+        _ => holds_value(place),
     }
 }
 
@@ -103,9 +83,9 @@ fn is_culprit(fault: AsmFault, place: Place, written: Option<Operand<'_>>) -> bo
 {
     match fault {
         AsmFault::BadOperands => is_misfit(place, written),
-        AsmFault::BadRegister => holds_register(place) && is_unknown_register(written),
+        AsmFault::BadRegister => holds_register(place) && has_unknown_register(written),
         AsmFault::UnknownSymbol => holds_value(place),
-        AsmFault::OutOfRange => is_out_of_range(place, written),
+        AsmFault::OutOfRange => may_be_out_of_range(place, written),
         _ => false,
     }
 }
@@ -154,22 +134,13 @@ fn fits_width(width: Width, number: i64) -> bool
     }
 }
 
-// Whether an operand is a number that data of a width cannot hold.
-fn is_too_wide(width: Width, operand: Operand<'_>) -> bool
-    ensures { result ≡ is_too_wide width (operand_of operand.entry) }
-{
-    match operand {
-        Operand::Value(Expression::Number(number)) => !fits_width(width, number),
-        _ => false,
-    }
-}
-
-fn is_written_too_wide(width: Width, written: Option<Operand<'_>>) -> bool
+// Whether a number is written that data of a width cannot hold.
+fn is_too_wide(width: Width, written: Option<Operand<'_>>) -> bool
     ensures { result ≡ option_map_or (is_too_wide width) (option_map operand_of written.entry) false }
 {
     match written {
-        Some(operand) => is_too_wide(width, operand),
-        None => false,
+        Some(Operand::Value(Expression::Number(number))) => !fits_width(width, number),
+        _ => false,
     }
 }
 
@@ -180,7 +151,7 @@ fn is_wrong_value(fault: AsmFault, width: Width, written: Option<Operand<'_>>) -
 {
     match fault {
         AsmFault::BadOperands => is_misfit(Place::Value, written),
-        AsmFault::OutOfRange => is_written_too_wide(width, written),
+        AsmFault::OutOfRange => is_too_wide(width, written),
         _ => false,
     }
 }
@@ -276,33 +247,14 @@ fn is_of_operands(fault: AsmFault) -> bool
     )
 }
 
-fn is_of_register(fault: AsmFault) -> bool
-    ensures { result ≡ is_of_register fault }
-{
-    matches!(fault, AsmFault::BadRegister)
-}
-
-/// Whether a fault is one of the count or the shape of operands.
-pub(crate) fn is_of_shape(fault: AsmFault) -> bool
-    ensures { result ≡ is_of_shape fault }
-{
-    matches!(fault, AsmFault::BadOperands)
-}
-
-fn is_of_definition(fault: AsmFault) -> bool
-    ensures { result ≡ is_of_definition fault }
-{
-    matches!(fault, AsmFault::DuplicateSymbol)
-}
-
 // The tokens of an operand from the one at fault on.
 fn marked<'t, 'a>(fault: AsmFault, tokens: &'t [Token<'a>]) -> &'t [Token<'a>]
     ensures { tokens_in result.now ≡ marked fault (tokens_in tokens.entry.now) }
 {
-    if is_of_register(fault) {
-        return from_register(tokens);
+    match fault {
+        AsmFault::BadRegister => from_register(tokens),
+        _ => tokens,
     }
-    tokens
 }
 
 // The operand of a form with these tokens after its name for which a fault is reported, from its token at fault on.
@@ -388,12 +340,12 @@ pub(crate) fn culprit_on<'t, 'a>(
 ) -> Result<Option<&'t [Token<'a>]>, AllocError>
     ensures { IfOk result (λ culprit. option_map (λ from. tokens_in from.now) culprit ≡ culprit_on fault (tokens_in tokens.entry.now)) }
 {
-    if is_of_definition(fault) {
+    if let AsmFault::DuplicateSymbol = fault {
         return Ok(definition_on(tokens));
     }
     let body = after_labels(tokens);
-    match operand_of_fault(alloc, fault, body)? {
-        Some(operand) => Ok(Some(operand)),
-        None => Ok(Some(unless_empty(body, tokens))),
+    match operand_of_fault(alloc, fault, body) {
+        Ok(None) => Ok(Some(unless_empty(body, tokens))),
+        found => found,
     }
 }

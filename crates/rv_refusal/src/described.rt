@@ -5,7 +5,7 @@ ghost use Rattle.rv_refusal.specs.Described.{described_place, description_lines,
 ghost use Rattle.rv_refusal.specs.KeyLine.{key_line};
 
 use crate::caret::add_marked_line;
-use crate::key_line::{KeyLine, Wanted, first_named};
+use crate::key_line::{KeyLine, Wanted, first_named, full_name};
 use crate::key_names::{key_names, text_of};
 use crate::key_range::add_values_line;
 use crate::near::add_nearest;
@@ -26,8 +26,8 @@ fn add_described_place(out: &mut Vec<u8>, number: usize) -> Result<(), AllocErro
 
 // Appends a line at fault, with a caret below its name.
 #[tactic(auto, unfolding(crate::specs::Described::key_line_text))]
-fn add_key_line(out: &mut Vec<u8>, found: &KeyLine<'_>) -> Result<(), AllocError>
-    ensures { OnOk result (out.new.items ≡ out.old.items ++ key_line_text (key_line found.now)) }
+fn add_key_line(out: &mut Vec<u8>, found: KeyLine<'_>) -> Result<(), AllocError>
+    ensures { OnOk result (out.new.items ≡ out.old.items ++ key_line_text (key_line found.entry)) }
 {
     add_described_place(out, found.number)?;
     add_marked_line(out, found.line, found.before)
@@ -75,7 +75,7 @@ fn add_line_of_key(
     ensures { OnOk result (out.new.items ≡ out.old.items ++ option_map_or key_line_text (line_of_key key part.now) []) }
 {
     match line_of_key(alloc, key, part) {
-        Ok(Some(found)) => add_key_line(out, &found),
+        Ok(Some(found)) => add_key_line(out, found),
         Ok(None) => Ok(()),
         Err(refused) => Err(refused),
     }
@@ -124,13 +124,14 @@ fn add_unknown_line(
     alloc: Global,
     out: &mut Vec<u8>,
     known: &[&[u8]],
-    found: &KeyLine<'_>,
+    found: KeyLine<'_>,
 ) -> Result<(), AllocError>
     ensures { OnOk result (out.new.items
-        ≡ out.old.items ++ unknown_line (map (λ name. name.now) known.now) (key_line found.now)) }
+        ≡ out.old.items ++ unknown_line (map (λ name. name.now) known.now) (key_line found.entry)) }
 {
     add_key_line(out, found)?;
-    add_known_lines(alloc, out, known, found.name.as_slice())
+    let name = full_name(alloc, found)?;
+    add_known_lines(alloc, out, known, name.as_slice())
 }
 
 // Appends the first line of a description with a name that is none of these.
@@ -144,7 +145,7 @@ fn add_unknown_among(
     ensures { OnOk result (out.new.items ≡ out.old.items ++ unknown_among (map (λ name. name.now) known.now) part.now) }
 {
     match first_named(alloc, Wanted::Unknown(known), part) {
-        Ok(Some(found)) => add_unknown_line(alloc, out, known, &found),
+        Ok(Some(found)) => add_unknown_line(alloc, out, known, found),
         Ok(None) => add_text(out, b"expected: keys and tables of a description\n"),
         Err(refused) => Err(refused),
     }

@@ -1,6 +1,5 @@
 ghost use Rattle.std.specs.Prelude.{◌≡◌, ◌+◌, ◌≤◌, ◌==◌, ◌^◌, IfOk, length, map, option_copied, option_map};
 ghost use Rattle.std.specs.{List.list_any, List.slice_split, Str.bytes_eq};
-ghost use Rattle.rv_isa.specs.Key.{joined};
 ghost use Rattle.rv_refusal.specs.KeyLine.{first_named, is_wanted, key_line, named_line, table_after, wanted_line};
 
 use crate::name_on::{key_on, table_on};
@@ -8,13 +7,14 @@ use crate::text::add_all;
 use rv_asm::first_line;
 use std::alloc::{AllocError, Global};
 
-/// A line of a description with its number, the name that stands there with its table's before it, and how many bytes stand before it.
-#[derive(Drop)]
+/// A line of a description with its number, a name on it, the table that the name stands in, and how many bytes stand before the name.
+#[derive(Clone, Copy)]
 pub(crate) struct KeyLine<'a> {
     pub(crate) number: usize,
     pub(crate) line: &'a [u8],
     pub(crate) before: usize,
-    pub(crate) name: Vec<u8>,
+    pub(crate) table: Option<&'a [u8]>,
+    pub(crate) name: &'a [u8],
 }
 
 /// Which name is looked for.
@@ -47,45 +47,42 @@ fn is_wanted(wanted: Wanted<'_>, name: &[u8]) -> bool
     }
 }
 
-// A name with its table's before it.
-fn joined(alloc: Global, table: Option<&[u8]>, name: &[u8]) -> Result<Vec<u8>, AllocError>
-    ensures { IfOk result (λ full. full.items ≡ joined (option_copied table.entry) name.now) }
+/// The name on a line with its table's before it.
+pub(crate) fn full_name(alloc: Global, found: KeyLine<'_>) -> Result<Vec<u8>, AllocError>
+    ensures { IfOk result (λ full. full.items ≡ (key_line found.entry).name) }
 {
     let mut full = Vec::new(alloc);
-    if let Some(table) = table {
+    if let Some(table) = found.table {
         add_all(&mut full, &[table, b"."])?;
     }
-    full.extend_from_slice(name)?;
+    full.extend_from_slice(found.name)?;
     Ok(full)
 }
 
 // The line with a number, if a name stands on it: a table's, or a key's in the table that the line stands in.
 #[tactic(auto, unfolding(crate::specs::KeyLine::named_line))]
-fn named_line<'a>(
-    alloc: Global,
-    number: usize,
-    table: Option<&[u8]>,
-    line: &'a [u8],
-) -> Result<Option<KeyLine<'a>>, AllocError>
-    ensures { IfOk result (λ found. option_map key_line found ≡ named_line number (option_copied table.entry) line.entry.now) }
+fn named_line<'a>(number: usize, table: Option<&'a [u8]>, line: &'a [u8]) -> Option<KeyLine<'a>>
+    ensures { option_map key_line result ≡ named_line number (option_copied table.entry) line.entry.now }
 {
     if let Some(on) = table_on(line) {
-        return Ok(Some(KeyLine {
+        return Some(KeyLine {
             number,
             line,
             before: on.before,
-            name: joined(alloc, None, on.name)?,
-        }));
+            table: None,
+            name: on.name,
+        });
     }
-    let Some(on) = key_on(line) else {
-        return Ok(None);
-    };
-    Ok(Some(KeyLine {
-        number,
-        line,
-        before: on.before,
-        name: joined(alloc, table, on.name)?,
-    }))
+    match key_on(line) {
+        Some(on) => Some(KeyLine {
+            number,
+            line,
+            before: on.before,
+            table,
+            name: on.name,
+        }),
+        None => None,
+    }
 }
 
 // The table that the lines after a line stand in.
@@ -103,19 +100,21 @@ fn wanted_line<'a>(
     alloc: Global,
     wanted: Wanted<'_>,
     number: usize,
-    table: Option<&[u8]>,
+    table: Option<&'a [u8]>,
     line: &'a [u8],
 ) -> Result<Option<KeyLine<'a>>, AllocError>
     ensures { IfOk result (λ found. option_map key_line found
         ≡ wanted_line (is_wanted wanted.entry) number (option_copied table.entry) line.entry.now) }
 {
-    let Some(found) = named_line(alloc, number, table, line)? else {
+    let Some(found) = named_line(number, table, line) else {
         return Ok(None);
     };
-    if is_wanted(wanted, found.name.as_slice()) {
-        return Ok(Some(found));
+    let name = full_name(alloc, found)?;
+    if is_wanted(wanted, name.as_slice()) {
+        Ok(Some(found))
+    } else {
+        Ok(None)
     }
-    Ok(None)
 }
 
 /// The first line of a text on which a name stands that is looked for.

@@ -3,6 +3,7 @@ ghost use Rattle.rv_isa.specs.Key.{text_of};
 ghost use Rattle.rv_describe.specs.Unknown.{same_table};
 ghost use Rattle.rv_refusal.specs.KeyNames.{key_names, new_table, tables_from};
 
+use crate::names::add_name;
 use rv_isa::{Key, all_keys};
 use std::alloc::{AllocError, Global};
 
@@ -29,7 +30,7 @@ fn add_keys(names: &mut Vec<&[u8]>, keys: &[Key]) -> Result<(), AllocError>
         ≡ map (λ name. name.now) names.old.items ++ map text_of keys.now) }
 {
     for key in keys {
-        names.push(text_of(*key))?;
+        add_name(names, text_of(*key))?;
     }
     Ok(())
 }
@@ -46,10 +47,10 @@ fn add_new_table(
     if same_table(table, last) {
         return Ok(());
     }
-    if let Some(name) = table {
-        names.push(name.as_bytes())?;
+    match table {
+        Some(name) => add_name(names, name.as_bytes()),
+        None => Ok(()),
     }
-    Ok(())
 }
 
 // Adds the tables of keys, but for those of the key before.

@@ -1,4 +1,4 @@
-ghost use Rattle.std.specs.Prelude.{◌≡◌, ◌++◌, OnOk, map};
+ghost use Rattle.std.specs.Prelude.{◌≡◌, ◌++◌, ◌∷◌, [], OnOk, map};
 ghost use Rattle.rv_asm.specs.Mnemonic.{instructions, others, pseudo_instructions};
 ghost use Rattle.rv_refusal.specs.Names.{csrs, mnemonics, registers};
 
@@ -75,6 +75,14 @@ fn others() -> &'static [&'static [u8]]
     ensures { map (λ name. name.now) result.now ≡ map (λ row. row.0) others }
 {
     &OTHERS
+}
+
+/// Adds a name.
+pub(crate) fn add_name<'a>(names: &mut Vec<&'a [u8]>, name: &'a [u8]) -> Result<(), AllocError>
+    ensures { OnOk result (map (λ name. name.now) names.new.items ≡ map (λ name. name.now) names.old.items ++ name.now ∷ []) }
+{
+    names.push(name)?;
+    Ok(())
 }
 
 /// Adds the mnemonics and directives that the assembler knows.

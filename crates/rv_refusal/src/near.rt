@@ -2,6 +2,7 @@ ghost use Rattle.std.specs.Prelude.{◌≡◌, ◌++◌, IfOk, OnOk, map};
 ghost use Rattle.std.specs.List.{filter};
 ghost use Rattle.rv_refusal.specs.Near.{is_near, names_line, nearest, other_names};
 
+use crate::names::add_name;
 use crate::text::{add_all, add_text};
 use std::alloc::{AllocError, Global};
 use strsim::generic_levenshtein;
@@ -33,7 +34,7 @@ fn add_near<'a>(
 {
     for other in known {
         if is_near(alloc, distance, name, other)? {
-            found.push(*other)?;
+            add_name(found, other)?;
         }
     }
     Ok(())

@@ -5,6 +5,7 @@ ghost use Rattle.rv_asm.specs.Read.{tokens_in};
 ghost use Rattle.rv_asm.specs.Token.{tokens_of};
 ghost use Rattle.rv_refusal.specs.Names.{constant_of, symbols_of, symbols_on};
 
+use crate::names::add_name;
 use crate::statement::after_labels;
 use rv_asm::{AsmFault, Token, first_line, tokenize};
 use std::alloc::{AllocError, Global};
@@ -28,7 +29,7 @@ fn add_labels<'a>(symbols: &mut Vec<&'a [u8]>, tokens: &[Token<'a>]) -> Result<(
 {
     let mut rest = tokens;
     while let [Token::Name(label), Token::Colon, others @ ..] = rest {
-        symbols.push(*label)?;
+        add_name(symbols, label)?;
         rest = others;
     }
     Ok(())
@@ -40,10 +41,10 @@ fn add_symbols_in<'a>(symbols: &mut Vec<&'a [u8]>, tokens: &[Token<'a>]) -> Resu
         ≡ map (λ name. name.now) symbols.old.items ++ symbols_on (tokens_in tokens.now)) }
 {
     add_labels(symbols, tokens)?;
-    if let Some(symbol) = constant_of(after_labels(tokens)) {
-        symbols.push(symbol)?;
+    match constant_of(after_labels(tokens)) {
+        Some(symbol) => add_name(symbols, symbol),
+        None => Ok(()),
     }
-    Ok(())
 }
 
 // Adds the symbols that a line defines; a line that has no tokens defines none.

@@ -2,12 +2,12 @@ ghost use Rattle.std.specs.Prelude.{◌≡◌, ◌++◌, IfOk, OnOk, map, option
 ghost use Rattle.rv_asm.specs.Layout.{body_of};
 ghost use Rattle.rv_asm.specs.Read.{tokens_in};
 ghost use Rattle.rv_asm.specs.Token.{tokens_of};
-ghost use Rattle.rv_refusal.specs.Names.{has_csr, is_of_mnemonic, known_names, names_csr, unknown_name};
+ghost use Rattle.rv_refusal.specs.Names.{known_names, names_csr, unknown_name};
 ghost use Rattle.rv_refusal.specs.Culprit.{operand_of_fault};
 ghost use Rattle.rv_refusal.specs.Near.{names_line, nearest, nearest_line};
 ghost use Rattle.rv_refusal.specs.Statement.{first_name};
 
-use crate::culprit::{is_of_shape, operand_of_fault};
+use crate::culprit::operand_of_fault;
 use crate::names::{add_mnemonics, csrs, registers};
 use crate::near::add_nearest;
 use crate::statement::{after_labels, first_name};
@@ -15,27 +15,17 @@ use crate::symbols::add_symbols;
 use rv_asm::{AsmFault, Form, Operation, Token, form_named, tokenize};
 use std::alloc::{AllocError, Global};
 
-// Whether a form has a CSR among its operands.
-fn has_csr(form: Form) -> bool
-    ensures { result ≡ has_csr form }
-{
-    matches!(
-        form,
-        Form::Instruction(Operation::Csr(_) | Operation::CsrImmediate(_), _, _, _)
-    )
-}
-
 // Whether a statement has a CSR among its operands.
 fn names_csr(body: &[Token<'_>]) -> bool
     ensures { result ≡ names_csr (tokens_in body.now) }
 {
-    match first_name(body) {
-        Some(name) => match form_named(name) {
-            Some(form) => has_csr(form),
-            None => false,
-        },
-        None => false,
-    }
+    let Some(name) = first_name(body) else {
+        return false;
+    };
+    matches!(
+        form_named(name),
+        Some(Form::Instruction(Operation::Csr(_) | Operation::CsrImmediate(_), _, _, _))
+    )
 }
 
 // The name of an operand at fault in a statement.
@@ -46,16 +36,11 @@ fn operand_name<'a>(
 ) -> Result<Option<&'a [u8]>, AllocError>
     ensures { IfOk result (λ name. option_copied name ≡ option_and_then first_name (operand_of_fault fault (tokens_in body.now))) }
 {
-    match operand_of_fault(alloc, fault, body)? {
-        Some(operand) => Ok(first_name(operand)),
-        None => Ok(None),
+    match operand_of_fault(alloc, fault, body) {
+        Ok(Some(operand)) => Ok(first_name(operand)),
+        Ok(None) => Ok(None),
+        Err(refused) => Err(refused),
     }
-}
-
-fn is_of_mnemonic(fault: AsmFault) -> bool
-    ensures { result ≡ is_of_mnemonic fault }
-{
-    matches!(fault, AsmFault::UnknownMnemonic)
 }
 
 // The name at fault in a statement.
@@ -67,13 +52,11 @@ fn unknown_name<'a>(
 ) -> Result<Option<&'a [u8]>, AllocError>
     ensures { IfOk result (λ name. option_copied name ≡ unknown_name fault (tokens_in body.now)) }
 {
-    if is_of_mnemonic(fault) {
-        return Ok(first_name(body));
+    match fault {
+        AsmFault::UnknownMnemonic => Ok(first_name(body)),
+        AsmFault::BadOperands if !names_csr(body) => Ok(None),
+        _ => operand_name(alloc, fault, body),
     }
-    if is_of_shape(fault) && !names_csr(body) {
-        return Ok(None);
-    }
-    operand_name(alloc, fault, body)
 }
 
 // The name at fault on a line.
