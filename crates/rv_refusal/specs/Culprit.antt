@@ -1,5 +1,5 @@
 -- From which token on a line is at fault.
-use Rattle.std.specs.Prelude.{ℕ, ◌-◌, List, [], ◌∷◌, Bool, true, false, not, ◌&&◌, if◌then◌else◌, Option, Some, None, codes, drop, option_and_then, option_map, pos, unwrap_or}
+use Rattle.std.specs.Prelude.{ℕ, ◌-◌, ◌==◌, List, [], ◌∷◌, length, Bool, true, false, not, ◌&&◌, if◌then◌else◌, Option, Some, None, codes, drop, option_and_then, option_map, pos, unwrap_or}
 use Rattle.std.specs.{List.before_first, List.find, List.list_all, List.position_or_len, Option.option_map_or, Option.option_or, Str.bytes_eq}
 use Rattle.rv_isa.specs.declared.operations.Width.{Width}
 use Rattle.rv_asm.specs.Layout.{body_of}
@@ -125,19 +125,23 @@ abbrev pub only : List (List Token) → Option (List Token)
 only (operand ∷ []) = Some operand
 only _ = None
 
+-- the places of so many operands of a form that has the same ones in each statement
+abbrev pub fixed_places : Form → ℕ → List Place
+fixed_places form.Jal count = if count == 1 then place.Target ∷ [] else place.Rd ∷ place.Target ∷ []
+fixed_places form.Jalr count =
+    if count == 1 then place.Rs1 ∷ []
+    else if count == 2 then place.Rd ∷ place.Base ∷ []
+    else place.Rd ∷ place.Rs1 ∷ place.Value ∷ []
+fixed_places form.Global count = place.Target ∷ []
+fixed_places form.Constant count = place.Target ∷ place.Value ∷ []
+fixed_places _ count = []
+
 -- the operand of a form for which a fault is reported, from its first token on
 unfoldable pub culprit_of : AsmFault → Form → List (List Token) → Option (List Token)
 culprit_of fault (form.Instruction operation first second third) operands = culprit_among fault (first ∷ second ∷ third ∷ []) None operands
-culprit_of fault form.Jal (target ∷ []) = culprit_among fault (place.Target ∷ []) None (target ∷ [])
-culprit_of fault form.Jal operands = culprit_among fault (place.Rd ∷ place.Target ∷ []) None operands
-culprit_of fault form.Jalr (register ∷ []) = culprit_among fault (place.Rs1 ∷ []) None (register ∷ [])
-culprit_of fault form.Jalr (register ∷ base ∷ []) = culprit_among fault (place.Rd ∷ place.Base ∷ []) None (register ∷ base ∷ [])
-culprit_of fault form.Jalr operands = culprit_among fault (place.Rd ∷ place.Rs1 ∷ place.Value ∷ []) None operands
-culprit_of fault form.Global operands = culprit_among fault (place.Target ∷ []) None operands
-culprit_of fault form.Constant operands = culprit_among fault (place.Target ∷ place.Value ∷ []) None operands
 culprit_of fault (form.Values width) operands = option_or (find (λ operand. is_wrong_value fault width (operand_at operand)) operands) (only operands)
 culprit_of fault (form.Bytes directive operand) operands = culprit_among fault (operand ∷ []) None operands
-culprit_of fault _ operands = culprit_among fault [] None operands
+culprit_of fault form operands = culprit_among fault (fixed_places form (length operands)) None operands
 
 -- these faults are reported for one of the operands
 abbrev pub is_of_operands : AsmFault → Bool

@@ -13,13 +13,10 @@ use Rattle.rv_refusal.specs.KeyRange.{values_line}
 use Rattle.rv_refusal.specs.Near.{names_line, nearest}
 use Rattle.rv_refusal.specs.Place.{line_place, shown_line}
 
--- where a line of a description stands, with which a job begins
-unfoldable pub described_place : ℕ → List ℕ
-described_place number = line_place (codes "description") 0 number ++ codes "\n"
-
--- a line at fault, with a caret below its name
+-- a line at fault of a description, with which a job begins, and a caret below its name
 unfoldable pub key_line_text : KeyLine → List ℕ
-key_line_text found = described_place found.number ++ (shown_line found.line ++ caret_below found.before)
+key_line_text found =
+    line_place (codes "description") 0 found.number ++ (codes "\n" ++ (shown_line found.line ++ caret_below found.before))
 
 -- the key at a place, from 1
 abbrev pub key_at : ℕ → Option Key
@@ -39,13 +36,9 @@ value_lines part key = option_map_or key_line_text (line_of_key key part) [] ++ 
 unfoldable pub known_expected : List ℕ
 known_expected = codes "expected: a key or a table of a description\n"
 
--- what was expected in place of an unknown name, and the known names that are nearest to it
-unfoldable pub known_lines : List (List ℕ) → List ℕ → List ℕ
-known_lines known name = known_expected ++ names_line (nearest name known)
-
--- a line with an unknown name, and what was expected there
+-- a line with an unknown name, what was expected there, and the known names that are nearest to it
 unfoldable pub unknown_line : List (List ℕ) → KeyLine → List ℕ
-unknown_line known found = key_line_text found ++ known_lines known found.name
+unknown_line known found = key_line_text found ++ (known_expected ++ names_line (nearest found.name known))
 
 -- the first line of a description with a name that is none of these
 unfoldable pub unknown_among : List (List ℕ) → List ℕ → List ℕ

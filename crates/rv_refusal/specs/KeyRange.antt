@@ -63,18 +63,7 @@ key_default Recovery = quoted (recovery_word standard_values.recovery)
 key_default (Pipelined kind) = truth_word (at_kind kind standard_values.kinds).pipelined
 key_default PredictorKind = quoted (predictor_word standard_values.predictor.kind)
 
--- a key, before the values that it takes
-unfoldable pub key_words : Key → List ℕ
-key_words key = codes "expected: " ++ (text_of key ++ codes " is ")
-
--- what stands before the value of a key that is missing
-unfoldable pub default_mark : List ℕ
-default_mark = codes ", by default "
-
--- the value of a key that is missing, after those that it takes
-unfoldable pub default_words : Key → List ℕ
-default_words key = default_mark ++ (key_default key ++ codes "\n")
-
 -- the line on the values that a key takes
 unfoldable pub values_line : Key → List ℕ
-values_line key = key_words key ++ (key_range key ++ default_words key)
+values_line key =
+    codes "expected: " ++ (text_of key ++ (codes " is " ++ (key_range key ++ (codes ", by default " ++ (key_default key ++ codes "\n")))))

@@ -1,7 +1,7 @@
 ghost use Rattle.std.specs.Prelude.{◌≡◌, ◌+◌, ◌<◌, ◌≤◌, ◌++◌, None, OnOk, IfOk, IfSome, drop, length, replicate};
 ghost use Rattle.rv_asm.specs.Read.{tokens_in};
 ghost use Rattle.rv_refusal.specs.Place.{shown_line};
-ghost use Rattle.rv_refusal.specs.Caret.{caret_below, caret_line, culprit_place, distance, fault_place, token_place};
+ghost use Rattle.rv_refusal.specs.Caret.{caret_below, caret_line, culprit_place, distance, fault_place, is_of_token, token_place};
 
 use crate::culprit::culprit_on;
 use crate::place::add_line;
@@ -47,6 +47,12 @@ fn token_place(line: &[u8], before: usize) -> usize
     line.len()
 }
 
+fn is_of_token(fault: AsmFault) -> bool
+    ensures { result ≡ is_of_token fault }
+{
+    matches!(fault, AsmFault::BadToken)
+}
+
 // How many bytes of a line with these tokens stand before the one at fault.
 fn culprit_place(
     alloc: Global,
@@ -70,7 +76,7 @@ fn culprit_place(
 fn fault_place(alloc: Global, fault: AsmFault, line: &[u8]) -> Result<Option<usize>, AllocError>
     ensures { IfOk result (λ place. place ≡ fault_place fault line.now) }
 {
-    if let AsmFault::BadToken = fault {
+    if is_of_token(fault) {
         return Ok(Some(token_place(line, line.len())));
     }
     match tokenize(alloc, line) {

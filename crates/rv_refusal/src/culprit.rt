@@ -5,7 +5,7 @@ ghost use Rattle.rv_asm.specs.Layout.{body_of};
 ghost use Rattle.rv_asm.specs.Meaning.{fits_width};
 ghost use Rattle.rv_asm.specs.Read.{operand_of, tokens_in};
 ghost use Rattle.rv_asm.specs.Statement.{is_implied};
-ghost use Rattle.rv_refusal.specs.Culprit.{culprit_among, culprit_of, culprit_on, definition_on, defines, has_unknown_register, holds_register, holds_value, is_culprit, is_misfit, is_of_operands, is_past_csrs, is_too_wide, is_wrong_value, marked, may_be_out_of_range, only, operand_at, operand_of_fault, operands_on, unless_empty};
+ghost use Rattle.rv_refusal.specs.Culprit.{culprit_among, culprit_of, culprit_on, definition_on, defines, fixed_places, has_unknown_register, holds_register, holds_value, is_culprit, is_misfit, is_of_operands, is_past_csrs, is_too_wide, is_wrong_value, marked, may_be_out_of_range, only, operand_at, operand_of_fault, operands_on, unless_empty};
 
 use crate::operand_tokens::{add_operands, from_register, operand_at};
 use crate::statement::after_labels;
@@ -183,29 +183,23 @@ fn only<'t, 'a>(operands: &[&'t [Token<'a>]]) -> Option<&'t [Token<'a>]>
     }
 }
 
-// The operand of a jump with a target for which a fault is reported.
-#[tactic(auto, unfolding(crate::specs::Culprit::culprit_of))]
-fn culprit_of_jal<'t, 'a>(fault: AsmFault, operands: &[&'t [Token<'a>]]) -> Option<&'t [Token<'a>]>
-    ensures { option_map (λ from. tokens_in from.now) result ≡ culprit_of fault Form.Jal (map (λ from. tokens_in from.now) operands.now) }
+// The places of so many operands of a form that has the same ones in each statement.
+fn fixed_places(form: Form, count: usize) -> &'static [Place]
+    ensures { result.now ≡ fixed_places form count }
 {
-    match operands {
-        [_] => culprit_among(fault, &[Place::Target], None, operands),
-        _ => culprit_among(fault, &[Place::Rd, Place::Target], None, operands),
-    }
-}
-
-// The operand of a jump to a register for which a fault is reported.
-#[tactic(auto, unfolding(crate::specs::Culprit::culprit_of))]
-fn culprit_of_jalr<'t, 'a>(fault: AsmFault, operands: &[&'t [Token<'a>]]) -> Option<&'t [Token<'a>]>
-    ensures { option_map (λ from. tokens_in from.now) result ≡ culprit_of fault Form.Jalr (map (λ from. tokens_in from.now) operands.now) }
-{
-    match operands {
-        [_] => culprit_among(fault, &[Place::Rs1], None, operands),
-        [_, _] => culprit_among(fault, &[Place::Rd, Place::Base], None, operands),
-        _ => {
-            let places = [Place::Rd, Place::Rs1, Place::Value];
-            culprit_among(fault, &places, None, operands)
-        }
+    match form {
+        Form::Jal => match count {
+            1 => &[Place::Target],
+            _ => &[Place::Rd, Place::Target],
+        },
+        Form::Jalr => match count {
+            1 => &[Place::Rs1],
+            2 => &[Place::Rd, Place::Base],
+            _ => &[Place::Rd, Place::Rs1, Place::Value],
+        },
+        Form::Global => &[Place::Target],
+        Form::Constant => &[Place::Target, Place::Value],
+        _ => &[],
     }
 }
 
@@ -222,16 +216,16 @@ fn culprit_of<'t, 'a>(
         Form::Instruction(_, first, second, third) => {
             culprit_among(fault, &[first, second, third], None, operands)
         }
-        Form::Jal => culprit_of_jal(fault, operands),
-        Form::Jalr => culprit_of_jalr(fault, operands),
-        Form::Global => culprit_among(fault, &[Place::Target], None, operands),
-        Form::Constant => culprit_among(fault, &[Place::Target, Place::Value], None, operands),
         Form::Values(width) => match wrong_value(fault, width, operands) {
             Some(operand) => Some(operand),
             None => only(operands),
         },
         Form::Bytes(_, place) => culprit_among(fault, &[place], None, operands),
-        Form::Nothing | Form::Choice(_) => culprit_among(fault, &[], None, operands),
+        Form::Nothing | Form::Jal | Form::Jalr | Form::Choice(_) | Form::Global | Form::Constant =>
+            {
+                let places = fixed_places(form, operands.len());
+                culprit_among(fault, places, None, operands)
+            }
     }
 }
 

@@ -1,7 +1,7 @@
 ghost use Rattle.std.specs.Prelude.{◌≡◌, ◌++◌, IfOk, OnOk, [], map, option_map, unwrap_or};
 ghost use Rattle.std.specs.Option.{option_map_or};
 ghost use Rattle.rv_isa.specs.Key.{key_place};
-ghost use Rattle.rv_refusal.specs.Described.{described_place, description_lines, key_at, key_line_text, known_expected, known_lines, line_of_key, unknown_among, unknown_line, unknown_lines, value_lines};
+ghost use Rattle.rv_refusal.specs.Described.{description_lines, key_at, key_line_text, known_expected, line_of_key, unknown_among, unknown_line, unknown_lines, value_lines};
 ghost use Rattle.rv_refusal.specs.KeyLine.{key_line};
 
 use crate::caret::add_marked_line;
@@ -15,21 +15,13 @@ use rv_describe::DescriptionError;
 use rv_isa::{Key, all_keys};
 use std::alloc::{AllocError, Global};
 
-// Appends where a line of a description stands, with which a job begins.
-#[tactic(auto, unfolding(crate::specs::Described::described_place))]
-fn add_described_place(out: &mut Vec<u8>, number: usize) -> Result<(), AllocError>
-    ensures { OnOk result (out.new.items ≡ out.old.items ++ described_place number) }
-{
-    add_line_place(out, b"description", 0, number)?;
-    add_text(out, b"\n")
-}
-
-// Appends a line at fault, with a caret below its name.
+// Appends a line at fault of a description, with which a job begins, and a caret below its name.
 #[tactic(auto, unfolding(crate::specs::Described::key_line_text))]
 fn add_key_line(out: &mut Vec<u8>, found: KeyLine<'_>) -> Result<(), AllocError>
     ensures { OnOk result (out.new.items ≡ out.old.items ++ key_line_text (key_line found.entry)) }
 {
-    add_described_place(out, found.number)?;
+    add_line_place(out, b"description", 0, found.number)?;
+    add_text(out, b"\n")?;
     add_marked_line(out, found.line, found.before)
 }
 
@@ -103,22 +95,7 @@ fn known_expected() -> &'static [u8]
     b"expected: a key or a table of a description\n"
 }
 
-// Appends what was expected in place of an unknown name, and the known names that are nearest to it.
-#[tactic(auto, unfolding(crate::specs::Described::known_lines))]
-fn add_known_lines(
-    alloc: Global,
-    out: &mut Vec<u8>,
-    known: &[&[u8]],
-    name: &[u8],
-) -> Result<(), AllocError>
-    ensures { OnOk result (out.new.items
-        ≡ out.old.items ++ known_lines (map (λ name. name.now) known.now) name.now) }
-{
-    add_text(out, known_expected())?;
-    add_nearest(alloc, out, name, known)
-}
-
-// Appends a line with an unknown name, and what was expected there.
+// Appends a line with an unknown name, what was expected there, and the known names that are nearest to it.
 #[tactic(auto, unfolding(crate::specs::Described::unknown_line))]
 fn add_unknown_line(
     alloc: Global,
@@ -130,8 +107,9 @@ fn add_unknown_line(
         ≡ out.old.items ++ unknown_line (map (λ name. name.now) known.now) (key_line found.entry)) }
 {
     add_key_line(out, found)?;
+    add_text(out, known_expected())?;
     let name = full_name(alloc, found)?;
-    add_known_lines(alloc, out, known, name.as_slice())
+    add_nearest(alloc, out, name.as_slice(), known)
 }
 
 // Appends the first line of a description with a name that is none of these.

@@ -1,4 +1,4 @@
-ghost use Rattle.std.specs.Prelude.{◌≡◌, ◌++◌, ◌+◌, ◌-◌, ◌≤◌, ◌==◌, ◌^◌, None, IfOk, IfSome, OnOk, drop, length, take};
+ghost use Rattle.std.specs.Prelude.{◌≡◌, ◌∷◌, [], ◌++◌, ◌+◌, ◌-◌, ◌≤◌, ◌==◌, ◌^◌, None, IfOk, IfSome, OnOk, drop, length, take};
 ghost use Rattle.std.specs.List.{flat_map, slice_split};
 ghost use Rattle.std.specs.Result.{result_err};
 ghost use Rattle.rv_asm.specs.Answer.{RefusedBy};
@@ -50,17 +50,6 @@ fn try_line(alloc: Global, line: &[u8]) -> Result<(), AsmFault>
     try_statement(alloc, after_labels(tokens.as_slice()))
 }
 
-// The fault that a line has whatever stands on the others.
-fn fault_of_line(alloc: Global, line: &[u8]) -> Result<Option<AsmFault>, AllocError>
-    ensures { IfOk result (λ fault. fault ≡ fault_of_line (line_in line.now)) }
-{
-    match try_line(alloc, line) {
-        Ok(()) => Ok(None),
-        Err(AsmFault::Memory) => Err(AllocError),
-        Err(fault) => Ok(Some(fault)),
-    }
-}
-
 // The text after so many lines, if lines are left.
 fn after_lines(count: usize, text: &[u8]) -> Option<&[u8]>
     ensures lines { lines_left result ≡ drop count (slice_split (λ byte. byte == 10) text.entry.now) }
@@ -80,24 +69,21 @@ fn after_lines(count: usize, text: &[u8]) -> Option<&[u8]>
 }
 
 impl Faults {
-    // Counts the fault that the line with a number has, if it has one.
-    fn add(&mut self, number: usize, fault: Option<AsmFault>) -> Result<(), AllocError>
+    // Counts a line that has a fault.
+    fn add(&mut self, line: Faulty) -> Result<(), AllocError>
         requires { self.old.count ≤ 2 ^ 63 }
         ensures shown { OnOk result (self.new.shown.items
-            ≡ self.old.shown.items ++ take (20 - self.old.count) (faulty_by number fault)) }
-        ensures count { OnOk result (self.new.count ≡ self.old.count + length (faulty_by number fault)) }
+            ≡ self.old.shown.items ++ take (20 - self.old.count) (line ∷ [])) }
+        ensures count { OnOk result (self.new.count ≡ self.old.count + 1) }
     {
-        let Some(fault) = fault else {
-            return Ok(());
-        };
         if self.count < 20 {
-            self.shown.push(Faulty { number, fault })?;
+            self.shown.push(line)?;
         }
         self.count += 1;
         Ok(())
     }
 
-    // Counts the fault of its own that a line has, if it has one.
+    // Counts the line with a number, if it has a fault whatever stands on the others.
     fn add_line(&mut self, alloc: Global, number: usize, line: &[u8]) -> Result<(), AllocError>
         requires { self.old.count ≤ 2 ^ 63 }
         ensures shown { OnOk result (self.new.shown.items
@@ -105,8 +91,11 @@ impl Faults {
         ensures count { OnOk result (self.new.count
             ≡ self.old.count + length (faulty_by number (fault_of_line (line_in line.now)))) }
     {
-        let fault = fault_of_line(alloc, line)?;
-        self.add(number, fault)
+        match try_line(alloc, line) {
+            Ok(()) => Ok(()),
+            Err(AsmFault::Memory) => Err(AllocError),
+            Err(fault) => self.add(Faulty { number, fault }),
+        }
     }
 }
 

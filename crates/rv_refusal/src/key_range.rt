@@ -1,6 +1,6 @@
 ghost use Rattle.std.specs.Prelude.{◌≡◌, ◌++◌, OnOk, Some};
 ghost use Rattle.rv_isa.specs.Choice.{predictor_named, recovery_named};
-ghost use Rattle.rv_refusal.specs.KeyRange.{bounds_text, default_mark, default_words, key_default, key_range, key_words, predictor_word, quoted, range_text, recovery_word, truth_word, values_line};
+ghost use Rattle.rv_refusal.specs.KeyRange.{bounds_text, key_default, key_range, predictor_word, quoted, range_text, recovery_word, truth_word, values_line};
 
 use crate::key_names::text_of;
 use crate::text::{add_all, add_number, add_text};
@@ -99,37 +99,14 @@ fn add_key_default(out: &mut Vec<u8>, key: Key) -> Result<(), AllocError>
     }
 }
 
-// Appends a key, before the values that it takes.
-#[tactic(auto, unfolding(crate::specs::KeyRange::key_words))]
-fn add_key_words(out: &mut Vec<u8>, key: Key) -> Result<(), AllocError>
-    ensures { OnOk result (out.new.items ≡ out.old.items ++ key_words key) }
-{
-    add_all(out, &[b"expected: ", text_of(key), b" is "])
-}
-
-#[tactic(auto, unfolding(crate::specs::KeyRange::default_mark))]
-fn default_mark() -> &'static [u8]
-    ensures { result.now ≡ default_mark }
-{
-    b", by default "
-}
-
-// Appends the value of a key that is missing, after those that it takes.
-#[tactic(auto, unfolding(crate::specs::KeyRange::default_words))]
-fn add_default_words(out: &mut Vec<u8>, key: Key) -> Result<(), AllocError>
-    ensures { OnOk result (out.new.items ≡ out.old.items ++ default_words key) }
-{
-    add_text(out, default_mark())?;
-    add_key_default(out, key)?;
-    add_text(out, b"\n")
-}
-
 /// Appends the line on the values that a key takes, and the one that it has where it is missing.
 #[tactic(auto, unfolding(crate::specs::KeyRange::values_line))]
 pub(crate) fn add_values_line(out: &mut Vec<u8>, key: Key) -> Result<(), AllocError>
     ensures { OnOk result (out.new.items ≡ out.old.items ++ values_line key) }
 {
-    add_key_words(out, key)?;
+    add_all(out, &[b"expected: ", text_of(key), b" is "])?;
     add_key_range(out, key)?;
-    add_default_words(out, key)
+    add_text(out, b", by default ")?;
+    add_key_default(out, key)?;
+    add_text(out, b"\n")
 }

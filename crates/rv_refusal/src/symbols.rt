@@ -6,7 +6,7 @@ ghost use Rattle.rv_asm.specs.Token.{tokens_of};
 ghost use Rattle.rv_refusal.specs.Names.{constant_of, symbols_of, symbols_on};
 
 use crate::names::add_name;
-use crate::statement::after_labels;
+use crate::statement::{after_labels, first_name};
 use rv_asm::{AsmFault, Token, first_line, tokenize};
 use std::alloc::{AllocError, Global};
 
@@ -15,8 +15,8 @@ fn constant_of<'a>(body: &[Token<'a>]) -> Option<&'a [u8]>
     ensures { option_to_list (option_copied result) ≡ constant_of (tokens_in body.now) }
 {
     match body {
-        [Token::Name(directive), Token::Name(symbol), ..] if *directive == b".equ".as_slice() => {
-            Some(symbol)
+        [Token::Name(directive), others @ ..] if *directive == b".equ".as_slice() => {
+            first_name(others)
         }
         _ => None,
     }

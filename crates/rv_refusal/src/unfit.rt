@@ -1,7 +1,5 @@
-ghost use Rattle.std.specs.Prelude.{◌≡◌, ◌++◌, IfOk, OnOk};
-ghost use Rattle.std.specs.Result.{result_ok};
-ghost use Rattle.rv_describe.specs.Description.{description_of};
-ghost use Rattle.rv_refusal.specs.Unfit.{image_size, sizes_lines, unfit_lines, unfit_on};
+ghost use Rattle.std.specs.Prelude.{◌≡◌, ◌++◌, OnOk};
+ghost use Rattle.rv_refusal.specs.Unfit.{sizes_lines, unfit_lines, unfit_on};
 
 use crate::text::add_all;
 use itoa::Buffer;
@@ -10,34 +8,6 @@ use rv_describe::{DescriptionError, read_description};
 use rv_isa::Description;
 use rv_job::cut_into_parts;
 use std::alloc::{AllocError, Global};
-
-// The machine that a part of a job describes, if it has no fault.
-fn described(alloc: Global, part: &[u8]) -> Result<Option<Description>, AllocError>
-    ensures { IfOk result (λ machine. machine ≡ result_ok (description_of part.now)) }
-{
-    match read_description(alloc, part) {
-        Ok(machine) => Ok(Some(machine)),
-        Err(DescriptionError::Memory) => Err(AllocError),
-        Err(_) => Ok(None),
-    }
-}
-
-// How many bytes the image of an assembly has, where RAM begins at a base, if the assembly has no fault.
-#[tactic(auto, unfolding(crate::specs::Unfit::image_size))]
-fn image_size(alloc: Global, base: u32, assembly: &[u8]) -> Result<Option<usize>, AllocError>
-    ensures { IfOk result (λ size. size ≡ image_size base assembly.now) }
-{
-    match assemble(alloc, assembly, base) {
-        Ok(image) => Ok(Some(image.bytes.len())),
-        Err(
-            AsmError {
-                fault: AsmFault::Memory,
-                ..
-            },
-        ) => Err(AllocError),
-        Err(_) => Ok(None),
-    }
-}
 
 // Appends the lines on an image of so many bytes, where RAM has so many.
 #[tactic(auto, unfolding(crate::specs::Unfit::sizes_lines))]
@@ -60,7 +30,8 @@ fn add_sizes(out: &mut Vec<u8>, ram: u32, image: usize) -> Result<(), AllocError
     )
 }
 
-// Appends the lines on the image of an assembly on a machine.
+// Appends the lines on the image of an assembly on a machine, where the assembly has no fault.
+#[tactic(auto, unfolding(crate::specs::Unfit::image_size))]
 fn add_unfit_on(
     alloc: Global,
     out: &mut Vec<u8>,
@@ -70,9 +41,15 @@ fn add_unfit_on(
     ensures { OnOk result (out.new.items ≡ out.old.items ++ unfit_on assembly.now machine.now) }
 {
     let values = machine.values();
-    match image_size(alloc, values.ram_base, assembly)? {
-        Some(size) => add_sizes(out, values.ram_size, size),
-        None => Ok(()),
+    match assemble(alloc, assembly, values.ram_base) {
+        Ok(image) => add_sizes(out, values.ram_size, image.bytes.len()),
+        Err(
+            AsmError {
+                fault: AsmFault::Memory,
+                ..
+            },
+        ) => Err(AllocError),
+        Err(_) => Ok(()),
     }
 }
 
@@ -82,8 +59,9 @@ pub(crate) fn add_unfit(alloc: Global, out: &mut Vec<u8>, text: &[u8]) -> Result
     ensures { OnOk result (out.new.items ≡ out.old.items ++ unfit_lines text.now) }
 {
     let parts = cut_into_parts(text);
-    match described(alloc, parts.description)? {
-        Some(machine) => add_unfit_on(alloc, out, parts.assembly, &machine),
-        None => Ok(()),
+    match read_description(alloc, parts.description) {
+        Ok(machine) => add_unfit_on(alloc, out, parts.assembly, &machine),
+        Err(DescriptionError::Memory) => Err(AllocError),
+        Err(_) => Ok(()),
     }
 }

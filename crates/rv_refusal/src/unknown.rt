@@ -3,7 +3,6 @@ ghost use Rattle.rv_asm.specs.Layout.{body_of};
 ghost use Rattle.rv_asm.specs.Read.{tokens_in};
 ghost use Rattle.rv_asm.specs.Token.{tokens_of};
 ghost use Rattle.rv_refusal.specs.Names.{known_names, names_csr, unknown_name};
-ghost use Rattle.rv_refusal.specs.Culprit.{operand_of_fault};
 ghost use Rattle.rv_refusal.specs.Near.{names_line, nearest, nearest_line};
 ghost use Rattle.rv_refusal.specs.Statement.{first_name};
 
@@ -28,21 +27,6 @@ fn names_csr(body: &[Token<'_>]) -> bool
     )
 }
 
-// The name of an operand at fault in a statement.
-fn operand_name<'a>(
-    alloc: Global,
-    fault: AsmFault,
-    body: &[Token<'a>],
-) -> Result<Option<&'a [u8]>, AllocError>
-    ensures { IfOk result (λ name. option_copied name ≡ option_and_then first_name (operand_of_fault fault (tokens_in body.now))) }
-{
-    match operand_of_fault(alloc, fault, body) {
-        Ok(Some(operand)) => Ok(first_name(operand)),
-        Ok(None) => Ok(None),
-        Err(refused) => Err(refused),
-    }
-}
-
 // The name at fault in a statement.
 #[tactic(auto, unfolding(crate::specs::Names::unknown_name))]
 fn unknown_name<'a>(
@@ -55,7 +39,11 @@ fn unknown_name<'a>(
     match fault {
         AsmFault::UnknownMnemonic => Ok(first_name(body)),
         AsmFault::BadOperands if !names_csr(body) => Ok(None),
-        _ => operand_name(alloc, fault, body),
+        _ => match operand_of_fault(alloc, fault, body) {
+            Ok(Some(operand)) => Ok(first_name(operand)),
+            Ok(None) => Ok(None),
+            Err(refused) => Err(refused),
+        },
     }
 }
 
