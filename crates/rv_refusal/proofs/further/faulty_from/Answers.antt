@@ -20,3 +20,15 @@ loop-rest-preserved c =
       shown = rw (c.in_ok-add_line.ensures.shown, c.in_ok-add_line.ensures.count) (shown_next number count line (lines_left c.loop-rest.rest) behind lines _ _ c.loop-rest.invariant.shown);
       counted = rw c.in_ok-add_line.ensures.count (counted_next number count line (lines_left c.loop-rest.rest) behind lines _ c.loop-rest.invariant.counted);
     }
+
+pub loop-rest-init : goal.loop-rest-init
+loop-rest-init c = grind (arith, common_steps)
+
+pub loop-rest-smaller : goal.loop-rest-smaller
+loop-rest-smaller c = grind (arith, common_steps)
+
+pub returns-clause-shown : goal.returns-clause-shown
+returns-clause-shown c = grind (arith, common_steps)
+
+pub returns-clause-count : goal.returns-clause-count
+returns-clause-count c = grind (arith, common_steps)

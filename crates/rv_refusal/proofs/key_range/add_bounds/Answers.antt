@@ -14,3 +14,11 @@ returns-in-Pages c = grind (arith, common_steps)
 pub returns-in-Powers : goal.returns-in-Powers
 unfolding bounds_text
 returns-in-Powers c = grind (arith, common_steps)
+
+pub returns-in-Words : goal.returns-in-Words
+unfolding bounds_text
+returns-in-Words c = grind (arith, common_steps)
+
+pub returns-in-Front : goal.returns-in-Front
+unfolding bounds_text
+returns-in-Front c = grind (arith, common_steps)

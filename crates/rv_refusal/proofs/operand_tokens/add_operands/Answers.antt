@@ -10,3 +10,6 @@ loop-rest-init c = grind (arith, common_steps)
 
 pub returns : goal.returns
 returns c = grind (arith, common_steps)
+
+pub bounds-rest-0 : goal.bounds-rest-0
+bounds-rest-0 c = omega arith
