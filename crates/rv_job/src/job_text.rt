@@ -12,7 +12,7 @@ ghost use Rattle.rv_job.specs.TextImage.{IsImageOf};
 use crate::errors::SimError;
 use crate::job::{Job, MOST_BYTES};
 use crate::parts::{Parts, cut_into_parts};
-use rv_asm::{AsmFault, assemble};
+use rv_asm::{AsmError, AsmFault, assemble};
 use rv_describe::{ArrivalsError, DescriptionError, read_arrivals, read_description};
 use rv_isa::{Arrivals, Description, Image};
 use std::alloc::Global;
@@ -62,7 +62,12 @@ pub(crate) fn read_image(alloc: Global, base: u32, part: &[u8]) -> Result<Image,
 {
     match assemble(alloc, part, base) {
         Ok(image) => Ok(image),
-        Err(error) if error.fault == AsmFault::Memory => Err(SimError::Memory),
+        Err(
+            AsmError {
+                fault: AsmFault::Memory,
+                ..
+            },
+        ) => Err(SimError::Memory),
         Err(error) => Err(SimError::Assembly(error)),
     }
 }

@@ -8,7 +8,7 @@ ghost use Rattle.rv_job.specs.TextImage.{IsImageOf};
 use crate::errors::SimError;
 use crate::job::Job;
 use crate::job_text::{job_of, read_unassembled};
-use rv_asm::{AsmFault, ListedImage, assemble_listed};
+use rv_asm::{AsmError, AsmFault, ListedImage, assemble_listed};
 use rv_source::Listing;
 use std::alloc::Global;
 
@@ -30,7 +30,12 @@ fn read_listed_image(alloc: Global, base: u32, part: &[u8]) -> Result<ListedImag
 {
     match assemble_listed(alloc, part, base) {
         Ok(listed) => Ok(listed),
-        Err(error) if error.fault == AsmFault::Memory => Err(SimError::Memory),
+        Err(
+            AsmError {
+                fault: AsmFault::Memory,
+                ..
+            },
+        ) => Err(SimError::Memory),
         Err(error) => Err(SimError::Assembly(error)),
     }
 }

@@ -1,4 +1,5 @@
 use Rattle.std.proofs.Common.{◌+◌, ◌++◌, ◌∙◌, take, sym, ap, append-nil, length-take, arith}
+use Rattle.std.proofs.lemmas.Grind.{common_steps}
 use Rattle.rv_job.specs.Input.{most_bytes}
 use Rattle.rv_job.proofs.Reading.{Consumes-nothing, Consumes-both, Consumes-same, taken_to_end, taken_most}
 use Rattle.rv_job.proofs.input.read_input.Goals as goal
@@ -20,3 +21,11 @@ returns-then-count-eq0 g c =
 pub returns : goal.returns
 returns g c =
     record { bytes = taken_most (most_bytes + 1) _ _ _ c.loop-chunk.invariant.consumed (omega (arith, c.loop-chunk.input.ok.0)) }
+
+pub loop-chunk-preserved : goal.loop-chunk-preserved
+loop-chunk-preserved g c = record {
+  in_range = grind (arith, common_steps);
+  consumed =
+      Consumes-same _ _ _ _ (sym c.in-Ok-extend_from_slice.ensures.items)
+      (Consumes-both _ _ _ _ _ c.loop-chunk.invariant.consumed c.in-Ok.ensures.bytes.0);
+}

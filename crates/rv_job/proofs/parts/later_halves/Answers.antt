@@ -1,6 +1,6 @@
-use Rattle.std.proofs.Common.{refl, sym, ap, ◌∙◌, option_copied}
-use Rattle.std.proofs.lemmas.Bool.{ne_eqb}
-use Rattle.rv_job.specs.Parts.{after_separator}
+use Rattle.std.proofs.Common.{arith, refl, sym, ap, ◌∙◌, option_copied}
+use Rattle.std.proofs.lemmas.{Bool.ne_eqb, Grind.common_steps}
+use Rattle.rv_job.specs.Parts.{after_separator, later_halves}
 use Rattle.rv_job.proofs.Places.{next_place, no_separator_at_front}
 use Rattle.rv_job.proofs.parts.later_halves.Goals as goal
 use Rattle.rv_job.proofs.parts.later_halves.Goals.{then-text-place-eq10+in_default, else-text-place-eq10}
@@ -14,3 +14,11 @@ loop-place-preserved c =
           next (no_separator_at_front _ _ none)
       | else-text-place-eq10 w ↦ next (rw (ne_eqb _ 10 w.if-text-place-eq10.false) refl)
     ]
+
+pub returns-in-Some : goal.returns-in-Some
+unfolding later_halves
+returns-in-Some c = grind (arith, common_steps)
+
+pub returns : goal.returns
+unfolding later_halves
+returns c = grind (arith, common_steps)
