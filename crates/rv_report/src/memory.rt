@@ -1,14 +1,25 @@
 ghost use Rattle.std.specs.Prelude.{◌≡◌};
 ghost use Rattle.rv_hardware.specs.Seen.{layout_of, seen};
-ghost use Rattle.rv_report.specs.Memory.{memory_line, word_seen, seen_memory_lines};
+ghost use Rattle.rv_report.specs.Memory.{memory_line, memory_text, word_of, word_seen, seen_memory_lines};
 ghost use Rattle.rv_text.specs.Written.{IsWritten};
 
 use rv_core::Pipeline;
 use rv_text::{ReportError, hexadecimal, put_all};
 use std::io::Write;
 
+// The text of a word of memory, or of `None` outside RAM.
+#[tactic(auto, unfolding(crate::specs::Memory::memory_text))]
+fn memory_text(word: Option<u32>) -> [u8; 8]
+    ensures { result ≡ memory_text word }
+{
+    match word {
+        Some(word) => hexadecimal(word),
+        None => *b"--------",
+    }
+}
+
 /// Writes the line of a word of memory, or of `None` outside RAM.
-#[tactic(auto, unfolding(crate::specs::Memory::memory_line, crate::specs::Memory::memory_text, rv_text::specs::Line::line_of))]
+#[tactic(auto, unfolding(crate::specs::Memory::memory_line, rv_text::specs::Line::line_of))]
 pub(crate) fn write_word<W: Write>(
     writer: &mut W,
     address: u32,
@@ -17,15 +28,27 @@ pub(crate) fn write_word<W: Write>(
     ensures { IsWritten result (W.contents writer.old) (W.contents writer.new) (memory_line address word) }
 {
     let place = hexadecimal(address);
-    match word {
-        Some(word) => {
-            let text = hexadecimal(word);
-            put_all(
-                writer,
-                &[b"m ", place.as_slice(), b" ", text.as_slice(), b"\n"],
-            )
+    let text = memory_text(word);
+    put_all(
+        writer,
+        &[b"m ", place.as_slice(), b" ", text.as_slice(), b"\n"],
+    )
+}
+
+/// The word of four bytes, the lowest first, if there is each of them.
+pub(crate) fn word_of(
+    first: Option<u8>,
+    second: Option<u8>,
+    third: Option<u8>,
+    fourth: Option<u8>,
+) -> Option<u32>
+    ensures { result ≡ word_of first second third fourth }
+{
+    match (first, second, third, fourth) {
+        (Some(first), Some(second), Some(third), Some(fourth)) => {
+            Some(u32::from_le_bytes([first, second, third, fourth]))
         }
-        None => put_all(writer, &[b"m ", place.as_slice(), b" ", b"--------", b"\n"]),
+        _ => None,
     }
 }
 
@@ -34,13 +57,12 @@ pub(crate) fn write_word<W: Write>(
 fn word_at(pipeline: &Pipeline, address: u32) -> Option<u32>
     ensures { result ≡ word_seen (layout_of pipeline.now.values) (seen pipeline.now).ram address }
 {
-    let bytes = [
-        pipeline.byte(address)?,
-        pipeline.byte(address.wrapping_add(1))?,
-        pipeline.byte(address.wrapping_add(2))?,
-        pipeline.byte(address.wrapping_add(3))?,
-    ];
-    Some(u32::from_le_bytes(bytes))
+    word_of(
+        pipeline.byte(address),
+        pipeline.byte(address.wrapping_add(1)),
+        pipeline.byte(address.wrapping_add(2)),
+        pipeline.byte(address.wrapping_add(3)),
+    )
 }
 
 /// Writes so many words of the core's memory from an address on.

@@ -64,10 +64,13 @@ impl Misses {
     fn count_loads(&self, steps: &[Step]) -> usize
         ensures count { result ≡ count_by (is_missed_load self.now.hit self.now.forward) steps.now }
     {
-        steps
-            .iter()
-            .filter(|step| self.is_missed_load(step))
-            .count()
+        let mut missed = 0;
+        for step in steps {
+            if self.is_missed_load(step) {
+                missed += 1;
+            }
+        }
+        missed
     }
 
     // Whether a drain that missed began in a cycle, at whose end the one under way ends in such a cycle.

@@ -3,7 +3,7 @@ ghost use Rattle.rv_report.specs.Memory.{word_seen, seen_memory_lines};
 ghost use Rattle.rv_report.specs.ReferenceReport.{count_lines, reference_report};
 ghost use Rattle.rv_text.specs.Written.{IsWritten};
 
-use crate::memory::write_word;
+use crate::memory::{word_of, write_word};
 use crate::options::Options;
 use crate::state::{write_state, write_stop};
 use rv_arch::{RefOutcome, Reference};
@@ -43,13 +43,12 @@ fn write_counts<W: Write>(writer: &mut W, outcome: &RefOutcome) -> Result<(), Re
 fn word_at(reference: &Reference, address: u32) -> Option<u32>
     ensures { result ≡ word_seen reference.now.layout reference.now.state.ram address }
 {
-    let bytes = [
-        reference.byte(address)?,
-        reference.byte(address.wrapping_add(1))?,
-        reference.byte(address.wrapping_add(2))?,
-        reference.byte(address.wrapping_add(3))?,
-    ];
-    Some(u32::from_le_bytes(bytes))
+    word_of(
+        reference.byte(address),
+        reference.byte(address.wrapping_add(1)),
+        reference.byte(address.wrapping_add(2)),
+        reference.byte(address.wrapping_add(3)),
+    )
 }
 
 // So many words of memory from an address on.
