@@ -39,7 +39,10 @@ fn belongs(exception: &Exception, kind: &Series<Exception>) -> bool
 fn is_known(kinds: &[Series<Exception>], exception: &Exception) -> bool
     ensures { result ≡ list_any (belongs exception.now) kinds.now }
 {
-    kinds.iter().any(|kind| belongs(exception, kind))
+    match kinds {
+        [] => false,
+        [kind, rest @ ..] => belongs(exception, kind) || is_known(rest, exception),
+    }
 }
 
 fn go_on_if_alike(kind: &mut Series<Exception>, exception: &Exception)
