@@ -180,7 +180,7 @@ pub fn write_explanation<W: Write>(
         beginning.tale,
     );
     let mut tale = told.tale;
-    match write_told(
+    let written = write_told(
         writer,
         listing,
         told.stop,
@@ -188,7 +188,10 @@ pub fn write_explanation<W: Write>(
         &told.progress,
         told.fetched,
         &mut tale,
-    ) {
+    );
+    // By one call: at each end of its scope a tale is dropped field by field.
+    drop(tale);
+    match written {
         Ok(()) => Ok(told.stop),
         Err(ReportError::WriteFailed) => Err(TextError::WriteFailed),
     }

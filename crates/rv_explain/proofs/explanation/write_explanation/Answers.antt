@@ -9,8 +9,8 @@ pub run_told-told-requires-clause-room : goal.run_told-told-requires-clause-room
 run_told-told-requires-clause-room g c =
     record { room = c.in-Ok.ensures.room; rows = c.in-Ok.ensures.rows; interrupts = c.in-Ok.ensures.interrupts }
 
-pub write_told-requires : goal.write_told-requires
-write_told-requires g c =
+pub write_told-written-requires : goal.write_told-written-requires
+write_told-written-requires g c =
     let told = c.run_told-told.result in
     record {
       heads = heads_counted _ c.args.limit c.args.description.now _ _ told.stop told.progress told.fetched told.tale c.run_told-told.ensures;
@@ -18,12 +18,12 @@ write_told-requires g c =
       mispredicted = omega (arith, mispredicted_counted _ c.args.limit c.args.description.now _ _ told.stop told.progress told.fetched told.tale c.run_told-told.ensures);
     }
 
-pub returns-in-Ok-write_told-clause-written : goal.returns-in-Ok-write_told-clause-written
-returns-in-Ok-write_told-clause-written g c =
+pub returns-in-Ok-written-clause-written : goal.returns-in-Ok-written-clause-written
+returns-in-Ok-written-clause-written g c =
     let told = c.run_told-told.result in
-    (_, explained _ c.args.limit c.args.description.now c.args.listing.now _ _ told.stop told.progress told.fetched told.tale c.run_told-told.ensures, c.in-Ok-write_told.ensures)
+    (_, explained _ c.args.limit c.args.description.now c.args.listing.now _ _ told.stop told.progress told.fetched told.tale c.run_told-told.ensures, c.in-Ok-written.ensures)
 
-pub returns-clause-written : goal.returns-clause-written
-returns-clause-written g c =
+pub returns-in-Err-WriteFailed-clause-written : goal.returns-in-Err-WriteFailed-clause-written
+returns-in-Err-WriteFailed-clause-written g c =
     let told = c.run_told-told.result in
     (told.stop, _, explained _ c.args.limit c.args.description.now c.args.listing.now _ _ told.stop told.progress told.fetched told.tale c.run_told-told.ensures, c.in-Err-WriteFailed.ensures)
