@@ -1,6 +1,4 @@
 ghost use Rattle.std.specs.Prelude.{◌≡◌};
-ghost use Rattle.std.specs.List.{find};
-ghost use Rattle.std.specs.Option.{option_copied};
 ghost use Rattle.rv_log.specs.Room.{is_as_before, is_fetched_word, is_for_room, oldest_fetched, room_at, room_for, room_line, room_of};
 ghost use Rattle.rv_text.specs.Written.{IsWritten};
 
@@ -25,17 +23,20 @@ fn is_fetched_word(row: &Passage) -> bool
     row.is_in_flight() && row.dispatched.is_none()
 }
 
-fn oldest_row(rows: &[Passage]) -> Option<&Passage>
-    ensures { option_copied result ≡ find is_fetched_word rows.now }
-{
-    rows.iter().find(|row| is_fetched_word(row))
-}
-
 // The number of the oldest instruction in the fetch buffer.
 fn oldest_fetched(rows: &[Passage]) -> Option<u64>
     ensures { result ≡ oldest_fetched rows.now }
 {
-    Some(oldest_row(rows)?.number)
+    match rows {
+        [] => None,
+        [row, rest @ ..] => {
+            if is_fetched_word(row) {
+                Some(row.number)
+            } else {
+                oldest_fetched(rest)
+            }
+        }
+    }
 }
 
 // Whether words wait for room, and not that there are any.
