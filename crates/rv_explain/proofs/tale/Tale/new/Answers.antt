@@ -1,0 +1,28 @@
+use Rattle.std.proofs.Common.{[]}
+use Rattle.rv_counts.specs.Load.{costs_of}
+use Rattle.rv_sentences.specs.Dispatch.{none_dispatched}
+use Rattle.rv_sentences.specs.Drain.{drains_by}
+use Rattle.rv_sentences.specs.Load.{loads_of}
+use Rattle.rv_sentences.specs.Unit.{none_came}
+use Rattle.rv_sentences.specs.Work.{work_of}
+use Rattle.rv_explain.proofs.tale.Tale.new.Goals as goal
+
+pub returns : goal.returns
+returns c arrivals h = λ i. record {
+  retired = 0;
+  exceptions = c.in_ok-new.ensures i;
+  interrupts = c.new-2.ensures i;
+  dispatches = none_dispatched;
+  bus = c.no_waits.ensures i;
+  units = c.no_waits-2.ensures i;
+  came = none_came;
+  work = work_of [];
+  costs = c.new-3.ensures i;
+  loads = loads_of (costs_of c.args.description.now) [];
+  drains = drains_by c.args.description.now.cache.hit [];
+  last_stores = c.in_ok-new-2.ensures i;
+  heads = c.in_ok-new-3.ensures i;
+  branches = c.in_ok-new-4.ensures i;
+  mispredicted = c.in_ok-new-5.ensures i;
+  outcomes = c.in_ok-new-6.ensures i;
+}
