@@ -3,10 +3,6 @@ use Rattle.std.proofs.Common.{◌≡◌, ◌∙◌, ℕ, ◌+◌, ◌<◌, ◌�
 use Rattle.std.specs.Prelude.{if◌then◌else◌}
 use Rattle.std.proofs.lemmas.List.Sums.{count_by-le-length, count_by_more_no, count_by_more_yes}
 
--- no more are counted than there are
-pub counted_within : {X : Type 0} (p : X → Bool) (xs : List X) → count_by p xs ≤ length xs
-counted_within p xs = count_by-le-length p xs
-
 pub count_by-more : {X : Type 0} (p : X → Bool) (xs : List X) (place : ℕ) (other : X) → place < length xs → count_by p (take (place + 1) xs) ≡ count_by p (take place xs) + (if p (get_or xs place other) then 1 else 0)
 count_by-more p xs place other here = go (p (get_or xs place other)) refl
   where

@@ -33,7 +33,6 @@ impl StepCounts {
     }
 
     /// Counts more steps.
-    #[tactic(auto, using(crate::proofs::Counts::counted_within))]
     pub(crate) fn count_all(&mut self, steps: &[Step])
         requires room { HasRoom self.old (length steps.now) }
         ensures { self.new ≡ both_counts self.old (counts_of steps.now) }
