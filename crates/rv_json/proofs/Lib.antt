@@ -1,3 +1,3 @@
-mod Arrays
+pub mod Arrays
 pub mod Markup
 pub mod Parts

@@ -31,12 +31,6 @@ fn comma_at(place: usize) -> &'static [u8]
     if place == 0 { b"" } else { b"," }
 }
 
-fn write_comma<W: Write>(writer: &mut W, place: usize) -> Result<(), ReportError>
-    ensures { IsWritten result (W.contents writer.old) (W.contents writer.new) (comma_at place) }
-{
-    put(writer, comma_at(place))
-}
-
 fn write_after_comma<T: Values, W: Write>(
     writer: &mut W,
     values: &T,
@@ -45,7 +39,7 @@ fn write_after_comma<T: Values, W: Write>(
     requires { place < length (T.values values.now) }
     ensures { IsWritten result (W.contents writer.old) (W.contents writer.new) (comma_at place ++ get_or (T.values values.now) place []) }
 {
-    write_comma(writer, place)?;
+    put(writer, comma_at(place))?;
     values.write_value(writer, place)
 }
 

@@ -5,7 +5,7 @@ ghost use Rattle.rv_isa.specs.Key.{kind_name};
 ghost use Rattle.rv_json.specs.Entry.{cause_of, cost_of, entry_text, fault_of, fault_value_of, finished_in, head_text, issued_in, kind_text, next_pc_of, stage_text, value_of};
 ghost use Rattle.rv_text.specs.Written.{IsWritten};
 
-use crate::json::{Member, Value, write_front, write_members};
+use crate::json::{Member, write_front, write_members, write_name};
 use rv_isa::{Fault, Kind, Message, kind, target};
 use rv_rob::{Entry, Stage};
 use rv_text::ReportError;
@@ -81,13 +81,7 @@ fn write_kind<W: Write>(writer: &mut W, entry: &Entry) -> Result<(), ReportError
         None => None,
     };
     match kind {
-        Some(kind) => write_members(
-            writer,
-            &[Member {
-                name: "kind",
-                value: Value::Name(kind_name(kind)),
-            }],
-        ),
+        Some(kind) => write_name(writer, "kind", kind_name(kind)),
         None => Ok(()),
     }
 }

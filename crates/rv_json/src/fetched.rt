@@ -50,10 +50,11 @@ impl Values for FetchedWords<'_> {
     }
 }
 
-#[tactic(auto, unfolding(crate::specs::Fetched::next_fetch_text))]
-fn write_next_fetch<W: Write>(writer: &mut W, front: &Front) -> Result<(), ReportError>
-    ensures { IsWritten result (W.contents writer.old) (W.contents writer.new) (next_fetch_text front.now) }
+/// Writes the members that have the fetch buffer, where the fetch goes on, and whether it is halted.
+pub fn write_fetch_buffer<W: Write>(writer: &mut W, front: &Front) -> Result<(), ReportError>
+    ensures { IsWritten result (W.contents writer.old) (W.contents writer.new) (also (codes "fetch_buffer") (array (map fetched_json front.now.entries)) ++ next_fetch_text front.now) }
 {
+    write_array_member(writer, "fetch_buffer", &FetchedWords { front })?;
     write_members(
         writer,
         &[
@@ -64,12 +65,4 @@ fn write_next_fetch<W: Write>(writer: &mut W, front: &Front) -> Result<(), Repor
             },
         ],
     )
-}
-
-/// Writes the members that have the fetch buffer, where the fetch goes on, and whether it is halted.
-pub fn write_fetch_buffer<W: Write>(writer: &mut W, front: &Front) -> Result<(), ReportError>
-    ensures { IsWritten result (W.contents writer.old) (W.contents writer.new) (also (codes "fetch_buffer") (array (map fetched_json front.now.entries)) ++ next_fetch_text front.now) }
-{
-    write_array_member(writer, "fetch_buffer", &FetchedWords { front })?;
-    write_next_fetch(writer, front)
 }

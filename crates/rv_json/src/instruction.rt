@@ -1,9 +1,9 @@
 ghost use Rattle.std.specs.Prelude.{◌≡◌};
-ghost use Rattle.rv_json.specs.Instruction.{cost_of, details_text, ended_text, ending_text, instruction_json, passage_text, retired_text, squashed_text, trapped_text};
+ghost use Rattle.rv_json.specs.Instruction.{cost_of, details_text, ended_text, ending_text, instruction_json, passage_text, retired_text, trapped_text};
 ghost use Rattle.rv_text.specs.Written.{IsWritten};
 
 use crate::array::Values;
-use crate::json::{Member, Value, write_begin, write_members};
+use crate::json::{Member, Value, write_begin, write_members, write_name};
 use rv_isa::{Cause, Reg};
 use rv_passage::{Ending, Passage};
 use rv_text::{ReportError, put};
@@ -38,20 +38,19 @@ fn write_passage<W: Write>(writer: &mut W, row: &Passage) -> Result<(), ReportEr
 fn write_retired<W: Write>(writer: &mut W, written: Option<(Reg, u32)>) -> Result<(), ReportError>
     ensures { IsWritten result (W.contents writer.old) (W.contents writer.new) (retired_text written) }
 {
-    let end = Member {
-        name: "end",
-        value: Value::Name("retired"),
-    };
     match written {
         Some((register, word)) => write_members(
             writer,
             &[
-                end,
+                Member {
+                    name: "end",
+                    value: Value::Name("retired"),
+                },
                 Member::number("register", u64::from(register.number())),
                 Member::word("value", word),
             ],
         ),
-        None => write_members(writer, &[end]),
+        None => write_name(writer, "end", "retired"),
     }
 }
 
@@ -72,18 +71,6 @@ fn write_trapped<W: Write>(writer: &mut W, cause: Cause) -> Result<(), ReportErr
 }
 
 #[tactic(auto, unfolding(crate::specs::Instruction::squashed_text))]
-fn write_squashed<W: Write>(writer: &mut W) -> Result<(), ReportError>
-    ensures { IsWritten result (W.contents writer.old) (W.contents writer.new) (squashed_text) }
-{
-    write_members(
-        writer,
-        &[Member {
-            name: "end",
-            value: Value::Name("squashed"),
-        }],
-    )
-}
-
 fn write_ending<W: Write>(writer: &mut W, ending: Ending) -> Result<(), ReportError>
     ensures { IsWritten result (W.contents writer.old) (W.contents writer.new) (ending_text ending) }
 {
@@ -91,7 +78,7 @@ fn write_ending<W: Write>(writer: &mut W, ending: Ending) -> Result<(), ReportEr
         Ending::InFlight => Ok(()),
         Ending::Retired { written, .. } => write_retired(writer, written),
         Ending::Trapped { cause, .. } => write_trapped(writer, cause),
-        Ending::Squashed { .. } => write_squashed(writer),
+        Ending::Squashed { .. } => write_name(writer, "end", "squashed"),
     }
 }
 

@@ -1,6 +1,6 @@
 ghost use Rattle.std.specs.Prelude.{◌≡◌, ◌++◌, codes, decimal};
 ghost use Rattle.std.specs.List.{flat_map};
-ghost use Rattle.rv_json.specs.Json.{also, begins, json_byte, key, opens, quoted, string, truth};
+ghost use Rattle.rv_json.specs.Json.{also, begins, json_byte, key, quoted, string, truth};
 ghost use Rattle.rv_json.specs.Member.{member_text};
 ghost use Rattle.rv_json.specs.declared.json.Value.TheVariants.{Maybe, Number};
 ghost use Rattle.rv_text.specs.Written.{IsWritten};
@@ -95,9 +95,9 @@ fn write_text<W: Write>(writer: &mut W, name: &str, text: &[u8]) -> Result<(), R
     put_all(writer, &[b",\"", name.as_bytes(), b"\":", text])
 }
 
-// Writes a further member that is a string of characters that need no escape.
+/// Writes a further member that is a string of characters that need no escape.
 #[tactic(auto, unfolding(crate::specs::Json::also, crate::specs::Json::key, crate::specs::Json::quoted))]
-fn write_name<W: Write>(writer: &mut W, name: &str, text: &str) -> Result<(), ReportError>
+pub fn write_name<W: Write>(writer: &mut W, name: &str, text: &str) -> Result<(), ReportError>
     ensures { IsWritten result (W.contents writer.old) (W.contents writer.new) (also name.now (quoted text.now)) }
 {
     put_all(
@@ -142,14 +142,6 @@ pub fn write_members<W: Write>(writer: &mut W, members: &[Member]) -> Result<(),
     Ok(())
 }
 
-/// Writes the brace of an object and the name of its first member.
-#[tactic(auto, unfolding(crate::specs::Json::opens))]
-pub(crate) fn write_opens<W: Write>(writer: &mut W, name: &str) -> Result<(), ReportError>
-    ensures { IsWritten result (W.contents writer.old) (W.contents writer.new) (opens name.now) }
-{
-    put_all(writer, &[b"{\"", name.as_bytes(), b"\":"])
-}
-
 /// Writes the brace and the first member of an object.
 #[tactic(auto, unfolding(crate::specs::Json::begins, crate::specs::Json::opens))]
 pub fn write_begin<W: Write>(writer: &mut W, name: &str, number: u64) -> Result<(), ReportError>
@@ -185,6 +177,20 @@ pub fn write_object<W: Write>(
     write_begin(writer, name, number)?;
     write_members(writer, members)?;
     put(writer, b"}")
+}
+
+/// Writes a further member that is an object whose members are these.
+pub fn write_object_member<W: Write>(
+    writer: &mut W,
+    object: &str,
+    name: &str,
+    number: u64,
+    members: &[Member],
+) -> Result<(), ReportError>
+    ensures { IsWritten result (W.contents writer.old) (W.contents writer.new) (also object.now (begins name.now (decimal number) ++ (flat_map member_text members.now ++ codes "}"))) }
+{
+    write_key(writer, object)?;
+    write_object(writer, name, number, members)
 }
 
 // Writes a byte of a text of a user's.

@@ -25,7 +25,10 @@ pub use array::{Values, write_array_member};
 pub use entry::{broadcast, write_entry};
 pub use fetched::write_fetch_buffer;
 pub use instruction::Instructions;
-pub use json::{Member, Value, write_begin, write_key, write_members, write_number, write_object};
+pub use json::{
+    Member, Value, write_begin, write_key, write_members, write_name, write_number, write_object,
+    write_object_member,
+};
 pub use listing::write_listing;
 pub use machine::write_header;
 pub use observed::write_observed;

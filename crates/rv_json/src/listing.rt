@@ -1,4 +1,4 @@
-ghost use Rattle.rv_json.specs.Listing.{line_text, listing_line, listing_lines, place_text};
+ghost use Rattle.rv_json.specs.Listing.{line_text, listing_line, listing_lines};
 ghost use Rattle.rv_text.specs.Written.{IsWritten};
 
 use crate::json::{Member, write_front, write_key, write_string};
@@ -8,18 +8,6 @@ use rv_source::Listing;
 use rv_text::{ReportError, put};
 use std::io::Write;
 
-#[tactic(auto, unfolding(crate::specs::Listing::place_text))]
-fn write_place<W: Write>(writer: &mut W, address: u32, number: usize) -> Result<(), ReportError>
-    ensures { IsWritten result (W.contents writer.old) (W.contents writer.new) (place_text address number) }
-{
-    write_front(
-        writer,
-        "address",
-        u64::from(address),
-        &[Member::number("line", number as u64)],
-    )
-}
-
 fn write_line<W: Write>(
     writer: &mut W,
     address: u32,
@@ -28,7 +16,12 @@ fn write_line<W: Write>(
 ) -> Result<(), ReportError>
     ensures { IsWritten result (W.contents writer.old) (W.contents writer.new) (line_text address (record { number = number; text = text.now })) }
 {
-    write_place(writer, address, number)?;
+    write_front(
+        writer,
+        "address",
+        u64::from(address),
+        &[Member::number("line", number as u64)],
+    )?;
     write_key(writer, "text")?;
     write_string(writer, text)?;
     put(writer, b"}\n")

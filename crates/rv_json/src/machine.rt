@@ -1,11 +1,13 @@
 ghost use Rattle.std.specs.Prelude.{◌≡◌, codes};
 ghost use Rattle.rv_isa.specs.Key.{kind_name};
-ghost use Rattle.rv_json.specs.Json.{also, key};
-ghost use Rattle.rv_json.specs.Machine.{buffers_text, cache_json, format_text, header_line, kind_json, kinds_text, machine_json, numbers_text, predictor_json, predictor_name, recovery_name, recovery_text, sizes_text, widths_text};
+ghost use Rattle.rv_json.specs.Json.{also};
+ghost use Rattle.rv_json.specs.Machine.{buffers_text, cache_json, header_line, kind_json, kinds_text, machine_json, numbers_text, predictor_json, predictor_name, recovery_name, recovery_text, sizes_text, widths_text};
 ghost use Rattle.rv_text.specs.Written.{IsWritten};
 
 use crate::entry::kind_name;
-use crate::json::{Member, Value, write_front, write_key, write_members, write_object};
+use crate::json::{
+    Member, Value, write_front, write_key, write_members, write_name, write_object_member,
+};
 use rv_isa::{CacheValues, Kind, KindValues, PredictorKind, PredictorValues, Recovery, Values};
 use rv_text::{ReportError, put};
 use std::io::Write;
@@ -78,13 +80,7 @@ fn write_buffers<W: Write>(writer: &mut W, values: &Values) -> Result<(), Report
 fn write_recovery<W: Write>(writer: &mut W, recovery: Recovery) -> Result<(), ReportError>
     ensures { IsWritten result (W.contents writer.old) (W.contents writer.new) (recovery_text recovery) }
 {
-    write_members(
-        writer,
-        &[Member {
-            name: "recovery",
-            value: Value::Name(recovery_name(recovery)),
-        }],
-    )
+    write_name(writer, "recovery", recovery_name(recovery))
 }
 
 fn write_numbers<W: Write>(writer: &mut W, values: &Values) -> Result<(), ReportError>
@@ -97,11 +93,12 @@ fn write_numbers<W: Write>(writer: &mut W, values: &Values) -> Result<(), Report
 }
 
 #[tactic(auto, unfolding(crate::specs::Machine::kind_json))]
-fn write_kind_object<W: Write>(writer: &mut W, values: KindValues) -> Result<(), ReportError>
-    ensures { IsWritten result (W.contents writer.old) (W.contents writer.new) (kind_json values) }
+fn write_kind<W: Write>(writer: &mut W, kind: Kind, values: KindValues) -> Result<(), ReportError>
+    ensures { IsWritten result (W.contents writer.old) (W.contents writer.new) (also (kind_name kind) (kind_json values)) }
 {
-    write_object(
+    write_object_member(
         writer,
+        kind_name(kind),
         "stations",
         u64::from(values.stations),
         &[
@@ -115,19 +112,6 @@ fn write_kind_object<W: Write>(writer: &mut W, values: KindValues) -> Result<(),
     )
 }
 
-fn write_kind_key<W: Write>(writer: &mut W, kind: Kind) -> Result<(), ReportError>
-    ensures { IsWritten result (W.contents writer.old) (W.contents writer.new) (key (kind_name kind)) }
-{
-    write_key(writer, kind_name(kind))
-}
-
-fn write_kind<W: Write>(writer: &mut W, kind: Kind, values: KindValues) -> Result<(), ReportError>
-    ensures { IsWritten result (W.contents writer.old) (W.contents writer.new) (also (kind_name kind) (kind_json values)) }
-{
-    write_kind_key(writer, kind)?;
-    write_kind_object(writer, values)
-}
-
 fn write_kinds<W: Write>(writer: &mut W, values: &Values) -> Result<(), ReportError>
     ensures { IsWritten result (W.contents writer.old) (W.contents writer.new) (kinds_text values.now) }
 {
@@ -138,11 +122,12 @@ fn write_kinds<W: Write>(writer: &mut W, values: &Values) -> Result<(), ReportEr
 }
 
 #[tactic(auto, unfolding(crate::specs::Machine::cache_json))]
-fn write_cache_object<W: Write>(writer: &mut W, values: CacheValues) -> Result<(), ReportError>
-    ensures { IsWritten result (W.contents writer.old) (W.contents writer.new) (cache_json values) }
+fn write_cache<W: Write>(writer: &mut W, values: CacheValues) -> Result<(), ReportError>
+    ensures { IsWritten result (W.contents writer.old) (W.contents writer.new) (also (codes "cache") (cache_json values)) }
 {
-    write_object(
+    write_object_member(
         writer,
+        "cache",
         "sets",
         u64::from(values.sets),
         &[
@@ -155,22 +140,13 @@ fn write_cache_object<W: Write>(writer: &mut W, values: CacheValues) -> Result<(
     )
 }
 
-fn write_cache<W: Write>(writer: &mut W, values: CacheValues) -> Result<(), ReportError>
-    ensures { IsWritten result (W.contents writer.old) (W.contents writer.new) (also (codes "cache") (cache_json values)) }
-{
-    write_key(writer, "cache")?;
-    write_cache_object(writer, values)
-}
-
 #[tactic(auto, unfolding(crate::specs::Machine::predictor_json))]
-fn write_predictor_object<W: Write>(
-    writer: &mut W,
-    values: PredictorValues,
-) -> Result<(), ReportError>
-    ensures { IsWritten result (W.contents writer.old) (W.contents writer.new) (predictor_json values) }
+fn write_predictor<W: Write>(writer: &mut W, values: PredictorValues) -> Result<(), ReportError>
+    ensures { IsWritten result (W.contents writer.old) (W.contents writer.new) (also (codes "predictor") (predictor_json values)) }
 {
-    write_object(
+    write_object_member(
         writer,
+        "predictor",
         "entries",
         u64::from(values.entries),
         &[Member {
@@ -178,13 +154,6 @@ fn write_predictor_object<W: Write>(
             value: Value::Name(predictor_name(values.kind)),
         }],
     )
-}
-
-fn write_predictor<W: Write>(writer: &mut W, values: PredictorValues) -> Result<(), ReportError>
-    ensures { IsWritten result (W.contents writer.old) (W.contents writer.new) (also (codes "predictor") (predictor_json values)) }
-{
-    write_key(writer, "predictor")?;
-    write_predictor_object(writer, values)
 }
 
 fn write_machine<W: Write>(writer: &mut W, values: &Values) -> Result<(), ReportError>
@@ -197,9 +166,13 @@ fn write_machine<W: Write>(writer: &mut W, values: &Values) -> Result<(), Report
     put(writer, b"}")
 }
 
-#[tactic(auto, unfolding(crate::specs::Machine::format_text))]
-fn write_format<W: Write>(writer: &mut W, first: u64) -> Result<(), ReportError>
-    ensures { IsWritten result (W.contents writer.old) (W.contents writer.new) (format_text first) }
+/// Writes the first line: the format, the number of the window's first cycle, and the machine's values.
+pub fn write_header<W: Write>(
+    writer: &mut W,
+    first: u64,
+    values: &Values,
+) -> Result<(), ReportError>
+    ensures { IsWritten result (W.contents writer.old) (W.contents writer.new) (header_line first values.now) }
 {
     write_front(
         writer,
@@ -209,18 +182,7 @@ fn write_format<W: Write>(writer: &mut W, first: u64) -> Result<(), ReportError>
             name: "format",
             value: Value::Name("rv_sim states 1"),
         }],
-    )
-}
-
-/// Writes the first line: the format, the number of the window's first cycle, and the machine's values.
-pub fn write_header<W: Write>(
-    writer: &mut W,
-    first: u64,
-    values: &Values,
-) -> Result<(), ReportError>
-    ensures { IsWritten result (W.contents writer.old) (W.contents writer.new) (header_line first values.now) }
-{
-    write_format(writer, first)?;
+    )?;
     write_key(writer, "machine")?;
     write_machine(writer, values)?;
     put(writer, b"}\n")

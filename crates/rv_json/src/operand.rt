@@ -1,5 +1,4 @@
-ghost use Rattle.std.specs.Prelude.{codes, decimal};
-ghost use Rattle.rv_json.specs.Json.{also, begins};
+ghost use Rattle.rv_json.specs.Json.{also};
 ghost use Rattle.rv_json.specs.Operand.{known_text, operand_json};
 ghost use Rattle.rv_text.specs.Written.{IsWritten};
 
@@ -19,24 +18,6 @@ fn write_known<W: Write>(writer: &mut W, operand: Operand) -> Result<(), ReportE
     }
 }
 
-fn write_register<W: Write>(writer: &mut W, register: Reg) -> Result<(), ReportError>
-    ensures { IsWritten result (W.contents writer.old) (W.contents writer.new) (begins (codes "register") (decimal register)) }
-{
-    write_begin(writer, "register", u64::from(register.number()))
-}
-
-fn write_operand_object<W: Write>(
-    writer: &mut W,
-    register: Reg,
-    operand: Operand,
-) -> Result<(), ReportError>
-    ensures { IsWritten result (W.contents writer.old) (W.contents writer.new) (operand_json register operand) }
-{
-    write_register(writer, register)?;
-    write_known(writer, operand)?;
-    put(writer, b"}")
-}
-
 /// Writes a member of that name that has a register, and its value or the number of the instruction that gives it.
 pub fn write_operand<W: Write>(
     writer: &mut W,
@@ -47,5 +28,7 @@ pub fn write_operand<W: Write>(
     ensures { IsWritten result (W.contents writer.old) (W.contents writer.new) (also name.now (operand_json register operand)) }
 {
     write_key(writer, name)?;
-    write_operand_object(writer, register, operand)
+    write_begin(writer, "register", u64::from(register.number()))?;
+    write_known(writer, operand)?;
+    put(writer, b"}")
 }

@@ -1,12 +1,12 @@
-ghost use Rattle.std.specs.Prelude.{◌≡◌, codes, decimal, map};
+ghost use Rattle.std.specs.Prelude.{◌≡◌, codes, map};
 ghost use Rattle.rv_json.specs.Json.{also, array};
-ghost use Rattle.rv_json.specs.Queue.{access_text, filling_text, head_text, state_name, store_json};
+ghost use Rattle.rv_json.specs.Queue.{access_text, filling_text, state_name, store_json};
 ghost use Rattle.rv_text.specs.Written.{IsWritten};
 
 use crate::array::{Values, write_array_member};
 use crate::json::{Member, Value, write_front, write_number};
 use itoa::Buffer;
-use rv_isa::{StoreAccess, StoreBytes};
+use rv_isa::StoreAccess;
 use rv_stores::{Store, StorePhase, StoreQueue, StoreState};
 use rv_text::{ReportError, put};
 use std::io::Write;
@@ -47,29 +47,12 @@ fn state_name(state: &StoreState) -> &'static str
     }
 }
 
-fn write_address<W: Write>(writer: &mut W, address: u32) -> Result<(), ReportError>
-    ensures { IsWritten result (W.contents writer.old) (W.contents writer.new) (also (codes "address") (decimal address)) }
-{
-    write_number(writer, "address", u64::from(address))
-}
-
-fn write_slice<W: Write>(writer: &mut W, bytes: &[u8]) -> Result<(), ReportError>
-    ensures { IsWritten result (W.contents writer.old) (W.contents writer.new) (also (codes "bytes") (array (map decimal bytes.now))) }
-{
-    write_array_member(writer, "bytes", &Bytes { bytes })
-}
-
-fn write_bytes<W: Write>(writer: &mut W, bytes: &StoreBytes) -> Result<(), ReportError>
-    ensures { IsWritten result (W.contents writer.old) (W.contents writer.new) (also (codes "bytes") (array (map decimal bytes.now))) }
-{
-    write_slice(writer, bytes.as_slice())
-}
-
 fn write_access<W: Write>(writer: &mut W, access: &StoreAccess) -> Result<(), ReportError>
     ensures { IsWritten result (W.contents writer.old) (W.contents writer.new) (access_text access.now) }
 {
-    write_address(writer, access.address)?;
-    write_bytes(writer, &access.bytes)
+    write_number(writer, "address", u64::from(access.address))?;
+    let bytes = access.bytes.as_slice();
+    write_array_member(writer, "bytes", &Bytes { bytes })
 }
 
 fn write_filling<W: Write>(writer: &mut W, state: &StoreState) -> Result<(), ReportError>
@@ -81,9 +64,8 @@ fn write_filling<W: Write>(writer: &mut W, state: &StoreState) -> Result<(), Rep
     }
 }
 
-#[tactic(auto, unfolding(crate::specs::Queue::head_text))]
-fn write_head<W: Write>(writer: &mut W, store: &Store) -> Result<(), ReportError>
-    ensures { IsWritten result (W.contents writer.old) (W.contents writer.new) (head_text store.now) }
+fn write_store<W: Write>(writer: &mut W, store: &Store) -> Result<(), ReportError>
+    ensures { IsWritten result (W.contents writer.old) (W.contents writer.new) (store_json store.now) }
 {
     write_front(
         writer,
@@ -93,13 +75,7 @@ fn write_head<W: Write>(writer: &mut W, store: &Store) -> Result<(), ReportError
             name: "state",
             value: Value::Name(state_name(&store.state)),
         }],
-    )
-}
-
-fn write_store<W: Write>(writer: &mut W, store: &Store) -> Result<(), ReportError>
-    ensures { IsWritten result (W.contents writer.old) (W.contents writer.new) (store_json store.now) }
-{
-    write_head(writer, store)?;
+    )?;
     write_filling(writer, &store.state)?;
     put(writer, b"}")
 }

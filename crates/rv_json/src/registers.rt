@@ -73,18 +73,12 @@ fn write_trap<W: Write>(writer: &mut W, seen: &Observed) -> Result<(), ReportErr
     )
 }
 
-fn write_csr_object<W: Write>(writer: &mut W, seen: &Observed) -> Result<(), ReportError>
-    ensures { IsWritten result (W.contents writer.old) (W.contents writer.new) (csrs_json seen.now.csrs seen.now.lines) }
-{
-    write_interrupts(writer, seen)?;
-    write_trap(writer, seen)?;
-    put(writer, b"}")
-}
-
 /// Writes the member that has the control and status registers.
 pub(crate) fn write_csrs<W: Write>(writer: &mut W, seen: &Observed) -> Result<(), ReportError>
     ensures { IsWritten result (W.contents writer.old) (W.contents writer.new) (also (codes "csrs") (csrs_json seen.now.csrs seen.now.lines)) }
 {
     write_key(writer, "csrs")?;
-    write_csr_object(writer, seen)
+    write_interrupts(writer, seen)?;
+    write_trap(writer, seen)?;
+    put(writer, b"}")
 }

@@ -1,5 +1,5 @@
 ghost use Rattle.std.specs.Prelude.{◌≡◌};
-ghost use Rattle.rv_json.specs.Stop.{stop_json, stop_line, stop_name};
+ghost use Rattle.rv_json.specs.Stop.{stop_line, stop_name};
 ghost use Rattle.rv_text.specs.Written.{IsWritten};
 
 use crate::json::{Member, Value, write_object};
@@ -18,9 +18,9 @@ fn stop_name(stop: Stop) -> &'static str
     }
 }
 
-#[tactic(auto, unfolding(crate::specs::Stop::stop_json))]
-fn write_end<W: Write>(writer: &mut W, cycles: u64, stop: Stop) -> Result<(), ReportError>
-    ensures { IsWritten result (W.contents writer.old) (W.contents writer.new) (stop_json cycles stop) }
+/// Writes the line that says after how many cycles a run ended, and why.
+pub fn write_stop<W: Write>(writer: &mut W, cycles: u64, stop: Stop) -> Result<(), ReportError>
+    ensures { IsWritten result (W.contents writer.old) (W.contents writer.new) (stop_line cycles stop) }
 {
     write_object(
         writer,
@@ -30,13 +30,6 @@ fn write_end<W: Write>(writer: &mut W, cycles: u64, stop: Stop) -> Result<(), Re
             name: "stop",
             value: Value::Name(stop_name(stop)),
         }],
-    )
-}
-
-/// Writes the line that says after how many cycles a run ended, and why.
-pub fn write_stop<W: Write>(writer: &mut W, cycles: u64, stop: Stop) -> Result<(), ReportError>
-    ensures { IsWritten result (W.contents writer.old) (W.contents writer.new) (stop_line cycles stop) }
-{
-    write_end(writer, cycles, stop)?;
+    )?;
     put(writer, b"\n")
 }

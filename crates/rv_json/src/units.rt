@@ -4,7 +4,7 @@ ghost use Rattle.rv_json.specs.Units.{start_json, units_json};
 ghost use Rattle.rv_text.specs.Written.{IsWritten};
 
 use crate::array::{Values, write_array, write_array_member};
-use crate::json::{Member, write_key, write_object, write_opens};
+use crate::json::{Member, write_key, write_object};
 use rv_isa::{Issue, Kind};
 use rv_text::{ReportError, put};
 use rv_units::Units;
@@ -52,7 +52,7 @@ fn write_start<W: Write>(writer: &mut W, start: Issue) -> Result<(), ReportError
 fn write_first<W: Write>(writer: &mut W, units: &Units) -> Result<(), ReportError>
     ensures { IsWritten result (W.contents writer.old) (W.contents writer.new) (begins (codes "alu") (array (map start_json units.now.alu.starts))) }
 {
-    write_opens(writer, "alu")?;
+    put(writer, b"{\"alu\":")?;
     write_array(
         writer,
         &Starts {

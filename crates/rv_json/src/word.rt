@@ -1,18 +1,18 @@
-ghost use Rattle.rv_json.specs.Word.{word_json, word_text};
+ghost use Rattle.rv_json.specs.Word.{word_text};
 ghost use Rattle.rv_text.specs.Written.{IsWritten};
 
 use crate::json::{Member, Value, write_object};
 use rv_text::{ReportError, put};
 use std::io::Write;
 
-#[tactic(auto, unfolding(crate::specs::Word::word_json))]
-fn write_word_object<W: Write>(
+/// Writes the line of a word of memory: its address, the word, and whether it was stored to since the last FENCE.I.
+pub fn write_word<W: Write>(
     writer: &mut W,
     address: u32,
     word: u32,
     stale: bool,
 ) -> Result<(), ReportError>
-    ensures { IsWritten result (W.contents writer.old) (W.contents writer.new) (word_json address word stale) }
+    ensures { IsWritten result (W.contents writer.old) (W.contents writer.new) (word_text address word stale) }
 {
     write_object(
         writer,
@@ -25,18 +25,6 @@ fn write_word_object<W: Write>(
                 value: Value::Truth(stale),
             },
         ],
-    )
-}
-
-/// Writes the line of a word of memory: its address, the word, and whether it was stored to since the last FENCE.I.
-pub fn write_word<W: Write>(
-    writer: &mut W,
-    address: u32,
-    word: u32,
-    stale: bool,
-) -> Result<(), ReportError>
-    ensures { IsWritten result (W.contents writer.old) (W.contents writer.new) (word_text address word stale) }
-{
-    write_word_object(writer, address, word, stale)?;
+    )?;
     put(writer, b"\n")
 }
