@@ -1,10 +1,10 @@
 -- What the registers give after one more instruction, and the entry at a place of the reorder buffer.
-use Rattle.std.proofs.Common.{◌≡◌, ℕ, zero, suc, ◌+◌, ◌<◌, nat_lt, false, if◌then◌else◌, List, [], ◌∷◌, ◌++◌, length, take, get_or, slice_get, Some, refl, sym, ap, ◌∙◌, arith, le-ltb}
+use Rattle.std.proofs.Common.{◌≡◌, ℕ, zero, suc, ◌+◌, ◌<◌, if◌then◌else◌, List, [], ◌∷◌, ◌++◌, length, take, get_or, slice_get, Some, refl, sym, ap, ◌∙◌, arith}
 use Rattle.std.proofs.lemmas.List.{length-take-le, take_more}
 use Rattle.std.proofs.lemmas.Option.{get_or_from_slice_get, slice_get_within}
 use Rattle.rv_core.specs.Ties.{RegisterStatus, operand_by, status_after, status_with}
 use Rattle.rv_hardware.specs.InFlight.{broadcast_of, writes}
-use Rattle.rv_rob.specs.ReorderBuffer.{ReorderBuffer, entry_of}
+use Rattle.rv_rob.specs.ReorderBuffer.{ReorderBuffer}
 use Rattle.rv_stations.specs.declared.waiting.Operand.{Operand}
 use Rattle.rv_rob.specs.declared.entry.Entry.{Entry}
 use Rattle.rv_states.specs.Entries.{entries_json, entry_json}

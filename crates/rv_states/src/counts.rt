@@ -1,10 +1,10 @@
 ghost use Rattle.std.specs.Prelude.{◌≡◌};
-ghost use Rattle.rv_states.specs.Counts.{counts_json, counts_text, stall_name, stall_text};
+ghost use Rattle.rv_states.specs.Counts.{counts_text, stall_name, stall_text};
 ghost use Rattle.rv_text.specs.Written.{IsWritten};
 
 use rv_core::Progress;
 use rv_hardware::Stall;
-use rv_json::{Member, Value, write_key, write_members, write_object};
+use rv_json::{Member, write_name, write_object_member};
 use rv_text::ReportError;
 use std::io::Write;
 
@@ -25,23 +25,19 @@ fn write_stall<W: Write>(writer: &mut W, stall: Option<Stall>) -> Result<(), Rep
     ensures { IsWritten result (W.contents writer.old) (W.contents writer.new) (stall_text stall) }
 {
     match stall {
-        Some(stall) => write_members(
-            writer,
-            &[Member {
-                name: "stall",
-                value: Value::Name(stall_name(stall)),
-            }],
-        ),
+        Some(stall) => write_name(writer, "stall", stall_name(stall)),
         None => Ok(()),
     }
 }
 
-#[tactic(auto, unfolding(crate::specs::Counts::counts_json))]
-fn write_count_object<W: Write>(writer: &mut W, progress: &Progress) -> Result<(), ReportError>
-    ensures { IsWritten result (W.contents writer.old) (W.contents writer.new) (counts_json progress.now) }
+/// Writes what the last cycle waited for, where it dispatched nothing, and the counts so far.
+pub(crate) fn write_counts<W: Write>(writer: &mut W, progress: &Progress) -> Result<(), ReportError>
+    ensures { IsWritten result (W.contents writer.old) (W.contents writer.new) (counts_text progress.now) }
 {
-    write_object(
+    write_stall(writer, progress.stall)?;
+    write_object_member(
         writer,
+        "counts",
         "cycles",
         progress.cycles,
         &[
@@ -53,13 +49,4 @@ fn write_count_object<W: Write>(writer: &mut W, progress: &Progress) -> Result<(
             Member::number("store", progress.stalls.store),
         ],
     )
-}
-
-/// Writes what the last cycle waited for, where it dispatched nothing, and the counts so far.
-pub(crate) fn write_counts<W: Write>(writer: &mut W, progress: &Progress) -> Result<(), ReportError>
-    ensures { IsWritten result (W.contents writer.old) (W.contents writer.new) (counts_text progress.now) }
-{
-    write_stall(writer, progress.stall)?;
-    write_key(writer, "counts")?;
-    write_count_object(writer, progress)
 }

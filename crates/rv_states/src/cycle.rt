@@ -1,6 +1,4 @@
-ghost use Rattle.std.specs.Prelude.{codes, decimal};
 ghost use Rattle.rv_states.specs.Cycle.{cycle_line, rest_text, start_line};
-ghost use Rattle.rv_json.specs.Json.{begins};
 ghost use Rattle.rv_text.specs.Written.{IsWritten};
 
 use crate::counts::write_counts;
@@ -11,12 +9,6 @@ use rv_json::{Instructions, Steps, write_array_member, write_begin};
 use rv_passage::Passage;
 use rv_text::{ReportError, put};
 use std::io::Write;
-
-fn write_next_cycle<W: Write>(writer: &mut W, pipeline: &Pipeline) -> Result<(), ReportError>
-    ensures { IsWritten result (W.contents writer.old) (W.contents writer.new) (begins (codes "start") (decimal pipeline.now.cycle)) }
-{
-    write_begin(writer, "start", pipeline.cycles_done())
-}
 
 // The counts so far, and the hardware, up to the end of a line.
 fn write_rest<W: Write>(
@@ -41,7 +33,7 @@ pub fn write_start<W: Write>(
 ) -> Result<(), ReportError>
     ensures { IsWritten result (W.contents writer.old) (W.contents writer.new) (start_line rows.now pipeline.now progress.now) }
 {
-    write_next_cycle(writer, pipeline)?;
+    write_begin(writer, "start", pipeline.cycles_done())?;
     write_array_member(writer, "instructions", &Instructions { rows })?;
     write_rest(writer, pipeline, progress)
 }

@@ -4,7 +4,6 @@ ghost use Rattle.rv_states.specs.Memory.{memory_line, memory_lines, word_seen};
 ghost use Rattle.rv_text.specs.Written.{IsWritten};
 
 use rv_core::Pipeline;
-use rv_isa::Values;
 use rv_json::{word_address, write_word};
 use rv_text::ReportError;
 use std::io::Write;
@@ -38,22 +37,13 @@ fn write_memory_line<W: Write>(
     }
 }
 
-fn write_words<W: Write>(
-    writer: &mut W,
-    pipeline: &Pipeline,
-    values: &Values,
-) -> Result<(), ReportError>
-    ensures { IsWritten result (W.contents writer.old) (W.contents writer.new) (memory_lines pipeline.now values.now) }
-{
-    for number in 0..values.ram_size / 4 {
-        write_memory_line(writer, pipeline, word_address(values.ram_base, number))?;
-    }
-    Ok(())
-}
-
 /// Writes a line for each word of RAM, as programs see it, that is not 0 or was stored to since the last FENCE.I.
 pub fn write_memory<W: Write>(writer: &mut W, pipeline: &Pipeline) -> Result<(), ReportError>
     ensures { IsWritten result (W.contents writer.old) (W.contents writer.new) (memory_lines pipeline.now pipeline.now.values) }
 {
-    write_words(writer, pipeline, pipeline.values())
+    let values = pipeline.values();
+    for number in 0..values.ram_size / 4 {
+        write_memory_line(writer, pipeline, word_address(values.ram_base, number))?;
+    }
+    Ok(())
 }

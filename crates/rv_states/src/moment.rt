@@ -1,7 +1,7 @@
 ghost use Rattle.std.specs.Prelude.{◌≡◌, [], ◌++◌};
 ghost use Rattle.rv_core.specs.Progress.{progress_of};
 ghost use Rattle.rv_states.specs.Page.{after_lines, before_lines};
-ghost use Rattle.rv_states.specs.States.{begun_text, head_text, opening_text, shown_text, storage_text, window_text};
+ghost use Rattle.rv_states.specs.States.{begun_text, head_text, opening_text, shown_text, window_text};
 ghost use Rattle.rv_json.specs.Stop.{stop_line};
 ghost use Rattle.rv_text.specs.Written.{IsWritten};
 
@@ -20,14 +20,6 @@ use rv_source::Listing;
 use rv_text::ReportError;
 use std::io::Write;
 
-#[tactic(auto, unfolding(crate::specs::States::storage_text))]
-fn write_storage<W: Write>(writer: &mut W, pipeline: &Pipeline) -> Result<(), ReportError>
-    ensures { IsWritten result (W.contents writer.old) (W.contents writer.new) (storage_text pipeline.now) }
-{
-    write_memory(writer, pipeline)?;
-    write_sets(writer, pipeline)
-}
-
 #[tactic(auto, unfolding(crate::specs::States::window_text))]
 fn write_window<W: Write>(
     writer: &mut W,
@@ -37,7 +29,8 @@ fn write_window<W: Write>(
 ) -> Result<(), ReportError>
     ensures { IsWritten result (W.contents writer.old) (W.contents writer.new) (window_text rows.now pipeline.now progress.now) }
 {
-    write_storage(writer, pipeline)?;
+    write_memory(writer, pipeline)?;
+    write_sets(writer, pipeline)?;
     write_start(writer, rows, pipeline, progress)
 }
 
@@ -111,21 +104,6 @@ fn write_opening<W: Write>(
     write_listing(writer, listing, values)
 }
 
-// Writes what is shown before the first cycle of a run.
-#[tactic(auto, unfolding(crate::specs::States::head_text))]
-fn write_first<W: Write>(
-    writer: &mut W,
-    from: u64,
-    listing: &Listing,
-    rows: &[Passage],
-    pipeline: &Pipeline,
-) -> Result<(), ReportError>
-    ensures { IsWritten result (W.contents writer.old) (W.contents writer.new) (head_text from listing.now rows.now pipeline.now) }
-{
-    write_opening(writer, from, listing, pipeline.values())?;
-    write_begun(writer, from, rows, pipeline, &no_cycle())
-}
-
 /// Writes what stands before the lines, and what is shown before the first cycle of a run.
 pub(crate) fn write_head<W: Write>(
     writer: &mut W,
@@ -138,7 +116,8 @@ pub(crate) fn write_head<W: Write>(
     ensures { IsWritten result (W.contents writer.old) (W.contents writer.new) (before_lines form ++ head_text from listing.now rows.now pipeline.now) }
 {
     write_before(writer, form)?;
-    write_first(writer, from, listing, rows, pipeline)
+    write_opening(writer, from, listing, pipeline.values())?;
+    write_begun(writer, from, rows, pipeline, &no_cycle())
 }
 
 /// Writes the last line, and what stands after the lines.

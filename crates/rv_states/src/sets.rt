@@ -22,22 +22,12 @@ fn write_set_line<W: Write>(
     }
 }
 
-fn write_all_sets<W: Write>(
-    writer: &mut W,
-    pipeline: &Pipeline,
-    count: u32,
-) -> Result<(), ReportError>
-    ensures { IsWritten result (W.contents writer.old) (W.contents writer.new) (set_lines pipeline.now count) }
-{
-    for set in 0..count {
-        write_set_line(writer, pipeline, set as usize)?;
-    }
-    Ok(())
-}
-
 /// Writes a line for each set of the cache that holds a line: its number, and the lines, most recently used first.
 pub fn write_sets<W: Write>(writer: &mut W, pipeline: &Pipeline) -> Result<(), ReportError>
     ensures { IsWritten result (W.contents writer.old) (W.contents writer.new) (set_lines pipeline.now pipeline.now.values.cache.sets) }
 {
-    write_all_sets(writer, pipeline, pipeline.values().cache.sets)
+    for set in 0..pipeline.values().cache.sets {
+        write_set_line(writer, pipeline, set as usize)?;
+    }
+    Ok(())
 }

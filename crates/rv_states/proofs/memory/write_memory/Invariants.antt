@@ -2,7 +2,7 @@ use Rattle.std.specs.Io.KnownBytes.{Appends}
 use Rattle.rv_states.specs.Memory.{memory_line}
 use Rattle.rv_json.specs.Place.{word_address}
 use Rattle.rv_text.proofs.Writing.{texts_below}
-use Rattle.rv_states.proofs.memory.write_words.Given as goal
+use Rattle.rv_states.proofs.memory.write_memory.Given as goal
 
 -- the lines so far are written
 abbrev pub invariant-loop-number : goal.invariant-loop-number
