@@ -1,7 +1,7 @@
 ghost use Rattle.std.specs.Prelude.{◌≡◌, ◌+◌, ◌≤◌, ◌<◌, ◌^◌, decimal};
 ghost use Rattle.std.specs.List.{flat_map};
 ghost use Rattle.rv_drawing.specs.Places.{column_x, row_y};
-ghost use Rattle.rv_drawing.specs.SvgMarks.{line_down, tenth_mark, tenth_at, number_mark, number_at, numbers, numbers_again, interrupt_mark, interrupt_in};
+ghost use Rattle.rv_drawing.specs.SvgMarks.{line_down, tenth_mark, tenth_at, number_at, numbers, numbers_again, interrupt_mark, interrupt_in};
 ghost use Rattle.rv_text.specs.Written.{IsWritten};
 
 use crate::columns::{Columns, write_columns};
@@ -73,16 +73,6 @@ pub(crate) fn write_tenth<W: Write>(
     }
 }
 
-fn write_number_mark<W: Write>(writer: &mut W, column: u64, cycle: u64) -> Result<(), ReportError>
-    ensures { IsWritten result (W.contents writer.old) (W.contents writer.new) (number_mark (decimal (column_x column)) (decimal cycle)) }
-{
-    let mut at_column = Buffer::new();
-    let x = digits(&mut at_column, column_x(column));
-    let mut at_cycle = Buffer::new();
-    let cycle = digits(&mut at_cycle, u128::from(cycle));
-    put_all(writer, &[b"<text x='", x, b"'>", cycle, b"</text>\n"])
-}
-
 #[tactic(auto, unfolding(crate::specs::SvgMarks::number_at))]
 pub(crate) fn write_number<W: Write>(
     writer: &mut W,
@@ -94,7 +84,11 @@ pub(crate) fn write_number<W: Write>(
 {
     let cycle = window.first + column;
     if cycle % 10 == 0 {
-        write_number_mark(writer, column, cycle)
+        let mut at_column = Buffer::new();
+        let x = digits(&mut at_column, column_x(column));
+        let mut at_cycle = Buffer::new();
+        let cycle = digits(&mut at_cycle, u128::from(cycle));
+        put_all(writer, &[b"<text x='", x, b"'>", cycle, b"</text>\n"])
     } else {
         Ok(())
     }

@@ -19,7 +19,12 @@ fn is_older_wait(older: &Passage, number: u64, cycle: u64) -> bool
 fn has_older_wait(rows: &[Passage], number: u64, cycle: u64) -> bool
     ensures { result ≡ has_older_wait rows.now number cycle }
 {
-    rows.iter().any(|row| is_older_wait(row, number, cycle))
+    for row in rows {
+        if is_older_wait(row, number, cycle) {
+            return true;
+        }
+    }
+    false
 }
 
 /// What the oldest fetched word waits for in a cycle that dispatched nothing for a reason.

@@ -2,8 +2,8 @@ ghost use Rattle.std.specs.Prelude.{◌≡◌, ◌+◌, ◌≤◌, ◌<◌, ◌^
 ghost use Rattle.std.specs.List.{flat_map};
 ghost use Rattle.rv_drawing.specs.Cell.{has_cell};
 ghost use Rattle.rv_drawing.specs.Label.{markup_byte, statement_of};
-ghost use Rattle.rv_drawing.specs.Places.{column_x, row_y};
-ghost use Rattle.rv_drawing.specs.SvgPicture.{class_of_row, row_class, row_begin, near_text, near_address, svg_row, placed_row, rows_of, svg_rows, svg_of, svg_picture};
+ghost use Rattle.rv_drawing.specs.Places.{row_y};
+ghost use Rattle.rv_drawing.specs.SvgPicture.{class_of_row, row_class, row_begin, near_address, svg_row, placed_row, rows_of, svg_rows, svg_of, svg_picture};
 ghost use Rattle.rv_drawing.specs.Stopped.{is_stopped};
 ghost use Rattle.rv_text.specs.Line.{word_text};
 ghost use Rattle.rv_text.specs.Written.{IsWritten};
@@ -85,24 +85,6 @@ fn write_statement<W: Write>(
     write_markup(writer, statement(&mut buffer, &mut room, listing, row))
 }
 
-fn write_near_text<W: Write>(writer: &mut W, column: u64, pc: u32) -> Result<(), ReportError>
-    ensures { IsWritten result (W.contents writer.old) (W.contents writer.new) (near_text (decimal (column_x column)) (word_text pc)) }
-{
-    let mut at_column = Buffer::new();
-    let x = digits(&mut at_column, column_x(column));
-    let pc = hexadecimal(pc);
-    put_all(
-        writer,
-        &[
-            b"<text class='a' dx='-4' y='13' x='",
-            x,
-            b"'>",
-            pc.as_slice(),
-            b"</text>\n",
-        ],
-    )
-}
-
 // Writes the address again in front of the first cell, where that is far from the left.
 #[tactic(auto, unfolding(crate::specs::SvgPicture::near_address))]
 fn write_near_address<W: Write>(
@@ -114,7 +96,19 @@ fn write_near_address<W: Write>(
 {
     let column = row.fetched.saturating_sub(window.first);
     if 50 <= column {
-        write_near_text(writer, column, row.pc)
+        let mut at_column = Buffer::new();
+        let x = digits(&mut at_column, column_x(column));
+        let pc = hexadecimal(row.pc);
+        put_all(
+            writer,
+            &[
+                b"<text class='a' dx='-4' y='13' x='",
+                x,
+                b"'>",
+                pc.as_slice(),
+                b"</text>\n",
+            ],
+        )
     } else {
         Ok(())
     }

@@ -1,6 +1,6 @@
 ghost use Rattle.std.specs.Prelude.{◌++◌};
 ghost use Rattle.rv_isa.specs.Cause.{code_of};
-ghost use Rattle.rv_drawing.specs.Title.{correction_text, predicted_title, prediction_title, row_end, row_title, stale_title, title_of_row, trap_title};
+ghost use Rattle.rv_drawing.specs.Title.{correction_text, prediction_title, row_end, row_title, stale_title, title_of_row, trap_title};
 ghost use Rattle.rv_drawing.specs.Stopped.{is_stopped};
 ghost use Rattle.rv_text.specs.Line.{word_text};
 ghost use Rattle.rv_text.specs.Written.{IsWritten};
@@ -42,31 +42,20 @@ pub fn write_correction<W: Write>(
     }
 }
 
-#[tactic(auto, unfolding(crate::specs::Title::predicted_title))]
-fn write_predicted<W: Write>(
-    writer: &mut W,
-    predicted: Option<u32>,
-    correction: Option<u32>,
-) -> Result<(), ReportError>
-    ensures { IsWritten result (W.contents writer.old) (W.contents writer.new) (predicted_title predicted correction) }
+#[tactic(auto, unfolding(crate::specs::Title::prediction_title, crate::specs::Title::predicted_title))]
+fn write_prediction<W: Write>(writer: &mut W, row: &Passage) -> Result<(), ReportError>
+    ensures { IsWritten result (W.contents writer.old) (W.contents writer.new) (prediction_title row.now) }
 {
-    match predicted {
+    match row.prediction() {
         Some(predicted) => write_correction(
             writer,
             b"<title>predicted ",
             predicted,
-            correction,
+            row.correction(),
             b"</title>\n",
         ),
         None => Ok(()),
     }
-}
-
-#[tactic(auto, unfolding(crate::specs::Title::prediction_title))]
-fn write_prediction<W: Write>(writer: &mut W, row: &Passage) -> Result<(), ReportError>
-    ensures { IsWritten result (W.contents writer.old) (W.contents writer.new) (prediction_title row.now) }
-{
-    write_predicted(writer, row.prediction(), row.correction())
 }
 
 fn write_trap<W: Write>(writer: &mut W, cause: Cause) -> Result<(), ReportError>

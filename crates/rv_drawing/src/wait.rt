@@ -1,4 +1,4 @@
-ghost use Rattle.std.specs.Prelude.{◌≡◌, ◌++◌, Some, codes};
+ghost use Rattle.std.specs.Prelude.{◌≡◌, ◌++◌, codes};
 ghost use Rattle.rv_isa.specs.Instruction.{kind_of_word};
 ghost use Rattle.rv_drawing.specs.Wait.{awaited, issue_wait, one_wait, operand_wait, producer_text, result_text, second_wait, tip_of, unit_text};
 ghost use Rattle.rv_text.specs.Written.{IsWritten};
@@ -24,18 +24,8 @@ fn awaited(producer: Option<Producer>, cycle: u64) -> Option<Producer>
     ensures { result ≡ awaited cycle producer }
 {
     match producer {
-        Some(producer) => unless_past(producer, cycle),
-        None => None,
-    }
-}
-
-fn unless_past(producer: Producer, cycle: u64) -> Option<Producer>
-    ensures { result ≡ awaited cycle (Some producer) }
-{
-    if is_past(producer.broadcast, cycle) {
-        None
-    } else {
-        Some(producer)
+        Some(producer) if !is_past(producer.broadcast, cycle) => Some(producer),
+        _ => None,
     }
 }
 

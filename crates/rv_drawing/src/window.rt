@@ -1,6 +1,6 @@
 ghost use Rattle.std.specs.Prelude.{◌≡◌};
 ghost use Rattle.rv_drawing.specs.Over.{over_of};
-ghost use Rattle.rv_drawing.specs.Stopped.{is_number, is_stopped};
+ghost use Rattle.rv_drawing.specs.Stopped.{is_stopped};
 
 use rv_passage::Passage;
 
@@ -15,21 +15,15 @@ pub struct Window {
     pub stopped: Option<u64>,
 }
 
-fn is_number(stopped: Option<u64>, number: u64) -> bool
-    ensures { result ≡ is_number stopped number }
-{
-    match stopped {
-        Some(stopped) => stopped == number,
-        None => false,
-    }
-}
-
 impl Window {
     /// Whether the stale word of an instruction ended the run.
     pub(crate) fn is_stopped(self, row: &Passage) -> bool
         ensures { result ≡ is_stopped self row.now }
     {
-        is_number(self.stopped, row.number)
+        match self.stopped {
+            Some(stopped) => stopped == row.number,
+            None => false,
+        }
     }
 
     /// After how many cycles the run ended, where that was before those of the window: it has none then.
