@@ -133,7 +133,7 @@ fn write_member<W: Write>(writer: &mut W, member: Member) -> Result<(), ReportEr
 }
 
 /// Writes members of an object one after the other, each after a comma.
-pub fn write_members<W: Write>(writer: &mut W, members: &[Member]) -> Result<(), ReportError>
+pub(crate) fn write_members<W: Write>(writer: &mut W, members: &[Member]) -> Result<(), ReportError>
     ensures { IsWritten result (W.contents writer.old) (W.contents writer.new) (flat_map member_text members.now) }
 {
     for member in members {
@@ -166,7 +166,7 @@ pub(crate) fn write_front<W: Write>(
 }
 
 /// Writes an object whose members are these.
-pub fn write_object<W: Write>(
+pub(crate) fn write_object<W: Write>(
     writer: &mut W,
     name: &str,
     number: u64,

@@ -26,8 +26,7 @@ pub use entry::{broadcast, write_entry};
 pub use fetched::write_fetch_buffer;
 pub use instruction::Instructions;
 pub use json::{
-    Member, Value, write_begin, write_key, write_members, write_name, write_number, write_object,
-    write_object_member,
+    Member, Value, write_begin, write_key, write_name, write_number, write_object_member,
 };
 pub use listing::write_listing;
 pub use machine::write_header;
