@@ -1,13 +1,12 @@
-ghost use Rattle.std.specs.Prelude.{◌≡◌, ◌+◌, ◌*◌, ◌^◌, ◌≤◌, ◌<◌, [], filter, length, vec_len, vec_capacity, nat_le, ◌⊎◌, Ok, Err, IfOk, IfErr};
+ghost use Rattle.std.specs.Prelude.{◌≡◌, ◌+◌, ◌*◌, ◌^◌, ◌≤◌, ◌<◌, filter, length, vec_len, vec_capacity, nat_le, ◌⊎◌, Ok, Err, IfOk, IfErr};
 ghost use Rattle.rv_isa.specs.PerKind.{for_each};
 ghost use Rattle.rv_front.specs.FetchBuffer.{FetchesInto};
 ghost use Rattle.rv_front.specs.Predictors.{answers_of};
-ghost use Rattle.rv_rob.specs.ReorderBuffer.{cut_from, empty};
-ghost use Rattle.rv_rename.specs.Renaming.{cleared, empty as no_producers};
-ghost use Rattle.rv_stations.specs.Pool.{squashed as squashed_pool, empty_pool};
+ghost use Rattle.rv_rob.specs.ReorderBuffer.{cut_from};
+ghost use Rattle.rv_rename.specs.Renaming.{cleared};
+ghost use Rattle.rv_stations.specs.Pool.{squashed as squashed_pool};
 ghost use Rattle.rv_stores.specs.Store.{is_committed};
-ghost use Rattle.rv_units.specs.Bus.{empty_bus, squashed as squashed_bus};
-ghost use Rattle.rv_units.specs.Pool.{free_pool};
+ghost use Rattle.rv_units.specs.Bus.{squashed as squashed_bus};
 ghost use Rattle.rv_hardware.specs.Guided.{guided};
 ghost use Rattle.rv_hardware.specs.Run.{Reachable};
 ghost use Rattle.rv_hardware.specs.Reset.{reset_hardware};

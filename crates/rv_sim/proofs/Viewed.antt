@@ -1,5 +1,5 @@
 -- The views of a job's run.
-use Rattle.std.proofs.Common.{◌≡◌, ℕ, List, None, Option, refl, subst, sym}
+use Rattle.std.proofs.Common.{◌≡◌, ℕ, List, None, Option, subst, sym}
 use Rattle.std.specs.Prelude.{Err, Ok, Result}
 use Rattle.rv_arch.specs.declared.outcome.Stop.{Stop}
 use Rattle.rv_front.specs.declared.predictors.DescribedPredictor.{DescribedPredictor}

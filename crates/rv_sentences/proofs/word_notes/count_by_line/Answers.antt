@@ -2,7 +2,6 @@ use Rattle.std.proofs.Common.{◌≡◌, ◌∙◌, ◌+◌, ◌<◌, ◌≤◌,
 use Rattle.std.specs.Vec.{with_items}
 use Rattle.std.proofs.lemmas.List.{with_items_is}
 use Rattle.rv_sentences.specs.Spot.{by_line, line_counts}
-use Rattle.rv_sentences.specs.WordNotes.{Notes}
 use Rattle.rv_sentences.proofs.word_notes.count_by_line.Goals as goal
 
 items_are : (c : goal.After-counts-1) → (with_items c.counts.inside.words c.join_lines.new.counts).items ≡ c.join_lines.new.counts
