@@ -7,7 +7,7 @@ use rv_front::{
     BackwardTaken, Bimodal, DescribedPredictor, FetchStop, Fetched, Flow, Front, NotTaken,
     Predictor,
 };
-use rv_isa::{Description, Instr, PredictorKind, Values};
+use rv_isa::{Description, PredictorKind, Values};
 use rv_memory::Ram;
 use std::alloc::Global;
 use std::process::Abort;
@@ -220,12 +220,12 @@ fn a_prediction_outside_ram_halts_the_fetch_until_a_redirect(rt: HostRuntime) {
     check_taken(&rt, &mut front, entry(BASE + 4, Some(NOP), 0xffff_fffc, 3));
 }
 
-// The instruction of the word at a pc, or None where nothing was fetched.
-fn fetched_instruction(front: &mut Front, ram: &Ram, pc: u32) -> Option<Option<Instr>> {
+// The word of the instruction at a pc, which has none where it is illegal, or None where nothing was fetched.
+fn fetched_code(front: &mut Front, ram: &Ram, pc: u32) -> Option<Option<u32>> {
     front.redirect(pc);
     front.fetch(0, ram, &NotTaken);
     match front.peek() {
-        Some(fetched) => Some(fetched.instruction),
+        Some(fetched) => Some(code_of(fetched.instruction)),
         None => None,
     }
 }
@@ -241,7 +241,7 @@ fn fetch_decodes_each_word(rt: HostRuntime) {
     let ram = ram_with(&rt, rt.alloc(), &[0, 0x0000_0073]);
     let mut front = new_front(&rt, rt.alloc());
     for (pc, code) in &CASES {
-        let found = fetched_instruction(&mut front, &ram, *pc).expect(&rt, "a fetched word");
-        check_equal_at(&rt, *pc, code_of(found), *code);
+        let found = fetched_code(&mut front, &ram, *pc);
+        check_equal_at(&rt, *pc, found, Some(*code));
     }
 }

@@ -15,7 +15,7 @@ use Rattle.rv_sim.specs.CoreReport.{core_of}
 use Rattle.rv_sim.specs.declared.run_view.RunView.{RunView}
 use Rattle.rv_sim.specs.declared.run_view.RunView.TheVariants.{Picture, Log, States, Explanation, Profile}
 
--- how the run of any view but a picture ended: only a picture can begin after the end of its run
+-- how the run of any view but a picture ended: a picture alone says that its run ended before its cycles
 abbrev pub whole_run : Result Stop TextError → Result RunEnd TextError
 whole_run (Ok stop) = Ok (record { stop = stop; over = None })
 whole_run (Err error) = Err error
