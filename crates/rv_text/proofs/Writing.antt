@@ -114,3 +114,6 @@ Appends-below text place a b c front last =
 -- the address of a word by its number, as it is computed
 pub place_of_word : (address number : ℕ) → (address + number * 4 % 2 ^ 32) % 2 ^ 32 ≡ (address + 4 * number) % 2 ^ 32
 place_of_word address number = omega arith
+
+-- what is written by calls one after the other, and by loops
+pub ruleset writing = (handed_on, beginning-longer, beginning-both, written_after, Appends-nothing, Appends-at, beginning-at)
