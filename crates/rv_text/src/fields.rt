@@ -2,10 +2,12 @@ ghost use Rattle.std.specs.Prelude.{◌++◌, codes};
 ghost use Rattle.std.specs.List.{flat_map};
 ghost use Rattle.rv_text.specs.Line.{line_of, ratio_text};
 ghost use Rattle.rv_text.specs.ReadField.{cell_text, field_line};
+ghost use Rattle.rv_text.specs.Said.{Says};
 ghost use Rattle.rv_text.specs.Written.{IsWritten};
 
 use crate::digits::{hexadecimal, thousandths, three_digits};
-use crate::output::{ReportError, put_all};
+use crate::output::ReportError;
+use crate::sink::Sink;
 use itoa::Buffer;
 use std::io::Write;
 
@@ -25,87 +27,104 @@ pub struct Field<'a> {
     pub value: Value,
 }
 
-#[tactic(auto, unfolding(crate::specs::Line::line_of))]
-fn write_line<W: Write>(writer: &mut W, name: &str, text: &[u8]) -> Result<(), ReportError>
-    ensures { IsWritten result (W.contents writer.old) (W.contents writer.new) (line_of name.now text.now) }
-{
-    put_all(writer, &[name.as_bytes(), b" ", text, b"\n"])
-}
-
-#[tactic(auto, unfolding(crate::specs::Line::line_of, crate::specs::Line::ratio_text))]
-fn write_ratio<W: Write>(
-    writer: &mut W,
-    name: &str,
-    count: u64,
-    each: u64,
-) -> Result<(), ReportError>
-    ensures { IsWritten result (W.contents writer.old) (W.contents writer.new) (line_of name.now (ratio_text count each)) }
-{
-    let name = name.as_bytes();
-    if each == 0 {
-        return put_all(writer, &[name, b" ", b"-", b"\n"]);
+impl<'a, W: Write> Sink<'a, W> {
+    #[tactic(auto, unfolding(crate::specs::Line::line_of))]
+    fn put_line(&mut self, name: &str, text: &[u8])
+        ensures { Says W.contents self.old self.new (line_of name.now text.now) }
+    {
+        self.put_all(&[name.as_bytes(), b" ", text, b"\n"])
     }
-    let mut buffer = Buffer::new();
-    let whole = buffer.format(count / each).as_bytes();
-    let digits = three_digits(thousandths(count, each));
-    put_all(writer, &[name, b" ", whole, b".", digits.as_slice(), b"\n"])
-}
 
-fn write_field<W: Write>(writer: &mut W, field: Field<'_>) -> Result<(), ReportError>
-    ensures { IsWritten result (W.contents writer.old) (W.contents writer.new) (field_line field.entry) }
-{
-    match field.value {
-        Value::Count(count) => {
-            let mut buffer = Buffer::new();
-            write_line(writer, field.name, buffer.format(count).as_bytes())
+    #[tactic(auto, unfolding(crate::specs::Line::line_of, crate::specs::Line::ratio_text))]
+    fn put_ratio(&mut self, name: &str, count: u64, each: u64)
+        ensures { Says W.contents self.old self.new (line_of name.now (ratio_text count each)) }
+    {
+        let name = name.as_bytes();
+        if each == 0 {
+            return self.put_all(&[name, b" ", b"-", b"\n"]);
         }
-        Value::Word(word) => write_line(writer, field.name, hexadecimal(word).as_slice()),
-        Value::Ratio { count, each } => write_ratio(writer, field.name, count, each),
+        let mut buffer = Buffer::new();
+        let whole = buffer.format(count / each).as_bytes();
+        let digits = three_digits(thousandths(count, each));
+        self.put_all(&[name, b" ", whole, b".", digits.as_slice(), b"\n"])
+    }
+
+    fn put_field(&mut self, field: Field<'_>)
+        ensures { Says W.contents self.old self.new (field_line field.entry) }
+    {
+        match field.value {
+            Value::Count(count) => {
+                let mut buffer = Buffer::new();
+                self.put_line(field.name, buffer.format(count).as_bytes())
+            }
+            Value::Word(word) => self.put_line(field.name, hexadecimal(word).as_slice()),
+            Value::Ratio { count, each } => self.put_ratio(field.name, count, each),
+        }
+    }
+
+    /// Says lines one after the other.
+    #[tactic(auto, using(crate::proofs::Saying::saying))]
+    pub fn put_fields(&mut self, fields: &[Field<'_>])
+        ensures { Says W.contents self.old self.new (flat_map field_line fields.now) }
+    {
+        for field in fields {
+            self.put_field(*field);
+        }
+    }
+
+    fn put_cell(&mut self, value: Value)
+        ensures { Says W.contents self.old self.new (cell_text value) }
+    {
+        match value {
+            Value::Count(count) => {
+                let mut buffer = Buffer::new();
+                self.put_all(&[buffer.format(count).as_bytes(), b"\t"])
+            }
+            Value::Word(word) => self.put_all(&[hexadecimal(word).as_slice(), b"\t"]),
+            Value::Ratio { count, each } => self.put_ratio_cell(count, each),
+        }
+    }
+
+    #[tactic(auto, unfolding(crate::specs::Line::ratio_text))]
+    fn put_ratio_cell(&mut self, count: u64, each: u64)
+        ensures { Says W.contents self.old self.new (ratio_text count each ++ codes "\t") }
+    {
+        if each == 0 {
+            return self.put_all(&[b"-", b"\t"]);
+        }
+        let mut buffer = Buffer::new();
+        let whole = buffer.format(count / each).as_bytes();
+        let digits = three_digits(thousandths(count, each));
+        self.put_all(&[whole, b".", digits.as_slice(), b"\t"])
+    }
+
+    /// Says cells of a table's line, a tab after each one.
+    #[tactic(auto, using(crate::proofs::Saying::saying))]
+    pub fn put_cells(&mut self, values: &[Value])
+        ensures { Says W.contents self.old self.new (flat_map cell_text values.now) }
+    {
+        for value in values {
+            self.put_cell(*value);
+        }
     }
 }
 
-/// Writes lines one after the other.
+/// Writes lines as [`Sink::put_fields`] says them.
+#[tactic(auto, using(crate::proofs::Saying::says_written))]
 pub fn write_fields<W: Write>(writer: &mut W, fields: &[Field<'_>]) -> Result<(), ReportError>
     ensures { IsWritten result (W.contents writer.old) (W.contents writer.new) (flat_map field_line fields.now) }
 {
-    for field in fields {
-        write_field(writer, *field)?;
-    }
-    Ok(())
+    let mut out = Sink::new(writer);
+    out.put_fields(fields);
+    out.outcome()
 }
 
-fn write_cell<W: Write>(writer: &mut W, value: Value) -> Result<(), ReportError>
-    ensures { IsWritten result (W.contents writer.old) (W.contents writer.new) (cell_text value) }
-{
-    match value {
-        Value::Count(count) => {
-            let mut buffer = Buffer::new();
-            put_all(writer, &[buffer.format(count).as_bytes(), b"\t"])
-        }
-        Value::Word(word) => put_all(writer, &[hexadecimal(word).as_slice(), b"\t"]),
-        Value::Ratio { count, each } => write_ratio_cell(writer, count, each),
-    }
-}
-
-#[tactic(auto, unfolding(crate::specs::Line::ratio_text))]
-fn write_ratio_cell<W: Write>(writer: &mut W, count: u64, each: u64) -> Result<(), ReportError>
-    ensures { IsWritten result (W.contents writer.old) (W.contents writer.new) (ratio_text count each ++ codes "\t") }
-{
-    if each == 0 {
-        return put_all(writer, &[b"-", b"\t"]);
-    }
-    let mut buffer = Buffer::new();
-    let whole = buffer.format(count / each).as_bytes();
-    let digits = three_digits(thousandths(count, each));
-    put_all(writer, &[whole, b".", digits.as_slice(), b"\t"])
-}
-
-/// Writes cells of a table's line, a tab after each one.
+/// Writes cells as [`Sink::put_cells`] says them.
+#[tactic(auto, using(crate::proofs::Saying::says_written))]
 pub fn write_cells<W: Write>(writer: &mut W, values: &[Value]) -> Result<(), ReportError>
     ensures { IsWritten result (W.contents writer.old) (W.contents writer.new) (flat_map cell_text values.now) }
 {
-    for value in values {
-        write_cell(writer, *value)?;
-    }
-    Ok(())
+    let mut out = Sink::new(writer);
+    out.put_cells(values);
+    out.outcome()
 }

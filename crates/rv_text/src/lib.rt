@@ -11,5 +11,5 @@ mod sink;
 pub use digits::{hexadecimal, three_digits};
 pub use fields::{Field, Value, write_cells, write_fields};
 pub use output::{ReportError, TextError, put, put_all};
-pub use plain::{front, say_plain_byte, write_plain, write_plain_byte};
+pub use plain::{front, write_plain, write_plain_byte};
 pub use sink::Sink;
