@@ -45,6 +45,11 @@ module _ {W : Type 0} {contents : W → Option (List ℕ)} where
   pub says_below : {a b c : Sink W} (text : ℕ → List ℕ) (place : ℕ) → Says contents a b (texts_below text place) → Says contents b c (text place) → Says contents a c (texts_below text (place + 1))
   says_below text place front last = says_same (sym (ap (texts_below text) (add-one place) ∙ texts_below-more text place)) (says_both front last)
 
+  -- the text of an item more, by its place
+  pub says_item : {X : Type 0} {a b c : Sink W} (text : X → List ℕ) (items : List X) (place : ℕ) (item : X) → place < length items
+      → Says contents a b (flat_map text (take place items)) → Says contents b c (text item) → item ≡ get_or items place item → Says contents a c (flat_map text (take (place + 1) items))
+  says_item text items place item here front last is = says_at text items place item here front (says_same (ap text is) last)
+
   -- all of the texts
   pub says_all : {X : Type 0} {a b : Sink W} (text : X → List ℕ) (items : List X) (place : ℕ) → length items ≤ place → Says contents a b (flat_map text (take place items)) → Says contents a b (flat_map text items)
   says_all text items place past said = says_same (ap (flat_map text) (take_all place items past)) said
@@ -62,7 +67,8 @@ module _ {W : Type 0} {contents : W → Option (List ℕ)} where
   says_more (Ok done) a b text same whole is wrote = record { same = same; grows = λ before first said. rw is (Appends-both before (contents a.writer.now) (contents b.writer.now) first text (rw whole at said) wrote) }
   says_more (Err error) a b text same whole is wrote = record { same = same; grows = λ before first said. rw is (beginning-both before (contents a.writer.now) (contents b.writer.now) first text (rw whole at said) wrote) }
 
-  said_whole : {a b : Sink W} {text : List ℕ} → Says contents a b text → a.has_failed ≡ false → IsSaid b.has_failed (contents a.writer.now) (contents b.writer.now) text
+  -- what is written that began with nothing failed
+  pub said_whole : {a b : Sink W} {text : List ℕ} → Says contents a b text → a.has_failed ≡ false → IsSaid b.has_failed (contents a.writer.now) (contents b.writer.now) text
   said_whole {a = a} says whole = says.grows (contents a.writer.now) [] (rw whole (Appends-nothing (contents a.writer.now)))
 
   -- what a call has written that began with nothing failed
@@ -76,4 +82,4 @@ module _ {W : Type 0} {contents : W → Option (List ℕ)} where
   says_text {a = a} {b = b} {text = text} Is answer is whole says = answered_text Is answer text b.has_failed (contents a.writer.now) (contents b.writer.now) is (said_whole says whole)
 
 -- what is said by calls one after the other, and by loops
-pub ruleset saying = (says_nothing, says_both, says_at, says_all)
+pub ruleset saying = (says_nothing, says_both, says_at, says_item, says_all)
