@@ -3,6 +3,8 @@
     import rv_sim
     run = rv_sim.run("li a0, 5\\nebreak\\n", {"rob": 4}, trace=True)
     run.stop, run.cycles, run.registers["a0"], run.steps[0].commit
+    run.frame(hexadecimal=True)                             # the trace for pandas
+    rv_sim.profile(text), rv_sim.states(text, cycles=20)    # rows, and the hardware's states, as dictionaries
 
 The program is the one that the environment variable RV_SIM names, else `rv_sim` on the path, else the one of the repository that this
 file stands in. A description is a TOML text or a dictionary of keys; arrivals are a TOML text.
@@ -12,20 +14,29 @@ import os
 import re
 import shutil
 import subprocess
+import sys
 import tomllib
 from dataclasses import dataclass, field
 from pathlib import Path
 
 ABI = ("zero ra sp gp tp t0 t1 t2 s0 s1 a0 a1 a2 a3 a4 a5 a6 a7 s2 s3 s4 s5 s6 s7 s8 s9 s10 s11 t3 t4 t5 t6").split()
 MOST_MACHINES = 64
+# Columns of tables that are texts, and those that the program prints as eight hexadecimal digits.
+TEXTS = {"statement", "name", "stop", "kind"}
+HEXADECIMAL = {"address", "pc", "word", "value", "cause"}
 
 
 class Failed(Exception):
-    """The program refused the job or failed: its line, and its exit status."""
+    """The program refused the job or failed: its line, its exit status, and what `explain` shows of a refused job: line, caret and expectation."""
 
-    def __init__(self, line, status):
-        super().__init__(line)
-        self.line, self.status = line, status
+    def __init__(self, line, status, shown=()):
+        super().__init__("\n".join([line, *shown]))
+        self.line, self.status, self.shown = line, status, list(shown)
+
+
+def register_number(name):
+    """The number of a register, by its name: x10 or a0."""
+    return ABI.index(name) if name in ABI else 8 if name == "fp" else int(name.removeprefix("x"))
 
 
 @dataclass
@@ -48,9 +59,7 @@ class Registers(list):
     """The 32 registers, by number or by name: registers[10], registers["x10"], registers["a0"]."""
 
     def __getitem__(self, which):
-        if isinstance(which, str):
-            which = ABI.index(which) if which in ABI else 8 if which == "fp" else int(which.removeprefix("x"))
-        return super().__getitem__(which)
+        return super().__getitem__(register_number(which) if isinstance(which, str) else which)
 
 
 @dataclass
@@ -77,10 +86,24 @@ class Run:
     def cpi(self):
         return self.cycles / self.retired if self.retired else None
 
-    def frame(self):
-        """The trace as a table of pandas, which must be installed."""
-        import pandas
-        return pandas.DataFrame([vars(it) for it in self.steps], columns=list(Step.__dataclass_fields__))
+    def frame(self, hexadecimal=False):
+        """The trace as a table of pandas, which must be installed; see `frame`."""
+        return frame([vars(it) for it in self.steps], hexadecimal, list(Step.__dataclass_fields__))
+
+
+def frame(rows, hexadecimal=False, columns=None):
+    """Rows as a table of pandas, which must be installed: numbers as whole numbers where all are, with pandas.NA for None. Addresses, words
+    and causes as eight hexadecimal digits on request, as the program prints them."""
+    import pandas
+    table = pandas.DataFrame(rows, columns=columns)
+    for name in table.columns:
+        if hexadecimal and name in HEXADECIMAL:
+            table[name] = table[name].map(lambda it: pandas.NA if pandas.isna(it) else f"{int(it):08x}").astype("string")
+        elif name == "cpi" or name.endswith("_mean"):
+            table[name] = table[name].astype("Float64")
+        else:
+            table[name] = table[name].astype("string" if name in TEXTS else "Int64")
+    return table
 
 
 def program():
@@ -114,12 +137,23 @@ def job(assembly, description=None, arrivals=None):
     return assembly if description is None else f"{toml(description)}\n%%\n{assembly}"
 
 
+def started(words, text):
+    return subprocess.run([program(), *map(str, words)], input=text.encode(errors="surrogateescape"), capture_output=True, check=False)
+
+
 def call(words, text):
     """Runs the program with these words and this input, and gives what it prints."""
-    done = subprocess.run([program(), *map(str, words)], input=text.encode(), capture_output=True, check=False)
+    done = started(words, text)
     if done.returncode not in (0, 3):
-        raise Failed(done.stderr.decode(errors="replace").strip(), done.returncode)
+        shown = refusal(text) if done.returncode == 1 and words[0] != "compare" else []
+        raise Failed(done.stderr.decode(errors="replace").strip(), done.returncode, shown)
     return done.stdout.decode(errors="replace")
+
+
+def refusal(text):
+    """The lines of `explain` about a job that is refused: the line at fault with a caret below it, and what was expected."""
+    done = started(["explain", "--limit", "1"], text)
+    return done.stdout.decode(errors="replace").splitlines() if done.returncode == 1 else []
 
 
 def limit_words(limit):
@@ -136,13 +170,46 @@ def explain(assembly, description=None, *, arrivals=None, limit=None):
     return call(["explain", *limit_words(limit)], job(assembly, description, arrivals)).splitlines()
 
 
+def profile(assembly, description=None, *, arrivals=None, limit=None):
+    """The rows of `profile`, as dictionaries: numbers as numbers, None where the table has a hyphen or nothing; the statement is a text."""
+    return numbers(read_table(call(["profile", *limit_words(limit)], job(assembly, description, arrivals))))
+
+
+def states(assembly, description=None, *, arrivals=None, first=None, cycles=None):
+    """The lines of `states`, as dictionaries (docs/STATES.md): the hardware in `cycles` cycles from `first` on."""
+    words = [*(["--from", first] if first is not None else []), *(["--cycles", cycles] if cycles is not None else [])]
+    return [json.loads(it) for it in call(["states", *words], job(assembly, description, arrivals)).splitlines()]
+
+
 def compare(assembly, descriptions, *, limit=None):
-    """The rows of `compare`, as dictionaries of texts: one for each description, of which there may be any number."""
+    """The rows of `compare`, as dictionaries: one for each description, of which there may be any number."""
     rows = []
     for i in range(0, len(descriptions), MOST_MACHINES):
-        block = "".join(f"{toml(it)}\n%%\n" for it in descriptions[i:i + MOST_MACHINES])
-        rows += read_table(call(["compare", *limit_words(limit)], block + assembly))
-    return [{**row, "number": str(i)} for i, row in enumerate(rows, 1)]
+        block = descriptions[i:i + MOST_MACHINES]
+        text = "".join(f"{toml(it)}\n%%\n" for it in block) + assembly
+        try:
+            rows += numbers(read_table(call(["compare", *limit_words(limit)], text)))
+        except Failed as fault:
+            which = re.match(r"error: .*description (\d+)", fault.line)
+            if not which:
+                raise
+            number = int(which[1])
+            line = fault.line.replace(f"description {number}", f"description {i + number}", 1)
+            raise Failed(line, fault.status, refusal(job(assembly, block[number - 1]))) from None
+    return [{**row, "number": i} for i, row in enumerate(rows, 1)]
+
+
+def numbers(rows):
+    """The rows of a table with its numbers as numbers, addresses too."""
+    return [{name: number(name, text) for name, text in row.items()} for row in rows]
+
+
+def number(name, text):
+    if name in TEXTS:
+        return text
+    if text in ("", "-"):
+        return None
+    return int(text, 16) if name in HEXADECIMAL else float(text) if "." in text else int(text)
 
 
 def read_table(text):
@@ -191,3 +258,17 @@ def read_step(kind, cells):
         step.cause = int(cells[1], 16)
         step.value = int(cells[2], 16) if kind == "T" else None
     return step
+
+
+def interruptible(main):
+    """The status of a script's main function; Ctrl-C and a reader that left end it with no traceback."""
+    try:
+        status = main()
+        sys.stdout.flush()
+        return status
+    except KeyboardInterrupt:
+        return 130
+    except BrokenPipeError:
+        # What is not yet written goes nowhere.
+        os.dup2(os.open(os.devnull, os.O_WRONLY), sys.stdout.fileno())
+        return 141
