@@ -272,3 +272,14 @@ def interruptible(main):
         # What is not yet written goes nowhere.
         os.dup2(os.open(os.devnull, os.O_WRONLY), sys.stdout.fileno())
         return 141
+
+
+def read_job():
+    """The job on a script's standard input."""
+    return sys.stdin.buffer.read().decode(errors="surrogateescape")
+
+
+def tell(script, fault):
+    """Says on standard error what was refused, as the program does, and what `explain` shows of it. The script's status."""
+    print(f"{script}: {fault.line or f'status {fault.status}'}", *fault.shown, sep="\n", file=sys.stderr)
+    return fault.status if fault.status > 0 else 1
