@@ -1,0 +1,59 @@
+// One program on several machines: the job's own first, and further ones, which stand in a text with a line %% between two.
+const furtherText = () => editors.machines.text;
+const comparedInput = (job) => comparison(job, furtherText());
+
+function addMachines(texts) {
+  const before = furtherText();
+  editors.machines.text = before + (before.trim() === "" ? "" : ended(before) + "%%\n").slice(before.length) + texts.map(ended).join("%%\n");
+  jobChanged();
+}
+
+// A machine for each value of a key, where each else is the job's own.
+function addValues(key, values) {
+  const description = editors.description.text.replace(/^# name:.*\n/, "");
+  const texts = values.map((value) => "# name: " + key + " = " + value + "\n" + withKey(description, key, value));
+  addMachines(texts.slice(0, 63));
+}
+
+function makeComparison() {
+  const machines = byId("add-machine");
+  for (const name of Object.keys(EXAMPLES).filter((each) => each.startsWith("machines/"))) machines.add(new Option(name.slice(9), name));
+  machines.onchange = () => {
+    const name = machines.value;
+    machines.selectedIndex = 0;
+    if (EXAMPLES[name]) addMachines([/^# name:/.test(EXAMPLES[name]) ? EXAMPLES[name] : "# name: " + name.slice(9) + "\n" + EXAMPLES[name]]);
+  };
+  for (const row of KEYS) byId("sweep-key").add(new Option(row.key));
+  byId("sweep-key").value = "rob";
+  const values = () => byId("sweep-values").value.split(/[\s,]+/).filter(Boolean).map((each) => (/^\d+$/.test(each) ? Number(each) : each === "true" ? true : each === "false" ? false : each));
+  byId("sweep").onclick = () => addValues(byId("sweep-key").value, values());
+  byId("sweep-values").onkeydown = (event) => { if (event.key === "Enter") byId("sweep").click(); };
+  byId("no-machines").onclick = () => { editors.machines.text = ""; jobChanged(); };
+}
+
+const machinesOf = (job, machines) => [job.description, ...(machines.trim() === "" ? [] : machines.replace(/^%%\r?\n?$(?![^])/m, "").split(/^%%\r?\n/m))];
+
+// What a machine without a name has that not all of them have.
+function ownValues(all, at) {
+  const own = all[at];
+  if (!own) return "machine " + (at + 1);
+  const keys = [...own.keys()].filter((key) => all.some((other) => other.get(key) !== own.get(key)));
+  return keys.length === 0 ? "the job's machine" : keys.slice(0, 3).map((key) => key + " " + own.get(key)).join(", ") + (keys.length > 3 ? ", .." : "");
+}
+
+function showComparison({ output }) {
+  const lines = textOf(output).trimEnd().split("\n"), names = lines[0].split("\t");
+  const cycles = names.indexOf("cycles"), first = Number((lines[1] || "").split("\t")[cycles]);
+  const most = Math.max(1, ...lines.slice(1).map((line) => Number(line.split("\t")[cycles]) || 0));
+  const name = names.indexOf("name"), number = names.indexOf("number");
+  const all = machinesOf(jobNow(), furtherText()).map((text) => valuesOf(text, KEYS));
+  const label = (cells) => (name >= 0 && cells[name] !== "-" ? cells[name] : ownValues(all, Number(cells[number]) - 1));
+  const rows = lines.slice(1).map((line) => line.split("\t")).map((cells) => {
+    const count = Number(cells[cycles]);
+    return [label(cells), element("span", { className: "by" }, element("span", { className: "bar less", style: "width: " + (100 * count) / most + "%" })), grouped(count), count === first ? "" : signed(count - first)];
+  });
+  const bars = sheet(["", "", "cycles", "by"], rows, "Cycles of each machine");
+  bars.classList.add("bars");
+  byId("shown").append(bars, element("h3", { textContent: "All counts" }), tableOf(lines, (cell) => element("td", { className: isFigure(cell) ? "figure" : "words", textContent: cell })));
+  if (editors.arrivals.text.trim() !== "") byId("shown").append(element("p", { className: "note", textContent: "A comparison takes no arrivals." }));
+}

@@ -1,0 +1,89 @@
+// An editor: a textarea, and behind it the lines that are seen, with their colours, numbers and faults. Only those are drawn, so that a text
+// may be long; where a line is too long for that, the textarea shows its own text.
+const LINE = 20;          // pixels, as in editor.css
+const LONGEST_LINE = 2000;
+
+class Editor {
+  constructor(root, wordsOf, changed) {
+    this.root = root;
+    this.area = root.querySelector("textarea");
+    this.wordsOf = wordsOf;
+    this.numbers = element("div");
+    this.gutter = element("div", { className: "numbers", "aria-hidden": "true" }, this.numbers);
+    this.behind = element("div", { className: "behind", "aria-hidden": "true" });
+    this.faults = new Map();
+    root.prepend(this.gutter);
+    this.area.before(this.behind);
+    this.area.maxLength = MOST_TEXT;
+    this.area.addEventListener("input", () => { this.read(); changed(); });
+    this.area.addEventListener("scroll", () => this.draw());
+    this.area.addEventListener("paste", (event) => this.refuseLong(event, event.clipboardData));
+    this.area.addEventListener("drop", (event) => { if (event.dataTransfer.files.length === 0) this.refuseLong(event, event.dataTransfer); });
+    new ResizeObserver(() => this.draw()).observe(this.area);
+    this.read();
+  }
+
+  get text() { return this.area.value; }
+
+  set text(text) {
+    if (this.area.value === text) return;
+    this.area.value = text;
+    this.read();
+  }
+
+  refuseLong(event, data) {
+    const text = data.getData("text"), why = whyTooLong(text) || (text.length + this.area.textLength > MOST_TEXT ? whyTooLong(this.text + text) : "");
+    if (why === "") return;
+    event.preventDefault();
+    say("A text was refused: " + why + ".", true);
+  }
+
+  read() {
+    this.lines = this.area.value.split("\n");
+    this.mark([]);
+  }
+
+  // Marks lines that have a fault: { line, from, to }, where the columns may be missing.
+  mark(faults) {
+    this.faults = new Map(faults.map((fault) => [fault.line, fault]));
+    this.root.classList.toggle("bad", faults.length > 0);
+    this.area.setAttribute("aria-invalid", String(faults.length > 0));
+    this.draw();
+  }
+
+  draw() {
+    const { scrollTop, scrollLeft, clientHeight } = this.area;
+    const first = Math.floor(scrollTop / LINE), last = Math.min(this.lines.length, first + Math.ceil(clientHeight / LINE) + 1);
+    const seen = this.lines.slice(first, last);
+    this.root.classList.toggle("plain", seen.some((line) => line.length > LONGEST_LINE));
+    this.gutter.style.width = String(this.lines.length).length + 1 + "ch";
+    this.numbers.replaceChildren(...seen.map((_, k) => this.number(first + k + 1)));
+    this.behind.replaceChildren(...seen.map((line, k) => this.line(line, first + k + 1)));
+    this.numbers.style.top = this.behind.style.top = first * LINE - scrollTop + "px";
+    this.behind.style.left = -scrollLeft + "px";
+  }
+
+  number(line) { return element("div", { textContent: line, className: this.faults.has(line) ? "bad" : "" }); }
+
+  line(text, line) {
+    const fault = this.faults.get(line), made = element("div", { className: fault ? "bad" : "" });
+    if (text.length > LONGEST_LINE) return made;
+    let at = 0;
+    for (const [kind, word] of this.wordsOf(text.replace(/\r$/, ""))) {
+      const isBad = fault && fault.from !== undefined && at < fault.to && at + word.length > fault.from;
+      if (kind === "" && !isBad) made.append(word);
+      else made.append(element("span", { className: kind + (isBad ? " wrong" : ""), textContent: word }));
+      at += word.length;
+    }
+    return made;
+  }
+
+  // Puts the cursor there, and shows it.
+  goTo(line, column = 0) {
+    let at = column;
+    for (let k = 0; k < line - 1 && k < this.lines.length; k += 1) at += this.lines[k].length + 1;
+    this.area.focus();
+    this.area.setSelectionRange(at, at);
+    this.area.scrollTop = Math.max(0, (line - 1) * LINE - this.area.clientHeight / 3);
+  }
+}

@@ -1,0 +1,39 @@
+// Why a job is refused: the fault's line, and what `explain` says of it. Each fault has its part, its line and, where a caret stands, its column.
+const PLACE = /^line \d+ of the job, line (\d+) of its (description|arrivals|assembly)/;
+
+class Refusal {
+  constructor(errors, explanation, job) {
+    this.errors = errors.trim();
+    this.part = (/^error: (description|arrivals|assembly)/.exec(this.errors) || [])[1] || "assembly";
+    this.faults = [];
+    const lines = explanation.split("\n"), caret = lines.findIndex((line) => /^ +\^/.test(line));
+    lines.forEach((line, k) => {
+      const found = PLACE.exec(line);
+      if (!found || found[2] !== this.part) return;
+      const fault = { line: Number(found[1]) };
+      if (caret === k + 2) this.putColumns(fault, lines[k + 1], lines[caret], job[this.part].split("\n")[fault.line - 1] || "");
+      this.faults.push(fault);
+    });
+    this.text = this.errors + (explanation.trim() ? "\n" + explanation.trimEnd() : "");
+    if (this.faults.length === 0) this.guess(job);
+  }
+
+  // The shown line stands behind four blanks; from the caret on the columns are those of the token.
+  putColumns(fault, shown, caret, source) {
+    const at = Math.max(0, source.indexOf(shown.slice(4).trimEnd()));
+    fault.from = at + caret.indexOf("^") - 4;
+    const token = /^(?:"(?:\\.|[^"\\])*"?|[^\s,()#]+|.)/.exec(source.slice(fault.from));
+    fault.to = fault.from + (token ? token[0].length : 1);
+  }
+
+  // Of a text that is no TOML the program names no line: the page looks for the first that its form cannot read.
+  guess(job) {
+    const line = (/^error: assembly line (\d+)/.exec(this.errors) || [])[1];
+    if (line) this.faults = [{ line: Number(line) }];
+    if (!/NotToml/.test(this.errors)) return;
+    const read = readToml(job[this.part]).line;
+    if (read === 0) return;
+    this.faults = [{ line: read }];
+    this.text += "\nThe form of this page can read no further than line " + read + ": " + job[this.part].split("\n")[read - 1].trim().slice(0, 80);
+  }
+}

@@ -1,0 +1,23 @@
+// The page to step through a run, as `page` prints it, in a frame that has no rights of this page: its scripts run apart, and say by a
+// message where they stand. TELL stands before them; it is no part of what is saved.
+const TELL = byId("tell").textContent;
+let followed = "";
+let seenCycle;
+
+function showPage({ output }) {
+  const html = textOf(output), head = html.indexOf("<head>") + "<head>".length;
+  const url = urlOf(html.slice(0, head) + "<script>" + TELL + "</" + "script>" + html.slice(head), "text/html");
+  const place = [seenCycle === undefined ? "" : "cycle=" + seenCycle, followed === "" ? "" : "follow=" + followed].filter(Boolean).join("&");
+  const frame = element("iframe", { title: "the run, cycle by cycle: the arrow keys step; ? has all keys", sandbox: "allow-scripts", id: "stepper", src: url + (place ? "#" + place : "") });
+  frame.onload = () => { if (document.activeElement === document.body || document.activeElement === byId("tab-steps")) frame.focus(); };
+  byId("shown").append(frame);
+}
+
+addEventListener("message", (event) => {
+  const frame = byId("stepper"), told = event.data;
+  if (!frame || event.source !== frame.contentWindow || !told || typeof told !== "object") return;
+  if (/^-?\d{1,7}$/.test(told.cycle)) seenCycle = told.cycle;
+  if (told.place !== undefined) followed = (/follow=(\d{1,9})/.exec(String(told.place).slice(0, 200)) || ["", ""])[1];
+  if (/^(Enter|[\d0jJ])$/.test(told.key)) shortcut(told.key);
+  else writeAddress();
+});

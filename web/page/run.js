@@ -1,0 +1,126 @@
+// What happens when the job changes: it is checked while one types, run, and shown. A later change ends what an earlier one began.
+const PROBE = 20000; // cycles of a first call, which tells how long a long run will take
+let runner, checker, turn = 0, results = new Map(), isStale = false;
+
+function showFault(refusal) {
+  for (const part of PARTS) {
+    const box = byId("fault-" + part), isHere = refusal !== undefined && refusal.part === part;
+    box.hidden = !isHere;
+    box.textContent = isHere ? refusal.text : "";
+    editors[part].mark(isHere ? refusal.faults : []);
+  }
+  const key = refusal && (/^error: description: \w+ (\S+)/.exec(refusal.errors) || [])[1];
+  for (const [name, { field }] of form.fields) field.setAttribute("aria-invalid", String(name === key));
+  if (refusal && refusal.part === "arrivals") byId("arrivals").open = true;
+}
+
+// Asks the program whether it takes the job; answers so.
+async function isTaken(job) {
+  const made = await checker.call(["explain", "--limit", "1"], joined(job), 10);
+  if (made.stopped || !sameJob(job, jobNow())) return false;
+  const why = trouble(made);
+  if (why !== "") { showFault(undefined); say(why, true); return false; }
+  const refusal = made.status === 1 ? new Refusal(textOf(made.errors), textOf(made.output), job) : undefined;
+  showFault(refusal);
+  if (refusal) say("Refused: " + refusal.errors.replace(/^error: /, "") + ".", true);
+  return refusal === undefined;
+}
+
+function setBusy(isBusy) {
+  byId("stop").disabled = !isBusy;
+  byId("result").setAttribute("aria-busy", String(isBusy));
+  if (!isBusy) expectFor(0);
+}
+
+// A bar for what will take longer than a moment.
+let ticking;
+function expectFor(ms) {
+  clearInterval(ticking);
+  const bar = byId("progress"), began = performance.now();
+  bar.hidden = ms < 300;
+  bar.value = 0;
+  if (ms >= 300) ticking = setInterval(() => { bar.value = Math.min(0.98, (performance.now() - began) / ms); }, 100);
+}
+
+// A run up to the limit. A long one is begun by a short one, which is all where the program ends in it.
+async function wholeRun(text) {
+  const most = limit();
+  if (most <= PROBE) return runner.call(["run", "--limit", String(most)], text);
+  const first = await runner.call(["run", "--limit", String(PROBE)], text);
+  if (first.status !== 0 || countsOf(textOf(first.output.subarray(0, 400))).get("stop") !== "limit") return first;
+  const expected = (first.ms * most) / PROBE;
+  expectFor(expected);
+  if (expected >= 300) say("Running up to " + counted(most, "cycle") + ", about " + Math.ceil(expected / 1000) + " s");
+  return runner.call(["run", "--limit", String(most)], text);
+}
+
+function setStale(on) {
+  isStale = on;
+  byId("result").classList.toggle("stale", on);
+}
+
+function showSummary(report, ms) {
+  const counts = countsOf(report), stop = counts.get("stop");
+  const why = stop === "breakpoint" ? "" : stop === "limit" ? "cut off at " + counted(Number(counts.get("cycles")), "cycle") + ", see Explain" : "stop " + stop;
+  byId("summary").replaceChildren(
+    element("b", { textContent: grouped(counts.get("cycles")) }), " cycles", element("b", { textContent: grouped(counts.get("retired")) }), " retired",
+    element("b", { textContent: counts.get("cpi") }), " CPI", ...(why ? [element("em", { textContent: why })] : []));
+  byId("changed").textContent = changeText();
+  say("Done in " + Math.max(1, Math.round(ms)) + " ms.");
+}
+
+// Runs the job, and shows it by the chosen tab. While one types and nothing is to run by itself, it is checked alone.
+async function run(isTyped) {
+  const mine = (turn += 1), job = jobNow(), text = joined(job);
+  runner.stop();
+  checker.stop();
+  setBusy(true);
+  setStale(true);
+  const isGood = await isTaken(job);
+  if (mine !== turn) return;
+  if (!isGood || (isTyped && !byId("auto").checked)) {
+    setBusy(false);
+    if (isGood) say("The program takes the job. Run it to see it.");
+    return;
+  }
+  const made = await wholeRun(text), why = trouble(made);
+  if (mine !== turn) return;
+  if (why !== "" || made.status === 1) {
+    say(why || textOf(made.errors).trim(), true);
+    return setBusy(false);
+  }
+  results = new Map();
+  remember(job, textOf(made.output));
+  setStale(false);
+  showSummary(textOf(made.output), made.ms);
+  await showView(mine);
+}
+
+// What the chosen tab's command prints of the job; kept until the job changes.
+async function resultOf(view, mine) {
+  const words = wordsOf(view), text = view.input ? view.input(jobNow()) : joined(jobNow()), key = words.join(" ") + "\n" + text;
+  if (results.has(key)) return results.get(key);
+  setBusy(true);
+  const made = await runner.call(words, text);
+  if (mine === turn) setBusy(false);
+  if (made.status !== undefined && !made.cut) results.set(key, made);
+  return made;
+}
+
+async function showView(mine = (turn += 1)) {
+  const view = currentView;
+  if (history_.now === undefined || isStale) return;
+  const made = await resultOf(view, mine);
+  if (mine !== turn || view !== currentView) return;
+  clearShown();
+  setBusy(false);
+  const why = trouble(made) || (made.status === 1 ? textOf(made.errors).trim() : "");
+  if (why !== "") { byId("shown").append(element("p", { className: "note fault", textContent: why })); say(why, true); }
+  if (why === "" || made.cut) await view.show(made);
+  document.documentElement.dataset.shown = view.name;
+  document.documentElement.dataset.turn = mine;
+}
+
+function saveView() {
+  resultOf(currentView, turn).then((made) => { if (made.output) save(currentView.file, made.output); });
+}

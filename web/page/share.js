@@ -1,0 +1,92 @@
+// The address holds the job, as long as it is not too long for that: so a link shares it, and going back or loading again loses nothing.
+// After #: example=NAME or job=DEFLATED, machines=DEFLATED, view, limit, from, cycles of a view, retired, cycle and follow.
+let exampleName = "", addressed = "";
+
+function optionWords() {
+  const words = [];
+  if (limit() !== 100000) words.push("limit=" + limit());
+  for (const [key, value] of Object.entries(chosen)) if (value !== 0 && value !== false) words.push(key + "=" + (value === true ? 1 : value));
+  if (currentView.name === "steps" && seenCycle !== undefined) words.push("cycle=" + seenCycle, ...(followed === "" ? [] : ["follow=" + followed]));
+  return words;
+}
+
+async function addressOf() {
+  const job = jobNow(), example = EXAMPLES[exampleName], words = [];
+  const isExample = example !== undefined && isUnchanged(exampleName, job);
+  words.push(isExample ? "example=" + exampleName : "job=" + await deflated(joined(job)));
+  if (!isExample && furtherText() !== "") words.push("machines=" + await deflated(furtherText()));
+  if (currentView.name !== "report") words.push("view=" + currentView.name);
+  return "#" + [...words, ...optionWords()].join("&");
+}
+
+const writeAddress = later(400, async () => {
+  const address = await addressOf();
+  if (address === addressed) return;
+  addressed = address.length <= KEPT_ADDRESS ? address : "#too-long";
+  try { history.replaceState(null, "", addressed); } catch { /* a browser that allows no change of a file's address */ }
+});
+
+async function copyLink() {
+  const address = await addressOf();
+  if (address.length > MOST_ADDRESS) return say("The job is too long for a link (" + counted(address.length, "character") + "): save it as a file.", true);
+  addressed = address;
+  history.replaceState(null, "", address);
+  const size = counted(location.href.length, "character");
+  try { await navigator.clipboard.writeText(location.href); say("The link is copied, " + size + ": the job stands in it."); }
+  catch { say("The link stands in the address of the page, " + size + ": the job stands in it."); }
+}
+
+// Reads the address: answers whether a job stood there. What is no job is refused, and said.
+async function readAddress() {
+  const text = location.hash.slice(1);
+  if (text === "" || text === "too-long") return false;
+  if (text.length > MOST_ADDRESS) { say("The address was refused: it has " + counted(text.length, "character") + ", and " + grouped(MOST_ADDRESS) + " are read.", true); return false; }
+  const words = new Map(text.split("&").map((word) => { const at = word.indexOf("="); return at < 0 ? [word, ""] : [word.slice(0, at), word.slice(at + 1)]; }));
+  readOptions(words);
+  const name = plainName(words.get("example") || "");
+  if (name !== "") {
+    if (Object.hasOwn(EXAMPLES, name)) { loadExample(name); return true; }
+    say("There is no example \u201c" + name.slice(0, 60) + "\u201d.", true);
+  }
+  if (!words.has("job")) return false;
+  try {
+    const text = await inflated(words.get("job")), machines = words.has("machines") ? await inflated(words.get("machines")) : "";
+    if (whyTooLong(text + machines) !== "") throw new TooMuch("it has " + whyTooLong(text + machines));
+    const job = cut(text);
+    exampleName = "";
+    byId("examples").selectedIndex = 0;
+    setJob(job, machines);
+    return true;
+  } catch (error) {
+    say("The job in the address was refused: " + (error instanceof TooMuch ? error.message : "it cannot be unpacked") + ".", true);
+    return false;
+  }
+}
+
+function plainName(text) { try { return decodeURIComponent(text); } catch { return text; } }
+
+function readOptions(words) {
+  const view = viewNamed(words.get("view") || "report");
+  if (words.has("limit")) byId("limit").value = whole(words.get("limit"), 1, 1000000, 100000);
+  for (const each of VIEWS) {
+    for (const option of each.options || []) {
+      const { key } = optionOf(each, option);
+      if (words.has(key)) chosen[key] = option.isSwitch ? words.get(key) === "1" : whole(words.get(key), option.least, option.most, option.value);
+    }
+  }
+  seenCycle = /^-?\d{1,7}$/.test(words.get("cycle") || "") ? words.get("cycle") : undefined;
+  followed = /^\d{1,9}$/.test(words.get("follow") || "") ? words.get("follow") : "";
+  if (view) chooseView(view.name, true);
+}
+
+// A file, chosen or dropped.
+async function openFile(file) {
+  const isGreat = file.size > 4 * MOST_TEXT, text = isGreat ? "" : textOf(new Uint8Array(await file.arrayBuffer())).replace(/^\ufeff/, "");
+  const why = isGreat ? counted(file.size, "byte") + " (the page takes " + grouped(MOST_TEXT) + ")" : whyTooLong(text);
+  if (why !== "") return say("The file " + file.name + " was refused: it has " + why + ".", true);
+  exampleName = "";
+  byId("examples").selectedIndex = 0;
+  if (/\.toml$/.test(file.name)) return setJob({ ...jobNow(), description: text });
+  if (/\.machines$/.test(file.name)) { const both = cutComparison(text); setJob(both.job, both.machines); return chooseView("compare"); }
+  setJob(cut(text), "");
+}

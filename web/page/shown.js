@@ -1,0 +1,99 @@
+// How an output is shown: as the program prints it, or as a drawing of it. A long one is shown in part; saved, it is whole.
+const MOST_LINES = 3000, MOST_ROWS = 1000;
+let pictures = [];
+
+// A name for a blob that lives until the next is shown.
+function urlOf(bytes, type) {
+  const url = URL.createObjectURL(new Blob([bytes], { type }));
+  pictures.push(url);
+  return url;
+}
+
+function clearShown() {
+  pictures.forEach((url) => URL.revokeObjectURL(url));
+  pictures = [];
+  byId("shown").replaceChildren();
+}
+
+// The first lines of a text, and how many more there are.
+function firstLines(bytes, most) {
+  let at = 0, lines = 0;
+  while (lines < most && at < bytes.length) { const next = bytes.indexOf(10, at); at = next < 0 ? bytes.length : next + 1; lines += 1; }
+  const rest = at < bytes.length ? bytes.subarray(at).reduce((sum, byte) => sum + (byte === 10), 0) : 0;
+  return { text: textOf(bytes.subarray(0, at)), rest };
+}
+
+function restNote(rest) {
+  return rest === 0 ? "" : element("p", { className: "note", textContent: counted(rest, "line") + " more: save it to have them all." });
+}
+
+function showText({ output }) {
+  const { text, rest } = firstLines(output, MOST_LINES);
+  byId("shown").append(element("pre", { textContent: text }), restNote(rest));
+}
+
+const REASONS = [["busy", "busy"], ["stall fetch", "fetch"], ["stall serial", "serial"], ["stall rob", "rob"], ["stall station", "station"], ["stall store", "store"]];
+
+// Where the cycles of a run went, as a bar.
+function cycleBar(counts) {
+  const total = Number(counts.get("cycles")) || 1, bar = element("div", { className: "cycle-bar", role: "img" }), words = [];
+  for (const [name, kind] of REASONS) {
+    const count = Number(counts.get(name) || 0);
+    if (count === 0) continue;
+    const share = (100 * count) / total;
+    words.push(name + " " + count);
+    bar.append(element("span", { className: kind, textContent: share > 12 ? name + " " + count : share > 4 ? count : "", title: name + ": " + counted(count, "cycle") + ", " + share.toFixed(1) + " %", style: "width: " + share + "%" }));
+  }
+  bar.setAttribute("aria-label", "Where the cycles went: " + words.join(", "));
+  return bar;
+}
+
+// The counts first, and the registers and memory in columns.
+function showReport({ output }) {
+  const text = textOf(output), at = text.search(/^pc /m), end = text.search(/^m [0-9a-f]{8} /m);
+  if (at < 0) return showText({ output });
+  const state = text.slice(at, end < 0 ? undefined : end);
+  byId("shown").append(
+    element("h3", { textContent: "Where the cycles went" }), cycleBar(countsOf(text)),
+    element("div", { className: "report" }, element("pre", { textContent: text.slice(0, at) }), element("pre", { className: "state", textContent: state })));
+  if (end >= 0) byId("shown").append(element("h3", { textContent: "Memory" }), element("pre", { className: "state", textContent: text.slice(end) }));
+}
+
+function tableOf(lines, cellOf) {
+  const head = element("tr", {}, ...lines[0].split("\t").map((name) => element("th", { scope: "col", textContent: name.replace(/_/g, " ") })));
+  const body = lines.slice(1).map((line) => element("tr", {}, ...line.split("\t").map((text, column) => cellOf(text, column, line))));
+  return element("div", { className: "scroll", tabIndex: 0, role: "region", "aria-label": "table" }, element("table", { className: "sheet" }, element("thead", {}, head), element("tbody", {}, ...body)));
+}
+
+const isFigure = (text) => /^[-+]?[\d.]*$|^[0-9a-f]{8}$/.test(text);
+
+// A table with a tab between two cells. The last column of a profile, the cycles at the head, has a bar; a line's number leads to it.
+function showTable({ output }) {
+  const { text, rest } = firstLines(output, MOST_ROWS), lines = text.trimEnd().split("\n");
+  const names = lines[0].split("\t"), head = names.indexOf("head"), line = names.indexOf("line");
+  const most = Math.max(1, ...lines.slice(1).map((row) => Number(row.split("\t")[head]) || 0));
+  const table = tableOf(lines, (cell, column) => {
+    const made = element("td", { className: isFigure(cell) ? "figure" : "words" });
+    if (column === line && cell !== "") made.append(element("button", { type: "button", className: "link", textContent: cell, title: "to this line of the program", onclick: () => goToLine(Number(cell)) }));
+    else made.append(cell);
+    if (column === head) made.append(element("span", { className: "bar", style: "width: " + (4 * Number(cell)) / most + "rem" }));
+    return made;
+  });
+  byId("shown").append(table, restNote(rest));
+}
+
+function goToLine(line) {
+  setWide(false);
+  editors.assembly.goTo(line);
+}
+
+function picture(bytes, words) {
+  return element("img", { src: urlOf(bytes, "image/svg+xml"), alt: words });
+}
+
+function showPicture({ output, errors }) {
+  const note = textOf(errors).trim();
+  if (note) byId("shown").append(element("p", { className: "note", textContent: note }));
+  byId("shown").append(element("div", { className: "scroll picture", tabIndex: 0, role: "region", "aria-label": "picture of the pipeline" },
+    picture(output, "A row for each fetched instruction, a column for each cycle: F fetch, D dispatch, I issue, B broadcast, C commit")));
+}

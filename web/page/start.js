@@ -1,0 +1,160 @@
+// The page as a whole: its editors, tabs, buttons and keys, and how it begins.
+let EXAMPLES = {}, COMPARISONS = new Set(), KEYS = [], currentView = VIEWS[0], form;
+const editors = {};
+
+const jobNow = () => ({ description: editors.description.text, arrivals: editors.arrivals.text, assembly: editors.assembly.text });
+
+const changedSoon = later(150, () => run(true));
+
+function jobChanged() {
+  checker.stop();
+  setStale(true);
+  form.read(editors.description.text);
+  byId("arrivals-note").textContent = editors.arrivals.text.trim() === "" ? "none" : "";
+  changedSoon();
+  writeAddress();
+}
+
+// Puts a job into the editors, and runs it.
+function setJob(job, machines) {
+  for (const part of PARTS) editors[part].text = job[part];
+  if (machines !== undefined) editors.machines.text = machines;
+  form.read(job.description);
+  byId("arrivals").open = job.arrivals.trim() !== "";
+  byId("arrivals-note").textContent = job.arrivals.trim() === "" ? "none" : "";
+  writeAddress();
+  run();
+}
+
+const exampleOf = (name) => (COMPARISONS.has(name) ? cutComparison(EXAMPLES[name]) : { job: cut(EXAMPLES[name]), machines: "" });
+
+function isUnchanged(name, job) {
+  const { job: own, machines } = exampleOf(name);
+  return sameJob(own, job) && machines === furtherText();
+}
+
+function loadExample(name) {
+  if (name.startsWith("machines/")) return setJob({ ...jobNow(), description: EXAMPLES[name] });
+  const { job, machines } = exampleOf(name);
+  exampleName = name;
+  byId("examples").value = name;
+  if (COMPARISONS.has(name)) chooseView("compare", true);
+  setJob(job, machines);
+}
+
+const TITLES = [["lessons/", "Lessons"], ["", "Programs"], ["explain/", "Why a run is slow, or dead"], ["c/", "Kernels from C"]];
+
+function listExamples() {
+  for (const [folder, title] of TITLES) {
+    const group = element("optgroup", { label: title });
+    for (const name of Object.keys(EXAMPLES)) {
+      if (folder === "" ? !name.includes("/") : name.startsWith(folder)) group.append(new Option(name.slice(folder.length) + (COMPARISONS.has(name) ? " (comparison)" : ""), name));
+    }
+    byId("examples").append(group);
+  }
+  for (const name of Object.keys(EXAMPLES).filter((each) => each.startsWith("machines/"))) byId("machine").add(new Option(name.slice(9), name));
+}
+
+function setWide(on) {
+  document.querySelector("main").classList.toggle("wide", on);
+  byId("show-job").setAttribute("aria-pressed", String(!on));
+  Object.values(editors).forEach((editor) => editor.draw());
+}
+
+function chooseView(name, isEarly) {
+  if (currentView.name === "steps" && name !== "steps") { seenCycle = undefined; followed = ""; }
+  currentView = viewNamed(name);
+  markTab(name);
+  setWide(name === "steps");
+  byId("machines-part").hidden = name !== "compare";
+  editors.machines.draw();
+  showTools(currentView, () => { writeAddress(); showView(); }, saveView);
+  clearShown();
+  if (!isEarly) { writeAddress(); showView(); }
+}
+
+// Ctrl+Enter, and with Alt a tab's number or J.
+function shortcut(key) {
+  if (key === "Enter") return run();
+  if (/^j$/i.test(key)) return setWide(!document.querySelector("main").classList.contains("wide"));
+  const view = VIEWS[(Number(key) + 9) % 10];
+  if (view) { chooseView(view.name); byId("tab-" + view.name).focus(); }
+}
+
+function setForm(on) {
+  byId("form").hidden = !on;
+  editors.description.root.hidden = on;
+  byId("as-form").setAttribute("aria-pressed", String(on));
+  byId("as-text").setAttribute("aria-pressed", String(!on));
+  editors.description.draw();
+}
+
+function writeKey(key, value) {
+  const text = editors.description.text, row = form.fields.get(key).row;
+  const isDefault = value === undefined || String(value) === String(row.default);
+  const without = isDefault ? withoutKey(text, key) : text;
+  editors.description.text = !isDefault ? withKey(text, key, value) : without === text && readToml(text).values.has(key) ? withKey(text, key, row.default) : without;
+  jobChanged();
+}
+
+function listen() {
+  byId("run").onclick = () => run();
+  byId("stop").onclick = () => { runner.stop(); checker.stop(); };
+  byId("limit").onchange = () => { byId("limit").value = limit(); writeAddress(); run(); };
+  byId("share").onclick = copyLink;
+  byId("save").onclick = () => save((exampleName.split("/").pop() || "program") + ".job", joined(jobNow()));
+  byId("open").onclick = () => byId("file").click();
+  byId("file").onchange = () => { if (byId("file").files[0]) openFile(byId("file").files[0]); byId("file").value = ""; };
+  byId("examples").onchange = () => { if (byId("examples").value) loadExample(byId("examples").value); };
+  byId("machine").onchange = () => { const name = byId("machine").value; byId("machine").selectedIndex = 0; loadExample(name); };
+  byId("show-job").onclick = () => shortcut("j");
+  byId("as-form").onclick = () => setForm(true);
+  byId("as-text").onclick = () => setForm(false);
+  byId("help").onclick = () => byId("about").showModal();
+  byId("close").onclick = () => byId("about").close();
+  for (const part of PARTS) byId("fault-" + part).onclick = () => { const [fault] = editors[part].faults.values(); if (fault) editors[part].goTo(fault.line, fault.from); };
+  byId("arrivals").addEventListener("toggle", () => editors.arrivals.draw());
+  addEventListener("hashchange", () => { if (location.hash !== addressed) readAddress(); });
+  addEventListener("keydown", (event) => {
+    if (event.ctrlKey && event.key === "Enter") { event.preventDefault(); shortcut("Enter"); }
+    else if (event.altKey && !event.ctrlKey && /^[\djJ]$/.test(event.key)) { event.preventDefault(); shortcut(event.key); }
+  });
+  addEventListener("dragover", (event) => { if ([...event.dataTransfer.types].includes("Files")) event.preventDefault(); });
+  addEventListener("drop", (event) => { if (event.dataTransfer.files.length > 0) { event.preventDefault(); openFile(event.dataTransfer.files[0]); } });
+}
+
+// Why this browser cannot run the page; nothing where it can.
+function missing() {
+  const needed = { WebAssembly: "WebAssembly", Worker: "workers", DecompressionStream: "DecompressionStream", ResizeObserver: "ResizeObserver", BigInt: "BigInt" };
+  const lacks = Object.keys(needed).find((name) => !(name in globalThis));
+  return lacks === undefined ? "" : "This browser cannot run the simulator: it has no " + needed[lacks] + ". Chromium 103, Firefox 113, Safari 16.4 and later have it.";
+}
+
+async function start() {
+  const why = missing();
+  if (why !== "") return say(why, true);
+  let module;
+  try {
+    const own = JSON.parse(textOf(await unpacked(byId("examples-packed").textContent, 1 << 25)));
+    [EXAMPLES, COMPARISONS, KEYS] = [own.examples, new Set(own.comparisons), own.keys];
+    module = await WebAssembly.compile(await unpacked(byId("module").textContent, 1 << 27));
+  } catch (error) { return say("This browser cannot run the simulator: " + error, true); }
+  runner = new Caller(module);
+  checker = new Caller(module);
+  for (const part of PARTS) editors[part] = new Editor(byId("edit-" + part), part === "assembly" ? assemblyWords : tomlWords, jobChanged);
+  editors.machines = new Editor(byId("edit-machines"), machinesWords, jobChanged);
+  form = new MachineForm(byId("form"), KEYS, writeKey);
+  listExamples();
+  makeComparison();
+  makeTabs(chooseView);
+  chooseView("report", true);
+  listen();
+  if (!await readAddress()) {
+    const said = byId("status").textContent, isFault = byId("status").classList.contains("fault");
+    loadExample("lessons/prediction-bimodal");
+    if (isFault) byId("refused").textContent = said;
+  }
+  document.documentElement.dataset.ready = performance.now().toFixed(0);
+}
+
+start();
