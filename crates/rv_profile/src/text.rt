@@ -4,113 +4,102 @@ ghost use Rattle.rv_profile.specs.Text.{ended_cells, filled_cells, last_cells, l
 ghost use Rattle.rv_source.specs.Listing.{line_at};
 ghost use Rattle.rv_text.specs.Line.{word_text};
 ghost use Rattle.rv_text.specs.Plain.{plain_text};
+ghost use Rattle.rv_text.specs.Said.{Says};
 ghost use Rattle.rv_text.specs.Written.{IsWritten};
 
 use itoa::Buffer;
 use rv_counts::{Wait, WordCounts};
 use rv_source::Listing;
-use rv_text::{
-    ReportError, Value, hexadecimal, put, put_all, three_digits, write_cells, write_plain,
-};
+use rv_text::{ReportError, Sink, Value, three_digits};
 use std::io::Write;
 
 #[tactic(auto, unfolding(crate::specs::Text::table_head))]
-fn write_head<W: Write>(writer: &mut W) -> Result<(), ReportError>
-    ensures { IsWritten result (W.contents writer.old) (W.contents writer.new) table_head }
+fn write_head<W: Write>(out: &mut Sink<'_, W>)
+    ensures { Says W.contents out.old out.new table_head }
 {
-    put_all(
-        writer,
-        &[
-            b"address\tline\tstatement\tfetched\tretired\tsquashed\tdispatch_mean\tdispatch_most\tissue_mean\tissue_most\t",
-            b"broadcast_mean\tbroadcast_most\tretire_mean\tretire_most\thits\tmisses\tmispredicted\thead\n",
-        ],
-    )
+    out.put_all(&[
+        b"address\tline\tstatement\tfetched\tretired\tsquashed\tdispatch_mean\tdispatch_most\tissue_mean\tissue_most\t",
+        b"broadcast_mean\tbroadcast_most\tretire_mean\tretire_most\thits\tmisses\tmispredicted\thead\n",
+    ]);
 }
 
-fn write_number<W: Write>(writer: &mut W, number: usize) -> Result<(), ReportError>
-    ensures { IsWritten result (W.contents writer.old) (W.contents writer.new) (decimal number ++ codes "\t") }
+#[tactic(auto, using(rv_text::proofs::Saying::saying))]
+fn write_number<W: Write>(out: &mut Sink<'_, W>, number: usize)
+    ensures { Says W.contents out.old out.new (decimal number ++ codes "\t") }
 {
-    let mut buffer = Buffer::new();
-    let digits = buffer.format(number).as_bytes();
-    put_all(writer, &[digits, b"\t"])
+    out.put_decimal(number as u64);
+    out.put(b"\t");
 }
 
-fn write_statement<W: Write>(writer: &mut W, text: &[u8]) -> Result<(), ReportError>
-    ensures { IsWritten result (W.contents writer.old) (W.contents writer.new) (plain_text text.now ++ codes "\t") }
+#[tactic(auto, using(rv_text::proofs::Saying::saying))]
+fn write_statement<W: Write>(out: &mut Sink<'_, W>, text: &[u8])
+    ensures { Says W.contents out.old out.new (plain_text text.now ++ codes "\t") }
 {
-    write_plain(writer, text)?;
-    put(writer, b"\t")
+    out.put_plain(text);
+    out.put(b"\t");
 }
 
 // Writes the number and the statement of a line.
-fn write_line<W: Write>(writer: &mut W, number: usize, text: &[u8]) -> Result<(), ReportError>
-    ensures { IsWritten result (W.contents writer.old) (W.contents writer.new) (filled_cells number text.now) }
+#[tactic(auto, using(rv_text::proofs::Saying::saying))]
+fn write_line<W: Write>(out: &mut Sink<'_, W>, number: usize, text: &[u8])
+    ensures { Says W.contents out.old out.new (filled_cells number text.now) }
 {
-    write_number(writer, number)?;
-    write_statement(writer, text)
+    write_number(out, number);
+    write_statement(out, text);
 }
 
 #[tactic(auto, unfolding(crate::specs::Text::line_cells))]
-fn write_line_cells<W: Write>(
-    writer: &mut W,
-    listing: &Listing,
-    address: u32,
-) -> Result<(), ReportError>
-    ensures { IsWritten result (W.contents writer.old) (W.contents writer.new) (line_cells (line_at listing.now address)) }
+fn write_line_cells<W: Write>(out: &mut Sink<'_, W>, listing: &Listing, address: u32)
+    ensures { Says W.contents out.old out.new (line_cells (line_at listing.now address)) }
 {
     match (listing.number_at(address), listing.text_at(address)) {
-        (Some(number), Some(text)) => write_line(writer, number, text),
-        _ => put(writer, b"\t\t"),
+        (Some(number), Some(text)) => write_line(out, number, text),
+        _ => out.put(b"\t\t"),
     }
 }
 
-fn write_address<W: Write>(writer: &mut W, address: u32) -> Result<(), ReportError>
-    ensures { IsWritten result (W.contents writer.old) (W.contents writer.new) (word_text address ++ codes "\t") }
+#[tactic(auto, using(rv_text::proofs::Saying::saying))]
+fn write_address<W: Write>(out: &mut Sink<'_, W>, address: u32)
+    ensures { Says W.contents out.old out.new (word_text address ++ codes "\t") }
 {
-    let digits = hexadecimal(address);
-    put_all(writer, &[&digits, b"\t"])
+    out.put_word(address);
+    out.put(b"\t");
 }
 
-fn write_place<W: Write>(writer: &mut W, listing: &Listing, address: u32) -> Result<(), ReportError>
-    ensures { IsWritten result (W.contents writer.old) (W.contents writer.new) (place_cells listing.now address) }
+#[tactic(auto, using(rv_text::proofs::Saying::saying), unfolding(crate::specs::Text::place_cells))]
+fn write_place<W: Write>(out: &mut Sink<'_, W>, listing: &Listing, address: u32)
+    ensures { Says W.contents out.old out.new (place_cells listing.now address) }
 {
-    write_address(writer, address)?;
-    write_line_cells(writer, listing, address)
+    write_address(out, address);
+    write_line_cells(out, listing, address);
 }
 
 #[tactic(auto, unfolding(crate::specs::Text::wait_cells))]
-fn write_wait<W: Write>(writer: &mut W, wait: &Wait) -> Result<(), ReportError>
-    ensures { IsWritten result (W.contents writer.old) (W.contents writer.new) (wait_cells wait.now) }
+fn write_wait<W: Write>(out: &mut Sink<'_, W>, wait: &Wait)
+    ensures { Says W.contents out.old out.new (wait_cells wait.now) }
 {
     let count = wait.count();
     if count == 0 {
-        return put(writer, b"-\t-\t");
+        out.put(b"-\t-\t");
+    } else {
+        write_waited(out, wait.total(), count, wait.most());
     }
-    write_waited(writer, wait.total(), count, wait.most())
 }
 
 // Writes the mean of waits, of which there is one at least, and the greatest.
 #[tactic(auto, unfolding(rv_text::specs::Line::ratio_text))]
-fn write_waited<W: Write>(
-    writer: &mut W,
-    total: u128,
-    count: u64,
-    most: u64,
-) -> Result<(), ReportError>
+fn write_waited<W: Write>(out: &mut Sink<'_, W>, total: u128, count: u64, most: u64)
     requires some { 0 < count }
     requires few { count < 2 ^ 50 }
     requires within { total ≤ count * 2 ^ 64 }
-    ensures { IsWritten result (W.contents writer.old) (W.contents writer.new) (mean_cells total count most) }
+    ensures { Says W.contents out.old out.new (mean_cells total count most) }
 {
     let mut whole_buffer = Buffer::new();
     let whole = whole_buffer.format(total / u128::from(count)).as_bytes();
     let digits = three_digits(thousandths(total, count));
     let mut most_buffer = Buffer::new();
     let most = most_buffer.format(most).as_bytes();
-    put_all(
-        writer,
-        &[whole, b".", digits.as_slice(), b"\t", most, b"\t"],
-    )
+    out.put_all(&[whole, b".", digits.as_slice(), b"\t", most, b"\t"]);
 }
 
 // How many thousandths are left of a mean beyond its whole part.
@@ -123,79 +112,77 @@ fn thousandths(total: u128, count: u64) -> u32
     (total * 1000 / u128::from(count) % 1000) as u32
 }
 
-fn write_waits<W: Write>(writer: &mut W, word: &WordCounts) -> Result<(), ReportError>
-    ensures { IsWritten result (W.contents writer.old) (W.contents writer.new) (waits_cells word.now) }
+#[tactic(auto, using(rv_text::proofs::Saying::saying), unfolding(crate::specs::Text::waits_cells))]
+fn write_waits<W: Write>(out: &mut Sink<'_, W>, word: &WordCounts)
+    ensures { Says W.contents out.old out.new (waits_cells word.now) }
 {
-    write_wait(writer, &word.dispatch)?;
-    write_wait(writer, &word.issue)?;
-    write_wait(writer, &word.broadcast)?;
-    write_wait(writer, &word.retirement)
+    write_wait(out, &word.dispatch);
+    write_wait(out, &word.issue);
+    write_wait(out, &word.broadcast);
+    write_wait(out, &word.retirement);
 }
 
 #[tactic(auto, unfolding(crate::specs::Text::ended_cells))]
-fn write_ended<W: Write>(writer: &mut W, word: &WordCounts) -> Result<(), ReportError>
-    ensures { IsWritten result (W.contents writer.old) (W.contents writer.new) (ended_cells word.now) }
+fn write_ended<W: Write>(out: &mut Sink<'_, W>, word: &WordCounts)
+    ensures { Says W.contents out.old out.new (ended_cells word.now) }
 {
-    write_cells(
-        writer,
-        &[
-            Value::Count(word.fetched),
-            Value::Count(word.retired),
-            Value::Count(word.squashed),
-        ],
-    )
+    out.put_cells(&[
+        Value::Count(word.fetched),
+        Value::Count(word.retired),
+        Value::Count(word.squashed),
+    ]);
 }
 
-fn write_head_cycles<W: Write>(writer: &mut W, cycles: u64) -> Result<(), ReportError>
-    ensures { IsWritten result (W.contents writer.old) (W.contents writer.new) (decimal cycles ++ codes "\n") }
+#[tactic(auto, using(rv_text::proofs::Saying::saying))]
+fn write_head_cycles<W: Write>(out: &mut Sink<'_, W>, cycles: u64)
+    ensures { Says W.contents out.old out.new (decimal cycles ++ codes "\n") }
 {
-    let mut buffer = Buffer::new();
-    let digits = buffer.format(cycles).as_bytes();
-    put_all(writer, &[digits, b"\n"])
+    out.put_decimal(cycles);
+    out.put(b"\n");
 }
 
-fn write_last<W: Write>(writer: &mut W, word: &WordCounts) -> Result<(), ReportError>
-    ensures { IsWritten result (W.contents writer.old) (W.contents writer.new) (last_cells word.now) }
+#[tactic(auto, using(rv_text::proofs::Saying::saying), unfolding(crate::specs::Text::last_cells))]
+fn write_last<W: Write>(out: &mut Sink<'_, W>, word: &WordCounts)
+    ensures { Says W.contents out.old out.new (last_cells word.now) }
 {
-    write_cells(
-        writer,
-        &[
-            Value::Count(word.hits),
-            Value::Count(word.misses),
-            Value::Count(word.mispredicted),
-        ],
-    )?;
-    write_head_cycles(writer, word.head_cycles)
+    out.put_cells(&[
+        Value::Count(word.hits),
+        Value::Count(word.misses),
+        Value::Count(word.mispredicted),
+    ]);
+    write_head_cycles(out, word.head_cycles);
 }
 
-fn write_word<W: Write>(
-    writer: &mut W,
-    listing: &Listing,
-    word: &WordCounts,
-) -> Result<(), ReportError>
-    ensures { IsWritten result (W.contents writer.old) (W.contents writer.new) (word_line listing.now word.now) }
+#[tactic(auto, using(rv_text::proofs::Saying::saying), unfolding(crate::specs::Text::word_line))]
+fn write_word<W: Write>(out: &mut Sink<'_, W>, listing: &Listing, word: &WordCounts)
+    ensures { Says W.contents out.old out.new (word_line listing.now word.now) }
 {
-    write_place(writer, listing, word.address)?;
-    write_ended(writer, word)?;
-    write_waits(writer, word)?;
-    write_last(writer, word)
+    write_place(out, listing, word.address);
+    write_ended(out, word);
+    write_waits(out, word);
+    write_last(out, word);
 }
 
-fn write_words<W: Write>(
-    writer: &mut W,
-    listing: &Listing,
-    words: &[WordCounts],
-) -> Result<(), ReportError>
-    ensures { IsWritten result (W.contents writer.old) (W.contents writer.new) (flat_map (word_line listing.now) words.now) }
+#[tactic(auto, using(rv_text::proofs::Saying::saying))]
+fn write_words<W: Write>(out: &mut Sink<'_, W>, listing: &Listing, words: &[WordCounts])
+    ensures { Says W.contents out.old out.new (flat_map (word_line listing.now) words.now) }
 {
     for word in words {
-        write_word(writer, listing, word)?;
+        write_word(out, listing, word);
     }
-    Ok(())
+}
+
+#[tactic(auto, using(rv_text::proofs::Saying::saying), unfolding(crate::specs::Text::table_text))]
+fn write_lines<W: Write>(out: &mut Sink<'_, W>, listing: &Listing, words: &[WordCounts])
+    ensures { Says W.contents out.old out.new (table_text listing.now words.now) }
+{
+    write_head(out);
+    write_words(out, listing, words);
 }
 
 /// Writes the table of some counts: a line with the names of the columns, and a line for each address, with a tab between two
 /// cells. Asks for no memory. Fails by `WriteFailed` alone, and what was written is then a beginning of the table.
+#[tactic(auto, using(rv_text::proofs::Saying::says_written))]
 pub fn write_table<W: Write>(
     writer: &mut W,
     listing: &Listing,
@@ -203,6 +190,7 @@ pub fn write_table<W: Write>(
 ) -> Result<(), ReportError>
     ensures { IsWritten result (W.contents writer.old) (W.contents writer.new) (table_text listing.now words.now) }
 {
-    write_head(writer)?;
-    write_words(writer, listing, words)
+    let mut out = Sink::new(writer);
+    write_lines(&mut out, listing, words);
+    out.outcome()
 }

@@ -1,5 +1,5 @@
 use Rattle.std.proofs.Common.{take}
-use Rattle.std.specs.Io.KnownBytes.{Appends}
+use Rattle.rv_text.specs.Said.{Says}
 use Rattle.std.specs.List.{flat_map}
 use Rattle.rv_profile.specs.Text.{word_line}
 use Rattle.rv_profile.proofs.text.write_words.Given as goal
@@ -7,4 +7,4 @@ use Rattle.rv_profile.proofs.text.write_words.Given as goal
 -- the lines so far are written
 abbrev pub invariant-loop-word : goal.invariant-loop-word
 invariant-loop-word g l =
-    Appends (g.W.Write.contents l.initial.writer) (g.W.Write.contents l.writer) (flat_map (word_line l.listing) (take l.word-index l.words))
+    Says g.W.Write.contents l.initial.out l.out (flat_map (word_line l.listing) (take l.word-index l.words))
