@@ -37,7 +37,7 @@ function changeText() {
 
 function sheet(heads, rows, caption) {
   return element("table", { className: "sheet" }, element("caption", { textContent: caption }),
-    element("thead", {}, element("tr", {}, ...heads.map((head) => element("th", { scope: "col", textContent: head })))),
+    element("thead", {}, element("tr", {}, ...heads.map((head) => element("th", { scope: "col", className: /^(before|after|cycles)$/.test(head) ? "figure" : "", textContent: head })))),
     element("tbody", {}, ...rows.map(([name, ...cells]) => element("tr", {}, element("th", { scope: "row", textContent: name }), ...cells.map((cell) => (cell instanceof Node ? element("td", {}, cell) : element("td", { className: isFigure(String(cell)) ? "figure" : "words", textContent: cell })))))));
 }
 

@@ -55,5 +55,6 @@ function showComparison({ output }) {
   const bars = sheet(["", "", "cycles", "by"], rows, "Cycles of each machine");
   bars.classList.add("bars");
   byId("shown").append(bars, element("h3", { textContent: "All counts" }), tableOf(lines, (cell) => element("td", { className: isFigure(cell) ? "figure" : "words", textContent: cell })));
+  if (lines.length < 3) byId("shown").prepend(element("p", { className: "note", textContent: "Add machines above: by name, or one for each value of a key. They stand in the text below it, a line %% between two." }));
   if (editors.arrivals.text.trim() !== "") byId("shown").append(element("p", { className: "note", textContent: "A comparison takes no arrivals." }));
 }

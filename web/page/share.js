@@ -5,7 +5,10 @@ let exampleName = "", addressed = "";
 function optionWords() {
   const words = [];
   if (limit() !== 100000) words.push("limit=" + limit());
-  for (const [key, value] of Object.entries(chosen)) if (value !== 0 && value !== false) words.push(key + "=" + (value === true ? 1 : value));
+  for (const option of currentView.options || []) {
+    const { key, value } = optionOf(currentView, option);
+    if (value !== option.value) words.push(key + "=" + (value === true ? 1 : value));
+  }
   if (currentView.name === "steps" && seenCycle !== undefined) words.push("cycle=" + seenCycle, ...(followed === "" ? [] : ["follow=" + followed]));
   return words;
 }
@@ -21,7 +24,8 @@ async function addressOf() {
 
 const writeAddress = later(400, async () => {
   const address = await addressOf();
-  if (address === addressed) return;
+  // (an address that was changed by hand is read, and not written over)
+  if (address === addressed || location.hash !== addressed) return;
   addressed = address.length <= KEPT_ADDRESS ? address : "#too-long";
   try { history.replaceState(null, "", addressed); } catch { /* a browser that allows no change of a file's address */ }
 });
@@ -39,6 +43,7 @@ async function copyLink() {
 // Reads the address: answers whether a job stood there. What is no job is refused, and said.
 async function readAddress() {
   const text = location.hash.slice(1);
+  addressed = location.hash;
   if (text === "" || text === "too-long") return false;
   if (text.length > MOST_ADDRESS) { say("The address was refused: it has " + counted(text.length, "character") + ", and " + grouped(MOST_ADDRESS) + " are read.", true); return false; }
   const words = new Map(text.split("&").map((word) => { const at = word.indexOf("="); return at < 0 ? [word, ""] : [word.slice(0, at), word.slice(at + 1)]; }));
@@ -65,13 +70,14 @@ async function readAddress() {
 
 function plainName(text) { try { return decodeURIComponent(text); } catch { return text; } }
 
+// What the address does not say is as at first.
 function readOptions(words) {
   const view = viewNamed(words.get("view") || "report");
-  if (words.has("limit")) byId("limit").value = whole(words.get("limit"), 1, 1000000, 100000);
+  byId("limit").value = whole(words.get("limit") || "", 1, 1000000, 100000);
   for (const each of VIEWS) {
     for (const option of each.options || []) {
       const { key } = optionOf(each, option);
-      if (words.has(key)) chosen[key] = option.isSwitch ? words.get(key) === "1" : whole(words.get(key), option.least, option.most, option.value);
+      chosen[key] = option.isSwitch ? words.get(key) === "1" : whole(words.get(key) || "", option.least, option.most, option.value);
     }
   }
   seenCycle = /^-?\d{1,7}$/.test(words.get("cycle") || "") ? words.get("cycle") : undefined;

@@ -60,7 +60,8 @@ function showReport({ output }) {
 }
 
 function tableOf(lines, cellOf) {
-  const head = element("tr", {}, ...lines[0].split("\t").map((name) => element("th", { scope: "col", textContent: name.replace(/_/g, " ") })));
+  const first = (lines[1] || "").split("\t");
+  const head = element("tr", {}, ...lines[0].split("\t").map((name, at) => element("th", { scope: "col", className: isFigure(first[at] || "x") ? "figure" : "", textContent: name.replace(/_/g, " ") })));
   const body = lines.slice(1).map((line) => element("tr", {}, ...line.split("\t").map((text, column) => cellOf(text, column, line))));
   return element("div", { className: "scroll", tabIndex: 0, role: "region", "aria-label": "table" }, element("table", { className: "sheet" }, element("thead", {}, head), element("tbody", {}, ...body)));
 }
