@@ -1,14 +1,23 @@
 // Change one number, see it again: the run before a change beside the run after it. A run is { job, report }.
-const history_ = { before: undefined, now: undefined, isKept: false };
+const runs = { before: undefined, now: undefined, isKept: false };
 
 function remember(job, report) {
-  const { now, isKept } = history_;
-  if (now && !sameJob(now.job, job) && !(isKept && history_.before)) history_.before = now;
-  history_.now = { job, report };
+  const { now, isKept } = runs;
+  if (now && !sameJob(now.job, job) && !(isKept && runs.before)) runs.before = now;
+  runs.now = { job, report };
 }
+
+// Another job is no change of the one before, unless its run is kept.
+function forget() { if (!runs.isKept) Object.assign(runs, { before: undefined, now: undefined }); }
 
 const cyclesOf = (run) => Number(countsOf(run.report).get("cycles"));
 const signed = (number) => (number > 0 ? "+" : number < 0 ? "\u2212" : "\u00b1") + grouped(Math.abs(number));
+
+// How many lines stand in the first text alone.
+function ownLines(lines, others) {
+  const all = new Set(others);
+  return counted(lines.filter((line) => !all.has(line)).length, "line") + " of its own";
+}
 
 // The keys whose values differ, and what else differs, as rows of three cells.
 function changedParts(before, now) {
@@ -16,8 +25,8 @@ function changedParts(before, now) {
   for (const [key, value] of valuesOf(now.job.description, KEYS)) if (old.get(key) !== value) rows.push([key, old.get(key), value]);
   for (const part of ["arrivals", "assembly"]) {
     if (before.job[part] === now.job[part]) continue;
-    const was = before.job[part].split("\n"), is = now.job[part].split("\n"), own = (a, b) => { const all = new Set(b); return a.filter((line) => !all.has(line)).length; };
-    rows.push([part === "assembly" ? "program" : part, counted(own(was, is), "line") + " of its own", counted(own(is, was), "line") + " of its own"]);
+    const was = before.job[part].split("\n"), is = now.job[part].split("\n");
+    rows.push([part === "assembly" ? "program" : part, ownLines(was, is), ownLines(is, was)]);
   }
   return rows;
 }
@@ -29,38 +38,62 @@ function rowsOf(before, now) {
 }
 
 function changeText() {
-  const { before, now } = history_;
+  const { before, now } = runs;
   if (!before || !now) return "";
-  const by = cyclesOf(now) - cyclesOf(before), what = changedParts(before, now).map(([key, was, is]) => (key === "program" || key === "arrivals" ? key : key + " " + was + " \u2192 " + is));
-  return grouped(cyclesOf(before)) + " \u2192 " + counted(cyclesOf(now), "cycle") + " (" + signed(by) + ")" + (what.length ? ": " + what.slice(0, 3).join(", ") : "");
+  const from = cyclesOf(before), to = cyclesOf(now);
+  const words = ([key, was, is]) => (key === "program" || key === "arrivals" ? key : key + " " + was + " \u2192 " + is);
+  const what = changedParts(before, now).slice(0, 3).map(words).join(", ");
+  return grouped(from) + " \u2192 " + counted(to, "cycle") + " (" + signed(to - from) + ")" + (what ? ": " + what : "");
 }
 
+// A table with a caption and names at the front of its rows; a cell is a text or an element.
 function sheet(heads, rows, caption) {
+  const head = (text) => element("th", { scope: "col", className: /^(before|after|cycles)$/.test(text) ? "figure" : "", textContent: text });
+  const cell = (held) => (held instanceof Node ? element("td", {}, held) : element("td", { className: isFigure(String(held)) ? "figure" : "words", textContent: held }));
+  const row = ([name, ...cells]) => element("tr", {}, element("th", { scope: "row", textContent: name }), ...cells.map(cell));
   return element("table", { className: "sheet" }, element("caption", { textContent: caption }),
-    element("thead", {}, element("tr", {}, ...heads.map((head) => element("th", { scope: "col", className: /^(before|after|cycles)$/.test(head) ? "figure" : "", textContent: head })))),
-    element("tbody", {}, ...rows.map(([name, ...cells]) => element("tr", {}, element("th", { scope: "row", textContent: name }), ...cells.map((cell) => (cell instanceof Node ? element("td", {}, cell) : element("td", { className: isFigure(String(cell)) ? "figure" : "words", textContent: cell })))))));
+    element("thead", {}, element("tr", {}, ...heads.map(head))), element("tbody", {}, ...rows.map(row)));
 }
+
+// By how much a count changed, with a bar; nothing where it did not, or is no number.
+function changedBy(name, by, most) {
+  if (!Number.isFinite(by) || by === 0) return "";
+  const text = name === "cpi" ? (by > 0 ? "+" : "\u2212") + Math.abs(by).toFixed(3) : signed(by);
+  const bar = element("span", { className: "bar " + (by < 0 ? "less" : "more"), style: "width: " + (5 * Math.abs(by)) / most + "rem" });
+  return element("span", { className: "by" }, bar, text);
+}
+
+function changeTables({ before, now }) {
+  const parts = changedParts(before, now), rows = rowsOf(before, now);
+  const most = Math.max(1, ...rows.map(([, , , by]) => (Number.isFinite(by) ? Math.abs(by) : 0)));
+  const counts = rows.map(([name, was, is, by]) => [name, was, is, changedBy(name, by, most)]);
+  return element("div", { className: "beside" },
+    sheet(["", "before", "after"], parts.length ? parts : [["nothing", "", ""]], "What was changed"),
+    sheet(["", "before", "after", "by"], counts, "What it came to"));
+}
+
+function changeButtons({ before, isKept }) {
+  const kept = element("input", { type: "checkbox", id: "keep", checked: isKept, onchange: () => { runs.isKept = kept.checked; } });
+  const back = element("button", { type: "button", textContent: "Take the job before back", onclick: () => setJob(before.job) });
+  return element("p", { className: "line" }, element("label", {}, kept, " keep the first run for further changes"), " ", back);
+}
+
+async function showPictures({ before, now }, to) {
+  for (const [name, run] of [["before", before], ["after", now]]) {
+    const made = await runner.call(wordsOf(viewNamed("picture")), joined(run.job)), words = "the pipeline " + name;
+    if (made.status !== 0 || !to.isConnected) return;
+    const scroll = element("div", { className: "scroll", tabIndex: 0, role: "region", "aria-label": words }, picture(made.output, words));
+    to.append(element("figure", {}, element("figcaption", { textContent: "The pipeline " + name }), scroll));
+  }
+}
+
+const NO_CHANGE = "Run a job, change a number of the machine or a line of the program, and run again: here both runs stand side by side.";
 
 async function showChange() {
-  const shown = byId("shown"), { before, now } = history_;
-  if (!before) {
-    shown.append(element("p", { className: "note", textContent: "Run a job, change a number of the machine or a line of the program, and run again: here both runs stand side by side." }));
-    return;
-  }
-  const kept = element("input", { type: "checkbox", id: "keep", checked: history_.isKept, onchange: () => { history_.isKept = kept.checked; } });
-  const back = element("button", { type: "button", textContent: "Take the job before back", onclick: () => setJob(before.job) });
-  const isNumber = (value) => Number.isFinite(value);
-  const most = Math.max(1, ...rowsOf(before, now).map((row) => (isNumber(row[3]) ? Math.abs(row[3]) : 0)));
-  const cells = rowsOf(before, now).map(([name, was, is, by]) => [name, was, is, isNumber(by) && by !== 0
-    ? element("span", { className: "by" }, element("span", { className: "bar " + (by < 0 ? "less" : "more"), style: "width: " + (5 * Math.abs(by)) / most + "rem" }), name === "cpi" ? (by > 0 ? "+" : "\u2212") + Math.abs(by).toFixed(3) : signed(by)) : ""]);
-  const differing = changedParts(before, now);
-  shown.append(element("p", { className: "line" }, element("label", {}, kept, " keep the first run for further changes"), " ", back),
-    element("div", { className: "beside" }, sheet(["", "before", "after"], differing.length ? differing : [["nothing", "", ""]], "What was changed"), sheet(["", "before", "after", "by"], cells, "What it came to")),
-    element("h3", { textContent: "Before" }), cycleBar(countsOf(before.report)), element("h3", { textContent: "After" }), cycleBar(countsOf(now.report)));
-  const both = shown.appendChild(element("div", { className: "beside pictures" }));
-  for (const [name, run] of [["before", before], ["after", now]]) {
-    const made = await runner.call(wordsOf(viewNamed("picture")), joined(run.job));
-    if (made.status !== 0 || !both.isConnected) return;
-    both.append(element("figure", {}, element("figcaption", { textContent: "The pipeline " + name }), element("div", { className: "scroll", tabIndex: 0, role: "region", "aria-label": "picture of the pipeline " + name }, picture(made.output, "the pipeline " + name))));
-  }
+  const shown = byId("shown"), title = (textContent) => element("h3", { textContent });
+  if (!runs.before) return shown.append(element("p", { className: "note", textContent: NO_CHANGE }));
+  const both = element("div", { className: "beside pictures" });
+  shown.append(changeButtons(runs), changeTables(runs), title("Before"), cycleBar(countsOf(runs.before.report)),
+    title("After"), cycleBar(countsOf(runs.now.report)), both);
+  await showPictures({ ...runs }, both);
 }

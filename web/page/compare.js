@@ -25,7 +25,8 @@ function makeComparison() {
   };
   for (const row of KEYS) byId("sweep-key").add(new Option(row.key));
   byId("sweep-key").value = "rob";
-  const values = () => byId("sweep-values").value.split(/[\s,]+/).filter(Boolean).map((each) => (/^\d+$/.test(each) ? Number(each) : each === "true" ? true : each === "false" ? false : each));
+  const value = (text) => (/^\d+$/.test(text) ? Number(text) : /^(true|false)$/.test(text) ? text === "true" : text);
+  const values = () => byId("sweep-values").value.split(/[\s,]+/).filter(Boolean).map(value);
   byId("sweep").onclick = () => addValues(byId("sweep-key").value, values());
   byId("sweep-values").onkeydown = (event) => { if (event.key === "Enter") byId("sweep").click(); };
   byId("no-machines").onclick = () => { editors.machines.text = ""; jobChanged(); };
@@ -41,6 +42,8 @@ function ownValues(all, at) {
   return keys.length === 0 ? "the job's machine" : keys.slice(0, 3).map((key) => key + " " + own.get(key)).join(", ") + (keys.length > 3 ? ", .." : "");
 }
 
+const NO_MACHINES = "Add machines above: by name, or one for each value of a key. They stand in the text there, a line %% between two.";
+
 function showComparison({ output }) {
   const lines = textOf(output).trimEnd().split("\n"), names = lines[0].split("\t");
   const cycles = names.indexOf("cycles"), first = Number((lines[1] || "").split("\t")[cycles]);
@@ -50,11 +53,14 @@ function showComparison({ output }) {
   const label = (cells) => (name >= 0 && cells[name] !== "-" ? cells[name] : ownValues(all, Number(cells[number]) - 1));
   const rows = lines.slice(1).map((line) => line.split("\t")).map((cells) => {
     const count = Number(cells[cycles]);
-    return [label(cells), element("span", { className: "by" }, element("span", { className: "bar less", style: "width: " + (100 * count) / most + "%" })), grouped(count), count === first ? "" : signed(count - first)];
+    const bar = element("span", { className: "bar less", style: "width: " + (100 * count) / most + "%" });
+    return [label(cells), element("span", { className: "by" }, bar), grouped(count), count === first ? "" : signed(count - first)];
   });
   const bars = sheet(["", "", "cycles", "by"], rows, "Cycles of each machine");
   bars.classList.add("bars");
-  byId("shown").append(bars, element("h3", { textContent: "All counts" }), tableOf(lines, (cell) => element("td", { className: isFigure(cell) ? "figure" : "words", textContent: cell })));
-  if (lines.length < 3) byId("shown").prepend(element("p", { className: "note", textContent: "Add machines above: by name, or one for each value of a key. They stand in the text below it, a line %% between two." }));
-  if (editors.arrivals.text.trim() !== "") byId("shown").append(element("p", { className: "note", textContent: "A comparison takes no arrivals." }));
+  const cell = (text) => element("td", { className: isFigure(text) ? "figure" : "words", textContent: text });
+  const note = (textContent) => element("p", { className: "note", textContent });
+  byId("shown").append(bars, element("h3", { textContent: "All counts" }), tableOf(lines, cell));
+  if (lines.length < 3) byId("shown").prepend(note(NO_MACHINES));
+  if (editors.arrivals.text.trim() !== "") byId("shown").append(note("A comparison takes no arrivals."));
 }

@@ -32,7 +32,8 @@ class MachineForm {
       const cells = names.map((name) => element("td", {}, this.field(rows.find((row) => row.key === kind + "." + name), write)));
       body.append(element("tr", {}, element("th", { scope: "row", textContent: kind }), ...cells));
     }
-    const notes = names.map((name) => { const row = rows.find((each) => each.key.endsWith("." + name)); return name + ": " + row.meaning + " (" + row.range + ")"; });
+    const note = (name) => { const row = rows.find((each) => each.key.endsWith("." + name)); return name + ": " + row.meaning + " (" + row.range + ")"; };
+    const notes = names.map(note);
     return element("div", { className: "grid" }, table, element("p", { className: "meaning", textContent: notes.join(". ") + "." }));
   }
 

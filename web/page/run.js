@@ -109,7 +109,7 @@ async function resultOf(view, mine) {
 
 async function showView(mine = (turn += 1)) {
   const view = currentView;
-  if (history_.now === undefined || isStale) return;
+  if (runs.now === undefined || isStale) return;
   const made = await resultOf(view, mine);
   if (mine !== turn || view !== currentView) return;
   clearShown();

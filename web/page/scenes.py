@@ -68,3 +68,40 @@ class Native:
         self.count += 1
         ran = subprocess.run([self.path, *words], input=job.encode(), stdout=subprocess.PIPE, stderr=subprocess.DEVNULL)
         return ran.stdout == output
+
+
+# descriptions in all the ways in which keys may stand
+DESCRIPTIONS = (
+    "",
+    "# name: a machine\nrob = 8 # few\nalu.units = 4\n\n[cache]\nsets = 4\nline = 0x20\n[predictor]\nkind = 'not_taken'\n",
+    "cache = { sets = 4, ways = 1 }\nmem = {latency=2}\nram_size = 131_072\ndiv.pipelined = true",
+    "[alu]\r\nunits = 1\r\n[mul]\r\nlatency = 5\r\n",
+    "\"rob\" = 32\n'recovery' = \"early\"\nalu . units = 3\n",
+)
+
+# What the form reads of a text, and what it writes into it, against the machine that the program says it is: the differences.
+FORM_AND_PROGRAM = """(async (descriptions) => {
+  const wrong = [], flat = (values) => Object.entries(values).flatMap(([key, value]) => (typeof value === "object" ? Object.entries(value).map(([name, own]) => [key + "." + name, String(own)]) : [[key, String(value)]]));
+  const machineOf = async (text) => {
+    const made = await runner.call(["states", "--cycles", "1"], ended(text) + "%%\\nebreak\\n");
+    return made.status === 0 ? new Map(flat(JSON.parse(textOf(made.output).split("\\n")[0]).machine)) : new Map([["refused", textOf(made.errors)]]);
+  };
+  const compare = async (text, what) => {
+    const read = valuesOf(text, KEYS), machine = await machineOf(text);
+    for (const [key, value] of machine) if (String(Number(read.get(key))) !== value && read.get(key) !== value) wrong.push(what + ": " + key + " is " + value + ", the form has " + read.get(key));
+  };
+  let count = 0;
+  for (const text of descriptions) {
+    await compare(text, text);
+    for (const row of KEYS) {
+      const value = row.isBoolean ? row.default !== "true" : row.choices ? (row.isNumber ? Number(row.choices[2]) : row.choices[0]) : row.least + (row.multiple || 1);
+      const with_ = withKey(text, row.key, value), before = valuesOf(text, KEYS), after = valuesOf(with_, KEYS);
+      if (after.get(row.key) !== String(value)) wrong.push(row.key + " is not written into " + text);
+      for (const [key, was] of before) if (key !== row.key && after.get(key) !== was) wrong.push(row.key + " changes " + key + " of " + text);
+      await compare(with_, row.key + " in " + text);
+      if (readToml(text).values.has(row.key) && !readToml(text).braces.has(row.key.split(".")[0]) && readToml(withoutKey(text, row.key)).values.has(row.key)) wrong.push(row.key + " stays in " + text);
+      count += 1;
+    }
+  }
+  return JSON.stringify([wrong, count]);
+})"""

@@ -60,6 +60,7 @@ async function readAddress() {
     const job = cut(text);
     exampleName = "";
     byId("examples").selectedIndex = 0;
+    forget();
     setJob(job, machines);
     return true;
   } catch (error) {
@@ -93,6 +94,7 @@ async function openFile(file) {
   exampleName = "";
   byId("examples").selectedIndex = 0;
   if (/\.toml$/.test(file.name)) return setJob({ ...jobNow(), description: text });
+  forget();
   if (/\.machines$/.test(file.name)) { const both = cutComparison(text); setJob(both.job, both.machines); return chooseView("compare"); }
   setJob(cut(text), "");
 }

@@ -42,7 +42,8 @@ function cycleBar(counts) {
     if (count === 0) continue;
     const share = (100 * count) / total;
     words.push(name + " " + count);
-    bar.append(element("span", { className: kind, textContent: share > 12 ? name + " " + count : share > 4 ? count : "", title: name + ": " + counted(count, "cycle") + ", " + share.toFixed(1) + " %", style: "width: " + share + "%" }));
+    const shown = share > 12 ? name + " " + count : share > 4 ? count : "", title = name + ": " + counted(count, "cycle") + ", " + share.toFixed(1) + " %";
+    bar.append(element("span", { className: kind, textContent: shown, title, style: "width: " + share + "%" }));
   }
   bar.setAttribute("aria-label", "Where the cycles went: " + words.join(", "));
   return bar;
@@ -61,12 +62,21 @@ function showReport({ output }) {
 
 function tableOf(lines, cellOf) {
   const first = (lines[1] || "").split("\t");
-  const head = element("tr", {}, ...lines[0].split("\t").map((name, at) => element("th", { scope: "col", className: isFigure(first[at] || "x") ? "figure" : "", textContent: name.replace(/_/g, " ") })));
-  const body = lines.slice(1).map((line) => element("tr", {}, ...line.split("\t").map((text, column) => cellOf(text, column, line))));
-  return element("div", { className: "scroll", tabIndex: 0, role: "region", "aria-label": "table" }, element("table", { className: "sheet" }, element("thead", {}, head), element("tbody", {}, ...body)));
+  const kindOf = (at) => (isFigure(first[at] || "x") ? "figure" : "");
+  const nameOf = (name, at) => element("th", { scope: "col", className: kindOf(at), textContent: name.replace(/_/g, " ") });
+  const head = element("tr", {}, ...lines[0].split("\t").map(nameOf));
+  const body = lines.slice(1).map((line) => element("tr", {}, ...line.split("\t").map(cellOf)));
+  const table = element("table", { className: "sheet" }, element("thead", {}, head), element("tbody", {}, ...body));
+  return element("div", { className: "scroll", tabIndex: 0, role: "region", "aria-label": "table" }, table);
 }
 
+const PICTURE = "A row for each fetched instruction, a column for each cycle: F fetch, D dispatch, I issue, B broadcast, C commit";
 const isFigure = (text) => /^[-+]?[\d.]*$|^[0-9a-f]{8}$/.test(text);
+
+function lineButton(line) {
+  const onclick = () => goToLine(Number(line));
+  return element("button", { type: "button", className: "link", textContent: line, title: "to this line of the program", onclick });
+}
 
 // A table with a tab between two cells. The last column of a profile, the cycles at the head, has a bar; a line's number leads to it.
 function showTable({ output }) {
@@ -75,8 +85,7 @@ function showTable({ output }) {
   const most = Math.max(1, ...lines.slice(1).map((row) => Number(row.split("\t")[head]) || 0));
   const table = tableOf(lines, (cell, column) => {
     const made = element("td", { className: isFigure(cell) ? "figure" : "words" });
-    if (column === line && cell !== "") made.append(element("button", { type: "button", className: "link", textContent: cell, title: "to this line of the program", onclick: () => goToLine(Number(cell)) }));
-    else made.append(cell);
+    made.append(column === line && cell !== "" ? lineButton(cell) : cell);
     if (column === head) made.append(element("span", { className: "bar", style: "width: " + (4 * Number(cell)) / most + "rem" }));
     return made;
   });
@@ -95,6 +104,7 @@ function picture(bytes, words) {
 function showPicture({ output, errors }) {
   const note = textOf(errors).trim();
   if (note) byId("shown").append(element("p", { className: "note", textContent: note }));
-  byId("shown").append(element("div", { className: "scroll picture", tabIndex: 0, role: "region", "aria-label": "picture of the pipeline" },
-    picture(output, "A row for each fetched instruction, a column for each cycle: F fetch, D dispatch, I issue, B broadcast, C commit")));
+  const scroll = element("div", { className: "scroll picture", tabIndex: 0, role: "region", "aria-label": "picture of the pipeline" });
+  scroll.append(picture(output, PICTURE));
+  byId("shown").append(scroll);
 }

@@ -36,6 +36,7 @@ function isUnchanged(name, job) {
 function loadExample(name) {
   if (name.startsWith("machines/")) return setJob({ ...jobNow(), description: EXAMPLES[name] });
   const { job, machines } = exampleOf(name);
+  forget();
   exampleName = name;
   byId("examples").value = name;
   if (COMPARISONS.has(name)) chooseView("compare", true);

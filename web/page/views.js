@@ -3,6 +3,9 @@ const FROM = { name: "from", label: "from cycle", least: 0, most: 999999, value:
 const cycles = (most, value) => ({ name: "cycles", label: "cycles", least: 1, most, value });
 const RETIRED = { name: "retired", label: "without squashed rows", isSwitch: true, value: false };
 
+const KONATA = "For the pipeline viewer Konata: save it, and open the file there.";
+const ONE_AT_A_TIME = "The same program on the machine that takes one instruction after the other; limit and arrivals count steps.";
+
 const VIEWS = [
   { name: "report", title: "Report", command: "run", limit: true, show: showReport, file: "report.txt" },
   { name: "steps", title: "Steps", command: "page", options: [FROM, cycles(10000, 200)], show: showPage, file: "run.html" },
@@ -12,8 +15,8 @@ const VIEWS = [
   { name: "explain", title: "Explain", command: "explain", limit: true, show: showText, file: "explain.txt" },
   { name: "profile", title: "Profile", command: "profile", limit: true, show: showTable, file: "profile.tsv" },
   { name: "trace", title: "Trace", command: "run", words: ["--trace"], limit: true, show: showText, file: "trace.txt" },
-  { name: "log", title: "Log", command: "log", limit: true, show: showText, file: "run.kanata", note: "For the pipeline viewer Konata: save it, and open the file there." },
-  { name: "reference", title: "Reference", command: "reference", limit: true, show: showText, file: "reference.txt", note: "The same program on the machine that takes one instruction after the other; the limit counts steps, and so do the cycles of arrivals." },
+  { name: "log", title: "Log", command: "log", limit: true, show: showText, file: "run.kanata", note: KONATA },
+  { name: "reference", title: "Reference", command: "reference", limit: true, show: showText, file: "reference.txt", note: ONE_AT_A_TIME },
 ];
 const viewNamed = (name) => VIEWS.find((view) => view.name === name);
 
