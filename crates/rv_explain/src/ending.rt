@@ -1,14 +1,14 @@
 ghost use Rattle.std.specs.Prelude.{◌≡◌};
 ghost use Rattle.rv_arch.specs.Csr.{value_of};
 ghost use Rattle.rv_explain.specs.Ending.{reason_text, place_of, last_store_text, stale_text, ending_text};
-ghost use Rattle.rv_text.specs.Written.{IsWritten};
+ghost use Rattle.rv_text.specs.Said.{Says};
 
 use rv_arch::Stop;
 use rv_core::Pipeline;
 use rv_isa::Csr;
 use rv_sentences::{WordNotes, write_place};
 use rv_source::Listing;
-use rv_text::{ReportError, put};
+use rv_text::Sink;
 use std::io::Write;
 
 /// What a control and status register reads.
@@ -45,49 +45,42 @@ fn place(stop: Stop, pipeline: &Pipeline) -> u32
     }
 }
 
-#[tactic(auto, unfolding(crate::specs::Ending::last_store_text))]
-fn write_last_store<W: Write>(
-    writer: &mut W,
-    listing: &Listing,
-    last_store: Option<u32>,
-) -> Result<(), ReportError>
-    ensures { IsWritten result (W.contents writer.old) (W.contents writer.new) (last_store_text listing.now last_store) }
+#[tactic(auto, using(rv_text::proofs::Saying::saying), unfolding(crate::specs::Ending::last_store_text))]
+fn write_last_store<W: Write>(out: &mut Sink<'_, W>, listing: &Listing, last_store: Option<u32>)
+    ensures { Says W.contents out.old out.new (last_store_text listing.now last_store) }
 {
-    match last_store {
-        Some(pc) => {
-            put(writer, b"The last store to that word was the one at ")?;
-            write_place(writer, listing, pc)
-        }
-        None => Ok(()),
+    if let Some(pc) = last_store {
+        out.put(b"The last store to that word was the one at ");
+        write_place(out, listing, pc);
     }
 }
 
 // The last store to the word that the run ended at, if it did at a stale one.
 fn write_stale<W: Write>(
-    writer: &mut W,
+    out: &mut Sink<'_, W>,
     listing: &Listing,
     stop: Stop,
     last_stores: &WordNotes<Option<u32>>,
-) -> Result<(), ReportError>
-    ensures { IsWritten result (W.contents writer.old) (W.contents writer.new) (stale_text listing.now stop last_stores.now) }
+)
+    ensures { Says W.contents out.old out.new (stale_text listing.now stop last_stores.now) }
 {
     match stop {
-        Stop::Stale(pc) => write_last_store(writer, listing, last_stores.at(pc / 4).flatten()),
-        Stop::Breakpoint | Stop::Limit | Stop::Exhausted => Ok(()),
+        Stop::Stale(pc) => write_last_store(out, listing, last_stores.at(pc / 4).flatten()),
+        Stop::Breakpoint | Stop::Limit | Stop::Exhausted => {}
     }
 }
 
 /// Writes why a run ended, and where.
 pub(crate) fn write_ending<W: Write>(
-    writer: &mut W,
+    out: &mut Sink<'_, W>,
     listing: &Listing,
     stop: Stop,
     pipeline: &Pipeline,
     last_stores: &WordNotes<Option<u32>>,
-) -> Result<(), ReportError>
-    ensures { IsWritten result (W.contents writer.old) (W.contents writer.new) (ending_text listing.now stop pipeline.now last_stores.now) }
+)
+    ensures { Says W.contents out.old out.new (ending_text listing.now stop pipeline.now last_stores.now) }
 {
-    put(writer, reason(stop))?;
-    write_place(writer, listing, place(stop, pipeline))?;
-    write_stale(writer, listing, stop, last_stores)
+    out.put(reason(stop));
+    write_place(out, listing, place(stop, pipeline));
+    write_stale(out, listing, stop, last_stores);
 }

@@ -6,6 +6,7 @@ ghost use Rattle.rv_isa.specs.declared.lines.Arrival.{Arrival};
 ghost use Rattle.rv_passage.specs.Table.{HasRoom, passages_of, table_at};
 ghost use Rattle.rv_explain.specs.Tale.{tale_of};
 ghost use Rattle.rv_text.specs.IsText.{IsText};
+ghost use Rattle.rv_text.specs.Said.{Says};
 ghost use Rattle.rv_text.specs.Written.{IsWritten};
 
 use crate::ending::write_ending;
@@ -22,7 +23,7 @@ use rv_sentences::{
     write_interrupts, write_loads, write_stalls, write_waits, write_work, write_worst,
 };
 use rv_source::Listing;
-use rv_text::{Field, ReportError, TextError, Value, write_fields};
+use rv_text::{Field, ReportError, Sink, TextError, Value};
 use std::alloc::{AllocError, Global};
 use std::io::Write;
 
@@ -55,69 +56,84 @@ fn begin(
 }
 
 // The cycles, and those to each instruction.
-fn write_cycles<W: Write>(
-    writer: &mut W,
-    progress: &Progress,
-    retired: u64,
-) -> Result<(), ReportError>
-    ensures { IsWritten result (W.contents writer.old) (W.contents writer.new) (cycle_text progress.now retired) }
+fn write_cycles<W: Write>(out: &mut Sink<'_, W>, progress: &Progress, retired: u64)
+    ensures { Says W.contents out.old out.new (cycle_text progress.now retired) }
 {
-    write_counts(writer, progress.cycles, retired)?;
-    write_fields(
-        writer,
-        &[Field {
-            name: "cycles per instruction",
-            value: Value::Ratio {
-                count: progress.cycles,
-                each: retired,
-            },
-        }],
-    )?;
-    write_stalls(writer, progress.cycles, progress.busy, &progress.stalls)
+    write_counts(out, progress.cycles, retired);
+    out.put_fields(&[Field {
+        name: "cycles per instruction",
+        value: Value::Ratio {
+            count: progress.cycles,
+            each: retired,
+        },
+    }]);
+    write_stalls(out, progress.cycles, progress.busy, &progress.stalls);
 }
 
 // What results and instructions waited for, and what the accesses to memory cost.
-fn write_waited<W: Write>(writer: &mut W, tale: &Tale) -> Result<(), ReportError>
-    ensures { IsWritten result (W.contents writer.old) (W.contents writer.new) (waited_text tale.now) }
+fn write_waited<W: Write>(out: &mut Sink<'_, W>, tale: &Tale)
+    ensures { Says W.contents out.old out.new (waited_text tale.now) }
 {
-    write_waits(writer, b"cycles that results waited for the bus", &tale.bus)?;
+    write_waits(out, b"cycles that results waited for the bus", &tale.bus);
     write_waits(
-        writer,
+        out,
         b"cycles that instructions waited for a unit",
         &tale.units,
-    )?;
-    write_loads(writer, &tale.loads)?;
-    write_drains(writer, &tale.drains)
+    );
+    write_loads(out, &tale.loads);
+    write_drains(out, &tale.drains);
 }
 
 // Where the cycles went.
 fn write_costs<W: Write>(
-    writer: &mut W,
+    out: &mut Sink<'_, W>,
     listing: &Listing,
     progress: &Progress,
     fetched: u64,
     tale: &mut Tale,
-) -> Result<(), ReportError>
+)
     requires heads { sum tale.old.heads.words ≤ progress.now.cycles }
     requires branches { sum tale.old.branches.words < 2 ^ 64 }
     requires mispredicted { sum tale.old.mispredicted.words < 2 ^ 64 }
-    ensures { IsWritten result (W.contents writer.old) (W.contents writer.new) (cost_text listing.now progress.now fetched tale.old) }
+    ensures { Says W.contents out.old out.new (cost_text listing.now progress.now fetched tale.old) }
 {
-    write_cycles(writer, progress, tale.retired)?;
-    write_dispatches(writer, progress.busy, &tale.dispatches)?;
-    write_work(writer, fetched, &tale.work)?;
-    write_worst(writer, listing, &mut tale.branches, &mut tale.mispredicted)?;
-    write_waited(writer, tale)?;
+    write_cycles(out, progress, tale.retired);
+    write_dispatches(out, progress.busy, &tale.dispatches);
+    write_work(out, fetched, &tale.work);
+    write_worst(out, listing, &mut tale.branches, &mut tale.mispredicted);
+    write_waited(out, tale);
     write_hotspots(
-        writer,
+        out,
         listing,
         progress.cycles,
         &tale.outcomes,
         &mut tale.heads,
-    )
+    );
 }
 
 // The sentences on a run that ended.
+fn write_sentences<W: Write>(
+    out: &mut Sink<'_, W>,
+    listing: &Listing,
+    stop: Stop,
+    pipeline: &Pipeline,
+    progress: &Progress,
+    fetched: u64,
+    tale: &mut Tale,
+)
+    requires heads { sum tale.old.heads.words ≤ progress.now.cycles }
+    requires branches { sum tale.old.branches.words < 2 ^ 64 }
+    requires mispredicted { sum tale.old.mispredicted.words < 2 ^ 64 }
+    ensures { Says W.contents out.old out.new (explanation listing.now stop pipeline.now progress.now fetched tale.old) }
+{
+    write_ending(out, listing, stop, pipeline, &tale.last_stores);
+    write_exceptions(out, listing, &tale.exceptions);
+    write_interrupts(out, listing, &tale.interrupts);
+    write_costs(out, listing, progress, fetched, tale);
+}
+
+// Writes the sentences on a run that ended.
+#[tactic(auto, using(rv_text::proofs::Saying::says_written))]
 fn write_told<W: Write>(
     writer: &mut W,
     listing: &Listing,
@@ -132,10 +148,9 @@ fn write_told<W: Write>(
     requires mispredicted { sum tale.old.mispredicted.words < 2 ^ 64 }
     ensures { IsWritten result (W.contents writer.old) (W.contents writer.new) (explanation listing.now stop pipeline.now progress.now fetched tale.old) }
 {
-    write_ending(writer, listing, stop, pipeline, &tale.last_stores)?;
-    write_exceptions(writer, listing, &tale.exceptions)?;
-    write_interrupts(writer, listing, &tale.interrupts)?;
-    write_costs(writer, listing, progress, fetched, tale)
+    let mut out = Sink::new(writer);
+    write_sentences(&mut out, listing, stop, pipeline, progress, fetched, tale);
+    out.outcome()
 }
 
 /// Runs a pipeline that a predictor guides, each cycle with the lines of its number, up to a breakpoint, a stale word,

@@ -1,8 +1,8 @@
 ghost use Rattle.rv_sentences.specs.Access.{access_text};
-ghost use Rattle.rv_text.specs.Written.{IsWritten};
+ghost use Rattle.rv_text.specs.Said.{Says};
 
 use itoa::Buffer;
-use rv_text::{ReportError, put_all};
+use rv_text::Sink;
 use std::io::Write;
 
 /// How many accesses to memory there were.
@@ -14,13 +14,14 @@ pub struct Accesses {
 }
 
 /// Writes how many accesses there were, by what they cost.
+#[tactic(auto, using(rv_text::proofs::Saying::saying), unfolding(crate::specs::Access::access_text))]
 pub fn write_accesses<W: Write>(
-    writer: &mut W,
+    out: &mut Sink<'_, W>,
     name: &[u8],
     quick_cost: &[u8],
     accesses: &Accesses,
-) -> Result<(), ReportError>
-    ensures { IsWritten result (W.contents writer.old) (W.contents writer.new) (access_text name.now quick_cost.now accesses.now) }
+)
+    ensures { Says W.contents out.old out.new (access_text name.now quick_cost.now accesses.now) }
 {
     let mut all_buffer = Buffer::new();
     let all = all_buffer.format(accesses.all).as_bytes();
@@ -30,16 +31,13 @@ pub fn write_accesses<W: Write>(
     let missed = missed_buffer
         .format(accesses.all.saturating_sub(accesses.quick))
         .as_bytes();
-    put_all(
-        writer,
-        &[
-            name,
-            all,
-            b", of them ",
-            quick,
-            quick_cost,
-            missed,
-            b" at that of a miss\n",
-        ],
-    )
+    out.put_all(&[
+        name,
+        all,
+        b", of them ",
+        quick,
+        quick_cost,
+        missed,
+        b" at that of a miss\n",
+    ]);
 }

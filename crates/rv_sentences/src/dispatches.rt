@@ -1,10 +1,9 @@
 ghost use Rattle.std.specs.Prelude.{◌≡◌, ◌+◌, ◌-◌, ◌<◌, ◌^◌, length};
 ghost use Rattle.rv_sentences.specs.Dispatch.{dispatched_after, dispatched_with, dispatches_text, is_last, none_dispatched};
-ghost use Rattle.rv_text.specs.Written.{IsWritten};
+ghost use Rattle.rv_text.specs.Said.{Says};
 
-use itoa::Buffer;
 use rv_hardware::Step;
-use rv_text::{ReportError, put_all};
+use rv_text::Sink;
 use std::io::Write;
 
 /// The cycles that dispatched something that retired.
@@ -59,28 +58,12 @@ impl Dispatches {
 }
 
 /// Writes how many of the busy cycles dispatched something that retired.
-#[tactic(auto, unfolding(crate::specs::Dispatch::dispatches_text))]
-pub fn write_dispatches<W: Write>(
-    writer: &mut W,
-    busy: u64,
-    dispatches: &Dispatches,
-) -> Result<(), ReportError>
-    ensures { IsWritten result (W.contents writer.old) (W.contents writer.new) (dispatches_text busy dispatches.now.cycles) }
+pub fn write_dispatches<W: Write>(out: &mut Sink<'_, W>, busy: u64, dispatches: &Dispatches)
+    ensures { Says W.contents out.old out.new (dispatches_text busy dispatches.now.cycles) }
 {
-    let mut useful_buffer = Buffer::new();
-    let useful = useful_buffer.format(dispatches.cycles).as_bytes();
-    let mut rest_buffer = Buffer::new();
-    let rest = rest_buffer
-        .format(busy.saturating_sub(dispatches.cycles))
-        .as_bytes();
-    put_all(
-        writer,
-        &[
-            b"of the busy cycles ",
-            useful,
-            b" dispatched something that retired, ",
-            rest,
-            b" only what did not\n",
-        ],
-    )
+    out.put(b"of the busy cycles ");
+    out.put_decimal(dispatches.cycles);
+    out.put(b" dispatched something that retired, ");
+    out.put_decimal(busy.saturating_sub(dispatches.cycles));
+    out.put(b" only what did not\n");
 }

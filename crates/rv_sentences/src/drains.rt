@@ -2,10 +2,10 @@ ghost use Rattle.std.specs.Prelude.{◌≡◌, ◌+◌, ◌<◌, ◌^◌};
 ghost use Rattle.std.specs.Option.{option_to_list};
 ghost use Rattle.rv_sentences.specs.Access.{both};
 ghost use Rattle.rv_sentences.specs.Drain.{begun, drain_text, drains_by};
-ghost use Rattle.rv_text.specs.Written.{IsWritten};
+ghost use Rattle.rv_text.specs.Said.{Says};
 
 use crate::accesses::{Accesses, write_accesses};
-use rv_text::ReportError;
+use rv_text::Sink;
 use std::io::Write;
 
 /// What a drain costs that began in a cycle, by the ends of those under way before and after it.
@@ -36,8 +36,8 @@ pub fn add_drain(drains: &mut Accesses, hit: u32, drain: Option<u64>)
 
 /// Writes how many drains began, by what they cost.
 #[tactic(auto, unfolding(crate::specs::Drain::drain_text))]
-pub fn write_drains<W: Write>(writer: &mut W, drains: &Accesses) -> Result<(), ReportError>
-    ensures { IsWritten result (W.contents writer.old) (W.contents writer.new) (drain_text drains.now) }
+pub fn write_drains<W: Write>(out: &mut Sink<'_, W>, drains: &Accesses)
+    ensures { Says W.contents out.old out.new (drain_text drains.now) }
 {
-    write_accesses(writer, b"drains: ", b" at the cost of a hit, ", drains)
+    write_accesses(out, b"drains: ", b" at the cost of a hit, ", drains);
 }

@@ -1,13 +1,13 @@
 ghost use Rattle.std.specs.Prelude.{◌≡◌};
 ghost use Rattle.rv_sentences.specs.Exception.{cause_name, cause_text, went_on, handler_text, taken_text};
-ghost use Rattle.rv_text.specs.Written.{IsWritten};
+ghost use Rattle.rv_text.specs.Said.{Says};
 
 use crate::exception::Exception;
 use crate::place::write_place;
 use itoa::Buffer;
 use rv_isa::Cause;
 use rv_source::Listing;
-use rv_text::{ReportError, hexadecimal, put, put_all};
+use rv_text::{Sink, hexadecimal};
 use std::io::Write;
 
 /// The name of a cause.
@@ -28,15 +28,15 @@ pub fn cause_name(cause: Cause) -> &'static [u8]
     }
 }
 
-#[tactic(auto, unfolding(crate::specs::Exception::cause_text))]
-fn write_cause<W: Write>(writer: &mut W, exception: &Exception) -> Result<(), ReportError>
-    ensures { IsWritten result (W.contents writer.old) (W.contents writer.new) (cause_text exception.now) }
+#[tactic(auto, using(rv_text::proofs::Saying::saying), unfolding(crate::specs::Exception::cause_text))]
+fn write_cause<W: Write>(out: &mut Sink<'_, W>, exception: &Exception)
+    ensures { Says W.contents out.old out.new (cause_text exception.now) }
 {
     let mut buffer = Buffer::new();
     let cycle = buffer.format(exception.cycle).as_bytes();
     let name = cause_name(exception.cause);
     let value = hexadecimal(exception.value);
-    put_all(writer, &[cycle, b": ", name, b", mtval ", &value, b", at "])
+    out.put_all(&[cycle, b": ", name, b", mtval ", &value, b", at "]);
 }
 
 // How the program went on after a trap.
@@ -52,25 +52,26 @@ fn went_on(mtvec: u32) -> &'static [u8]
 }
 
 #[tactic(auto, unfolding(crate::specs::Exception::handler_text))]
-fn write_handler<W: Write>(writer: &mut W, exception: &Exception) -> Result<(), ReportError>
-    ensures { IsWritten result (W.contents writer.old) (W.contents writer.new) (handler_text exception.now) }
+fn write_handler<W: Write>(out: &mut Sink<'_, W>, exception: &Exception)
+    ensures { Says W.contents out.old out.new (handler_text exception.now) }
 {
     let how = went_on(exception.mtvec);
     let next_pc = hexadecimal(exception.next_pc);
-    put_all(writer, &[how, &next_pc, b"\n"])
+    out.put_all(&[how, &next_pc, b"\n"]);
 }
 
 /// Writes what an exception was, and where the program went on after it. The text before it says which one it is.
+#[tactic(auto, using(rv_text::proofs::Saying::saying), unfolding(crate::specs::Exception::taken_text))]
 pub fn write_taken<W: Write>(
-    writer: &mut W,
+    out: &mut Sink<'_, W>,
     which: &[u8],
     listing: &Listing,
     exception: &Exception,
-) -> Result<(), ReportError>
-    ensures { IsWritten result (W.contents writer.old) (W.contents writer.new) (taken_text which.now listing.now exception.now) }
+)
+    ensures { Says W.contents out.old out.new (taken_text which.now listing.now exception.now) }
 {
-    put(writer, which)?;
-    write_cause(writer, exception)?;
-    write_place(writer, listing, exception.pc)?;
-    write_handler(writer, exception)
+    out.put(which);
+    write_cause(out, exception);
+    write_place(out, listing, exception.pc);
+    write_handler(out, exception);
 }

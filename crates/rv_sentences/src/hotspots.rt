@@ -1,7 +1,7 @@
 ghost use Rattle.std.specs.Prelude.{◌≡◌, ◌≤◌, sum};
 ghost use Rattle.std.specs.List.{flat_map};
 ghost use Rattle.rv_sentences.specs.Hotspot.{has_loads, hotspot_text, hotspots_text, load_counts, loads_there};
-ghost use Rattle.rv_text.specs.Written.{IsWritten};
+ghost use Rattle.rv_text.specs.Said.{Says};
 
 use crate::greatest_lines::greatest_lines;
 use crate::outcomes::Outcomes;
@@ -9,9 +9,8 @@ use crate::place::write_place;
 use crate::spot::Spot;
 use crate::stack::write_share;
 use crate::word_notes::WordNotes;
-use itoa::Buffer;
 use rv_source::Listing;
-use rv_text::{ReportError, put, put_all};
+use rv_text::Sink;
 use std::io::Write;
 
 fn has_loads(outcomes: &Outcomes) -> bool
@@ -20,95 +19,73 @@ fn has_loads(outcomes: &Outcomes) -> bool
     !(outcomes.hits == 0 && outcomes.misses == 0)
 }
 
-#[tactic(auto, unfolding(crate::specs::Hotspot::load_counts))]
-fn write_load_counts<W: Write>(writer: &mut W, outcomes: &Outcomes) -> Result<(), ReportError>
-    ensures { IsWritten result (W.contents writer.old) (W.contents writer.new) (load_counts outcomes.now) }
+fn write_load_counts<W: Write>(out: &mut Sink<'_, W>, outcomes: &Outcomes)
+    ensures { Says W.contents out.old out.new (load_counts outcomes.now) }
 {
-    let mut hit_buffer = Buffer::new();
-    let hits = hit_buffer.format(outcomes.hits).as_bytes();
-    let mut miss_buffer = Buffer::new();
-    let misses = miss_buffer.format(outcomes.misses).as_bytes();
-    let mut back_buffer = Buffer::new();
-    let write_backs = back_buffer.format(outcomes.write_backs).as_bytes();
-    put_all(
-        writer,
-        &[
-            b"       its loads: hits ",
-            hits,
-            b", misses ",
-            misses,
-            b", write-backs ",
-            write_backs,
-            b"\n",
-        ],
-    )
+    out.put(b"       its loads: hits ");
+    out.put_decimal(outcomes.hits);
+    out.put(b", misses ");
+    out.put_decimal(outcomes.misses);
+    out.put(b", write-backs ");
+    out.put_decimal(outcomes.write_backs);
+    out.put(b"\n");
 }
 
 // Writes the loads in a word, by what they cost.
 #[tactic(auto, unfolding(crate::specs::Hotspot::loads_there))]
-fn write_loads_there<W: Write>(
-    writer: &mut W,
-    outcomes: Option<Outcomes>,
-) -> Result<(), ReportError>
-    ensures { IsWritten result (W.contents writer.old) (W.contents writer.new) (loads_there outcomes) }
+fn write_loads_there<W: Write>(out: &mut Sink<'_, W>, outcomes: Option<Outcomes>)
+    ensures { Says W.contents out.old out.new (loads_there outcomes) }
 {
-    match outcomes {
-        None => Ok(()),
-        Some(outcomes) => {
-            if has_loads(&outcomes) {
-                write_load_counts(writer, &outcomes)
-            } else {
-                Ok(())
-            }
+    if let Some(outcomes) = outcomes {
+        if has_loads(&outcomes) {
+            write_load_counts(out, &outcomes);
         }
     }
 }
 
+#[tactic(auto, using(rv_text::proofs::Saying::saying), unfolding(crate::specs::Hotspot::hotspot_text))]
 fn write_hotspot<W: Write>(
-    writer: &mut W,
+    out: &mut Sink<'_, W>,
     listing: &Listing,
     all: u64,
     outcomes: &WordNotes<Outcomes>,
     hotspot: &Spot,
-) -> Result<(), ReportError>
-    ensures { IsWritten result (W.contents writer.old) (W.contents writer.new) (hotspot_text listing.now all outcomes.now hotspot.now) }
+)
+    ensures { Says W.contents out.old out.new (hotspot_text listing.now all outcomes.now hotspot.now) }
 {
-    write_place(writer, listing, hotspot.address)?;
-    write_share(writer, "       ", hotspot.count, all)?;
-    write_loads_there(writer, outcomes.at(hotspot.address / 4))
+    write_place(out, listing, hotspot.address);
+    write_share(out, "       ", hotspot.count, all);
+    write_loads_there(out, outcomes.at(hotspot.address / 4));
 }
 
+#[tactic(auto, using(rv_text::proofs::Saying::saying))]
 fn write_each<W: Write>(
-    writer: &mut W,
+    out: &mut Sink<'_, W>,
     listing: &Listing,
     all: u64,
     outcomes: &WordNotes<Outcomes>,
     hotspots: &[Spot],
-) -> Result<(), ReportError>
-    ensures { IsWritten result (W.contents writer.old) (W.contents writer.new) (flat_map (hotspot_text listing.now all outcomes.now) hotspots.now) }
+)
+    ensures { Says W.contents out.old out.new (flat_map (hotspot_text listing.now all outcomes.now) hotspots.now) }
 {
     for hotspot in hotspots {
-        write_hotspot(writer, listing, all, outcomes, hotspot)?;
+        write_hotspot(out, listing, all, outcomes, hotspot);
     }
-    Ok(())
 }
 
 /// Writes the five lines that stood longest at the head, by the cycles that left each word there, each with its loads, and leaves no
 /// count of theirs. The cycles of all words are no more than there were.
 pub fn write_hotspots<W: Write>(
-    writer: &mut W,
+    out: &mut Sink<'_, W>,
     listing: &Listing,
     all: u64,
     outcomes: &WordNotes<Outcomes>,
     heads: &mut WordNotes<u64>,
-) -> Result<(), ReportError>
+)
     requires heads { sum heads.old.words ≤ all }
-    ensures { IsWritten result (W.contents writer.old) (W.contents writer.new) (hotspots_text listing.now all heads.old outcomes.now) }
+    ensures { Says W.contents out.old out.new (hotspots_text listing.now all heads.old outcomes.now) }
 {
-    put(
-        writer,
-        b"The lines that stood longest at the head of the reorder buffer, in cycles:\n",
-    )?;
+    out.put(b"The lines that stood longest at the head of the reorder buffer, in cycles:\n");
     let hotspots = greatest_lines(heads, listing, 5);
-    write_each(writer, listing, all, outcomes, hotspots.as_slice())
+    write_each(out, listing, all, outcomes, hotspots.as_slice());
 }

@@ -2,7 +2,7 @@ ghost use Rattle.std.specs.Prelude.{◌≡◌, ◌-◌, None, Some};
 ghost use Rattle.std.specs.List.{flat_map};
 ghost use Rattle.rv_sentences.specs.Exception.{counted_text, cycles_text, exceptions_text, kind_text, kinds_text, others_text, several_text};
 ghost use Rattle.rv_sentences.specs.Kinds.{others};
-ghost use Rattle.rv_text.specs.Written.{IsWritten};
+ghost use Rattle.rv_text.specs.Said.{Says};
 
 use crate::exception::Exception;
 use crate::exceptions::{cause_name, write_taken};
@@ -13,65 +13,51 @@ use crate::stack::behind;
 use itoa::Buffer;
 use rv_isa::Cause;
 use rv_source::Listing;
-use rv_text::{ReportError, put, put_all};
+use rv_text::Sink;
 use std::io::Write;
 
-#[tactic(auto, unfolding(crate::specs::Exception::counted_text))]
-fn write_counted<W: Write>(writer: &mut W, count: u64, text: &[u8]) -> Result<(), ReportError>
-    ensures { IsWritten result (W.contents writer.old) (W.contents writer.new) (counted_text count text.now) }
+#[tactic(auto, using(rv_text::proofs::Saying::saying), unfolding(crate::specs::Exception::counted_text, crate::specs::Stack::indent))]
+fn write_counted<W: Write>(out: &mut Sink<'_, W>, count: u64, text: &[u8])
+    ensures { Says W.contents out.old out.new (counted_text count text.now) }
 {
     let mut buffer = Buffer::new();
     let digits = buffer.format(count).as_bytes();
     let indent = behind(b"       ", digits.len());
-    put_all(writer, &[indent, digits, text])
+    out.put_all(&[indent, digits, text]);
 }
 
-#[tactic(auto, unfolding(crate::specs::Exception::cycles_text, crate::specs::Exception::at_text))]
-fn write_cycles<W: Write>(
-    writer: &mut W,
-    first: u64,
-    last: u64,
-    cause: Cause,
-) -> Result<(), ReportError>
-    ensures { IsWritten result (W.contents writer.old) (W.contents writer.new) (cycles_text first last cause) }
+#[tactic(auto, using(rv_text::proofs::Saying::saying), unfolding(crate::specs::Exception::cycles_text, crate::specs::Exception::at_text))]
+fn write_cycles<W: Write>(out: &mut Sink<'_, W>, first: u64, last: u64, cause: Cause)
+    ensures { Says W.contents out.old out.new (cycles_text first last cause) }
 {
     let name = cause_name(cause);
     let mut first_buffer = Buffer::new();
     let from = first_buffer.format(first).as_bytes();
     if first == last {
-        return put_all(writer, &[b" in cycle ", from, b": ", name, b", at "]);
+        out.put_all(&[b" in cycle ", from, b": ", name, b", at "]);
+        return;
     }
     let mut last_buffer = Buffer::new();
     let to = last_buffer.format(last).as_bytes();
-    put_all(
-        writer,
-        &[b" in cycles ", from, b" to ", to, b": ", name, b", at "],
-    )
+    out.put_all(&[b" in cycles ", from, b" to ", to, b": ", name, b", at "]);
 }
 
-fn write_kind<W: Write>(
-    writer: &mut W,
-    listing: &Listing,
-    kind: &Series<Exception>,
-) -> Result<(), ReportError>
-    ensures { IsWritten result (W.contents writer.old) (W.contents writer.new) (kind_text listing.now kind.now) }
+#[tactic(auto, using(rv_text::proofs::Saying::saying), unfolding(crate::specs::Exception::kind_text))]
+fn write_kind<W: Write>(out: &mut Sink<'_, W>, listing: &Listing, kind: &Series<Exception>)
+    ensures { Says W.contents out.old out.new (kind_text listing.now kind.now) }
 {
-    write_counted(writer, kind.count, b"")?;
-    write_cycles(writer, kind.first.cycle, kind.last.cycle, kind.first.cause)?;
-    write_place(writer, listing, kind.first.pc)
+    write_counted(out, kind.count, b"");
+    write_cycles(out, kind.first.cycle, kind.last.cycle, kind.first.cause);
+    write_place(out, listing, kind.first.pc);
 }
 
-fn write_kind_lines<W: Write>(
-    writer: &mut W,
-    listing: &Listing,
-    kinds: &[Series<Exception>],
-) -> Result<(), ReportError>
-    ensures { IsWritten result (W.contents writer.old) (W.contents writer.new) (flat_map (kind_text listing.now) kinds.now) }
+#[tactic(auto, using(rv_text::proofs::Saying::saying))]
+fn write_kind_lines<W: Write>(out: &mut Sink<'_, W>, listing: &Listing, kinds: &[Series<Exception>])
+    ensures { Says W.contents out.old out.new (flat_map (kind_text listing.now) kinds.now) }
 {
     for kind in kinds {
-        write_kind(writer, listing, kind)?;
+        write_kind(out, listing, kind);
     }
-    Ok(())
 }
 
 // So many exceptions but for those of some kinds.
@@ -85,78 +71,75 @@ fn others(all: u64, kinds: &[Series<Exception>]) -> u64
 }
 
 #[tactic(auto, unfolding(crate::specs::Exception::others_text))]
-fn write_others<W: Write>(writer: &mut W, count: u64) -> Result<(), ReportError>
-    ensures { IsWritten result (W.contents writer.old) (W.contents writer.new) (others_text count) }
+fn write_others<W: Write>(out: &mut Sink<'_, W>, count: u64)
+    ensures { Says W.contents out.old out.new (others_text count) }
 {
     if count == 0 {
-        return Ok(());
+        return;
     }
-    write_counted(writer, count, b" of other causes or at other places\n")
+    write_counted(out, count, b" of other causes or at other places\n");
 }
 
 fn write_kinds<W: Write>(
-    writer: &mut W,
+    out: &mut Sink<'_, W>,
     listing: &Listing,
     all: u64,
     kinds: &[Series<Exception>],
-) -> Result<(), ReportError>
-    ensures { IsWritten result (W.contents writer.old) (W.contents writer.new) (kinds_text listing.now all kinds.now) }
+)
+    ensures { Says W.contents out.old out.new (kinds_text listing.now all kinds.now) }
 {
-    put(writer, b"Exceptions by cause and place:\n")?;
-    write_kind_lines(writer, listing, kinds)?;
-    write_others(writer, others(all, kinds))
+    out.put(b"Exceptions by cause and place:\n");
+    write_kind_lines(out, listing, kinds);
+    write_others(out, others(all, kinds));
 }
 
 #[tactic(auto, unfolding(crate::specs::Exception::several_text))]
 fn write_several<W: Write>(
-    writer: &mut W,
+    out: &mut Sink<'_, W>,
     listing: &Listing,
     all: &Series<Exception>,
     kinds: &[Series<Exception>],
-) -> Result<(), ReportError>
-    ensures { IsWritten result (W.contents writer.old) (W.contents writer.new) (several_text listing.now all.now kinds.now) }
+)
+    ensures { Says W.contents out.old out.new (several_text listing.now all.now kinds.now) }
 {
     if all.count == 1 {
-        return Ok(());
+        return;
     }
     write_taken(
-        writer,
+        out,
         b"The last exception came in cycle ",
         listing,
         &all.last,
-    )?;
-    write_kinds(writer, listing, all.count, kinds)
+    );
+    write_kinds(out, listing, all.count, kinds);
 }
 
+#[tactic(auto, using(rv_text::proofs::Saying::saying), unfolding(crate::specs::Exception::exceptions_text))]
 fn write_all<W: Write>(
-    writer: &mut W,
+    out: &mut Sink<'_, W>,
     listing: &Listing,
     all: &Series<Exception>,
     kinds: &[Series<Exception>],
-) -> Result<(), ReportError>
-    ensures { IsWritten result (W.contents writer.old) (W.contents writer.new) (exceptions_text listing.now (Some all.now) kinds.now) }
+)
+    ensures { Says W.contents out.old out.new (exceptions_text listing.now (Some all.now) kinds.now) }
 {
     write_taken(
-        writer,
+        out,
         b"The first exception came in cycle ",
         listing,
         &all.first,
-    )?;
-    write_several(writer, listing, all, kinds)
+    );
+    write_several(out, listing, all, kinds);
 }
 
 /// Writes what the first and the last exception were, where the program went on after them, and how many there were of each
 /// cause and place.
-#[tactic(auto, unfolding(crate::specs::Exception::exceptions_text))]
-pub fn write_exceptions<W: Write>(
-    writer: &mut W,
-    listing: &Listing,
-    exceptions: &Exceptions,
-) -> Result<(), ReportError>
-    ensures { IsWritten result (W.contents writer.old) (W.contents writer.new) (exceptions_text listing.now exceptions.now.all exceptions.now.kinds) }
+#[tactic(auto, using(rv_text::proofs::Saying::saying), unfolding(crate::specs::Exception::exceptions_text))]
+pub fn write_exceptions<W: Write>(out: &mut Sink<'_, W>, listing: &Listing, exceptions: &Exceptions)
+    ensures { Says W.contents out.old out.new (exceptions_text listing.now exceptions.now.all exceptions.now.kinds) }
 {
     match exceptions.all() {
-        Some(all) => write_all(writer, listing, &all, exceptions.kinds()),
-        None => put(writer, b"No exception came before that.\n"),
+        Some(all) => write_all(out, listing, &all, exceptions.kinds()),
+        None => out.put(b"No exception came before that.\n"),
     }
 }

@@ -2,13 +2,13 @@ ghost use Rattle.std.specs.Prelude.{◌≡◌, ◌+◌, ◌<◌, ◌^◌, count_
 ghost use Rattle.rv_counts.specs.Load.{is_hit};
 ghost use Rattle.rv_sentences.specs.Access.{both};
 ghost use Rattle.rv_sentences.specs.Load.{load_text, loads_of, retired_load_cost};
-ghost use Rattle.rv_text.specs.Written.{IsWritten};
+ghost use Rattle.rv_text.specs.Said.{Says};
 
 use crate::accesses::{Accesses, write_accesses};
 use crate::work::{Class, count};
 use rv_counts::{LoadCosts, has_retired, load_cost};
 use rv_passage::Passage;
-use rv_text::ReportError;
+use rv_text::Sink;
 use std::io::Write;
 
 /// What a load cost that retired.
@@ -56,13 +56,13 @@ pub fn add_loads(loads: &mut Accesses, costs: &LoadCosts, rows: &[Passage])
 
 /// Writes how many loads retired, by what they cost.
 #[tactic(auto, unfolding(crate::specs::Load::load_text))]
-pub fn write_loads<W: Write>(writer: &mut W, loads: &Accesses) -> Result<(), ReportError>
-    ensures { IsWritten result (W.contents writer.old) (W.contents writer.new) (load_text loads.now) }
+pub fn write_loads<W: Write>(out: &mut Sink<'_, W>, loads: &Accesses)
+    ensures { Says W.contents out.old out.new (load_text loads.now) }
 {
     write_accesses(
-        writer,
+        out,
         b"loads: ",
         b" at the cost of a hit or of forwarding, ",
         loads,
-    )
+    );
 }

@@ -1,11 +1,11 @@
 ghost use Rattle.std.specs.Prelude.{◌≡◌, take, drop};
 ghost use Rattle.rv_sentences.specs.Stack.{parts_of, share_line, count_text, stall_text};
 ghost use Rattle.std.specs.List.{flat_map};
-ghost use Rattle.rv_text.specs.Written.{IsWritten};
+ghost use Rattle.rv_text.specs.Said.{Says};
 
 use itoa::Buffer;
 use rv_hardware::StallCounts;
-use rv_text::{ReportError, put_all};
+use rv_text::Sink;
 use std::io::Write;
 
 /// How many of so many parts of a whole a count is, to the nearest; none of nothing.
@@ -42,13 +42,9 @@ fn front(text: &[u8], count: u128) -> &[u8]
 }
 
 /// Writes a name, a count, and what part of all it is.
-pub fn write_share<W: Write>(
-    writer: &mut W,
-    name: &str,
-    count: u64,
-    all: u64,
-) -> Result<(), ReportError>
-    ensures { IsWritten result (W.contents writer.old) (W.contents writer.new) (share_line name.now count all) }
+#[tactic(auto, using(rv_text::proofs::Saying::saying), unfolding(crate::specs::Stack::bar_text, crate::specs::Stack::indent, crate::specs::Stack::row_text, crate::specs::Stack::share_line))]
+pub fn write_share<W: Write>(out: &mut Sink<'_, W>, name: &str, count: u64, all: u64)
+    ensures { Says W.contents out.old out.new (share_line name.now count all) }
 {
     let tenths = parts_of(1000, count, all);
     let name = name.as_bytes();
@@ -64,42 +60,36 @@ pub fn write_share<W: Write>(
         b"##################################################",
         parts_of(50, count, all),
     );
-    put_all(
-        writer,
-        &[
-            name,
-            indent,
-            digits,
-            percent_indent,
-            percent,
-            b".",
-            tenth,
-            b"%  ",
-            bar,
-            b"\n",
-        ],
-    )
+    out.put_all(&[
+        name,
+        indent,
+        digits,
+        percent_indent,
+        percent,
+        b".",
+        tenth,
+        b"%  ",
+        bar,
+        b"\n",
+    ]);
 }
 
 /// Writes how many cycles there were, and how many instructions retired.
-#[tactic(auto, unfolding(crate::specs::Stack::count_text))]
-pub fn write_counts<W: Write>(writer: &mut W, cycles: u64, retired: u64) -> Result<(), ReportError>
-    ensures { IsWritten result (W.contents writer.old) (W.contents writer.new) (count_text cycles retired) }
+#[tactic(auto, using(rv_text::proofs::Saying::saying), unfolding(crate::specs::Stack::count_text))]
+pub fn write_counts<W: Write>(out: &mut Sink<'_, W>, cycles: u64, retired: u64)
+    ensures { Says W.contents out.old out.new (count_text cycles retired) }
 {
     let mut cycle_buffer = Buffer::new();
     let cycles = cycle_buffer.format(cycles).as_bytes();
     let mut retired_buffer = Buffer::new();
     let retired = retired_buffer.format(retired).as_bytes();
-    put_all(
-        writer,
-        &[
-            b"cycles ",
-            cycles,
-            b", retired instructions ",
-            retired,
-            b"\n",
-        ],
-    )
+    out.put_all(&[
+        b"cycles ",
+        cycles,
+        b", retired instructions ",
+        retired,
+        b"\n",
+    ]);
 }
 
 // A part of a run's cycles.
@@ -109,27 +99,22 @@ struct Share<'a> {
     count: u64,
 }
 
-fn write_shares<W: Write>(writer: &mut W, shares: &[Share<'_>], all: u64) -> Result<(), ReportError>
-    ensures { IsWritten result (W.contents writer.old) (W.contents writer.new) (flat_map (λ share. share_line share.name.now share.count all) shares.now) }
+#[tactic(auto, using(rv_text::proofs::Saying::saying))]
+fn write_shares<W: Write>(out: &mut Sink<'_, W>, shares: &[Share<'_>], all: u64)
+    ensures { Says W.contents out.old out.new (flat_map (λ share. share_line share.name.now share.count all) shares.now) }
 {
     for share in shares {
-        write_share(writer, share.name, share.count, all)?;
+        write_share(out, share.name, share.count, all);
     }
-    Ok(())
 }
 
 /// Writes how many cycles dispatched something, and how many did not, by the reason.
 #[tactic(auto, unfolding(crate::specs::Stack::stall_text))]
-pub fn write_stalls<W: Write>(
-    writer: &mut W,
-    cycles: u64,
-    busy: u64,
-    stalls: &StallCounts,
-) -> Result<(), ReportError>
-    ensures { IsWritten result (W.contents writer.old) (W.contents writer.new) (stall_text cycles busy stalls.now) }
+pub fn write_stalls<W: Write>(out: &mut Sink<'_, W>, cycles: u64, busy: u64, stalls: &StallCounts)
+    ensures { Says W.contents out.old out.new (stall_text cycles busy stalls.now) }
 {
     write_shares(
-        writer,
+        out,
         &[
             Share {
                 name: "busy   ",
@@ -157,5 +142,5 @@ pub fn write_stalls<W: Write>(
             },
         ],
         cycles,
-    )
+    );
 }

@@ -2,13 +2,13 @@ ghost use Rattle.std.specs.Prelude.{◌≡◌, ◌+◌, ◌<◌, ◌^◌, ℕ, [
 ghost use Rattle.std.specs.Option.{option_and_then};
 ghost use Rattle.rv_isa.specs.Operands.{kind_of};
 ghost use Rattle.rv_sentences.specs.Wait.{CanGrow, both_waits, bus_waits, if_kind, wait_of, waits_text, with_wait};
-ghost use Rattle.rv_text.specs.Written.{IsWritten};
+ghost use Rattle.rv_text.specs.Said.{Says};
 
 use itoa::Buffer;
 use rv_decode::decode;
 use rv_hardware::{Execution, Step};
 use rv_isa::{Instr, Kind, PerKind, kind};
-use rv_text::{ReportError, put_all};
+use rv_text::Sink;
 use std::io::Write;
 
 /// No cycle of any kind.
@@ -96,13 +96,9 @@ pub fn add_waits(waits: &mut PerKind<u128>, steps: &[Step])
 }
 
 /// Writes what was waited for, and how many cycles, by the kinds of unit.
-#[tactic(auto, unfolding(crate::specs::Wait::waits_text))]
-pub fn write_waits<W: Write>(
-    writer: &mut W,
-    name: &[u8],
-    waits: &PerKind<u128>,
-) -> Result<(), ReportError>
-    ensures { IsWritten result (W.contents writer.old) (W.contents writer.new) (waits_text name.now waits.now) }
+#[tactic(auto, using(rv_text::proofs::Saying::saying), unfolding(crate::specs::Wait::waits_text))]
+pub fn write_waits<W: Write>(out: &mut Sink<'_, W>, name: &[u8], waits: &PerKind<u128>)
+    ensures { Says W.contents out.old out.new (waits_text name.now waits.now) }
 {
     let mut alu_buffer = Buffer::new();
     let alu = alu_buffer.format(waits.alu).as_bytes();
@@ -112,10 +108,7 @@ pub fn write_waits<W: Write>(
     let div = div_buffer.format(waits.div).as_bytes();
     let mut mem_buffer = Buffer::new();
     let mem = mem_buffer.format(waits.mem).as_bytes();
-    put_all(
-        writer,
-        &[
-            name, b": alu ", alu, b", mul ", mul, b", div ", div, b", mem ", mem, b"\n",
-        ],
-    )
+    out.put_all(&[
+        name, b": alu ", alu, b", mul ", mul, b", div ", div, b", mem ", mem, b"\n",
+    ]);
 }

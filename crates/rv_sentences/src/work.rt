@@ -3,7 +3,7 @@ ghost use Rattle.rv_counts.specs.Passing.{has_left};
 ghost use Rattle.rv_sentences.specs.Work.{both_work, branches_text, is_mispredicted_branch, is_of, is_retired_branch, part_text, word_in, work_of, work_text};
 ghost use Rattle.rv_sentences.specs.WordCount.{with_all};
 ghost use Rattle.rv_isa.specs.Instruction.{is_branch_or_jump};
-ghost use Rattle.rv_text.specs.Written.{IsWritten};
+ghost use Rattle.rv_text.specs.Said.{Says};
 
 use crate::loads::retired_load_cost;
 use crate::stack::parts_of;
@@ -12,7 +12,7 @@ use itoa::Buffer;
 use rv_counts::{has_retired, was_squashed};
 use rv_isa::Instr;
 use rv_passage::Passage;
-use rv_text::{ReportError, put, put_all};
+use rv_text::Sink;
 use std::io::Write;
 
 /// What became of the instructions that left the hardware.
@@ -135,14 +135,9 @@ impl Work {
 }
 
 /// Writes how many there were of something, how many of them were something more, and what part that is.
-pub fn write_part<W: Write>(
-    writer: &mut W,
-    name: &[u8],
-    all: u64,
-    what: &[u8],
-    part: u64,
-) -> Result<(), ReportError>
-    ensures { IsWritten result (W.contents writer.old) (W.contents writer.new) (part_text name.now all what.now part) }
+#[tactic(auto, using(rv_text::proofs::Saying::saying), unfolding(crate::specs::Work::part_text, crate::specs::Work::percent_text))]
+pub fn write_part<W: Write>(out: &mut Sink<'_, W>, name: &[u8], all: u64, what: &[u8], part: u64)
+    ensures { Says W.contents out.old out.new (part_text name.now all what.now part) }
 {
     let tenths = parts_of(1000, part, all);
     let mut all_buffer = Buffer::new();
@@ -153,49 +148,47 @@ pub fn write_part<W: Write>(
     let percent = percent_buffer.format(tenths / 10).as_bytes();
     let mut tenth_buffer = Buffer::new();
     let tenth = tenth_buffer.format(tenths % 10).as_bytes();
-    put_all(
-        writer,
-        &[
-            name,
-            every,
-            b", of them ",
-            some,
-            what,
-            b" (",
-            percent,
-            b".",
-            tenth,
-            b"%)\n",
-        ],
-    )
+    out.put_all(&[
+        name,
+        every,
+        b", of them ",
+        some,
+        what,
+        b" (",
+        percent,
+        b".",
+        tenth,
+        b"%)\n",
+    ]);
 }
 
 #[tactic(auto, unfolding(crate::specs::Work::branches_text))]
-fn write_branches<W: Write>(writer: &mut W, work: &Work) -> Result<(), ReportError>
-    ensures { IsWritten result (W.contents writer.old) (W.contents writer.new) (branches_text work.now) }
+fn write_branches<W: Write>(out: &mut Sink<'_, W>, work: &Work)
+    ensures { Says W.contents out.old out.new (branches_text work.now) }
 {
     if work.branches == 0 {
-        return put(writer, b"branches and jumps: none\n");
+        out.put(b"branches and jumps: none\n");
+        return;
     }
     write_part(
-        writer,
+        out,
         b"branches and jumps: ",
         work.branches,
         b" mispredicted",
         work.mispredicted,
-    )
+    );
 }
 
 /// Writes what became of the fetched words, of which there were so many, and of the branches and jumps among them.
-pub fn write_work<W: Write>(writer: &mut W, fetched: u64, work: &Work) -> Result<(), ReportError>
-    ensures { IsWritten result (W.contents writer.old) (W.contents writer.new) (work_text fetched work.now) }
+pub fn write_work<W: Write>(out: &mut Sink<'_, W>, fetched: u64, work: &Work)
+    ensures { Says W.contents out.old out.new (work_text fetched work.now) }
 {
     write_part(
-        writer,
+        out,
         b"fetched words: ",
         fetched,
         b" squashed",
         work.squashed,
-    )?;
-    write_branches(writer, work)
+    );
+    write_branches(out, work);
 }
