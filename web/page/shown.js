@@ -71,7 +71,7 @@ function tableOf(lines, cellOf) {
 }
 
 const PICTURE = "A row for each fetched instruction, a column for each cycle: F fetch, D dispatch, I issue, B broadcast, C commit";
-const isFigure = (text) => /^[-+]?[\d.]*$|^[0-9a-f]{8}$/.test(text);
+const isFigure = (text) => /^[-+\u2212\u00b1]?[\d.,]*$|^[0-9a-f]{8}$/.test(text);
 
 function lineButton(line) {
   const onclick = () => goToLine(Number(line));
