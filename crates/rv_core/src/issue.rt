@@ -8,13 +8,13 @@ ghost use Rattle.rv_core.specs.Access.{IsExecuted, IsOverRam, cache_after, cost_
 ghost use Rattle.rv_core.specs.Load.{goes_over};
 
 use crate::execute::result_of;
-use crate::load::{Executed, Times, load, may_go};
+use crate::load::{Executed, Times, load, verdict};
 use crate::parts::Parts;
 use rv_cache::Cache;
 use rv_isa::{Instr, Issue, Kind};
 use rv_memory::Ram;
 use rv_rob::Rob;
-use rv_stations::{Ready, Stations, Taken};
+use rv_stations::{Ready, Stations, Taken, Verdict};
 use rv_stores::StoreQueue;
 use rv_units::{Bus, Units};
 
@@ -134,10 +134,10 @@ fn take_ready(
     if kind == Kind::Mem {
         let first_unknown = queue.first_unknown();
         return stations.take_oldest_ready(Kind::Mem, passed, |waiting| {
-            may_go(cache, queue, first_unknown, port_idle, waiting)
+            verdict(cache, queue, first_unknown, port_idle, waiting)
         });
     }
-    stations.take_oldest_ready(kind, passed, |_| true)
+    stations.take_oldest_ready(kind, passed, |_| Verdict::Goes)
 }
 
 // An execution holds a unit of its kind.

@@ -2,6 +2,7 @@ ghost use Rattle.std.specs.Prelude.{◌≡◌, ◌+◌, ◌^◌, ◌*◌, ◌<�
 ghost use Rattle.rv_isa.specs.Bytes.{number_of};
 ghost use Rattle.rv_isa.specs.Operation.{bytes_of, width_of, is_sign_extended};
 ghost use Rattle.rv_arch.specs.Effect.{extended, loads};
+ghost use Rattle.rv_stations.specs.Waiting.{IsVerdict};
 ghost use Rattle.rv_stores.specs.Queue.{older_than};
 ghost use Rattle.rv_core.specs.Access.{IsLoaded, IsOverRam, cache_after, cost_by, path_of_load, port_free_by};
 ghost use Rattle.rv_core.specs.Load.{load_fault, is_forwarded, path_of, bytes_over, may_go, needs_port};
@@ -11,7 +12,7 @@ use rv_arch::extended;
 use rv_cache::Cache;
 use rv_isa::{Cause, Immediate, Instr, LoadForm, Message, Reg, Width};
 use rv_memory::Ram;
-use rv_stations::{Operand, Ready, Waiting};
+use rv_stations::{Operand, Ready, Verdict, Waiting};
 use rv_stores::StoreQueue;
 
 /// Where a load takes its bytes from.
@@ -98,37 +99,41 @@ fn value_of(form: LoadForm, bytes: [u8; 4]) -> u32
 }
 
 // Whether a waiting access may go: a load waits until every older store was broadcast, and for the port where it
-// needs it.
-pub(crate) fn may_go(
+// needs it. A store that was not is older than each younger load too.
+pub(crate) fn verdict(
     cache: &Cache<Ram>,
     queue: &StoreQueue,
     first_unknown: Option<u64>,
     port_idle: bool,
     waiting: &Waiting,
-) -> bool
-    ensures { result ≡ may_go cache.now.backing.layout queue.now.stores first_unknown port_idle waiting.now }
+) -> Verdict
+    ensures { IsVerdict (may_go cache.now.backing.layout queue.now.stores first_unknown port_idle) waiting.now result }
 {
     let Instr::Load { form, offset, .. } = waiting.instruction else {
-        return true;
+        return Verdict::Goes;
     };
     if let Some(unknown) = first_unknown {
         if unknown < waiting.seq {
-            return false;
+            return Verdict::LoadsWait;
         }
     }
     if port_idle {
-        return true;
+        return Verdict::Goes;
     }
     let Operand::Value(base) = waiting.first else {
-        return false;
+        return Verdict::Waits;
     };
-    !needs_port(
+    if needs_port(
         cache,
         queue,
         waiting.seq,
         address(base, offset),
         form.width(),
-    )
+    ) {
+        Verdict::Waits
+    } else {
+        Verdict::Goes
+    }
 }
 
 // Whether a load accesses the cache. Most loads that wait are refused before this is asked, so it stands apart.

@@ -58,8 +58,9 @@ impl Flow {
     }
 }
 
-// Whether the opcode is that of the branches, of JAL or of JALR.
-fn leads_elsewhere(word: u32) -> bool
+/// Whether the opcode is that of the branches, of JAL or of JALR.
+#[inline(always)]
+pub(crate) fn leads_elsewhere(word: u32) -> bool
     ensures { result ≡ leads_elsewhere word }
 {
     matches!(word & 0x7f, 0x63 | 0x67 | 0x6f)

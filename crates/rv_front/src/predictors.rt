@@ -2,6 +2,7 @@ mod backward_taken;
 mod bimodal;
 mod not_taken;
 
+use crate::flow::leads_elsewhere;
 use crate::predictor::Predictor;
 pub use backward_taken::BackwardTaken;
 pub use bimodal::Bimodal;
@@ -38,6 +39,36 @@ impl DescribedPredictor {
     }
 }
 
+impl DescribedPredictor {
+    ghost use Rattle.std.specs.Prelude.{◌≡◌};
+    ghost use Rattle.rv_front.specs.Flow.{flow_at};
+    ghost use Rattle.rv_front.specs.Predictors.{answer, taught};
+
+    // What its kind answers.
+    #[inline(never)]
+    fn predict_by_kind(&self, pc: u32, word: u32) -> u32
+        ensures { result ≡ answer self.now pc (flow_at pc word) }
+    {
+        match self {
+            DescribedPredictor::NotTaken(predictor) => predictor.predict(pc, word),
+            DescribedPredictor::BackwardTaken(predictor) => predictor.predict(pc, word),
+            DescribedPredictor::Bimodal(predictor) => predictor.predict(pc, word),
+        }
+    }
+
+    // Learns as its kind does.
+    #[inline(never)]
+    fn learn_by_kind(&mut self, pc: u32, word: u32, next: u32)
+        ensures { self.new ≡ taught self.old (record { pc = pc; word = word; next = next }) }
+    {
+        match self {
+            DescribedPredictor::NotTaken(predictor) => predictor.learn(pc, word, next),
+            DescribedPredictor::BackwardTaken(predictor) => predictor.learn(pc, word, next),
+            DescribedPredictor::Bimodal(predictor) => predictor.learn(pc, word, next),
+        }
+    }
+}
+
 impl Predictor for DescribedPredictor {
     ghost use Rattle.std.specs.Prelude.{◌≡◌, Some};
     ghost use Rattle.rv_front.specs.Flow.{flow_at};
@@ -48,20 +79,19 @@ impl Predictor for DescribedPredictor {
     fn predict(&self, pc: u32, word: u32) -> u32
         ensures { result ≡ answer self.now pc (flow_at pc word) }
     {
-        match self {
-            DescribedPredictor::NotTaken(predictor) => predictor.predict(pc, word),
-            DescribedPredictor::BackwardTaken(predictor) => predictor.predict(pc, word),
-            DescribedPredictor::Bimodal(predictor) => predictor.predict(pc, word),
+        // Most words lead to the next one, by each kind.
+        if !leads_elsewhere(word) {
+            return pc.wrapping_add(4);
         }
+        self.predict_by_kind(pc, word)
     }
 
     fn learn(&mut self, pc: u32, word: u32, next: u32)
         ensures { self.new ≡ taught self.old (record { pc = pc; word = word; next = next }) }
     {
-        match self {
-            DescribedPredictor::NotTaken(predictor) => predictor.learn(pc, word, next),
-            DescribedPredictor::BackwardTaken(predictor) => predictor.learn(pc, word, next),
-            DescribedPredictor::Bimodal(predictor) => predictor.learn(pc, word, next),
+        // Of a word that leads to the next one nothing is learned.
+        if leads_elsewhere(word) {
+            self.learn_by_kind(pc, word, next);
         }
     }
 }

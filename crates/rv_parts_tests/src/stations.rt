@@ -3,7 +3,7 @@ ghost use Rattle.rv_stations.specs.Waiting.{IsOperand};
 
 use crate::checks::{check_equal, check_true, check_true_at};
 use rv_isa::{Description, Instr, Kind, KindValues, PerKind, Values};
-use rv_stations::{Operand, Stations, Waiting};
+use rv_stations::{Operand, Stations, Verdict, Waiting};
 use std::alloc::Global;
 use std::process::Abort;
 
@@ -54,7 +54,7 @@ fn is_in_range(operand: Operand) -> bool
 
 fn issue(rt: &impl Abort, stations: &mut Stations, seq: u64, value: u32) {
     let taken = stations
-        .take_oldest_ready(Kind::Alu, 0, |_| true)
+        .take_oldest_ready(Kind::Alu, 0, |_| Verdict::Goes)
         .expect(rt, "a ready instruction");
     check_true_at(rt, seq, taken.ready.seq == seq);
     check_true_at(rt, seq, taken.ready.first == value);
@@ -70,7 +70,7 @@ fn put_each(rt: &impl Abort, stations: &mut Stations, first: u64, end: u64, oper
 
 // Checks that no instruction is ready in so many stations.
 fn check_none_ready(rt: &impl Abort, stations: &mut Stations, count: u32) {
-    let ready = stations.take_oldest_ready(Kind::Alu, 0, |_| true);
+    let ready = stations.take_oldest_ready(Kind::Alu, 0, |_| Verdict::Goes);
     check_true_at(rt, u64::from(count), ready.is_none());
 }
 
@@ -116,7 +116,15 @@ fn one_operand_of_two_is_not_enough(rt: HostRuntime) {
 
 // The number of the oldest ready instruction but one, which is taken out.
 fn take_but(stations: &mut Stations, seq: u64) -> Option<u64> {
-    match stations.take_oldest_ready(Kind::Alu, 0, |waiting| waiting.seq != seq) {
+    match stations.take_oldest_ready(
+        Kind::Alu,
+        0,
+        |waiting| if waiting.seq == seq {
+            Verdict::Waits
+        } else {
+            Verdict::Goes
+        },
+    ) {
         Some(taken) => Some(taken.ready.seq),
         None => None,
     }
@@ -125,7 +133,7 @@ fn take_but(stations: &mut Stations, seq: u64) -> Option<u64> {
 // A search that passes by so many takes out the instruction with a number, and the next one may pass by so many.
 fn take_after(rt: &impl Abort, stations: &mut Stations, passed: usize, seq: u64, still: usize) {
     let taken = stations
-        .take_oldest_ready(Kind::Alu, passed, |_| true)
+        .take_oldest_ready(Kind::Alu, passed, |_| Verdict::Goes)
         .expect(rt, "a ready instruction");
     check_true_at(rt, seq, taken.ready.seq == seq);
     check_true_at(rt, seq, taken.passed == still);
@@ -141,7 +149,7 @@ fn a_search_begins_where_the_one_before_it_ended(rt: HostRuntime) {
     take_after(&rt, &mut stations, 0, 5, 2);
     take_after(&rt, &mut stations, 2, 6, 2);
     take_after(&rt, &mut stations, 2, 8, 3);
-    let none = stations.take_oldest_ready(Kind::Alu, 3, |_| true);
+    let none = stations.take_oldest_ready(Kind::Alu, 3, |_| Verdict::Goes);
     check_true(&rt, none.is_none());
 }
 

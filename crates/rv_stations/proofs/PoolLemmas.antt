@@ -13,10 +13,11 @@ use Rattle.rv_stations.specs.declared.waiting.Waiting.{Waiting}
 use Rattle.rv_stations.specs.declared.pool.Dispatched.{Dispatched}
 use Rattle.rv_isa.specs.declared.instructions.Instr.TheVariants.{Fence}
 use Rattle.rv_stations.specs.declared.waiting.Operand.TheVariants.{Value}
+use Rattle.rv_isa.specs.Instruction.{is_load}
 use Rattle.rv_stations.specs.Column.{IsWaitMask}
 use Rattle.rv_stations.specs.Pool.{Pool}
 use Rattle.rv_stations.proofs.ColumnLemmas.{both_ready}
-use Rattle.rv_stations.specs.Waiting.{has_value, seq_of, is_ready, woken, woken_operand}
+use Rattle.rv_stations.specs.Waiting.{has_value, seq_of, is_asked, is_ready, loads, woken, woken_operand}
 use Rattle.rv_stations.specs.PoolFields.{with_dispatched, both_operands, instruction_of, joined, some_waiting, in_places, in_all, pool, IsSoundPool}
 use Rattle.rv_stations.specs.declared.pool.StationPool.TheInside.{Inside}
 use Rattle.rv_stations.proofs.SearchLemmas.{take_at_get}
@@ -103,6 +104,16 @@ ready_told p sound a b at place of_first of_second low is =
     (slice_get-get_or p.second place (Value 0) in_second))
     ∙ ap Some (both_ready a b place (has_value (get_or p.first place (Value 0))) (has_value (get_or p.second place (Value 0))) (of_first place in_first) (of_second place in_second))
 
+-- the instruction in a place tells whether it loads
+pub loads_told : (p : Inside) → IsSoundPool p → (at place : ℕ) (f : Dispatched) → at < p.count → slice_get p.places.items at ≡ Some place → slice_get p.dispatched.items place ≡ Some f → option_map loads (slice_get (pool p).waiting at) ≡ Some (is_load (Some f.instruction))
+loads_told p sound at place f low is here =
+    let there = place_there p sound at place is in
+    ap (option_map loads) (slice_get-pool p at place _ _ _ _ low is
+    (slice_get-get_or p.seqs.items place 0 (omega (arith, there)))
+    here
+    (slice_get-get_or p.first place (Value 0) (omega (arith, there, sound.first)))
+    (slice_get-get_or p.second place (Value 0) (omega (arith, there, sound.second))))
+
 pub places_within : (p : Inside) → IsSoundPool p → (seen : Pool) → pool p ≡ seen → (at : ℕ) → at < length seen.waiting → at < length p.places.items
 places_within p sound seen is at within = omega (arith, rw (← is) at within, length-pool p sound, sound.within)
 
@@ -132,6 +143,10 @@ ready_parts p sound at place low is ready =
 pub is_ready-in_place : (ws : List Waiting) (i : ℕ) (w : Waiting) (ready : Bool) → slice_get ws i ≡ Some w → option_map is_ready (slice_get ws i) ≡ Some ready → is_ready w ≡ ready
 is_ready-in_place ws i w ready is told =
     let same : Some (is_ready w) ≡ Some ready = sym (ap (option_map is_ready) is) ∙ told in cc same
+
+pub is_asked-in_place : (ws : List Waiting) (i : ℕ) (w : Waiting) (loads_wait asked : Bool) → slice_get ws i ≡ Some w → option_map (is_asked loads_wait) (slice_get ws i) ≡ Some asked → is_asked loads_wait w ≡ asked
+is_asked-in_place ws i w loads_wait asked is told =
+    let same : Some (is_asked loads_wait w) ≡ Some asked = sym (ap (option_map (is_asked loads_wait)) is) ∙ told in cc same
 
 pub seq-in_place : (ws : List Waiting) (i : ℕ) (d : Waiting) (seq : ℕ) → option_map seq_of (slice_get ws i) ≡ Some seq → i < length ws → (get_or ws i d).seq ≡ seq
 seq-in_place ws i d seq told within =

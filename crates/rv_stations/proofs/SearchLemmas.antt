@@ -1,9 +1,17 @@
 -- A search for the oldest ready instruction that passes a test.
-use Rattle.std.proofs.Common.{◌≡◌, ℕ, zero, suc, ◌+◌, Bool, true, false, ◌&&◌, List, [], ◌∷◌, ◌++◌, take, drop, remove, slice_get, None, Some, inl, inr, refl, ap, sym, ◌∙◌, arith}
-use Rattle.std.proofs.lemmas.Bool.{cases_Bool}
+use Rattle.std.proofs.Common.{◌≡◌, ℕ, zero, suc, ◌+◌, Bool, true, false, not, ◌&&◌, ◌≤◌, List, [], ◌∷◌, ◌++◌, take, drop, remove, slice_get, None, Some, inl, inr, refl, ap, sym, ◌∙◌, arith}
+use Rattle.std.proofs.lemmas.Bool.{and_parts, cases_Bool}
 use Rattle.std.proofs.lemmas.List.{append_assoc}
+use Rattle.std.proofs.lemmas.Option.{get_or_from_slice_get, slice_get_within}
+use Rattle.rv_isa.specs.Numbered.{IsInOrder}
 use Rattle.rv_stations.specs.declared.waiting.Waiting.{Waiting}
-use Rattle.rv_stations.specs.Waiting.{ArePassedBy, is_ready, oldest_ready, without_oldest_ready}
+use Rattle.rv_stations.specs.Waiting.{ArePassedBy, IsVerdict, is_asked, is_ready, loads, oldest_ready, seq_of, without_oldest_ready}
+use Rattle.rv_stations.specs.PoolFields.{some_waiting}
+use Rattle.rv_stations.specs.declared.waiting.Verdict.TheVariants.{LoadsWait}
+
+not_false : (b : Bool) → not b ≡ false → b ≡ true
+not_false true is = refl
+not_false false is = cc
 
 module _ {X : Type 0} where
   take-before_removed : (at : ℕ) (xs : List X) → take at (remove xs at) ≡ take at xs
@@ -73,3 +81,30 @@ Searching-found test ws at w is passes s =
     let oldest : oldest_ready test (drop at ws) ≡ Some w = rw (here, passes) refl in
     let others : without_oldest_ready test (drop at ws) ≡ drop (suc at) ws = rw (here, passes) (ap (λ n. drop n ws) next) in
     (sym s.same_oldest ∙ oldest ∙ sym is, sym s.same_others ∙ ap (λ us. take at ws ++ us) others)
+
+-- from a place on a test fails each load
+abbrev pub LoadsFail : (Waiting → Bool) → List Waiting → ℕ → Type 0
+LoadsFail test ws at = (k : ℕ) (w : Waiting) → at ≤ k → slice_get ws k ≡ Some w → loads w ≡ true → test w ≡ false
+
+-- an instruction that may not be the one is passed by
+pub is_passed_by : (test : Waiting → Bool) (ws : List Waiting) (at : ℕ) (loads_wait : Bool) (w : Waiting) → (loads_wait ≡ true → LoadsFail test ws at) → slice_get ws at ≡ Some w → is_asked loads_wait w ≡ false → (is_ready w && test w) ≡ false
+is_passed_by test ws at loads_wait w fail is unasked = elim (cases_Bool (is_ready w)) [
+  | inl ready ↦
+      let both : not (loads_wait && loads w) ≡ false = rw ready at unasked in
+      let parts = and_parts loads_wait (loads w) (not_false (loads_wait && loads w) both) in
+      rw (ready, fail parts.0 at w (omega arith) is parts.1) refl
+  | inr waits ↦ rw waits refl
+]
+
+-- and so from a later one
+pub LoadsFail-later : (test : Waiting → Bool) (ws : List Waiting) (at : ℕ) → LoadsFail test ws at → LoadsFail test ws (at + 1)
+LoadsFail-later test ws at fail = λ k w after is load. fail k w (omega (arith, after)) is load
+
+-- those after a load that waits with all that are younger
+pub LoadsFail-after : (test : Waiting → Bool) (ws : List Waiting) (place : ℕ) (w : Waiting) → IsInOrder seq_of ws → slice_get ws place ≡ Some w → IsVerdict test w LoadsWait → LoadsFail test ws (place + 1)
+LoadsFail-after test ws place w in_order is verdict = λ k other after there load.
+    let within = slice_get_within ws k other there in
+    let here = get_or_from_slice_get ws place w some_waiting is in
+    let later = get_or_from_slice_get ws k other some_waiting there in
+    let rising = in_order place k some_waiting (omega (arith, after)) within in
+    verdict.1 other (rw (here, later) at rising) load

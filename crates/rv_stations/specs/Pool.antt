@@ -1,11 +1,11 @@
 -- The reservation stations of one kind.
-use Rattle.std.specs.Prelude.{◌≡◌, ℕ, Bool, List, [], ◌∷◌, ◌++◌, map, remove, Option, Some, None}
+use Rattle.std.specs.Prelude.{ℕ, Bool, List, [], ◌∷◌, ◌++◌, map, remove, Option, Some, None}
 use Rattle.std.specs.Fn.{FnReturnsAt, Shared}
 use denote.Ref.{Bor}
 use Rattle.rv_isa.specs.Numbered.{below}
 use Rattle.rv_isa.specs.declared.values.KindValues.{KindValues}
-use Rattle.rv_stations.specs.declared.waiting.Waiting.{Waiting}
-use Rattle.rv_stations.specs.Waiting.{ArePassedBy, seq_of, woken, without_oldest_ready}
+use Rattle.rv_stations.specs.declared.waiting.{Verdict.Verdict, Waiting.Waiting}
+use Rattle.rv_stations.specs.Waiting.{ArePassedBy, IsVerdict, seq_of, woken, without_oldest_ready}
 
 -- the waiting instructions in order of their numbers, and how many there may be
 pub record Pool : Type 0 where
@@ -38,9 +38,9 @@ abbrev pub squashed : ℕ → Pool → Pool
 squashed from pool = record pool { waiting = below seq_of from pool.waiting }
 
 -- a closure answers what a test says
-abbrev pub Answers : {F : Type 0} → Shared F (Bor Waiting × Unit {0}) Bool → F → (Waiting → Bool) → Type 0
-Answers g filter test = (w : Waiting) (answer : Bool) → FnReturnsAt g filter w answer → answer ≡ test w
+abbrev pub Answers : {F : Type 0} → Shared F (Bor Waiting × Unit {0}) Verdict → F → (Waiting → Bool) → Type 0
+Answers g filter test = (w : Waiting) (verdict : Verdict) → FnReturnsAt g filter w verdict → IsVerdict test w verdict
 
 -- a search by a closure that answers what a test says, and that passes by the oldest so many, none of which is ready and passes
-abbrev pub Searches : {F : Type 0} → Shared F (Bor Waiting × Unit {0}) Bool → F → (Waiting → Bool) → ℕ → Pool → Type 0
+abbrev pub Searches : {F : Type 0} → Shared F (Bor Waiting × Unit {0}) Verdict → F → (Waiting → Bool) → ℕ → Pool → Type 0
 Searches g filter test passed pool = Answers g filter test × ArePassedBy test passed pool.waiting

@@ -1,8 +1,10 @@
 -- Instructions that wait for their operands, in order of their sequence numbers.
-use Rattle.std.specs.Prelude.{◌≡◌, ℕ, ◌^◌, ◌<◌, Bool, true, false, ◌&&◌, ◌==◌, List, [], ◌∷◌, take, option_and_then, Option, Some, None, if◌then◌else◌}
-use Rattle.rv_stations.specs.declared.waiting.{Operand.Operand, Ready.Ready, Taken.Taken, Waiting.Waiting}
+use Rattle.std.specs.Prelude.{◌≡◌, ℕ, ◌^◌, ◌<◌, Bool, true, false, not, ◌&&◌, ◌==◌, List, [], ◌∷◌, take, option_and_then, Option, Some, None, if◌then◌else◌}
+use Rattle.rv_stations.specs.declared.waiting.{Operand.Operand, Ready.Ready, Taken.Taken, Verdict.Verdict, Waiting.Waiting}
 use Rattle.std.specs.Option.{option_map}
 use Rattle.rv_stations.specs.declared.waiting.Operand.TheVariants.{Value, Tag}
+use Rattle.rv_stations.specs.declared.waiting.Verdict.TheVariants.{Goes, Waits, LoadsWait}
+use Rattle.rv_isa.specs.Instruction.{is_load}
 
 -- the sequence number of an instruction
 abbrev pub seq_of : Waiting → ℕ
@@ -40,6 +42,20 @@ woken_operand seq value (Tag tag) = if tag == seq then Value value else Tag tag
 -- the same of both operands of an instruction
 abbrev pub woken : ℕ → ℕ → Waiting → Waiting
 woken seq value w = record w { first = woken_operand seq value w.first; second = woken_operand seq value w.second }
+
+-- the instruction loads
+abbrev pub loads : Waiting → Bool
+loads w = is_load (Some w.instruction)
+
+-- an instruction is ready, and is none of the loads where these wait
+abbrev pub is_asked : Bool → Waiting → Bool
+is_asked loads_wait w = is_ready w && not (loads_wait && loads w)
+
+-- What is said of an instruction is what a test says of it. Where all loads wait, the test fails each that is younger.
+abbrev pub IsVerdict : (Waiting → Bool) → Waiting → Verdict → Type 0
+IsVerdict test w Goes = test w ≡ true
+IsVerdict test w Waits = test w ≡ false
+IsVerdict test w LoadsWait = (test w ≡ false) × ((younger : Waiting) → w.seq < younger.seq → loads younger ≡ true → test younger ≡ false)
 
 -- the oldest instruction that is ready and passes a test
 abbrev pub oldest_ready : (Waiting → Bool) → List Waiting → Option Waiting

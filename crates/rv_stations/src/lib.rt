@@ -12,4 +12,4 @@ mod stations;
 mod waiting;
 
 pub use stations::Stations;
-pub use waiting::{Operand, Ready, Taken, Waiting};
+pub use waiting::{Operand, Ready, Taken, Verdict, Waiting};

@@ -1,12 +1,13 @@
 ghost use Rattle.std.specs.Prelude.{◌≡◌, ◌<◌, ◌≤◌, ◌↔◌, Bool, [], Some, length, take, nat_le, slice_get, IsTrue, IfOk, IfSome, option_and_then, true};
 ghost use Rattle.rv_isa.specs.Description.{Within};
+ghost use Rattle.rv_isa.specs.Instruction.{is_load};
 ghost use Rattle.rv_isa.specs.Numbered.{AreBelow, IsInOrder, below};
-ghost use Rattle.rv_stations.specs.Waiting.{seq_of, ArePassedBy, IsOperand, is_ready, next_ready, ready_taken, oldest_ready};
+ghost use Rattle.rv_stations.specs.Waiting.{seq_of, ArePassedBy, IsOperand, is_asked, is_ready, loads, next_ready, ready_taken, oldest_ready};
 ghost use Rattle.std.specs.Option.{option_map};
 
 use crate::column::OperandColumn;
 use crate::places::{first_places, move_back};
-use crate::waiting::{Taken, Waiting};
+use crate::waiting::{Taken, Verdict, Waiting};
 use rv_isa::{Instr, KindValues};
 use std::alloc::{AllocError, Global};
 use std::marker::Model;
@@ -49,6 +50,12 @@ const NOTHING: Dispatched = Dispatched {
     pc: 0,
     instruction: Instr::Fence,
 };
+
+fn is_load(instruction: Instr) -> bool
+    ensures { result ≡ is_load (Some instruction) }
+{
+    matches!(instruction, Instr::Load { .. })
+}
 
 impl StationPool {
     ghost use Rattle.rv_stations.specs.Pool.{Searches, empty_pool, with_waiting, woken_pool, issued, squashed, without_place};
@@ -137,6 +144,37 @@ impl StationPool {
         self.seqs[usize::from(self.places[at])]
     }
 
+    /// Whether an instruction has its operands, counted from the oldest.
+    #[inline(always)]
+    fn is_ready_at(&self, at: usize) -> bool
+        requires { at < length self.now.waiting }
+        ensures { option_map is_ready (slice_get self.now.waiting at) ≡ Some result }
+    {
+        let waiting = self.first.waiting() | self.second.waiting();
+        let place = usize::from(self.places[at]);
+        (waiting >> place) & 1 == 0
+    }
+
+    /// Whether an instruction loads, counted from the oldest.
+    #[inline(always)]
+    fn is_load_at(&self, at: usize) -> bool
+        requires { at < length self.now.waiting }
+        ensures { option_map loads (slice_get self.now.waiting at) ≡ Some result }
+    {
+        let place = usize::from(self.places[at]);
+        let dispatched = self.dispatched[place];
+        is_load(dispatched.instruction)
+    }
+
+    /// Whether an instruction may be the one that goes, counted from the oldest.
+    #[inline(always)]
+    fn is_asked_at(&self, at: usize, loads_wait: bool) -> bool
+        requires { at < length self.now.waiting }
+        ensures { option_map (is_asked loads_wait) (slice_get self.now.waiting at) ≡ Some result }
+    {
+        self.is_ready_at(at) && !(loads_wait && self.is_load_at(at))
+    }
+
     /// An instruction that has its operands, counted from the oldest.
     #[inline(always)]
     fn ready_at(&self, at: usize) -> Waiting
@@ -160,7 +198,7 @@ impl StationPool {
 
     /// Where the oldest instruction stands that is ready and passes a filter, if that is none of the oldest so many.
     #[inline(always)]
-    fn place_of_oldest_ready<F: Fn(&Waiting) -> bool>(
+    fn place_of_oldest_ready<F: Fn(&Waiting) -> Verdict>(
         &self,
         passed: usize,
         filter: &F,
@@ -176,11 +214,14 @@ impl StationPool {
             IfSome result (λ at. ArePassedBy test at self.now.waiting) }
         ensures in_order { IsInOrder seq_of self.now.waiting }
     {
-        let waiting = self.first.waiting() | self.second.waiting();
+        let mut loads_wait = false;
         for at in passed..self.len() {
-            let place = usize::from(self.places[at]);
-            if (waiting >> place) & 1 == 0 && filter(&self.ready_at(at)) {
-                return Some(at);
+            if self.is_asked_at(at, loads_wait) {
+                match filter(&self.ready_at(at)) {
+                    Verdict::Goes => return Some(at),
+                    Verdict::Waits => {}
+                    Verdict::LoadsWait => loads_wait = true,
+                }
             }
         }
         None
@@ -203,7 +244,7 @@ impl StationPool {
     /// Takes out the oldest instruction that is ready and passes a filter; none where none is and does. The search
     /// passes by the oldest so many.
     #[inline(always)]
-    pub fn take_oldest_ready<F: Fn(&Waiting) -> bool>(
+    pub fn take_oldest_ready<F: Fn(&Waiting) -> Verdict>(
         &mut self,
         passed: usize,
         filter: F,

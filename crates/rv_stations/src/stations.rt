@@ -5,7 +5,7 @@ ghost use Rattle.rv_isa.specs.PerKind.{at_kind, with_kind, for_each};
 ghost use Rattle.rv_stations.specs.Pool.{Searches, empty_pool, with_waiting, woken_pool, issued, squashed};
 
 use crate::pool::StationPool;
-use crate::waiting::{Taken, Waiting};
+use crate::waiting::{Taken, Verdict, Waiting};
 use rv_isa::{Description, Kind, PerKind};
 use std::alloc::{AllocError, Global};
 use std::marker::Model;
@@ -90,7 +90,7 @@ impl Stations {
     /// filter; none where there is none. The search passes by the oldest so many of the kind: of these the caller knows
     /// that none is ready and passes, as after a search of the same cycle.
     #[inline(always)]
-    pub fn take_oldest_ready<F: Fn(&Waiting) -> bool>(
+    pub fn take_oldest_ready<F: Fn(&Waiting) -> Verdict>(
         &mut self,
         kind: Kind,
         passed: usize,

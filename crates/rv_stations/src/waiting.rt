@@ -52,6 +52,17 @@ pub struct Ready {
     pub second: u32,
 }
 
+/// What is said of an instruction that has its operands, when the oldest that may go is looked for.
+#[derive(Clone, Copy)]
+pub enum Verdict {
+    /// It may go.
+    Goes,
+    /// It waits.
+    Waits,
+    /// It waits, and so does each younger load.
+    LoadsWait,
+}
+
 /// What a search took out of its station.
 #[derive(Clone, Copy)]
 pub struct Taken {
