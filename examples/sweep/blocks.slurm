@@ -9,4 +9,7 @@
 #   examples/sweep/table --prepare SWEEP FOLDER
 #   sbatch --array=0-23 examples/sweep/blocks.slurm FOLDER
 #   examples/sweep/table --join FOLDER > TABLE
-examples/sweep/table --block "$1" "$SLURM_ARRAY_TASK_ID"
+#
+# An array has at most 1001 tasks where Slurm's MaxArraySize does not say otherwise. Of more blocks the others are counted from a number
+# after the folder on: sbatch --array=0-499 examples/sweep/blocks.slurm FOLDER 1000
+examples/sweep/table --block "$1" $((${2:-0} + SLURM_ARRAY_TASK_ID))
