@@ -16,6 +16,8 @@ function optionWords() {
 async function addressOf() {
   const job = jobNow(), example = EXAMPLES[exampleName], words = [];
   const isExample = example !== undefined && isUnchanged(exampleName, job);
+  byId("examples").value = isExample ? exampleName : "";
+  document.title = "rv_sim: " + (isExample ? exampleName : "a job");
   words.push(isExample ? "example=" + exampleName : "job=" + await deflated(joined(job)));
   if (!isExample && furtherText() !== "") words.push("machines=" + await deflated(furtherText()));
   if (currentView.name !== "report") words.push("view=" + currentView.name);
