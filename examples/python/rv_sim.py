@@ -146,8 +146,14 @@ def call(words, text):
     done = started(words, text)
     if done.returncode not in (0, 3):
         shown = refusal(text) if done.returncode == 1 and words[0] != "compare" else []
-        raise Failed(done.stderr.decode(errors="replace").strip(), done.returncode, shown)
+        raise Failed(fault_line(done.stderr), done.returncode, shown)
     return done.stdout.decode(errors="replace")
+
+
+def fault_line(said):
+    """The line of a fault among what the program, or the script that calls it, wrote on standard error."""
+    lines = said.decode(errors="replace").strip().splitlines() or [""]
+    return next((it for it in lines if it.startswith("error: ")), lines[0])
 
 
 def refusal(text):
