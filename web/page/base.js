@@ -30,6 +30,9 @@ function save(name, bytes) {
   setTimeout(() => URL.revokeObjectURL(url), 10000);
 }
 
+// What was refused stays to be read until the job is changed.
+const refuse = (text) => { byId("refused").textContent = text; };
+
 // What the page says of itself: one line, read aloud.
 function say(text, isFault) {
   byId("status").textContent = text;

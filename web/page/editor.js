@@ -35,7 +35,7 @@ class Editor {
     const text = data.getData("text"), why = whyTooLong(text) || (text.length + this.area.textLength > MOST_TEXT ? whyTooLong(this.text + text) : "");
     if (why === "") return;
     event.preventDefault();
-    say("A text was refused: " + why + ".", true);
+    refuse("A text was refused: " + why + ".");
   }
 
   read() {

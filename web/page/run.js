@@ -107,9 +107,12 @@ async function resultOf(view, mine) {
   return made;
 }
 
-async function showView(mine = (turn += 1)) {
+// Shows the chosen tab. While a job is run it waits for that; a call for another tab is ended.
+async function showView(given) {
   const view = currentView;
   if (runs.now === undefined || isStale) return;
+  if (given === undefined) runner.stop();
+  const mine = given === undefined ? (turn += 1) : given;
   const made = await resultOf(view, mine);
   if (mine !== turn || view !== currentView) return;
   clearShown();

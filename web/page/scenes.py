@@ -46,6 +46,13 @@ HOSTILE_ADDRESSES = (
     ("job=" + packed(b"<script>document.title=1</script>\n%%\n%%\n%%\n<img src=x onerror=alert(1)>\n"), "Refused"),
 )
 
+# for how many milliseconds at most the page did nothing, in one second and a half
+STANDSTILL = """new Promise((tell) => {
+  let last = performance.now(), worst = 0;
+  const timer = setInterval(() => { worst = Math.max(worst, performance.now() - last); last = performance.now(); }, 20);
+  setTimeout(() => { clearInterval(timer); tell(worst); }, 1500);
+})"""
+
 
 class NotSo(Exception):
     """Something that should be so, and is not."""

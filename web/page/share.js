@@ -34,7 +34,7 @@ const writeAddress = later(400, async () => {
 
 async function copyLink() {
   const address = await addressOf();
-  if (address.length > MOST_ADDRESS) return say("The job is too long for a link (" + counted(address.length, "character") + "): save it as a file.", true);
+  if (address.length > MOST_ADDRESS) return refuse("The job is too long for a link (" + counted(address.length, "character") + "): save it as a file.");
   addressed = address;
   history.replaceState(null, "", address);
   const size = counted(location.href.length, "character");
@@ -46,14 +46,18 @@ async function copyLink() {
 async function readAddress() {
   const text = location.hash.slice(1);
   addressed = location.hash;
+  refuse("");
   if (text === "" || text === "too-long") return false;
-  if (text.length > MOST_ADDRESS) { say("The address was refused: it has " + counted(text.length, "character") + ", and " + grouped(MOST_ADDRESS) + " are read.", true); return false; }
+  if (text.length > MOST_ADDRESS) {
+    refuse("The address was refused: it has " + counted(text.length, "character") + ", and " + grouped(MOST_ADDRESS) + " are read.");
+    return false;
+  }
   const words = new Map(text.split("&").map((word) => { const at = word.indexOf("="); return at < 0 ? [word, ""] : [word.slice(0, at), word.slice(at + 1)]; }));
   readOptions(words);
   const name = plainName(words.get("example") || "");
   if (name !== "") {
     if (Object.hasOwn(EXAMPLES, name)) { loadExample(name); return true; }
-    say("There is no example \u201c" + name.slice(0, 60) + "\u201d.", true);
+    refuse("There is no example \u201c" + name.slice(0, 60) + "\u201d.");
   }
   if (!words.has("job")) return false;
   try {
@@ -66,7 +70,7 @@ async function readAddress() {
     setJob(job, machines);
     return true;
   } catch (error) {
-    say("The job in the address was refused: " + (error instanceof TooMuch ? error.message : "it cannot be unpacked") + ".", true);
+    refuse("The job in the address was refused: " + (error instanceof TooMuch ? error.message : "it cannot be unpacked") + ".");
     return false;
   }
 }
@@ -90,9 +94,10 @@ function readOptions(words) {
 
 // A file, chosen or dropped.
 async function openFile(file) {
+  refuse("");
   const isGreat = file.size > 4 * MOST_TEXT, text = isGreat ? "" : textOf(new Uint8Array(await file.arrayBuffer())).replace(/^\ufeff/, "");
   const why = isGreat ? counted(file.size, "byte") + " (the page takes " + grouped(MOST_TEXT) + ")" : whyTooLong(text);
-  if (why !== "") return say("The file " + file.name + " was refused: it has " + why + ".", true);
+  if (why !== "") return refuse("The file " + file.name + " was refused: it has " + why + ".");
   exampleName = "";
   byId("examples").selectedIndex = 0;
   if (/\.toml$/.test(file.name)) return setJob({ ...jobNow(), description: text });

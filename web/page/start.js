@@ -7,6 +7,7 @@ const jobNow = () => ({ description: editors.description.text, arrivals: editors
 const changedSoon = later(150, () => run(true));
 
 function jobChanged() {
+  refuse("");
   checker.stop();
   setStale(true);
   form.read(editors.description.text);
@@ -98,15 +99,23 @@ function writeKey(key, value) {
   jobChanged();
 }
 
+function stop() {
+  turn += 1;
+  runner.stop();
+  checker.stop();
+  setBusy(false);
+  say("Stopped; nothing of the run is left.");
+}
+
 function listen() {
   byId("run").onclick = () => run();
-  byId("stop").onclick = () => { runner.stop(); checker.stop(); };
+  byId("stop").onclick = stop;
   byId("limit").onchange = () => { byId("limit").value = limit(); writeAddress(); run(); };
   byId("share").onclick = copyLink;
   byId("save").onclick = () => save((exampleName.split("/").pop() || "program") + ".job", joined(jobNow()));
   byId("open").onclick = () => byId("file").click();
   byId("file").onchange = () => { if (byId("file").files[0]) openFile(byId("file").files[0]); byId("file").value = ""; };
-  byId("examples").onchange = () => { if (byId("examples").value) loadExample(byId("examples").value); };
+  byId("examples").onchange = () => { refuse(""); if (byId("examples").value) loadExample(byId("examples").value); };
   byId("machine").onchange = () => { const name = byId("machine").value; byId("machine").selectedIndex = 0; loadExample(name); };
   byId("show-job").onclick = () => shortcut("j");
   byId("as-form").onclick = () => setForm(true);
@@ -150,11 +159,7 @@ async function start() {
   makeTabs(chooseView);
   chooseView("report", true);
   listen();
-  if (!await readAddress()) {
-    const said = byId("status").textContent, isFault = byId("status").classList.contains("fault");
-    loadExample("lessons/prediction-bimodal");
-    if (isFault) byId("refused").textContent = said;
-  }
+  if (!await readAddress()) loadExample("lessons/prediction-bimodal");
   document.documentElement.dataset.ready = performance.now().toFixed(0);
 }
 

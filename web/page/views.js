@@ -5,6 +5,7 @@ const RETIRED = { name: "retired", label: "without squashed rows", isSwitch: tru
 
 const KONATA = "For the pipeline viewer Konata: save it, and open the file there.";
 const ONE_AT_A_TIME = "The same program on the machine that takes one instruction after the other; limit and arrivals count steps.";
+const TRACE = "R retired, T trap, N interrupt; F, D, I, B, C: the cycles of fetch, dispatch, issue, broadcast and commit.";
 
 const VIEWS = [
   { name: "report", title: "Report", command: "run", limit: true, show: showReport, file: "report.txt" },
@@ -14,7 +15,7 @@ const VIEWS = [
   { name: "compare", title: "Compare", command: "compare", limit: true, input: comparedInput, show: showComparison, file: "compare.tsv" },
   { name: "explain", title: "Explain", command: "explain", limit: true, show: showText, file: "explain.txt" },
   { name: "profile", title: "Profile", command: "profile", limit: true, show: showTable, file: "profile.tsv" },
-  { name: "trace", title: "Trace", command: "run", words: ["--trace"], limit: true, show: showText, file: "trace.txt" },
+  { name: "trace", title: "Trace", command: "run", words: ["--trace"], limit: true, show: showText, file: "trace.txt", note: TRACE },
   { name: "log", title: "Log", command: "log", limit: true, show: showText, file: "run.kanata", note: KONATA },
   { name: "reference", title: "Reference", command: "reference", limit: true, show: showText, file: "reference.txt", note: ONE_AT_A_TIME },
 ];
