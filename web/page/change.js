@@ -79,8 +79,9 @@ function changeButtons({ before, isKept }) {
 }
 
 async function showPictures({ before, now }, to) {
+  const command = wordsOf(viewNamed("picture")).filter((word) => word !== "--text");
   for (const [name, run] of [["before", before], ["after", now]]) {
-    const made = await runner.call(wordsOf(viewNamed("picture")), joined(run.job)), words = "the pipeline " + name;
+    const made = await runner.call(command, joined(run.job)), words = "the pipeline " + name;
     if (made.status !== 0 || !to.isConnected) return;
     const scroll = element("div", { className: "scroll", tabIndex: 0, role: "region", "aria-label": words }, picture(made.output, words));
     to.append(element("figure", {}, element("figcaption", { textContent: "The pipeline " + name }), scroll));

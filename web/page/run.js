@@ -125,5 +125,5 @@ async function showView(given) {
 }
 
 function saveView() {
-  resultOf(currentView, turn).then((made) => { if (made.output) save(currentView.file, made.output); });
+  resultOf(currentView, turn).then((made) => { if (made.output) save(fileOf(currentView), made.output); });
 }

@@ -104,6 +104,7 @@ function picture(bytes, words) {
 function showPicture({ output, errors }) {
   const note = textOf(errors).trim();
   if (note) byId("shown").append(element("p", { className: "note", textContent: note }));
+  if (chosen.text) return showText({ output });
   const scroll = element("div", { className: "scroll picture", tabIndex: 0, role: "region", "aria-label": "picture of the pipeline" });
   scroll.append(picture(output, PICTURE));
   byId("shown").append(scroll);

@@ -2,6 +2,7 @@
 const FROM = { name: "from", label: "from cycle", least: 0, most: 999999, value: 0 };
 const cycles = (most, value) => ({ name: "cycles", label: "cycles", least: 1, most, value });
 const RETIRED = { name: "retired", label: "without squashed rows", isSwitch: true, value: false };
+const TEXT = { name: "text", label: "as text", isSwitch: true, value: false };
 
 const KONATA = "For the pipeline viewer Konata: save it, and open the file there.";
 const ONE_AT_A_TIME = "The same program on the machine that takes one instruction after the other; limit and arrivals count steps.";
@@ -10,7 +11,7 @@ const TRACE = "R retired, T trap, N interrupt; F, D, I, B, C: the cycles of fetc
 const VIEWS = [
   { name: "report", title: "Report", command: "run", limit: true, show: showReport, file: "report.txt" },
   { name: "steps", title: "Steps", command: "page", options: [FROM, cycles(10000, 200)], show: showPage, file: "run.html" },
-  { name: "picture", title: "Picture", command: "picture", options: [FROM, cycles(1000, 60), RETIRED], show: showPicture, file: "picture.svg" },
+  { name: "picture", title: "Picture", command: "picture", options: [FROM, cycles(1000, 60), RETIRED, TEXT], show: showPicture, file: "picture.svg" },
   { name: "change", title: "Before and after", command: "run", limit: true, show: showChange, file: "report.txt" },
   { name: "compare", title: "Compare", command: "compare", limit: true, input: comparedInput, show: showComparison, file: "compare.tsv" },
   { name: "explain", title: "Explain", command: "explain", limit: true, show: showText, file: "explain.txt" },
@@ -22,7 +23,7 @@ const VIEWS = [
 const viewNamed = (name) => VIEWS.find((view) => view.name === name);
 
 // The chosen options of the views, by name: those of the same name are shared.
-const chosen = { from: 0, retired: false };
+const chosen = {};
 
 function optionOf(view, option) {
   const key = option.name === "cycles" ? view.name + "-cycles" : option.name;
@@ -41,6 +42,8 @@ function wordsOf(view) {
 const whole = (text, least, most, otherwise) => (/^\d{1,9}$/.test(text) ? Math.max(least, Math.min(most, Number(text))) : otherwise);
 const limit = () => whole(byId("limit").value, 1, 1000000, 100000);
 
+const fileOf = (view) => (view.name === "picture" && chosen.text ? "picture.txt" : view.file);
+
 // The fields above a view: its options, its note, and the button that saves what the program printed.
 function showTools(view, changed, saved) {
   const tools = byId("tools");
@@ -56,7 +59,7 @@ function showTools(view, changed, saved) {
     tools.append(element("label", {}, ...(option.isSwitch ? [field, " " + option.label] : [option.label + " ", field])));
   }
   if (view.note) tools.append(element("span", { className: "note", textContent: view.note }));
-  tools.append(element("button", { type: "button", id: "save-view", textContent: "Save " + view.file, onclick: saved }));
+  tools.append(element("button", { type: "button", id: "save-view", textContent: "Save " + view.file.replace(".svg", ""), onclick: saved }));
 }
 
 // The tabs, as a list in which the arrow keys move.
