@@ -1,5 +1,5 @@
 # 5 factorial, each product by repeated addition. At the end a0, which is x10, is 120 (00000078).
-# A test runs this text too: crates/rv_sim/src/tests/examples.rt.
+# A test runs this text too: crates/rv_program_tests/src/examples.rt.
         li a0, 1                # the product so far
         li t0, 5                # the next factor
 factor: mv t1, t0               # how often a0 is still to be added

@@ -1,5 +1,5 @@
 # The largest of five signed words. At the end a1, which is x11, is 42 (0000002a).
-# A test runs this text too: crates/rv_sim/src/tests/examples.rt.
+# A test runs this text too: crates/rv_program_tests/src/examples.rt.
         la a0, numbers
         li t0, 4                # how many are left after the first
         lw a1, 0(a0)            # the largest so far

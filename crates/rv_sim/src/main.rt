@@ -1,24 +1,10 @@
 //! The program `rv_sim`: simulates a RISC-V core on a job from standard input. `main` passes the
-//! words and the streams on; what they come to stands in the other files.
+//! words and the streams on; what they come to stands in rv_program.
 #![tactic(auto)]
 
-mod answer;
-mod boxed_predictor;
-mod compare;
-mod ended;
-mod output;
-mod program;
-mod reference;
-mod refusal;
-mod run_view;
-mod simulate;
-mod task;
-#[cfg(test)]
-mod tests;
-
-use program::run;
 use rv_command::parse_words;
 use rv_job::{FaultLines, SimError};
+use rv_program::run;
 use rv_refusal::show_usage;
 use std::io::Eprint;
 use std::process::ExitCode;

@@ -1,0 +1,39 @@
+-- What is answered after a text that was written, or was not.
+use Rattle.std.proofs.Common.{◌≡◌, ℕ, List, Option, None, Some, refl, sym, subst}
+use Rattle.std.specs.Prelude.{IsErrAnd, Result, Ok, Err}
+use Rattle.std.specs.Io.KnownBytes.{Keeps}
+use Rattle.rv_job.proofs.HandedOn.{handed_on}
+use Rattle.rv_job.specs.declared.errors.SimError.{SimError}
+use Rattle.rv_text.specs.IsText.{IsText}
+use Rattle.rv_text.specs.declared.output.TextError.{TextError}
+use Rattle.rv_text.specs.declared.output.TextError.TheVariants.{Memory, WriteFailed}
+use Rattle.rv_program.specs.Answer.{IsAnswer, answered}
+
+-- a text is answered by the program's errors, and tells of the job what it tells of the run
+told : {T : Type 0} (Is IsOfJob : T → List ℕ → Type 0) (written : Result T TextError) (old new : Option (List ℕ))
+    → ((answer : T) (text : List ℕ) → Is answer text → IsOfJob answer text) → IsText Is written old new → IsAnswer IsOfJob (answered written) old new
+told Is IsOfJob (Ok answer) old new means (text, is, appended) = (text, means answer text is, appended)
+told Is IsOfJob (Err WriteFailed) old new means (answer, text, is, beginning) = (answer, text, means answer text is, beginning)
+told Is IsOfJob (Err Memory) old new means nothing = nothing
+
+answered_by : {T : Type 0} (Is IsOfJob : T → List ℕ → Type 0) (written : Result T TextError) (result : Result T SimError) (old new : Option (List ℕ))
+    → result ≡ answered written → ((answer : T) (text : List ℕ) → Is answer text → IsOfJob answer text) → IsText Is written old new → IsAnswer IsOfJob result old new
+answered_by Is IsOfJob written result old new is means writes =
+    subst (λ r. IsAnswer IsOfJob r old new) (sym is) (told Is IsOfJob written old new means writes)
+
+-- the same, where the text comes first
+pub answered_from : {T : Type 0} {Is : T → List ℕ → Type 0} (IsOfJob : T → List ℕ → Type 0) (written : Result T TextError) {result : Result T SimError} (old new : Option (List ℕ))
+    → IsText Is written old new → result ≡ answered written → ((answer : T) (text : List ℕ) → Is answer text → IsOfJob answer text) → IsAnswer IsOfJob result old new
+answered_from {Is = Is} IsOfJob written {result} old new writes is means = answered_by Is IsOfJob written result old new is means writes
+
+-- an error that `?` hands on
+pub answered_on : {T : Type 0} (Is : T → List ℕ → Type 0) (result : Result T SimError) (error : SimError) (old new : Option (List ℕ))
+    → IsErrAnd result (λ e. e ≡ error) → IsAnswer Is (Err error) old new → IsAnswer Is result old new
+answered_on Is result error old new same holds = subst (λ r. IsAnswer Is r old new) (sym (handed_on result error same)) holds
+
+Keeps-itself : (known : Option (List ℕ)) → Keeps known known
+Keeps-itself None = tt
+Keeps-itself (Some bytes) = refl
+
+pub Keeps-same : (before after : Option (List ℕ)) → after ≡ before → Keeps before after
+Keeps-same before after same = subst (Keeps before) (sym same) (Keeps-itself before)

@@ -1,0 +1,91 @@
+-- What an output holds once the buffer before it is gone.
+use Rattle.std.proofs.Common.{◌≡◌, ℕ, List, [], ◌++◌, length, take, drop, Option, Some, None, sym, ap, ◌∙◌, subst, refl, arith, append-nil, append_assoc}
+use Rattle.std.specs.Prelude.{Result, Ok, Err}
+use Rattle.std.specs.Io.Buffered.{writer_buffer, writer_contents, writer_inner}
+use Rattle.std.specs.Io.KnownBytes.{Keeps, append_known}
+use Rattle.std.specs.declared.io.buffered.BufWriter.{BufWriter}
+use Rattle.std.proofs.Math.Seq.{take-length}
+use Rattle.std.proofs.lemmas.List.{take-append-drop}
+use Rattle.rv_front.specs.declared.predictors.DescribedPredictor.{DescribedPredictor}
+use Rattle.rv_job.specs.declared.errors.SimError.{SimError}
+use Rattle.rv_job.specs.declared.errors.SimError.TheVariants.{Memory, WriteFailed}
+use Rattle.rv_text.proofs.Writing.{Appends-kept, Appends-same}
+use Rattle.rv_text.specs.Written.{AppendsBeginning}
+use Rattle.rv_program.specs.Output.{HoldsBeginning, PassesOn}
+use Rattle.rv_program.specs.Program.{EndsPassedOn}
+use Rattle.rv_program.specs.Task.{Ends}
+use Rattle.rv_program.specs.declared.{ended.Ended.Ended, task.Task.Task}
+
+-- an empty buffer adds nothing to what its output holds
+pub begun : {W A : Type 0} (contents : W → Option (List ℕ)) (buffer : BufWriter W A) (output : W)
+    → writer_inner buffer ≡ output → writer_buffer buffer ≡ [] → writer_contents contents buffer ≡ contents output
+begun contents buffer output is empty =
+    ap (λ held. append_known (contents (writer_inner buffer)) held) empty ∙ unbuffered (contents (writer_inner buffer)) ∙ ap contents is
+  where
+    unbuffered : (known : Option (List ℕ)) → append_known known [] ≡ known
+    unbuffered None = refl
+    unbuffered (Some bytes) = ap Some (append-nil bytes)
+
+-- what an output holds is a beginning of what it and its buffer hold
+pub before_buffer : {W A : Type 0} (contents : W → Option (List ℕ)) (buffer : BufWriter W A) (output : W)
+    → output ≡ writer_inner buffer → HoldsBeginning (writer_contents contents buffer) (contents output) []
+before_buffer contents buffer output is =
+    subst (λ o. HoldsBeginning (writer_contents contents buffer) (contents o) []) (sym is) (beginning (contents (writer_inner buffer)))
+  where
+    beginning : (known : Option (List ℕ)) → HoldsBeginning (append_known known (writer_buffer buffer)) known []
+    beginning None = tt
+    beginning (Some bytes) = (writer_buffer buffer, sym (append-nil _))
+
+-- what is kept is a beginning of itself
+pub whole_left : (held new : Option (List ℕ)) → Keeps held new → HoldsBeginning held new []
+whole_left None new kept = tt
+whole_left (Some held) None kept = absurd kept
+whole_left (Some held) (Some new) kept = ([], ap (λ l. l ++ []) kept)
+
+-- a beginning of what was kept
+pub kept_left : (old held new : Option (List ℕ)) → Keeps old held → HoldsBeginning held new [] → HoldsBeginning old new []
+kept_left None held new kept left = tt
+kept_left (Some old) None new kept left = absurd kept
+kept_left (Some old) (Some held) None kept left = absurd left
+kept_left (Some old) (Some held) (Some new) kept (rest, is) = (rest, is ∙ ap (λ l. l ++ []) kept)
+
+-- a beginning of what had grown by a beginning of a text
+grown_left : (old held new : Option (List ℕ)) (text : List ℕ) → AppendsBeginning old held text → HoldsBeginning held new [] → HoldsBeginning old new text
+grown_left None held new text grown left = tt
+grown_left (Some old) None new text (n, within, grown) left = absurd grown
+grown_left (Some old) (Some held) None text grown left = absurd left
+grown_left (Some old) (Some held) (Some new) text (n, within, grown) (rest, is) = (
+  rest ++ drop n text,
+  sym (append_assoc new rest (drop n text))
+      ∙ ap (λ l. l ++ drop n text) (is ∙ append-nil held ∙ grown)
+      ∙ append_assoc old (take n text) (drop n text)
+      ∙ ap (λ l. old ++ l) (take-append-drop n text),
+)
+
+-- what passes on what was kept passes on what it was kept from
+pub kept_on : (ended : Ended) (outcome : Result Ended SimError) (held between new : Option (List ℕ))
+    → Keeps held between → PassesOn (Ok ended) outcome between new → PassesOn (Ok ended) outcome held new
+kept_on ended (Ok _) held between new kept (same, passed) = (same, both held between new kept passed)
+  where
+    both : (a b c : Option (List ℕ)) → Keeps a b → Keeps b c → Keeps a c
+    both None b c first second = tt
+    both (Some a) None c first second = absurd first
+    both (Some a) (Some b) None first second = absurd second
+    both (Some a) (Some b) (Some c) first second = second ∙ first
+kept_on ended (Err WriteFailed) held between new kept left = kept_left held between new kept left
+kept_on ended (Err _) held between new kept never = absurd never
+
+-- a task that ended into a buffer, which was passed on
+pub ended_passed_on : (task : Task) (predictor : Option DescribedPredictor) (old held new : Option (List ℕ)) (ended outcome : Result Ended SimError)
+    → Ends task predictor old held ended → PassesOn ended outcome held new → EndsPassedOn task predictor old new outcome
+ended_passed_on task predictor old held new (Ok ended) (Ok _) (text, shows, appended) (same, kept) =
+    subst (λ s. EndsPassedOn task predictor old new (Ok s)) (sym same) (text, shows, Appends-kept old held new text appended kept)
+ended_passed_on task predictor old held new (Ok ended) (Err WriteFailed) (text, shows, appended) left =
+    (text, ended, shows, grown_left old held new text (length text, omega arith, Appends-same old held _ _ (sym (take-length text)) appended) left)
+ended_passed_on task predictor old held new (Ok ended) (Err _) ends never = absurd never
+ended_passed_on task predictor old held new (Err error) (Ok _) ends never = absurd never
+ended_passed_on task predictor old held new (Err WriteFailed) (Err outcome) (text, ended, shows, grown) (same, left) =
+    subst (λ e. EndsPassedOn task predictor old new (Err e)) (sym same) (text, ended, shows, grown_left old held new text grown left)
+ended_passed_on task predictor old held new (Err Memory) (Err outcome) (asks, kept) (same, left) =
+    subst (λ e. EndsPassedOn task predictor old new (Err e)) (sym same) (asks, kept_left old held new kept left)
+ended_passed_on task predictor old held new (Err _) (Err outcome) never passes = absurd never

@@ -1,0 +1,40 @@
+-- What is shown of a job's run.
+use Rattle.std.specs.Prelude.{◌≡◌, ℕ, List, Option, None, Result, Ok, Err}
+use Rattle.rv_arch.specs.declared.outcome.Stop.{Stop}
+use Rattle.rv_explain.specs.Explanation.{IsExplanation}
+use Rattle.rv_front.specs.declared.predictors.DescribedPredictor.{DescribedPredictor}
+use Rattle.rv_hardware.specs.Guided.{GuidedHardware}
+use Rattle.rv_job.specs.declared.listed_job.ListedJob.{ListedJob}
+use Rattle.rv_log.specs.Log.{IsLog}
+use Rattle.rv_picture.specs.Picture.{IsPicture}
+use Rattle.rv_picture.specs.declared.picture.RunEnd.{RunEnd}
+use Rattle.rv_profile.specs.Run.{IsProfile}
+use Rattle.rv_states.specs.States.{IsStates}
+use Rattle.rv_text.specs.declared.output.TextError.{TextError}
+use Rattle.rv_program.specs.CoreReport.{core_of}
+use Rattle.rv_program.specs.declared.run_view.RunView.{RunView}
+use Rattle.rv_program.specs.declared.run_view.RunView.TheVariants.{Picture, Log, States, Explanation, Profile}
+
+-- how the run of any view but a picture ended: a picture alone says that its run ended before its cycles
+abbrev pub whole_run : Result Stop TextError → Result RunEnd TextError
+whole_run (Ok stop) = Ok (record { stop = stop; over = None })
+whole_run (Err error) = Err error
+
+-- A text is what a view shows of a run of guided hardware from one state to another, with the lines of the job's program; and that is how
+-- the run ended.
+abbrev pub IsShown : RunView → ListedJob → GuidedHardware → GuidedHardware → RunEnd → List ℕ → Type 0
+IsShown (Picture view) listed old new ended text = IsPicture listed.job.arrivals view listed.listing old new ended text
+IsShown (Log limit) listed old new ended text =
+    IsLog listed.job.arrivals limit listed.listing old new ended.stop text × (ended.over ≡ None)
+IsShown (States stretch) listed old new ended text =
+    IsStates listed.job.arrivals stretch.from stretch.limit stretch.form listed.listing old new ended.stop text × (ended.over ≡ None)
+IsShown (Explanation limit) listed old new ended text =
+    IsExplanation listed.job.arrivals limit listed.job.description listed.listing old new ended.stop text × (ended.over ≡ None)
+IsShown (Profile limit) listed old new ended text =
+    IsProfile listed.job.arrivals limit listed.job.description listed.listing old new ended.stop text × (ended.over ≡ None)
+
+-- A text is what a view shows of the run of the described hardware that a predictor guides, from reset with the job's image; and that is
+-- how the run ended.
+pub record IsViewOf (listed : ListedJob) (predictor : Option DescribedPredictor) (view : RunView) (ended : RunEnd) (text : List ℕ) : Type 0 where
+  pub end : GuidedHardware
+  pub shows : IsShown view listed (core_of listed.job predictor) end ended text

@@ -1,0 +1,96 @@
+ghost use Rattle.std.specs.Prelude.{◌≡◌, IfOk, IfErr};
+ghost use Rattle.rv_program.specs.Answer.{IsAnswer};
+ghost use Rattle.rv_program.specs.Comparison.{AreRuns, IsComparisonTable, IsRun};
+ghost use Rattle.rv_program.specs.CoreReport.{untaught_of};
+
+use crate::boxed_predictor::{BoxedPredictor, boxed};
+use rv_core::Pipeline;
+use rv_isa::PredictorValues;
+use rv_job::{Comparison, Job, SimError};
+use rv_report::{ComparedRun, run_totals, write_table};
+use std::alloc::Global;
+use std::io::Write;
+
+// Runs a job on the core that it describes, guided by a predictor that is the described one, up to a breakpoint, a stale
+// word or a limit of cycles.
+fn run_guided(
+    alloc: Global,
+    job: &Job,
+    values: PredictorValues,
+    predictor: BoxedPredictor,
+    limit: u64,
+) -> Result<ComparedRun, SimError>
+    requires described { known predictor.predictor ≡ untaught_of values }
+    requires own { values ≡ job.now.description.predictor }
+    ensures run { IfOk result (IsRun limit job.now) }
+    ensures errors { IfErr result (λ e. e ≡ SimError.Memory) }
+{
+    // The image of a job fits, so that memory alone can be wanting.
+    let Ok(pipeline) = Pipeline::new(alloc, &job.description, &job.image) else {
+        return Err(SimError::Memory);
+    };
+    let mut predictor = predictor;
+    let ended = run_totals(
+        alloc,
+        pipeline,
+        &mut *predictor.predictor,
+        &job.arrivals,
+        limit,
+    );
+    match ended {
+        Ok(run) => Ok(run),
+        Err(_) => Err(SimError::Memory),
+    }
+}
+
+// Runs a job with the predictor that it describes.
+fn run_one(alloc: Global, job: &Job, limit: u64) -> Result<ComparedRun, SimError>
+    ensures run { IfOk result (IsRun limit job.now) }
+    ensures errors { IfErr result (λ e. e ≡ SimError.Memory) }
+{
+    let values = job.description.values().predictor;
+    match boxed(alloc, values) {
+        Ok(predictor) => run_guided(alloc, job, values, BoxedPredictor { predictor }, limit),
+        Err(_) => Err(SimError::Memory),
+    }
+}
+
+// Runs jobs one after the other.
+fn run_each(alloc: Global, jobs: &[Job], limit: u64) -> Result<Vec<ComparedRun>, SimError>
+    ensures runs { IfOk result (λ runs. AreRuns limit jobs.now runs.items) }
+    ensures errors { IfErr result (λ e. e ≡ SimError.Memory) }
+{
+    let mut runs = Vec::new(alloc);
+    for job in jobs {
+        let Ok(ended) = run_one(alloc, job, limit) else {
+            return Err(SimError::Memory);
+        };
+        let Ok(()) = runs.push(ended) else {
+            return Err(SimError::Memory);
+        };
+    }
+    Ok(runs)
+}
+
+/// Runs the program of a comparison on each of its machines, one after the other, each up to a breakpoint, a stale word or
+/// a limit of cycles, and writes a table of what the runs came to: a line for each machine, in their order. Asks for no
+/// memory once it has written.
+///
+/// Fails by `Memory`, and has written nothing then, or by `WriteFailed`, and has written a beginning of the table.
+pub fn compare<W: Write>(
+    alloc: Global,
+    comparison: &Comparison,
+    limit: u64,
+    writer: &mut W,
+) -> Result<(), SimError>
+    ensures { IsAnswer (λ _ text. IsComparisonTable comparison.now limit text) result (W.contents writer.old) (W.contents writer.new) }
+{
+    let jobs = comparison.jobs.as_slice();
+    let Ok(runs) = run_each(alloc, jobs, limit) else {
+        return Err(SimError::Memory);
+    };
+    let names = comparison.names.as_slice();
+    let rows = runs.as_slice();
+    write_table(names, rows, writer)?;
+    Ok(())
+}

@@ -1,0 +1,143 @@
+//! What is shown of a run.
+ghost use Rattle.std.specs.Prelude.{◌≡◌};
+ghost use Rattle.rv_hardware.specs.Guided.{guided};
+ghost use Rattle.rv_text.specs.IsText.{IsText};
+ghost use Rattle.rv_program.specs.Answer.{IsAnswer};
+ghost use Rattle.rv_program.specs.RunView.{IsShown, IsViewOf, whole_run};
+
+use crate::answer::answer;
+use crate::boxed_predictor::BoxedPredictor;
+use rv_arch::Stop;
+use rv_core::Pipeline;
+use rv_explain::write_explanation;
+use rv_front::Predictor;
+use rv_job::{ListedJob, SimError};
+use rv_log::write_log;
+use rv_picture::{RunEnd, View, write_picture};
+use rv_profile::write_profile;
+use rv_states::{Form, write_states};
+use rv_text::TextError;
+use std::alloc::Global;
+use std::io::Write;
+
+/// Of which cycles of a run the states are written, and how.
+#[derive(Clone, Copy)]
+pub struct Stretch {
+    /// How they are written.
+    pub form: Form,
+    /// The first of the cycles.
+    pub from: u64,
+    /// The most cycles of the run.
+    pub limit: u64,
+}
+
+/// What is shown of a run of a job on the core, up to a breakpoint, a stale word or its last cycle, with the lines of the
+/// job's program.
+#[derive(Clone, Copy)]
+pub enum RunView {
+    /// The picture of the cycles of a view. Where the run ends before the view begins, no cycle is shown.
+    Picture(View),
+    /// The log of at most so many cycles, in Konata's format.
+    Log { limit: u64 },
+    /// The states of the cycles of a stretch, line by line; as a page with a viewer around them. Where the run ends before
+    /// the stretch begins, no cycle is written.
+    States(Stretch),
+    /// What at most so many cycles came to, in plain sentences.
+    Explanation { limit: u64 },
+    /// A table of what became of the instructions at each address in at most so many cycles.
+    Profile { limit: u64 },
+}
+
+// How the run of any view but a picture ended.
+fn whole_run(written: Result<Stop, TextError>) -> Result<RunEnd, TextError>
+    ensures { result ≡ whole_run written }
+{
+    match written {
+        Ok(stop) => Ok(RunEnd { stop, over: None }),
+        Err(error) => Err(error),
+    }
+}
+
+// Runs a pipeline that a predictor guides, and writes a view of the run.
+fn write_view<W: Write>(
+    alloc: Global,
+    pipeline: &mut Pipeline,
+    predictor: &mut dyn Predictor,
+    listed: &ListedJob,
+    view: &RunView,
+    writer: &mut W,
+) -> Result<RunEnd, TextError>
+    ensures { IsText (IsShown view.now listed.now (guided pipeline.old (known predictor.old)) (guided pipeline.new (known predictor.new))) result (W.contents writer.old) (W.contents writer.new) }
+{
+    let arrivals = &listed.job.arrivals;
+    let description = &listed.job.description;
+    let listing = &listed.listing;
+    match view {
+        RunView::Picture(view) => write_picture(
+            alloc, pipeline, predictor, arrivals, *view, listing, writer,
+        ),
+        RunView::Log { limit } => whole_run(write_log(
+            alloc, pipeline, predictor, arrivals, *limit, listing, writer,
+        )),
+        RunView::States(stretch) => whole_run(write_states(
+            alloc,
+            pipeline,
+            predictor,
+            arrivals,
+            stretch.from,
+            stretch.limit,
+            stretch.form,
+            listing,
+            writer,
+        )),
+        RunView::Explanation { limit } => whole_run(write_explanation(
+            alloc,
+            pipeline,
+            predictor,
+            description,
+            arrivals,
+            *limit,
+            listing,
+            writer,
+        )),
+        RunView::Profile { limit } => whole_run(write_profile(
+            alloc,
+            pipeline,
+            predictor,
+            description,
+            arrivals,
+            *limit,
+            listing,
+            writer,
+        )),
+    }
+}
+
+/// Simulates a job on the core that it describes, with the job's arrivals at the numbers of the cycles, and writes a view of
+/// the run. Answers how the run ended. A log and states are written as the cycles come, and ask for no memory once they are begun.
+///
+/// Fails by `Memory`, and has written nothing then, or by `WriteFailed`, and has written a beginning of the view.
+pub fn show<W: Write>(
+    alloc: Global,
+    listed: &ListedJob,
+    predictor: BoxedPredictor,
+    view: &RunView,
+    writer: &mut W,
+) -> Result<RunEnd, SimError>
+    ensures { IsAnswer (IsViewOf listed.now (known predictor.predictor) view.now) result (W.contents writer.old) (W.contents writer.new) }
+{
+    let mut predictor = predictor;
+    // The image of a job fits, so that memory alone can be wanting.
+    let Ok(mut pipeline) = Pipeline::new(alloc, &listed.job.description, &listed.job.image) else {
+        return Err(SimError::Memory);
+    };
+    let written = write_view(
+        alloc,
+        &mut pipeline,
+        &mut *predictor.predictor,
+        listed,
+        view,
+        writer,
+    );
+    answer(written)
+}

@@ -1,0 +1,75 @@
+mod accesses;
+mod endings;
+mod exceptions;
+mod predictions;
+mod slowest;
+mod waits;
+
+use crate::helpers::{CORE, run_text};
+use rv_command::Command;
+
+/// A run up to so many cycles that is explained in sentences.
+pub(crate) const EXPLAIN: Command = Command::Explain { limit: 100 };
+
+/// A program, and a line of the explanation of its run.
+#[derive(Clone, Copy)]
+pub(crate) struct Told {
+    pub(crate) program: &'static str,
+    pub(crate) line: &'static str,
+}
+
+const ADDITION: &[u8] = b"alu.units = 1
+%%
+addi x1,x0,5
+ebreak
+";
+
+const SENTENCES: &[u8] = b"\
+The run ended at a breakpoint, at 80000004, line 2: ebreak
+No exception came before that.
+cycles 5, retired instructions 1
+cycles per instruction 5.000
+busy            3   60.0%  ##############################
+fetch           2   40.0%  ####################
+serial          0    0.0% \x20
+rob             0    0.0% \x20
+station         0    0.0% \x20
+store           0    0.0% \x20
+of the busy cycles 1 dispatched something that retired, 2 only what did not
+fetched words: 9, of them 6 squashed (66.7%)
+branches and jumps: none
+cycles that results waited for the bus: alu 0, mul 0, div 0, mem 0
+cycles that instructions waited for a unit: alu 0, mul 0, div 0, mem 0
+loads: 0, of them 0 at the cost of a hit or of forwarding, 0 at that of a miss
+drains: 0, of them 0 at the cost of a hit, 0 at that of a miss
+The lines that stood longest at the head of the reorder buffer, in cycles:
+80000000, line 1: addi x1,x0,5
+                3   60.0%  ##############################
+";
+
+#[test]
+fn a_run_is_explained_with_the_lines_of_its_program(rt: HostRuntime) {
+    let ended = run_text(rt.alloc(), EXPLAIN, ADDITION);
+    assert_eq!(rt; ended.status, 0);
+    assert!(rt; ended.output.as_slice() == SENTENCES);
+    assert!(rt; ended.errors.is_empty());
+}
+
+const REFUSED: &[u8] = b"\
+line 4 of the job, line 2 of its assembly: BadOperands
+    jal x1, 4
+            ^
+expected: jal symbol, as in 'jal loop'
+expected: jal rd, symbol, as in 'jal x5, loop'
+";
+
+#[test]
+fn a_job_that_is_refused_is_explained_by_its_line(rt: HostRuntime) {
+    let job = b"alu.units = 1\n%%\nnop\njal x1, 4\n";
+    let ended = run_text(rt.alloc(), EXPLAIN, job);
+    assert_eq!(rt; ended.status, 1);
+    assert!(rt; ended.errors.as_slice() == b"error: assembly line 2: BadOperands\n".as_slice());
+    assert!(rt; ended.output.as_slice() == REFUSED);
+    let run = run_text(rt.alloc(), CORE, job);
+    assert!(rt; run.output.is_empty());
+}

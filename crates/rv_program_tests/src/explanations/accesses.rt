@@ -1,0 +1,84 @@
+use crate::checks::check_run;
+use crate::explanations::{EXPLAIN, Told};
+
+// A load that misses, one that hits, and one whose bytes come from the store before it. The last one is squashed.
+const LOADS: &str = "forward = 3
+%%
+lui x5,0x80001
+lw x6,0(x5)
+lw x7,4(x5)
+sw x0,8(x5)
+lw x8,8(x5)
+ebreak
+lw x9,12(x5)
+";
+
+#[test]
+fn loads_are_counted_when_they_retire(rt: HostRuntime) {
+    let line = "loads: 3, of them 2 at the cost of a hit or of forwarding, 1 at that of a miss";
+    check_run(&rt, rt.alloc(), EXPLAIN, LOADS, 0, &[line]);
+}
+
+// Stores to the words of two lines of the cache, of which the first to each misses; FENCE.I waits for them all.
+const FIVE_DRAINS: &str = "lui x5,0x80001
+sw x0,0(x5)
+sw x0,4(x5)
+sw x0,16(x5)
+sw x0,8(x5)
+sw x0,12(x5)
+fence.i
+ebreak
+";
+
+// The run ends while the first store goes into the cache, and the second waits for it.
+const ONE_DRAIN: &str = "lui x5,0x80001
+sw x0,0(x5)
+sw x0,4(x5)
+ebreak
+";
+
+#[test]
+fn drains_are_counted_when_they_begin(rt: HostRuntime) {
+    let rows = [
+        Told {
+            program: FIVE_DRAINS,
+            line: "drains: 5, of them 3 at the cost of a hit, 2 at that of a miss",
+        },
+        Told {
+            program: ONE_DRAIN,
+            line: "drains: 1, of them 0 at the cost of a hit, 1 at that of a miss",
+        },
+    ];
+    for told in rows {
+        check_run(&rt, rt.alloc(), EXPLAIN, told.program, 0, &[told.line]);
+    }
+}
+
+// A cache of one word. The first load drops the word that the store put there, which is written back; the second one drops what the
+// first brought; the third one hits.
+const DIRTY_VICTIM: &str = "cache.sets = 1
+cache.ways = 1
+cache.line = 4
+%%
+lui x5,0x80001
+sw x5,0(x5)
+csrr x6,mip
+div x7,x5,x5
+div x7,x7,x5
+add x5,x5,x7
+lw x8,4(x5)
+lw x9,0(x5)
+lw x10,0(x5)
+ebreak
+";
+
+#[test]
+fn the_loads_of_the_slowest_lines_are_told(rt: HostRuntime) {
+    let lines = [
+        "80000018, line 7: lw x8,4(x5)",
+        "       its loads: hits 0, misses 1, write-backs 1",
+        "8000001c, line 8: lw x9,0(x5)",
+        "       its loads: hits 0, misses 1, write-backs 0",
+    ];
+    check_run(&rt, rt.alloc(), EXPLAIN, DIRTY_VICTIM, 0, &lines);
+}

@@ -1,0 +1,76 @@
+use crate::checks::check_run;
+use crate::explanations::{EXPLAIN, Told};
+use crate::programs::STORE_INTO_CODE;
+use rv_command::Command;
+
+#[test]
+fn a_stale_word_that_is_explained_gives_status_3(rt: HostRuntime) {
+    let ending =
+        "The run ended at a word that was stored to and then fetched without a FENCE.I in between, at 80000014, line 4: t: addi x7,x0,2";
+    let store = "The last store to that word was the one at 80000010, line 3: sw x6,0(x5)";
+    check_run(
+        &rt,
+        rt.alloc(),
+        EXPLAIN,
+        STORE_INTO_CODE,
+        3,
+        &[ending, store],
+    );
+}
+
+const CUT_OFF: &str =
+    "The run was cut off at its limit of cycles, and the program stood at 80000000, line 1: addi x1,x0,5";
+
+#[test]
+fn a_run_that_is_cut_off_stands_at_the_first_that_has_not_retired(rt: HostRuntime) {
+    let command = Command::Explain { limit: 4 };
+    let counts = "cycles 4, retired instructions 0";
+    let ratio = "cycles per instruction -";
+    let program = "addi x1,x0,5\nebreak";
+    check_run(
+        &rt,
+        rt.alloc(),
+        command,
+        program,
+        0,
+        &[CUT_OFF, counts, ratio],
+    );
+}
+
+// Two stores to the word that is fetched then, and one to the word after it.
+const STORES_INTO_CODE: &str = "la x5,t
+li x6,0x00100393
+sw x6,0(x5)
+sw x6,0(x5)
+sw x6,4(x5)
+t: addi x7,x0,2
+ebreak
+";
+
+// The store retires in the cycle in which the register of its address is written, and puts the last byte of the word.
+const STORE_OF_A_BYTE: &str = "la x5,t
+li x6,0
+div x7,x6,x6
+nop
+addi x5,x5,4
+sb x6,-1(x5)
+t: addi x7,x0,2
+ebreak
+";
+
+#[test]
+fn the_last_store_to_the_stale_word_is_told(rt: HostRuntime) {
+    let rows = [
+        Told {
+            program: STORES_INTO_CODE,
+            line: "The last store to that word was the one at 80000014, line 4: sw x6,0(x5)",
+        },
+        Told {
+            program: STORE_OF_A_BYTE,
+            line: "The last store to that word was the one at 80000018, line 6: sb x6,-1(x5)",
+        },
+    ];
+    for told in rows {
+        check_run(&rt, rt.alloc(), EXPLAIN, told.program, 3, &[told.line]);
+    }
+}

@@ -1,0 +1,33 @@
+use crate::helpers::{WHOLE, run_read};
+use rv_command::Command;
+use rv_job::read_input;
+use std::io;
+use std::io::Read;
+use std::test::Fail;
+
+// A reader that always gives as many zeros as it is asked for.
+#[derive(Drop)]
+struct Endless;
+
+impl Read for Endless {
+    fn read(&mut self, buf: &mut [u8]) -> io::Result<usize> {
+        Ok(buf.len())
+    }
+}
+
+#[test]
+fn an_input_without_end_is_cut(rt: HostRuntime) -> Result<(), Fail> {
+    let input = read_input(rt.alloc(), &mut Endless)?;
+    assert_eq!(rt; input.len(), 33_554_433);
+    Ok(())
+}
+
+#[test]
+fn what_is_cut_is_too_long(rt: HostRuntime) {
+    for command in [WHOLE, Command::Check] {
+        let ended = run_read(rt.alloc(), command, &mut Endless);
+        assert_eq!(rt; ended.status, 1);
+        assert!(rt; ended.output.is_empty());
+        assert!(rt; ended.errors.as_slice() == b"error: job too long\n".as_slice());
+    }
+}

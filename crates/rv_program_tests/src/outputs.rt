@@ -1,0 +1,130 @@
+use crate::helpers::{CORE, Closed, Ended, HeldBack, Narrow, WHOLE, run_text};
+use crate::programs::STORE_INTO_CODE;
+use rv_command::Command;
+use rv_job::FaultLines;
+use rv_program::run;
+use std::alloc::Global;
+use std::test::Fail;
+
+const TEXT: &[u8] = b"report.dump_words = 2\n%%\naddi x1,x0,5\nebreak\n";
+
+fn narrow(alloc: Global, width: usize, room: usize) -> Narrow {
+    Narrow {
+        width,
+        room,
+        taken: Vec::new(alloc),
+    }
+}
+
+fn held_back(alloc: Global, can_flush: bool) -> HeldBack {
+    HeldBack {
+        can_flush,
+        shown: 0,
+        taken: Vec::new(alloc),
+    }
+}
+
+// How the program ends with an output that takes so many bytes at a time, and no more than it has room for.
+fn run_into(alloc: Global, command: Command, width: usize, room: usize) -> Ended {
+    let output = narrow(alloc, width, room);
+    let mut errors = FaultLines::new(Vec::new(alloc));
+    let mut reader = TEXT;
+    let exit = run(alloc, &command, &mut reader, output, &mut errors);
+    let output = exit.output.unwrap_or(narrow(alloc, 0, 0));
+    Ended {
+        status: exit.status,
+        output: output.taken,
+        errors: errors.into_writer(),
+    }
+}
+
+// How the program ends with an output that shows what it has taken once it is flushed, which may fail.
+fn run_held(alloc: Global, command: Command, text: &str, can_flush: bool) -> Ended {
+    let output = held_back(alloc, can_flush);
+    let mut errors = FaultLines::new(Vec::new(alloc));
+    let mut reader = text.as_bytes();
+    let exit = run(alloc, &command, &mut reader, output, &mut errors);
+    let output = exit.output.unwrap_or(held_back(alloc, false));
+    let shown = output.shown;
+    let mut taken = output.taken;
+    taken.truncate(shown);
+    Ended {
+        status: exit.status,
+        output: taken,
+        errors: errors.into_writer(),
+    }
+}
+
+// Whether an output that holds back shows the whole report of a run.
+fn is_shown(alloc: Global, command: Command, text: &str, status: u8) -> bool {
+    let whole = run_text(alloc, command, text.as_bytes());
+    let ended = run_held(alloc, command, text, true);
+    ended.status == status
+        && ended.output.as_slice() == whole.output.as_slice()
+        && !ended.output.is_empty()
+        && ended.errors.is_empty()
+}
+
+#[test]
+fn an_output_that_holds_back_is_flushed(rt: HostRuntime) {
+    for command in [CORE, WHOLE] {
+        assert!(rt; is_shown(rt.alloc(), command, "addi x1,x0,5\nebreak\n", 0));
+        assert!(rt; is_shown(rt.alloc(), command, STORE_INTO_CODE, 3));
+    }
+    assert!(rt; is_shown(rt.alloc(), Command::Check, "ebreak\n", 0));
+}
+
+#[test]
+fn an_output_that_cannot_be_flushed_gives_status_4(rt: HostRuntime) {
+    for text in ["ebreak\n", STORE_INTO_CODE] {
+        let ended = run_held(rt.alloc(), CORE, text, false);
+        assert_eq!(rt; ended.status, 4);
+        assert!(rt; ended.output.is_empty());
+        assert!(rt; ended.errors.as_slice() == b"error: output\n".as_slice());
+    }
+}
+
+#[test]
+fn an_output_that_takes_few_bytes_gets_the_whole_report(rt: HostRuntime) {
+    let whole = run_text(rt.alloc(), WHOLE, TEXT);
+    for width in [1, 3, 64] {
+        let ended = run_into(rt.alloc(), WHOLE, width, 10_000);
+        assert_eq!(rt; ended.status, 0, "at {width}");
+        assert!(rt;
+            ended.output.as_slice() == whole.output.as_slice(),
+            "at {width}"
+        );
+    }
+}
+
+// Whether a full output has a beginning of a report and the status says so.
+fn is_cut(alloc: Global, command: Command, room: usize) -> bool {
+    let whole = run_text(alloc, command, TEXT);
+    let cut = run_into(alloc, command, 9, room);
+    cut.status == 4
+        && cut.output.len() == room
+        && whole.output.as_slice().starts_with(cut.output.as_slice())
+        && cut.errors.as_slice() == b"error: output\n".as_slice()
+}
+
+#[test]
+fn an_output_that_is_full_has_a_beginning_of_the_report(rt: HostRuntime) {
+    for room in [0, 1, 15, 16, 100, 400] {
+        assert!(rt; is_cut(rt.alloc(), WHOLE, room), "at {room}");
+    }
+    assert!(rt; is_cut(rt.alloc(), Command::Check, 3));
+}
+
+// The status of a run whose faults cannot be reported, and whether there were none to report.
+fn run_untold(alloc: Global, mut input: &[u8]) -> (u8, bool) {
+    let mut errors = FaultLines::new(Closed);
+    let exit = run(alloc, &WHOLE, &mut input, Closed, &mut errors);
+    (exit.status, errors.is_whole())
+}
+
+#[test]
+fn a_fault_that_cannot_be_told_has_its_status_too(rt: HostRuntime) -> Result<(), Fail> {
+    assert_eq!(rt; run_untold(rt.alloc(), b"frobnicate\n"), (1, false));
+    assert_eq!(rt; run_untold(rt.alloc(), b"ebreak\n"), (4, false));
+    Ok(())
+}

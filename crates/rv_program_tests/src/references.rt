@@ -1,0 +1,64 @@
+use crate::helpers::{WHOLE, missing, run_text};
+use std::test::Fail;
+
+// A store to the read-only front of RAM, and the handler that ends the run.
+const READ_ONLY: &[u8] = b"rom_bytes = 4096
+%%
+la x31,h
+csrw mtvec,x31
+la x5,w
+lw x6,0(x5)
+sw x6,0(x5)
+ebreak
+h: csrr x10,mcause
+csrr x11,mtval
+csrr x12,mepc
+ebreak
+.data
+w: .word 7
+";
+
+#[test]
+fn the_reference_runs_the_machine_that_is_described(rt: HostRuntime) -> Result<(), Fail> {
+    let ended = run_text(rt.alloc(), WHOLE, READ_ONLY);
+    let lines = [
+        "stop breakpoint",
+        "x6 00000007",
+        "x10 00000007",
+        "x12 80000018",
+    ];
+    assert_eq!(rt; missing(ended.output.as_slice(), &lines), None);
+    Ok(())
+}
+
+// Counts up until an interrupt of the timer; its handler keeps the count.
+const INTERRUPTED: &[u8] = b"%%
+[[arrival]]
+cycle = 20
+line = \"timer\"
+%%
+la x31,h
+csrw mtvec,x31
+li x5,0x80
+csrw mie,x5
+csrsi mstatus,8
+l: addi x6,x6,1
+j l
+h: csrr x10,mcause
+ebreak
+";
+
+#[test]
+fn the_reference_takes_arrivals_by_the_numbers_of_steps(rt: HostRuntime) -> Result<(), Fail> {
+    let ended = run_text(rt.alloc(), WHOLE, INTERRUPTED);
+    // Twenty steps, six of them before the loop; the twenty-first is the interrupt.
+    let lines = [
+        "stop breakpoint",
+        "steps 23",
+        "interrupts 1",
+        "x6 00000007",
+        "x10 80000007",
+    ];
+    assert_eq!(rt; missing(ended.output.as_slice(), &lines), None);
+    Ok(())
+}

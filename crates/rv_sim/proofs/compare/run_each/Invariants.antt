@@ -1,7 +1,0 @@
-use Rattle.std.proofs.Common.{take}
-use Rattle.rv_sim.specs.Comparison.{AreRuns}
-use Rattle.rv_sim.proofs.compare.run_each.Given as goal
-
--- the jobs so far are run
-abbrev pub invariant-loop-job : goal.invariant-loop-job
-invariant-loop-job l = AreRuns l.limit (take l.job-index l.jobs) l.runs.items
