@@ -3,12 +3,12 @@ ghost use Rattle.rv_hardware.specs.InFlight.{broadcast_of};
 ghost use Rattle.rv_isa.specs.Instruction.{kind_of_word, target_of_word};
 ghost use Rattle.rv_isa.specs.Key.{kind_name};
 ghost use Rattle.rv_json.specs.Entry.{cause_of, cost_of, entry_text, fault_of, fault_value_of, finished_in, head_text, issued_in, kind_text, next_pc_of, stage_text, value_of};
-ghost use Rattle.rv_text.specs.Written.{IsWritten};
+ghost use Rattle.rv_text.specs.Said.{Says};
 
 use crate::json::{Member, write_front, write_members, write_name};
 use rv_isa::{Fault, Kind, Message, kind, target};
 use rv_rob::{Entry, Stage};
-use rv_text::ReportError;
+use rv_text::Sink;
 use std::io::Write;
 
 /// The name of a kind of unit.
@@ -54,11 +54,11 @@ fn target_number(entry: &Entry) -> Option<u64>
 }
 
 #[tactic(auto, unfolding(crate::specs::Entry::head_text))]
-fn write_head<W: Write>(writer: &mut W, number: u64, entry: &Entry) -> Result<(), ReportError>
-    ensures { IsWritten result (W.contents writer.old) (W.contents writer.new) (head_text number entry.now) }
+fn write_head<W: Write>(out: &mut Sink<'_, W>, number: u64, entry: &Entry)
+    ensures { Says W.contents out.old out.new (head_text number entry.now) }
 {
     write_front(
-        writer,
+        out,
         "sequence",
         number,
         &[
@@ -73,16 +73,16 @@ fn write_head<W: Write>(writer: &mut W, number: u64, entry: &Entry) -> Result<()
 }
 
 #[tactic(auto, unfolding(crate::specs::Entry::kind_text))]
-fn write_kind<W: Write>(writer: &mut W, entry: &Entry) -> Result<(), ReportError>
-    ensures { IsWritten result (W.contents writer.old) (W.contents writer.new) (kind_text (kind_of_word entry.now.instruction)) }
+fn write_kind<W: Write>(out: &mut Sink<'_, W>, entry: &Entry)
+    ensures { Says W.contents out.old out.new (kind_text (kind_of_word entry.now.instruction)) }
 {
     let kind = match &entry.instruction {
         Some(instruction) => kind(instruction),
         None => None,
     };
     match kind {
-        Some(kind) => write_name(writer, "kind", kind_name(kind)),
-        None => Ok(()),
+        Some(kind) => write_name(out, "kind", kind_name(kind)),
+        None => {}
     }
 }
 
@@ -142,11 +142,11 @@ fn fault_value(stage: &Stage) -> Option<u64>
 }
 
 #[tactic(auto, unfolding(crate::specs::Entry::stage_text))]
-fn write_stage<W: Write>(writer: &mut W, stage: &Stage) -> Result<(), ReportError>
-    ensures { IsWritten result (W.contents writer.old) (W.contents writer.new) (stage_text stage.now) }
+fn write_stage<W: Write>(out: &mut Sink<'_, W>, stage: &Stage)
+    ensures { Says W.contents out.old out.new (stage_text stage.now) }
 {
     write_members(
-        writer,
+        out,
         &[
             Member::maybe("issued", issued(stage)),
             Member::maybe("cost", cost(stage)),
@@ -161,10 +161,11 @@ fn write_stage<W: Write>(writer: &mut W, stage: &Stage) -> Result<(), ReportErro
 
 /// Writes what the reorder buffer holds of an instruction, in an object that stays open: its sequence number, what was
 /// fetched, its kind of unit, and how far it has come.
-pub fn write_entry<W: Write>(writer: &mut W, number: u64, entry: &Entry) -> Result<(), ReportError>
-    ensures { IsWritten result (W.contents writer.old) (W.contents writer.new) (entry_text number entry.now) }
+#[tactic(auto, using(rv_text::proofs::Saying::says_both), unfolding(crate::specs::Entry::entry_text))]
+pub fn write_entry<W: Write>(out: &mut Sink<'_, W>, number: u64, entry: &Entry)
+    ensures { Says W.contents out.old out.new (entry_text number entry.now) }
 {
-    write_head(writer, number, entry)?;
-    write_kind(writer, entry)?;
-    write_stage(writer, &entry.stage)
+    write_head(out, number, entry);
+    write_kind(out, entry);
+    write_stage(out, &entry.stage)
 }

@@ -1,12 +1,12 @@
 ghost use Rattle.std.specs.Prelude.{◌≡◌};
 ghost use Rattle.rv_json.specs.Instruction.{cost_of, details_text, ended_text, ending_text, instruction_json, passage_text, retired_text, trapped_text};
-ghost use Rattle.rv_text.specs.Written.{IsWritten};
+ghost use Rattle.rv_text.specs.Said.{Says};
 
 use crate::array::Values;
 use crate::json::{Member, Value, write_begin, write_members, write_name};
 use rv_isa::{Cause, Reg};
 use rv_passage::{Ending, Passage};
-use rv_text::{ReportError, put};
+use rv_text::Sink;
 use std::io::Write;
 
 // The cost of its execution, if that began.
@@ -17,11 +17,11 @@ fn cost(row: &Passage) -> Option<u64>
 }
 
 #[tactic(auto, unfolding(crate::specs::Instruction::passage_text))]
-fn write_passage<W: Write>(writer: &mut W, row: &Passage) -> Result<(), ReportError>
-    ensures { IsWritten result (W.contents writer.old) (W.contents writer.new) (passage_text row.now) }
+fn write_passage<W: Write>(out: &mut Sink<'_, W>, row: &Passage)
+    ensures { Says W.contents out.old out.new (passage_text row.now) }
 {
     write_members(
-        writer,
+        out,
         &[
             Member::word("pc", row.pc),
             Member::maybe_word("word", row.word),
@@ -35,12 +35,12 @@ fn write_passage<W: Write>(writer: &mut W, row: &Passage) -> Result<(), ReportEr
 }
 
 #[tactic(auto, unfolding(crate::specs::Instruction::retired_text))]
-fn write_retired<W: Write>(writer: &mut W, written: Option<(Reg, u32)>) -> Result<(), ReportError>
-    ensures { IsWritten result (W.contents writer.old) (W.contents writer.new) (retired_text written) }
+fn write_retired<W: Write>(out: &mut Sink<'_, W>, written: Option<(Reg, u32)>)
+    ensures { Says W.contents out.old out.new (retired_text written) }
 {
     match written {
         Some((register, word)) => write_members(
-            writer,
+            out,
             &[
                 Member {
                     name: "end",
@@ -50,16 +50,16 @@ fn write_retired<W: Write>(writer: &mut W, written: Option<(Reg, u32)>) -> Resul
                 Member::word("value", word),
             ],
         ),
-        None => write_name(writer, "end", "retired"),
+        None => write_name(out, "end", "retired"),
     }
 }
 
 #[tactic(auto, unfolding(crate::specs::Instruction::trapped_text))]
-fn write_trapped<W: Write>(writer: &mut W, cause: Cause) -> Result<(), ReportError>
-    ensures { IsWritten result (W.contents writer.old) (W.contents writer.new) (trapped_text cause) }
+fn write_trapped<W: Write>(out: &mut Sink<'_, W>, cause: Cause)
+    ensures { Says W.contents out.old out.new (trapped_text cause) }
 {
     write_members(
-        writer,
+        out,
         &[
             Member {
                 name: "end",
@@ -71,41 +71,41 @@ fn write_trapped<W: Write>(writer: &mut W, cause: Cause) -> Result<(), ReportErr
 }
 
 #[tactic(auto, unfolding(crate::specs::Instruction::squashed_text))]
-fn write_ending<W: Write>(writer: &mut W, ending: Ending) -> Result<(), ReportError>
-    ensures { IsWritten result (W.contents writer.old) (W.contents writer.new) (ending_text ending) }
+fn write_ending<W: Write>(out: &mut Sink<'_, W>, ending: Ending)
+    ensures { Says W.contents out.old out.new (ending_text ending) }
 {
     match ending {
-        Ending::InFlight => Ok(()),
-        Ending::Retired { written, .. } => write_retired(writer, written),
-        Ending::Trapped { cause, .. } => write_trapped(writer, cause),
-        Ending::Squashed { .. } => write_name(writer, "end", "squashed"),
+        Ending::InFlight => {}
+        Ending::Retired { written, .. } => write_retired(out, written),
+        Ending::Trapped { cause, .. } => write_trapped(out, cause),
+        Ending::Squashed { .. } => write_name(out, "end", "squashed"),
     }
 }
 
-fn write_ended<W: Write>(writer: &mut W, row: &Passage) -> Result<(), ReportError>
-    ensures { IsWritten result (W.contents writer.old) (W.contents writer.new) (ended_text row.now) }
+#[tactic(auto, using(rv_text::proofs::Saying::says_both), unfolding(crate::specs::Instruction::ended_text))]
+fn write_ended<W: Write>(out: &mut Sink<'_, W>, row: &Passage)
+    ensures { Says W.contents out.old out.new (ended_text row.now) }
 {
-    write_passage(writer, row)?;
-    write_ending(writer, row.ending)
+    write_passage(out, row);
+    write_ending(out, row.ending)
 }
 
 // What became of an instruction, where it left the hardware.
-fn write_details<W: Write>(writer: &mut W, row: &Passage) -> Result<(), ReportError>
-    ensures { IsWritten result (W.contents writer.old) (W.contents writer.new) (details_text row.now) }
+fn write_details<W: Write>(out: &mut Sink<'_, W>, row: &Passage)
+    ensures { Says W.contents out.old out.new (details_text row.now) }
 {
-    if row.is_in_flight() {
-        Ok(())
-    } else {
-        write_ended(writer, row)
+    if !row.is_in_flight() {
+        write_ended(out, row)
     }
 }
 
-fn write_instruction<W: Write>(writer: &mut W, row: &Passage) -> Result<(), ReportError>
-    ensures { IsWritten result (W.contents writer.old) (W.contents writer.new) (instruction_json row.now) }
+#[tactic(auto, using(rv_text::proofs::Saying::says_both), unfolding(crate::specs::Instruction::instruction_json))]
+fn write_instruction<W: Write>(out: &mut Sink<'_, W>, row: &Passage)
+    ensures { Says W.contents out.old out.new (instruction_json row.now) }
 {
-    write_begin(writer, "number", row.number)?;
-    write_details(writer, row)?;
-    put(writer, b"}")
+    write_begin(out, "number", row.number);
+    write_details(out, row);
+    out.put(b"}")
 }
 
 /// The instructions in flight, and those that left the hardware in a cycle, as an array has them.
@@ -125,7 +125,7 @@ impl Values for Instructions<'_> {
         self.rows.len()
     }
 
-    fn write_value<W: Write>(&self, writer: &mut W, place: usize) -> Result<(), ReportError> {
-        write_instruction(writer, &self.rows[place])
+    fn write_value<W: Write>(&self, out: &mut Sink<'_, W>, place: usize) {
+        write_instruction(out, &self.rows[place])
     }
 }

@@ -3,10 +3,10 @@ ghost use Rattle.std.specs.List.{flat_map};
 ghost use Rattle.rv_json.specs.Json.{also, begins, json_byte, key, quoted, string, truth};
 ghost use Rattle.rv_json.specs.Member.{member_text};
 ghost use Rattle.rv_json.specs.declared.json.Value.TheVariants.{Maybe, Number};
-ghost use Rattle.rv_text.specs.Written.{IsWritten};
+ghost use Rattle.rv_text.specs.Said.{Says};
 
 use itoa::Buffer;
-use rv_text::{ReportError, put, put_all, write_plain_byte};
+use rv_text::Sink;
 use std::io::Write;
 
 /// What a member of an object has.
@@ -73,44 +73,41 @@ impl Member {
 
 /// Writes the name of a further member.
 #[tactic(auto, unfolding(crate::specs::Json::key))]
-pub fn write_key<W: Write>(writer: &mut W, name: &str) -> Result<(), ReportError>
-    ensures { IsWritten result (W.contents writer.old) (W.contents writer.new) (key name.now) }
+pub fn write_key<W: Write>(out: &mut Sink<'_, W>, name: &str)
+    ensures { Says W.contents out.old out.new (key name.now) }
 {
-    put_all(writer, &[b",\"", name.as_bytes(), b"\":"])
+    out.put_all(&[b",\"", name.as_bytes(), b"\":"])
 }
 
 /// Writes a further member that is a number.
-pub fn write_number<W: Write>(writer: &mut W, name: &str, number: u64) -> Result<(), ReportError>
-    ensures { IsWritten result (W.contents writer.old) (W.contents writer.new) (also name.now (decimal number)) }
+pub fn write_number<W: Write>(out: &mut Sink<'_, W>, name: &str, number: u64)
+    ensures { Says W.contents out.old out.new (also name.now (decimal number)) }
 {
     let mut buffer = Buffer::new();
-    write_text(writer, name, buffer.format(number).as_bytes())
+    write_text(out, name, buffer.format(number).as_bytes())
 }
 
 // Writes a further member that has this text.
 #[tactic(auto, unfolding(crate::specs::Json::also, crate::specs::Json::key))]
-fn write_text<W: Write>(writer: &mut W, name: &str, text: &[u8]) -> Result<(), ReportError>
-    ensures { IsWritten result (W.contents writer.old) (W.contents writer.new) (also name.now text.now) }
+fn write_text<W: Write>(out: &mut Sink<'_, W>, name: &str, text: &[u8])
+    ensures { Says W.contents out.old out.new (also name.now text.now) }
 {
-    put_all(writer, &[b",\"", name.as_bytes(), b"\":", text])
+    out.put_all(&[b",\"", name.as_bytes(), b"\":", text])
 }
 
 /// Writes a further member that is a string of characters that need no escape.
 #[tactic(auto, unfolding(crate::specs::Json::also, crate::specs::Json::key, crate::specs::Json::quoted))]
-pub fn write_name<W: Write>(writer: &mut W, name: &str, text: &str) -> Result<(), ReportError>
-    ensures { IsWritten result (W.contents writer.old) (W.contents writer.new) (also name.now (quoted text.now)) }
+pub fn write_name<W: Write>(out: &mut Sink<'_, W>, name: &str, text: &str)
+    ensures { Says W.contents out.old out.new (also name.now (quoted text.now)) }
 {
-    put_all(
-        writer,
-        &[
-            b",\"",
-            name.as_bytes(),
-            b"\":",
-            b"\"",
-            text.as_bytes(),
-            b"\"",
-        ],
-    )
+    out.put_all(&[
+        b",\"",
+        name.as_bytes(),
+        b"\":",
+        b"\"",
+        text.as_bytes(),
+        b"\"",
+    ])
 }
 
 #[tactic(auto, unfolding(crate::specs::Json::truth))]
@@ -120,114 +117,118 @@ fn truth(value: bool) -> &'static [u8]
     if value { b"true" } else { b"false" }
 }
 
-fn write_member<W: Write>(writer: &mut W, member: Member) -> Result<(), ReportError>
-    ensures { IsWritten result (W.contents writer.old) (W.contents writer.new) (member_text member) }
+fn write_member<W: Write>(out: &mut Sink<'_, W>, member: Member)
+    ensures { Says W.contents out.old out.new (member_text member) }
 {
     let name = member.name;
     match member.value {
-        Value::Number(number) | Value::Maybe(Some(number)) => write_number(writer, name, number),
-        Value::Maybe(None) => Ok(()),
-        Value::Truth(value) => write_text(writer, name, truth(value)),
-        Value::Name(text) => write_name(writer, name, text),
+        Value::Number(number) | Value::Maybe(Some(number)) => write_number(out, name, number),
+        Value::Maybe(None) => {}
+        Value::Truth(value) => write_text(out, name, truth(value)),
+        Value::Name(text) => write_name(out, name, text),
     }
 }
 
 /// Writes members of an object one after the other, each after a comma.
-pub(crate) fn write_members<W: Write>(writer: &mut W, members: &[Member]) -> Result<(), ReportError>
-    ensures { IsWritten result (W.contents writer.old) (W.contents writer.new) (flat_map member_text members.now) }
+#[tactic(auto, using(rv_text::proofs::Saying::saying))]
+pub(crate) fn write_members<W: Write>(out: &mut Sink<'_, W>, members: &[Member])
+    ensures { Says W.contents out.old out.new (flat_map member_text members.now) }
 {
     for member in members {
-        write_member(writer, *member)?;
+        write_member(out, *member);
     }
-    Ok(())
 }
 
 /// Writes the brace and the first member of an object.
 #[tactic(auto, unfolding(crate::specs::Json::begins, crate::specs::Json::opens))]
-pub fn write_begin<W: Write>(writer: &mut W, name: &str, number: u64) -> Result<(), ReportError>
-    ensures { IsWritten result (W.contents writer.old) (W.contents writer.new) (begins name.now (decimal number)) }
+pub fn write_begin<W: Write>(out: &mut Sink<'_, W>, name: &str, number: u64)
+    ensures { Says W.contents out.old out.new (begins name.now (decimal number)) }
 {
     let mut buffer = Buffer::new();
     let digits = buffer.format(number).as_bytes();
-    put_all(writer, &[b"{\"", name.as_bytes(), b"\":", digits])
+    out.put_all(&[b"{\"", name.as_bytes(), b"\":", digits])
 }
 
 /// Writes the brace and these members of an object.
+#[tactic(auto, using(rv_text::proofs::Saying::says_both))]
 pub(crate) fn write_front<W: Write>(
-    writer: &mut W,
+    out: &mut Sink<'_, W>,
     name: &str,
     number: u64,
     members: &[Member],
-) -> Result<(), ReportError>
-    ensures { IsWritten result (W.contents writer.old) (W.contents writer.new) (begins name.now (decimal number) ++ flat_map member_text members.now) }
+)
+    ensures { Says W.contents out.old out.new (begins name.now (decimal number) ++ flat_map member_text members.now) }
 {
-    write_begin(writer, name, number)?;
-    write_members(writer, members)
+    write_begin(out, name, number);
+    write_members(out, members)
 }
 
 /// Writes an object whose members are these.
+#[tactic(auto, using(rv_text::proofs::Saying::says_both))]
 pub(crate) fn write_object<W: Write>(
-    writer: &mut W,
+    out: &mut Sink<'_, W>,
     name: &str,
     number: u64,
     members: &[Member],
-) -> Result<(), ReportError>
-    ensures { IsWritten result (W.contents writer.old) (W.contents writer.new) (begins name.now (decimal number) ++ (flat_map member_text members.now ++ codes "}")) }
+)
+    ensures { Says W.contents out.old out.new (begins name.now (decimal number) ++ (flat_map member_text members.now ++ codes "}")) }
 {
-    write_begin(writer, name, number)?;
-    write_members(writer, members)?;
-    put(writer, b"}")
+    write_begin(out, name, number);
+    write_members(out, members);
+    out.put(b"}")
 }
 
 /// Writes a further member that is an object whose members are these.
+#[tactic(auto, using(rv_text::proofs::Saying::says_both), unfolding(crate::specs::Json::also))]
 pub fn write_object_member<W: Write>(
-    writer: &mut W,
+    out: &mut Sink<'_, W>,
     object: &str,
     name: &str,
     number: u64,
     members: &[Member],
-) -> Result<(), ReportError>
-    ensures { IsWritten result (W.contents writer.old) (W.contents writer.new) (also object.now (begins name.now (decimal number) ++ (flat_map member_text members.now ++ codes "}"))) }
+)
+    ensures { Says W.contents out.old out.new (also object.now (begins name.now (decimal number) ++ (flat_map member_text members.now ++ codes "}"))) }
 {
-    write_key(writer, object)?;
-    write_object(writer, name, number, members)
+    write_key(out, object);
+    write_object(out, name, number, members)
 }
 
 // Writes a byte of a text of a user's.
 #[tactic(auto, unfolding(crate::specs::Json::json_byte))]
-fn write_json_byte<W: Write>(writer: &mut W, byte: u8) -> Result<(), ReportError>
-    ensures { IsWritten result (W.contents writer.old) (W.contents writer.new) (json_byte byte) }
+fn write_json_byte<W: Write>(out: &mut Sink<'_, W>, byte: u8)
+    ensures { Says W.contents out.old out.new (json_byte byte) }
 {
     if byte == b'"' {
-        put(writer, b"\\u0022")
+        out.put(b"\\u0022")
     } else if byte == b'&' {
-        put(writer, b"\\u0026")
+        out.put(b"\\u0026")
     } else if byte == b'<' {
-        put(writer, b"\\u003c")
+        out.put(b"\\u003c")
     } else if byte == b'>' {
-        put(writer, b"\\u003e")
+        out.put(b"\\u003e")
     } else if byte == b'\\' {
-        put(writer, b"\\u005c")
+        out.put(b"\\u005c")
     } else {
-        write_plain_byte(writer, byte)
+        out.put_plain_byte(byte)
     }
 }
 
 // Writes the bytes of a text of a user's.
-fn write_json_bytes<W: Write>(writer: &mut W, text: &[u8]) -> Result<(), ReportError>
-    ensures { IsWritten result (W.contents writer.old) (W.contents writer.new) (flat_map json_byte text.now) }
+#[tactic(auto, using(rv_text::proofs::Saying::saying))]
+fn write_json_bytes<W: Write>(out: &mut Sink<'_, W>, text: &[u8])
+    ensures { Says W.contents out.old out.new (flat_map json_byte text.now) }
 {
     for byte in text {
-        write_json_byte(writer, *byte)?;
+        write_json_byte(out, *byte);
     }
-    Ok(())
 }
 
 /// Writes the string of a text of a user's.
-pub(crate) fn write_string<W: Write>(writer: &mut W, text: &[u8]) -> Result<(), ReportError>
-    ensures { IsWritten result (W.contents writer.old) (W.contents writer.new) (string text.now) }
+#[tactic(auto, using(rv_text::proofs::Saying::says_both), unfolding(crate::specs::Json::string))]
+pub(crate) fn write_string<W: Write>(out: &mut Sink<'_, W>, text: &[u8])
+    ensures { Says W.contents out.old out.new (string text.now) }
 {
-    put(writer, b"\"")?;
-    write_json_bytes(writer, text)?;
-    put(writer, b"\"")
+    out.put(b"\"");
+    write_json_bytes(out, text);
+    out.put(b"\"")
 }

@@ -2,14 +2,14 @@ ghost use Rattle.std.specs.Prelude.{◌≡◌, codes};
 ghost use Rattle.rv_isa.specs.Key.{kind_name};
 ghost use Rattle.rv_json.specs.Json.{also};
 ghost use Rattle.rv_json.specs.Machine.{buffers_text, cache_json, header_line, kind_json, kinds_text, machine_json, numbers_text, predictor_json, predictor_name, recovery_name, recovery_text, sizes_text, widths_text};
-ghost use Rattle.rv_text.specs.Written.{IsWritten};
+ghost use Rattle.rv_text.specs.Said.{Says};
 
 use crate::entry::kind_name;
 use crate::json::{
     Member, Value, write_front, write_key, write_members, write_name, write_object_member,
 };
 use rv_isa::{CacheValues, Kind, KindValues, PredictorKind, PredictorValues, Recovery, Values};
-use rv_text::{ReportError, put};
+use rv_text::Sink;
 use std::io::Write;
 
 fn recovery_name(recovery: Recovery) -> &'static str
@@ -32,11 +32,11 @@ fn predictor_name(kind: PredictorKind) -> &'static str
 }
 
 #[tactic(auto, unfolding(crate::specs::Machine::sizes_text))]
-fn write_sizes<W: Write>(writer: &mut W, values: &Values) -> Result<(), ReportError>
-    ensures { IsWritten result (W.contents writer.old) (W.contents writer.new) (sizes_text values.now) }
+fn write_sizes<W: Write>(out: &mut Sink<'_, W>, values: &Values)
+    ensures { Says W.contents out.old out.new (sizes_text values.now) }
 {
     write_front(
-        writer,
+        out,
         "ram_base",
         u64::from(values.ram_base),
         &[
@@ -47,11 +47,11 @@ fn write_sizes<W: Write>(writer: &mut W, values: &Values) -> Result<(), ReportEr
 }
 
 #[tactic(auto, unfolding(crate::specs::Machine::widths_text))]
-fn write_widths<W: Write>(writer: &mut W, values: &Values) -> Result<(), ReportError>
-    ensures { IsWritten result (W.contents writer.old) (W.contents writer.new) (widths_text values.now) }
+fn write_widths<W: Write>(out: &mut Sink<'_, W>, values: &Values)
+    ensures { Says W.contents out.old out.new (widths_text values.now) }
 {
     write_members(
-        writer,
+        out,
         &[
             Member::word("fetch_width", values.fetch_width),
             Member::word("dispatch_width", values.dispatch_width),
@@ -62,11 +62,11 @@ fn write_widths<W: Write>(writer: &mut W, values: &Values) -> Result<(), ReportE
 }
 
 #[tactic(auto, unfolding(crate::specs::Machine::buffers_text))]
-fn write_buffers<W: Write>(writer: &mut W, values: &Values) -> Result<(), ReportError>
-    ensures { IsWritten result (W.contents writer.old) (W.contents writer.new) (buffers_text values.now) }
+fn write_buffers<W: Write>(out: &mut Sink<'_, W>, values: &Values)
+    ensures { Says W.contents out.old out.new (buffers_text values.now) }
 {
     write_members(
-        writer,
+        out,
         &[
             Member::word("fetch_buffer", values.fetch_buffer),
             Member::word("rob", values.rob),
@@ -77,27 +77,28 @@ fn write_buffers<W: Write>(writer: &mut W, values: &Values) -> Result<(), Report
 }
 
 #[tactic(auto, unfolding(crate::specs::Machine::recovery_text))]
-fn write_recovery<W: Write>(writer: &mut W, recovery: Recovery) -> Result<(), ReportError>
-    ensures { IsWritten result (W.contents writer.old) (W.contents writer.new) (recovery_text recovery) }
+fn write_recovery<W: Write>(out: &mut Sink<'_, W>, recovery: Recovery)
+    ensures { Says W.contents out.old out.new (recovery_text recovery) }
 {
-    write_name(writer, "recovery", recovery_name(recovery))
+    write_name(out, "recovery", recovery_name(recovery))
 }
 
-fn write_numbers<W: Write>(writer: &mut W, values: &Values) -> Result<(), ReportError>
-    ensures { IsWritten result (W.contents writer.old) (W.contents writer.new) (numbers_text values.now) }
+#[tactic(auto, using(rv_text::proofs::Saying::says_both), unfolding(crate::specs::Machine::numbers_text))]
+fn write_numbers<W: Write>(out: &mut Sink<'_, W>, values: &Values)
+    ensures { Says W.contents out.old out.new (numbers_text values.now) }
 {
-    write_sizes(writer, values)?;
-    write_widths(writer, values)?;
-    write_buffers(writer, values)?;
-    write_recovery(writer, values.recovery)
+    write_sizes(out, values);
+    write_widths(out, values);
+    write_buffers(out, values);
+    write_recovery(out, values.recovery)
 }
 
 #[tactic(auto, unfolding(crate::specs::Machine::kind_json))]
-fn write_kind<W: Write>(writer: &mut W, kind: Kind, values: KindValues) -> Result<(), ReportError>
-    ensures { IsWritten result (W.contents writer.old) (W.contents writer.new) (also (kind_name kind) (kind_json values)) }
+fn write_kind<W: Write>(out: &mut Sink<'_, W>, kind: Kind, values: KindValues)
+    ensures { Says W.contents out.old out.new (also (kind_name kind) (kind_json values)) }
 {
     write_object_member(
-        writer,
+        out,
         kind_name(kind),
         "stations",
         u64::from(values.stations),
@@ -112,21 +113,22 @@ fn write_kind<W: Write>(writer: &mut W, kind: Kind, values: KindValues) -> Resul
     )
 }
 
-fn write_kinds<W: Write>(writer: &mut W, values: &Values) -> Result<(), ReportError>
-    ensures { IsWritten result (W.contents writer.old) (W.contents writer.new) (kinds_text values.now) }
+#[tactic(auto, using(rv_text::proofs::Saying::says_both), unfolding(crate::specs::Machine::kinds_text))]
+fn write_kinds<W: Write>(out: &mut Sink<'_, W>, values: &Values)
+    ensures { Says W.contents out.old out.new (kinds_text values.now) }
 {
-    write_kind(writer, Kind::Alu, values.kinds.alu)?;
-    write_kind(writer, Kind::Mul, values.kinds.mul)?;
-    write_kind(writer, Kind::Div, values.kinds.div)?;
-    write_kind(writer, Kind::Mem, values.kinds.mem)
+    write_kind(out, Kind::Alu, values.kinds.alu);
+    write_kind(out, Kind::Mul, values.kinds.mul);
+    write_kind(out, Kind::Div, values.kinds.div);
+    write_kind(out, Kind::Mem, values.kinds.mem)
 }
 
 #[tactic(auto, unfolding(crate::specs::Machine::cache_json))]
-fn write_cache<W: Write>(writer: &mut W, values: CacheValues) -> Result<(), ReportError>
-    ensures { IsWritten result (W.contents writer.old) (W.contents writer.new) (also (codes "cache") (cache_json values)) }
+fn write_cache<W: Write>(out: &mut Sink<'_, W>, values: CacheValues)
+    ensures { Says W.contents out.old out.new (also (codes "cache") (cache_json values)) }
 {
     write_object_member(
-        writer,
+        out,
         "cache",
         "sets",
         u64::from(values.sets),
@@ -141,11 +143,11 @@ fn write_cache<W: Write>(writer: &mut W, values: CacheValues) -> Result<(), Repo
 }
 
 #[tactic(auto, unfolding(crate::specs::Machine::predictor_json))]
-fn write_predictor<W: Write>(writer: &mut W, values: PredictorValues) -> Result<(), ReportError>
-    ensures { IsWritten result (W.contents writer.old) (W.contents writer.new) (also (codes "predictor") (predictor_json values)) }
+fn write_predictor<W: Write>(out: &mut Sink<'_, W>, values: PredictorValues)
+    ensures { Says W.contents out.old out.new (also (codes "predictor") (predictor_json values)) }
 {
     write_object_member(
-        writer,
+        out,
         "predictor",
         "entries",
         u64::from(values.entries),
@@ -156,34 +158,32 @@ fn write_predictor<W: Write>(writer: &mut W, values: PredictorValues) -> Result<
     )
 }
 
-fn write_machine<W: Write>(writer: &mut W, values: &Values) -> Result<(), ReportError>
-    ensures { IsWritten result (W.contents writer.old) (W.contents writer.new) (machine_json values.now) }
+#[tactic(auto, using(rv_text::proofs::Saying::says_both), unfolding(crate::specs::Machine::machine_json))]
+fn write_machine<W: Write>(out: &mut Sink<'_, W>, values: &Values)
+    ensures { Says W.contents out.old out.new (machine_json values.now) }
 {
-    write_numbers(writer, values)?;
-    write_kinds(writer, values)?;
-    write_cache(writer, values.cache)?;
-    write_predictor(writer, values.predictor)?;
-    put(writer, b"}")
+    write_numbers(out, values);
+    write_kinds(out, values);
+    write_cache(out, values.cache);
+    write_predictor(out, values.predictor);
+    out.put(b"}")
 }
 
 /// Writes the first line: the format, the number of the window's first cycle, and the machine's values.
-pub fn write_header<W: Write>(
-    writer: &mut W,
-    first: u64,
-    values: &Values,
-) -> Result<(), ReportError>
-    ensures { IsWritten result (W.contents writer.old) (W.contents writer.new) (header_line first values.now) }
+#[tactic(auto, using(rv_text::proofs::Saying::says_both), unfolding(crate::specs::Machine::format_text, crate::specs::Machine::header_line))]
+pub fn write_header<W: Write>(out: &mut Sink<'_, W>, first: u64, values: &Values)
+    ensures { Says W.contents out.old out.new (header_line first values.now) }
 {
     write_front(
-        writer,
+        out,
         "first",
         first,
         &[Member {
             name: "format",
             value: Value::Name("rv_sim states 1"),
         }],
-    )?;
-    write_key(writer, "machine")?;
-    write_machine(writer, values)?;
-    put(writer, b"}\n")
+    );
+    write_key(out, "machine");
+    write_machine(out, values);
+    out.put(b"}\n")
 }

@@ -1,22 +1,23 @@
 ghost use Rattle.rv_json.specs.Observed.{observed_text};
-ghost use Rattle.rv_text.specs.Written.{IsWritten};
+ghost use Rattle.rv_text.specs.Said.{Says};
 
 use crate::array::write_array_member;
 use crate::json::{Member, Value, write_begin, write_members};
 use crate::registers::{Words, write_csrs};
 use rv_arch::Observed;
-use rv_text::ReportError;
+use rv_text::Sink;
 use std::io::Write;
 
 /// Writes what retired instructions left, in an object that stays open: the pc, the registers, and the interrupt lines.
-pub fn write_observed<W: Write>(writer: &mut W, seen: &Observed) -> Result<(), ReportError>
-    ensures { IsWritten result (W.contents writer.old) (W.contents writer.new) (observed_text seen.now.pc seen.now.regs seen.now.csrs seen.now.lines) }
+#[tactic(auto, using(rv_text::proofs::Saying::says_both), unfolding(crate::specs::Observed::observed_text, crate::specs::Observed::lines_text))]
+pub fn write_observed<W: Write>(out: &mut Sink<'_, W>, seen: &Observed)
+    ensures { Says W.contents out.old out.new (observed_text seen.now.pc seen.now.regs seen.now.csrs seen.now.lines) }
 {
-    write_begin(writer, "pc", u64::from(seen.pc))?;
-    write_array_member(writer, "registers", &Words { words: &seen.regs })?;
-    write_csrs(writer, seen)?;
+    write_begin(out, "pc", u64::from(seen.pc));
+    write_array_member(out, "registers", &Words { words: &seen.regs });
+    write_csrs(out, seen);
     write_members(
-        writer,
+        out,
         &[
             Member {
                 name: "software",

@@ -1,14 +1,14 @@
 ghost use Rattle.std.specs.Prelude.{◌≡◌, codes, map};
 ghost use Rattle.rv_json.specs.Json.{also, array};
 ghost use Rattle.rv_json.specs.Queue.{access_text, filling_text, state_name, store_json};
-ghost use Rattle.rv_text.specs.Written.{IsWritten};
+ghost use Rattle.rv_text.specs.Said.{Says};
 
 use crate::array::{Values, write_array_member};
 use crate::json::{Member, Value, write_front, write_number};
 use itoa::Buffer;
 use rv_isa::StoreAccess;
 use rv_stores::{Store, StorePhase, StoreQueue, StoreState};
-use rv_text::{ReportError, put};
+use rv_text::Sink;
 use std::io::Write;
 
 /// Bytes, as an array has them.
@@ -26,9 +26,9 @@ impl Values for Bytes<'_> {
         self.bytes.len()
     }
 
-    fn write_value<W: Write>(&self, writer: &mut W, place: usize) -> Result<(), ReportError> {
+    fn write_value<W: Write>(&self, out: &mut Sink<'_, W>, place: usize) {
         let mut buffer = Buffer::new();
-        put(writer, buffer.format(self.bytes[place]).as_bytes())
+        out.put(buffer.format(self.bytes[place]).as_bytes())
     }
 }
 
@@ -47,37 +47,39 @@ fn state_name(state: &StoreState) -> &'static str
     }
 }
 
-fn write_access<W: Write>(writer: &mut W, access: &StoreAccess) -> Result<(), ReportError>
-    ensures { IsWritten result (W.contents writer.old) (W.contents writer.new) (access_text access.now) }
+#[tactic(auto, using(rv_text::proofs::Saying::says_both), unfolding(crate::specs::Queue::access_text))]
+fn write_access<W: Write>(out: &mut Sink<'_, W>, access: &StoreAccess)
+    ensures { Says W.contents out.old out.new (access_text access.now) }
 {
-    write_number(writer, "address", u64::from(access.address))?;
+    write_number(out, "address", u64::from(access.address));
     let bytes = access.bytes.as_slice();
-    write_array_member(writer, "bytes", &Bytes { bytes })
+    write_array_member(out, "bytes", &Bytes { bytes })
 }
 
-fn write_filling<W: Write>(writer: &mut W, state: &StoreState) -> Result<(), ReportError>
-    ensures { IsWritten result (W.contents writer.old) (W.contents writer.new) (filling_text state.now) }
+fn write_filling<W: Write>(out: &mut Sink<'_, W>, state: &StoreState)
+    ensures { Says W.contents out.old out.new (filling_text state.now) }
 {
     match state {
-        StoreState::Waiting | StoreState::Faulted => Ok(()),
-        StoreState::Filled { access, .. } => write_access(writer, access),
+        StoreState::Waiting | StoreState::Faulted => {}
+        StoreState::Filled { access, .. } => write_access(out, access),
     }
 }
 
-fn write_store<W: Write>(writer: &mut W, store: &Store) -> Result<(), ReportError>
-    ensures { IsWritten result (W.contents writer.old) (W.contents writer.new) (store_json store.now) }
+#[tactic(auto, using(rv_text::proofs::Saying::says_both), unfolding(crate::specs::Queue::head_text, crate::specs::Queue::store_json))]
+fn write_store<W: Write>(out: &mut Sink<'_, W>, store: &Store)
+    ensures { Says W.contents out.old out.new (store_json store.now) }
 {
     write_front(
-        writer,
+        out,
         "sequence",
         store.seq,
         &[Member {
             name: "state",
             value: Value::Name(state_name(&store.state)),
         }],
-    )?;
-    write_filling(writer, &store.state)?;
-    put(writer, b"}")
+    );
+    write_filling(out, &store.state);
+    out.put(b"}")
 }
 
 /// The stores of the queue, as an array has them.
@@ -96,17 +98,17 @@ impl Values for Stores<'_> {
         self.queue.len()
     }
 
-    fn write_value<W: Write>(&self, writer: &mut W, place: usize) -> Result<(), ReportError> {
+    fn write_value<W: Write>(&self, out: &mut Sink<'_, W>, place: usize) {
         match self.queue.get(place) {
-            Some(store) => write_store(writer, store),
-            None => Ok(()),
+            Some(store) => write_store(out, store),
+            None => {}
         }
     }
 }
 
 /// Writes the member that has the store queue.
-pub fn write_store_queue<W: Write>(writer: &mut W, queue: &StoreQueue) -> Result<(), ReportError>
-    ensures { IsWritten result (W.contents writer.old) (W.contents writer.new) (also (codes "store_queue") (array (map store_json queue.now.stores))) }
+pub fn write_store_queue<W: Write>(out: &mut Sink<'_, W>, queue: &StoreQueue)
+    ensures { Says W.contents out.old out.new (also (codes "store_queue") (array (map store_json queue.now.stores))) }
 {
-    write_array_member(writer, "store_queue", &Stores { queue })
+    write_array_member(out, "store_queue", &Stores { queue })
 }

@@ -3,14 +3,14 @@ ghost use Rattle.rv_arch.specs.Csr.{value_of};
 ghost use Rattle.rv_json.specs.Json.{also};
 ghost use Rattle.rv_json.specs.Registers.{csrs_json, interrupts_text, trap_text};
 ghost use Rattle.rv_json.specs.declared.json.Value.TheVariants.{Number};
-ghost use Rattle.rv_text.specs.Written.{IsWritten};
+ghost use Rattle.rv_text.specs.Said.{Says};
 
 use crate::array::Values;
 use crate::json::{Member, write_front, write_key, write_members};
 use itoa::Buffer;
 use rv_arch::Observed;
 use rv_isa::Csr;
-use rv_text::{ReportError, put};
+use rv_text::Sink;
 use std::io::Write;
 
 /// Words, as an array has them.
@@ -28,9 +28,9 @@ impl Values for Words<'_> {
         self.words.len()
     }
 
-    fn write_value<W: Write>(&self, writer: &mut W, place: usize) -> Result<(), ReportError> {
+    fn write_value<W: Write>(&self, out: &mut Sink<'_, W>, place: usize) {
         let mut buffer = Buffer::new();
-        put(writer, buffer.format(self.words[place]).as_bytes())
+        out.put(buffer.format(self.words[place]).as_bytes())
     }
 }
 
@@ -43,11 +43,11 @@ fn member(name: &'static str, seen: &Observed, csr: Csr) -> Member
 }
 
 #[tactic(auto, unfolding(crate::specs::Registers::interrupts_text))]
-fn write_interrupts<W: Write>(writer: &mut W, seen: &Observed) -> Result<(), ReportError>
-    ensures { IsWritten result (W.contents writer.old) (W.contents writer.new) (interrupts_text seen.now.csrs seen.now.lines) }
+fn write_interrupts<W: Write>(out: &mut Sink<'_, W>, seen: &Observed)
+    ensures { Says W.contents out.old out.new (interrupts_text seen.now.csrs seen.now.lines) }
 {
     write_front(
-        writer,
+        out,
         "mstatus",
         u64::from(seen.csrs.value(Csr::Mstatus, seen.lines)),
         &[
@@ -59,11 +59,11 @@ fn write_interrupts<W: Write>(writer: &mut W, seen: &Observed) -> Result<(), Rep
 }
 
 #[tactic(auto, unfolding(crate::specs::Registers::trap_text))]
-fn write_trap<W: Write>(writer: &mut W, seen: &Observed) -> Result<(), ReportError>
-    ensures { IsWritten result (W.contents writer.old) (W.contents writer.new) (trap_text seen.now.csrs seen.now.lines) }
+fn write_trap<W: Write>(out: &mut Sink<'_, W>, seen: &Observed)
+    ensures { Says W.contents out.old out.new (trap_text seen.now.csrs seen.now.lines) }
 {
     write_members(
-        writer,
+        out,
         &[
             member("mscratch", seen, Csr::Mscratch),
             member("mepc", seen, Csr::Mepc),
@@ -74,11 +74,12 @@ fn write_trap<W: Write>(writer: &mut W, seen: &Observed) -> Result<(), ReportErr
 }
 
 /// Writes the member that has the control and status registers.
-pub(crate) fn write_csrs<W: Write>(writer: &mut W, seen: &Observed) -> Result<(), ReportError>
-    ensures { IsWritten result (W.contents writer.old) (W.contents writer.new) (also (codes "csrs") (csrs_json seen.now.csrs seen.now.lines)) }
+#[tactic(auto, using(rv_text::proofs::Saying::says_both), unfolding(crate::specs::Json::also, crate::specs::Registers::csrs_json))]
+pub(crate) fn write_csrs<W: Write>(out: &mut Sink<'_, W>, seen: &Observed)
+    ensures { Says W.contents out.old out.new (also (codes "csrs") (csrs_json seen.now.csrs seen.now.lines)) }
 {
-    write_key(writer, "csrs")?;
-    write_interrupts(writer, seen)?;
-    write_trap(writer, seen)?;
-    put(writer, b"}")
+    write_key(out, "csrs");
+    write_interrupts(out, seen);
+    write_trap(out, seen);
+    out.put(b"}")
 }

@@ -1,10 +1,10 @@
 ghost use Rattle.rv_json.specs.Set.{line_json, lines_text};
-ghost use Rattle.rv_text.specs.Written.{IsWritten};
+ghost use Rattle.rv_text.specs.Said.{Says};
 
 use crate::array::{Values, write_array_member};
 use crate::json::{Member, Value, write_begin, write_object};
 use rv_cache::CacheLine;
-use rv_text::{ReportError, put};
+use rv_text::Sink;
 use std::io::Write;
 
 /// The lines of a set, as an array has them.
@@ -14,11 +14,11 @@ struct SetLines<'a> {
 }
 
 #[tactic(auto, unfolding(crate::specs::Set::line_json))]
-fn write_cache_line<W: Write>(writer: &mut W, line: &CacheLine) -> Result<(), ReportError>
-    ensures { IsWritten result (W.contents writer.old) (W.contents writer.new) (line_json line.now) }
+fn write_cache_line<W: Write>(out: &mut Sink<'_, W>, line: &CacheLine)
+    ensures { Says W.contents out.old out.new (line_json line.now) }
 {
     write_object(
-        writer,
+        out,
         "line",
         u64::from(line.number),
         &[Member {
@@ -38,20 +38,17 @@ impl Values for SetLines<'_> {
         self.lines.len()
     }
 
-    fn write_value<W: Write>(&self, writer: &mut W, place: usize) -> Result<(), ReportError> {
-        write_cache_line(writer, &self.lines[place])
+    fn write_value<W: Write>(&self, out: &mut Sink<'_, W>, place: usize) {
+        write_cache_line(out, &self.lines[place])
     }
 }
 
 /// Writes the line of a set of the cache: its number, and its lines, most recently used first.
-pub fn write_set<W: Write>(
-    writer: &mut W,
-    set: usize,
-    lines: &[CacheLine],
-) -> Result<(), ReportError>
-    ensures { IsWritten result (W.contents writer.old) (W.contents writer.new) (lines_text set lines.now) }
+#[tactic(auto, using(rv_text::proofs::Saying::says_both), unfolding(crate::specs::Set::lines_text))]
+pub fn write_set<W: Write>(out: &mut Sink<'_, W>, set: usize, lines: &[CacheLine])
+    ensures { Says W.contents out.old out.new (lines_text set lines.now) }
 {
-    write_begin(writer, "set", set as u64)?;
-    write_array_member(writer, "lines", &SetLines { lines })?;
-    put(writer, b"}\n")
+    write_begin(out, "set", set as u64);
+    write_array_member(out, "lines", &SetLines { lines });
+    out.put(b"}\n")
 }

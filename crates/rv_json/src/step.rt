@@ -1,19 +1,19 @@
 ghost use Rattle.rv_json.specs.Step.{interrupt_json, retirement_json, step_json, trap_json};
-ghost use Rattle.rv_text.specs.Written.{IsWritten};
+ghost use Rattle.rv_text.specs.Said.{Says};
 
 use crate::array::Values;
 use crate::json::{Member, Value, write_object};
 use rv_hardware::Step;
 use rv_isa::Cause;
-use rv_text::ReportError;
+use rv_text::Sink;
 use std::io::Write;
 
 #[tactic(auto, unfolding(crate::specs::Step::retirement_json))]
-fn write_retirement<W: Write>(writer: &mut W, pc: u32) -> Result<(), ReportError>
-    ensures { IsWritten result (W.contents writer.old) (W.contents writer.new) (retirement_json pc) }
+fn write_retirement<W: Write>(out: &mut Sink<'_, W>, pc: u32)
+    ensures { Says W.contents out.old out.new (retirement_json pc) }
 {
     write_object(
-        writer,
+        out,
         "pc",
         u64::from(pc),
         &[Member {
@@ -24,16 +24,11 @@ fn write_retirement<W: Write>(writer: &mut W, pc: u32) -> Result<(), ReportError
 }
 
 #[tactic(auto, unfolding(crate::specs::Step::trap_json))]
-fn write_trap<W: Write>(
-    writer: &mut W,
-    pc: u32,
-    cause: Cause,
-    value: u32,
-) -> Result<(), ReportError>
-    ensures { IsWritten result (W.contents writer.old) (W.contents writer.new) (trap_json pc cause value) }
+fn write_trap<W: Write>(out: &mut Sink<'_, W>, pc: u32, cause: Cause, value: u32)
+    ensures { Says W.contents out.old out.new (trap_json pc cause value) }
 {
     write_object(
-        writer,
+        out,
         "pc",
         u64::from(pc),
         &[
@@ -48,11 +43,11 @@ fn write_trap<W: Write>(
 }
 
 #[tactic(auto, unfolding(crate::specs::Step::interrupt_json))]
-fn write_interrupt<W: Write>(writer: &mut W, pc: u32, cause: u32) -> Result<(), ReportError>
-    ensures { IsWritten result (W.contents writer.old) (W.contents writer.new) (interrupt_json pc cause) }
+fn write_interrupt<W: Write>(out: &mut Sink<'_, W>, pc: u32, cause: u32)
+    ensures { Says W.contents out.old out.new (interrupt_json pc cause) }
 {
     write_object(
-        writer,
+        out,
         "pc",
         u64::from(pc),
         &[
@@ -65,18 +60,18 @@ fn write_interrupt<W: Write>(writer: &mut W, pc: u32, cause: u32) -> Result<(), 
     )
 }
 
-fn write_step<W: Write>(writer: &mut W, step: &Step) -> Result<(), ReportError>
-    ensures { IsWritten result (W.contents writer.old) (W.contents writer.new) (step_json step.now) }
+fn write_step<W: Write>(out: &mut Sink<'_, W>, step: &Step)
+    ensures { Says W.contents out.old out.new (step_json step.now) }
 {
     match *step {
-        Step::Retired(row) => write_retirement(writer, row.pc),
+        Step::Retired(row) => write_retirement(out, row.pc),
         Step::Trap {
             pc,
             cause,
             value,
             ..
-        } => write_trap(writer, pc, cause, value),
-        Step::Interrupt { pc, cause, .. } => write_interrupt(writer, pc, cause),
+        } => write_trap(out, pc, cause, value),
+        Step::Interrupt { pc, cause, .. } => write_interrupt(out, pc, cause),
     }
 }
 
@@ -97,7 +92,7 @@ impl Values for Steps<'_> {
         self.steps.len()
     }
 
-    fn write_value<W: Write>(&self, writer: &mut W, place: usize) -> Result<(), ReportError> {
-        write_step(writer, &self.steps[place])
+    fn write_value<W: Write>(&self, out: &mut Sink<'_, W>, place: usize) {
+        write_step(out, &self.steps[place])
     }
 }

@@ -1,10 +1,10 @@
 ghost use Rattle.std.specs.Prelude.{◌≡◌};
 ghost use Rattle.rv_json.specs.Stop.{stop_line, stop_name};
-ghost use Rattle.rv_text.specs.Written.{IsWritten};
+ghost use Rattle.rv_text.specs.Said.{Says};
 
 use crate::json::{Member, Value, write_object};
 use rv_arch::Stop;
-use rv_text::{ReportError, put};
+use rv_text::Sink;
 use std::io::Write;
 
 fn stop_name(stop: Stop) -> &'static str
@@ -19,17 +19,18 @@ fn stop_name(stop: Stop) -> &'static str
 }
 
 /// Writes the line that says after how many cycles a run ended, and why.
-pub fn write_stop<W: Write>(writer: &mut W, cycles: u64, stop: Stop) -> Result<(), ReportError>
-    ensures { IsWritten result (W.contents writer.old) (W.contents writer.new) (stop_line cycles stop) }
+#[tactic(auto, using(rv_text::proofs::Saying::says_both), unfolding(crate::specs::Stop::stop_json, crate::specs::Stop::stop_line))]
+pub fn write_stop<W: Write>(out: &mut Sink<'_, W>, cycles: u64, stop: Stop)
+    ensures { Says W.contents out.old out.new (stop_line cycles stop) }
 {
     write_object(
-        writer,
+        out,
         "cycles",
         cycles,
         &[Member {
             name: "stop",
             value: Value::Name(stop_name(stop)),
         }],
-    )?;
-    put(writer, b"\n")
+    );
+    out.put(b"\n")
 }

@@ -1,12 +1,12 @@
 ghost use Rattle.std.specs.Prelude.{◌≡◌, codes, map};
 ghost use Rattle.rv_json.specs.Json.{also, array, begins};
 ghost use Rattle.rv_json.specs.Units.{start_json, units_json};
-ghost use Rattle.rv_text.specs.Written.{IsWritten};
+ghost use Rattle.rv_text.specs.Said.{Says};
 
 use crate::array::{Values, write_array, write_array_member};
 use crate::json::{Member, write_key, write_object};
 use rv_isa::{Issue, Kind};
-use rv_text::{ReportError, put};
+use rv_text::Sink;
 use rv_units::Units;
 use std::io::Write;
 
@@ -28,20 +28,20 @@ impl Values for Starts<'_> {
         self.units.start_count(self.kind)
     }
 
-    fn write_value<W: Write>(&self, writer: &mut W, place: usize) -> Result<(), ReportError> {
+    fn write_value<W: Write>(&self, out: &mut Sink<'_, W>, place: usize) {
         match self.units.start_at(self.kind, place) {
-            Some(start) => write_start(writer, start),
-            None => Ok(()),
+            Some(start) => write_start(out, start),
+            None => {}
         }
     }
 }
 
 #[tactic(auto, unfolding(crate::specs::Units::start_json))]
-fn write_start<W: Write>(writer: &mut W, start: Issue) -> Result<(), ReportError>
-    ensures { IsWritten result (W.contents writer.old) (W.contents writer.new) (start_json start) }
+fn write_start<W: Write>(out: &mut Sink<'_, W>, start: Issue)
+    ensures { Says W.contents out.old out.new (start_json start) }
 {
     write_object(
-        writer,
+        out,
         "since",
         start.cycle,
         &[Member::word("cycles", start.cost)],
@@ -49,12 +49,13 @@ fn write_start<W: Write>(writer: &mut W, start: Issue) -> Result<(), ReportError
 }
 
 // Those of the first kind.
-fn write_first<W: Write>(writer: &mut W, units: &Units) -> Result<(), ReportError>
-    ensures { IsWritten result (W.contents writer.old) (W.contents writer.new) (begins (codes "alu") (array (map start_json units.now.alu.starts))) }
+#[tactic(auto, using(rv_text::proofs::Saying::says_both), unfolding(crate::specs::Json::begins, crate::specs::Json::opens))]
+fn write_first<W: Write>(out: &mut Sink<'_, W>, units: &Units)
+    ensures { Says W.contents out.old out.new (begins (codes "alu") (array (map start_json units.now.alu.starts))) }
 {
-    put(writer, b"{\"alu\":")?;
+    out.put(b"{\"alu\":");
     write_array(
-        writer,
+        out,
         &Starts {
             units,
             kind: Kind::Alu,
@@ -62,41 +63,42 @@ fn write_first<W: Write>(writer: &mut W, units: &Units) -> Result<(), ReportErro
     )
 }
 
-fn write_kinds<W: Write>(writer: &mut W, units: &Units) -> Result<(), ReportError>
-    ensures { IsWritten result (W.contents writer.old) (W.contents writer.new) (units_json units.now) }
+fn write_kinds<W: Write>(out: &mut Sink<'_, W>, units: &Units)
+    ensures { Says W.contents out.old out.new (units_json units.now) }
 {
-    write_first(writer, units)?;
+    write_first(out, units);
     write_array_member(
-        writer,
+        out,
         "mul",
         &Starts {
             units,
             kind: Kind::Mul,
         },
-    )?;
+    );
     write_array_member(
-        writer,
+        out,
         "div",
         &Starts {
             units,
             kind: Kind::Div,
         },
-    )?;
+    );
     write_array_member(
-        writer,
+        out,
         "mem",
         &Starts {
             units,
             kind: Kind::Mem,
         },
-    )?;
-    put(writer, b"}")
+    );
+    out.put(b"}")
 }
 
 /// Writes the member that has the units.
-pub fn write_units<W: Write>(writer: &mut W, units: &Units) -> Result<(), ReportError>
-    ensures { IsWritten result (W.contents writer.old) (W.contents writer.new) (also (codes "units") (units_json units.now)) }
+#[tactic(auto, using(rv_text::proofs::Saying::says_both), unfolding(crate::specs::Json::also))]
+pub fn write_units<W: Write>(out: &mut Sink<'_, W>, units: &Units)
+    ensures { Says W.contents out.old out.new (also (codes "units") (units_json units.now)) }
 {
-    write_key(writer, "units")?;
-    write_kinds(writer, units)
+    write_key(out, "units");
+    write_kinds(out, units)
 }

@@ -1,21 +1,17 @@
 ghost use Rattle.rv_json.specs.Word.{word_text};
-ghost use Rattle.rv_text.specs.Written.{IsWritten};
+ghost use Rattle.rv_text.specs.Said.{Says};
 
 use crate::json::{Member, Value, write_object};
-use rv_text::{ReportError, put};
+use rv_text::Sink;
 use std::io::Write;
 
 /// Writes the line of a word of memory: its address, the word, and whether it was stored to since the last FENCE.I.
-pub fn write_word<W: Write>(
-    writer: &mut W,
-    address: u32,
-    word: u32,
-    stale: bool,
-) -> Result<(), ReportError>
-    ensures { IsWritten result (W.contents writer.old) (W.contents writer.new) (word_text address word stale) }
+#[tactic(auto, using(rv_text::proofs::Saying::says_both), unfolding(crate::specs::Word::word_json, crate::specs::Word::word_text))]
+pub fn write_word<W: Write>(out: &mut Sink<'_, W>, address: u32, word: u32, stale: bool)
+    ensures { Says W.contents out.old out.new (word_text address word stale) }
 {
     write_object(
-        writer,
+        out,
         "memory",
         u64::from(address),
         &[
@@ -25,6 +21,6 @@ pub fn write_word<W: Write>(
                 value: Value::Truth(stale),
             },
         ],
-    )?;
-    put(writer, b"\n")
+    );
+    out.put(b"\n")
 }

@@ -1,6 +1,6 @@
 -- A run under way whose states are written: one more cycle of it, and its end.
 use Rattle.std.proofs.Common.{◌≡◌, ◌∙◌, ℕ, ◌+◌, ◌≤◌, List, [], ◌∷◌, ◌++◌, length, vec_capacity, Option, refl, sym, ap, subst, arith, append_assoc, append-nil}
-use Rattle.std.specs.Prelude.{Result}
+use Rattle.std.specs.Prelude.{Bool, false}
 use Rattle.std.specs.List.{flat_map}
 use Rattle.std.proofs.lemmas.Grind.{flat_map-append}
 use Rattle.rv_isa.specs.declared.lines.Arrival.{Arrival}
@@ -19,8 +19,8 @@ use Rattle.rv_passage.specs.Table.{CanCount, Passages, after_cycle, numbered_fro
 use Rattle.rv_passage.specs.declared.passage.Passage.{Passage}
 use Rattle.rv_passage.specs.declared.table.Table.{Table}
 use Rattle.rv_source.specs.Listing.{Listed}
-use Rattle.rv_text.specs.Written.{IsWritten}
-use Rattle.rv_text.proofs.Writing.{written_same}
+use Rattle.rv_text.specs.Said.{Extends}
+use Rattle.rv_text.proofs.Saying.{extends_both, extends_nothing, extends_same, extends_whole}
 use Rattle.rv_states.specs.Page.{after_lines, before_lines}
 use Rattle.rv_states.specs.Showing.{IsRoomy, IsShowing}
 use Rattle.rv_states.specs.States.{Moment, Passes, WritesStates, begun, begun_text, head_text, lines_text, moment_of, moment_text, passed, shown_text, states_text}
@@ -33,21 +33,14 @@ length-numbered_from number [] = refl
 length-numbered_from number (p ∷ ps) = omega (arith, length-numbered_from (number + 1) ps)
 
 -- what is told of one more cycle
-told-more : (from : ℕ) (text shown begins : List ℕ) (moments : List Moment) (last : Moment) → shown ++ begins ≡ moment_text from last
-    → ((text ++ flat_map (moment_text from) moments) ++ shown) ++ begins ≡ text ++ flat_map (moment_text from) (moments ++ last ∷ [])
-told-more from text shown begins moments last is =
-    let so_far = flat_map (moment_text from) moments in
-    append_assoc (text ++ so_far) shown begins
-    ∙ ap (λ l. (text ++ so_far) ++ l) (is ∙ sym (append-nil (moment_text from last)))
-    ∙ append_assoc text so_far (moment_text from last ++ [])
-    ∙ ap (λ l. text ++ l) (sym (flat_map-append (moment_text from) moments (last ∷ [])))
+told-more : (from : ℕ) (shown begins : List ℕ) (moments : List Moment) (last : Moment) → shown ++ begins ≡ moment_text from last
+    → flat_map (moment_text from) moments ++ (shown ++ begins) ≡ flat_map (moment_text from) (moments ++ last ∷ [])
+told-more from shown begins moments last is =
+    ap (λ l. flat_map (moment_text from) moments ++ l) (is ∙ sym (append-nil (moment_text from last))) ∙ sym (flat_map-append (moment_text from) moments (last ∷ []))
 
 -- the whole text, from its parts
-parts-whole : (around head told stopped after : List ℕ) → ((around ++ head) ++ told) ++ (stopped ++ after) ≡ around ++ (((head ++ told) ++ stopped) ++ after)
-parts-whole around head told stopped after =
-    ap (λ l. l ++ (stopped ++ after)) (append_assoc around head told)
-    ∙ append_assoc around (head ++ told) (stopped ++ after)
-    ∙ ap (λ l. around ++ l) (sym (append_assoc (head ++ told) stopped after))
+parts-whole : (around head told stopped after : List ℕ) → (around ++ head) ++ (told ++ (stopped ++ after)) ≡ around ++ (((head ++ told) ++ stopped) ++ after)
+parts-whole around head told stopped after = simp append_assoc
 
 pub roomy_again : (table : Table) (full : Passages) → passages_of table ≡ still_open full → length (still_open full).rows ≤ 288 → 576 ≤ vec_capacity table.rows → 8 ≤ vec_capacity table.interrupts → IsRoomy table
 roomy_again table full opened few rows interrupts = record {
@@ -60,9 +53,9 @@ roomy_again table full opened few rows interrupts = record {
 }
 
 -- no cycle yet
-pub showing_nothing : {T E : Type 0} (arrivals : List Arrival) (h : GuidedHardware) (from : ℕ) (table : Table) (written : Result T E) (before : Option (List ℕ))
-    → passages_of table ≡ table_at h.hardware → IsRoomy table → length table.rows.items ≤ 288 → IsShowing from from written written table (watched arrivals h [] h) before before
-showing_nothing arrivals h from table written before is roomy few =
+pub showing_nothing : (arrivals : List Arrival) (h : GuidedHardware) (from : ℕ) (table : Table) (failed : Bool) (before : Option (List ℕ))
+    → passages_of table ≡ table_at h.hardware → IsRoomy table → length table.rows.items ≤ 288 → IsShowing from from failed failed table (watched arrivals h [] h) before before
+showing_nothing arrivals h from table failed before is roomy few =
     let here : length (numbered_from 0 (in_flight h.hardware)) ≤ 288 = subst (λ (t : Passages). length t.rows ≤ 288) is few in
     record {
       same = refl;
@@ -71,11 +64,11 @@ showing_nothing arrivals h from table written before is roomy few =
       room = roomy;
       fetched = omega (arith, ap (λ (t : Passages). t.fetched) is, length-numbered_from 0 (in_flight h.hardware), here);
       retired = omega (arith, ap (λ (t : Passages). t.retired) is);
-      wrote = λ origin text wrote. written_same written origin before text (text ++ []) (sym (append-nil text)) wrote;
+      wrote = extends_nothing failed before;
     }
 
-module _ {T E : Type 0} {seen : Watched} {cycle : ℕ} {steps : List Step} {after : Hardware} {progress : Progress} (shown : IsShown seen cycle steps after progress)
-    {from from' : ℕ} {first written : Result T E} {table : Table} {before mid : Option (List ℕ)} (showing : IsShowing from from' first written table seen before mid) where
+module _ {seen : Watched} {cycle : ℕ} {steps : List Step} {after : Hardware} {progress : Progress} (shown : IsShown seen cycle steps after progress)
+    {from from' : ℕ} {first failed : Bool} {table : Table} {before mid : Option (List ℕ)} (showing : IsShowing from from' first failed table seen before mid) where
   -- the counts of the table can go on
   pub can_count : CanCount (passages_of table)
   can_count = record { fetched = omega (arith, showing.fetched, shown.number, shown.counted); retired = omega (arith, showing.retired, shown.number, shown.counted) }
@@ -106,11 +99,11 @@ module _ {T E : Type 0} {seen : Watched} {cycle : ℕ} {steps : List Step} {afte
         let remaining_now : remaining ≡ (still_open table_now).rows = remaining_is ∙ ap (λ (t : Passages). (still_open t).rows) full_is in
         λ i. shown_text (showing.same i) (shown.number i) (rows_now i) (shown.steps_are i) after (shown.progress_is i) ++ begun_text (showing.same i) (remaining_now i) after (shown.progress_is i)
 
-    pub showing_on : (kept : Table) (from'' : ℕ) (written' : Result T E) (now : Option (List ℕ)) (rows remaining : List Passage) → passages_of kept ≡ still_open (passages_of full)
+    pub showing_on : (kept : Table) (from'' : ℕ) (failed' : Bool) (now : Option (List ℕ)) (rows remaining : List Passage) → passages_of kept ≡ still_open (passages_of full)
         → full.fetched ≤ table.fetched + 288 → full.retired ≤ table.retired + 8 → IsRoomy kept → from'' ≡ from' → rows ≡ full.rows.items → remaining ≡ kept.rows.items
-        → ((origin : Option (List ℕ)) (text : List ℕ) → IsWritten written origin mid text → IsWritten written' origin now ((text ++ shown_text from' cycle rows steps after progress) ++ begun_text from' remaining after progress))
-        → IsShowing from from'' first written' kept (with_shown seen shown) before now
-    showing_on kept from'' written' now rows remaining opened fetched retired roomy same rows_are remaining_is writes =
+        → Extends failed failed' mid now (shown_text from' cycle rows steps after progress ++ begun_text from' remaining after progress)
+        → IsShowing from from'' first failed' kept (with_shown seen shown) before now
+    showing_on kept from'' failed' now rows remaining opened fetched retired roomy same rows_are remaining_is writes =
         let one_more = cycle_counts shown.cycled in
         let told = told_now rows remaining rows_are (remaining_is ∙ ap (λ (t : Passages). t.rows) opened) in
         record {
@@ -120,25 +113,25 @@ module _ {T E : Type 0} {seen : Watched} {cycle : ℕ} {steps : List Step} {afte
           room = roomy;
           fetched = omega (arith, showing.fetched, fetched, one_more, ap (λ (t : Passages). t.fetched) opened);
           retired = omega (arith, showing.retired, retired, one_more, ap (λ (t : Passages). t.retired) opened);
-          wrote = λ origin text wrote. written_same written' origin now _ _ (told-more from text _ _ showing.moments moment told) (writes origin _ (showing.wrote origin text wrote));
+          wrote = extends_same (told-more from (shown_text from' cycle rows steps after progress) (begun_text from' remaining after progress) showing.moments moment told) (extends_both showing.wrote writes);
         }
 
 -- the states of a run that ended
-pub shown_to_the_end : {T E : Type 0} {arrivals : List Arrival} {from limit : ℕ} {listing : Listed} {old new : GuidedHardware} {moments : List HistoryMoment} {table : Table} {from' : ℕ} {first written : Result T E} {mid held : Option (List ℕ)} {stop : Stop}
-    (form : Form) (before now : Option (List ℕ)) (ended : Result T E) (rows : List Passage) (cycles : ℕ)
-    → History arrivals old moments new → IsStop limit (reports_of moments) new.hardware stop → IsShowing from from' first written table (watched arrivals old moments new) mid held
-    → rows ≡ (table_at old.hardware).rows → cycles ≡ length (reports_of moments) → IsWritten first before mid (before_lines form ++ head_text from listing rows old.hardware)
-    → ((origin : Option (List ℕ)) (text : List ℕ) → IsWritten written origin held text → IsWritten ended origin now (text ++ (stop_line cycles stop ++ after_lines form)))
+pub shown_to_the_end : {arrivals : List Arrival} {from limit : ℕ} {listing : Listed} {old new : GuidedHardware} {moments : List HistoryMoment} {table : Table} {from' : ℕ} {first failed : Bool} {mid held : Option (List ℕ)} {stop : Stop}
+    (form : Form) (before now : Option (List ℕ)) (ended : Bool) (rows : List Passage) (cycles : ℕ)
+    → History arrivals old moments new → IsStop limit (reports_of moments) new.hardware stop → IsShowing from from' first failed table (watched arrivals old moments new) mid held
+    → rows ≡ (table_at old.hardware).rows → cycles ≡ length (reports_of moments) → Extends false first before mid (before_lines form ++ head_text from listing rows old.hardware)
+    → Extends failed ended held now (stop_line cycles stop ++ after_lines form)
     → WritesStates arrivals from limit form listing old new stop ended before now
 unfolding states_text lines_text
 shown_to_the_end {from = from} {listing = listing} {old = old} {moments = moments} {table = table} {first = first} {mid = mid} {stop = stop} form before now ended rows cycles passes stops showing rows_are cycles_are head ends =
     let around = before_lines form in
     let first_lines = head_text from listing (table_at old.hardware).rows old.hardware in
     let told = flat_map (moment_text from) showing.moments in
-    let begins : IsWritten first before mid (around ++ first_lines) = subst (λ (l : List Passage). IsWritten first before mid (around ++ head_text from listing l old.hardware)) rows_are head in
+    let begins : Extends false first before mid (around ++ first_lines) = subst (λ (l : List Passage). Extends false first before mid (around ++ head_text from listing l old.hardware)) rows_are head in
     let count = length (reports_of moments) in
-    let whole = ap (λ n. ((around ++ first_lines) ++ told) ++ (stop_line n stop ++ after_lines form)) cycles_are ∙ parts-whole around first_lines told (stop_line count stop) (after_lines form) in (
+    let whole = ap (λ n. (around ++ first_lines) ++ (told ++ (stop_line n stop ++ after_lines form))) cycles_are ∙ parts-whole around first_lines told (stop_line count stop) (after_lines form) in (
       around ++ (states_text from listing old.hardware showing.moments count stop ++ after_lines form),
       record { reports = reports_of moments; moments = showing.moments; table = passages_of table; cycles = cycles_shown passes; passes = showing.passes; stops = stops; no_markup = states_plain from listing old.hardware showing.moments count stop; text_is = refl },
-      written_same ended before now _ _ whole (ends before ((around ++ first_lines) ++ told) (showing.wrote before (around ++ first_lines) begins)),
+      extends_whole (extends_same whole (extends_both begins (extends_both showing.wrote ends))),
     )

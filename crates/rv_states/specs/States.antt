@@ -1,5 +1,5 @@
 -- The states of a run, line by line.
-use Rattle.std.specs.Prelude.{◌≡◌, ℕ, ◌==◌, if◌then◌else◌, nat_lt, List, [], ◌∷◌, ◌++◌, length, Option, Result}
+use Rattle.std.specs.Prelude.{◌≡◌, ℕ, ◌==◌, Bool, if◌then◌else◌, nat_lt, List, [], ◌∷◌, ◌++◌, length, Option}
 use Rattle.std.specs.List.{flat_map}
 use Rattle.rv_isa.specs.Arrivals.{lines_at}
 use Rattle.rv_isa.specs.declared.{lines.Arrival.Arrival, values.Values.Values}
@@ -14,7 +14,7 @@ use Rattle.rv_hardware.specs.declared.step.Step.{Step}
 use Rattle.rv_passage.specs.Table.{Passages, after_cycle, still_open, table_at}
 use Rattle.rv_passage.specs.declared.passage.Passage.{Passage}
 use Rattle.rv_source.specs.Listing.{Listed}
-use Rattle.rv_text.specs.Written.{IsWritten}
+use Rattle.rv_text.specs.Said.{IsSaid}
 use Rattle.rv_states.specs.Page.{after_lines, before_lines}
 use Rattle.rv_states.specs.Cycle.{cycle_line, start_line}
 use Rattle.rv_json.specs.Listing.{listing_lines}
@@ -100,7 +100,7 @@ pub record IsStates (arrivals : List Arrival) (from limit : ℕ) (form : Form) (
   pub no_markup : HasNoMarkup (states_text from listing old.hardware moments (length reports) stop)
   pub text_is : text ≡ before_lines form ++ (states_text from listing old.hardware moments (length reports) stop ++ after_lines form)
 
--- that text is written, or a beginning of it
-abbrev pub WritesStates : {T E : Type 0} → List Arrival → ℕ → ℕ → Form → Listed → GuidedHardware → GuidedHardware → Stop → Result T E → Option (List ℕ) → Option (List ℕ) → Type 0
-WritesStates arrivals from limit form listing old new stop written before after =
-    (text : List ℕ) × IsStates arrivals from limit form listing old new stop text × IsWritten written before after text
+-- that text is written, or a beginning of it where a write failed
+abbrev pub WritesStates : List Arrival → ℕ → ℕ → Form → Listed → GuidedHardware → GuidedHardware → Stop → Bool → Option (List ℕ) → Option (List ℕ) → Type 0
+WritesStates arrivals from limit form listing old new stop failed before after =
+    (text : List ℕ) × IsStates arrivals from limit form listing old new stop text × IsSaid failed before after text

@@ -1,11 +1,11 @@
 ghost use Rattle.std.specs.Prelude.{◌≡◌};
 ghost use Rattle.rv_states.specs.Counts.{counts_text, stall_name, stall_text};
-ghost use Rattle.rv_text.specs.Written.{IsWritten};
+ghost use Rattle.rv_text.specs.Said.{Says};
 
 use rv_core::Progress;
 use rv_hardware::Stall;
 use rv_json::{Member, write_name, write_object_member};
-use rv_text::ReportError;
+use rv_text::Sink;
 use std::io::Write;
 
 fn stall_name(stall: Stall) -> &'static str
@@ -21,22 +21,23 @@ fn stall_name(stall: Stall) -> &'static str
 }
 
 #[tactic(auto, unfolding(crate::specs::Counts::stall_text))]
-fn write_stall<W: Write>(writer: &mut W, stall: Option<Stall>) -> Result<(), ReportError>
-    ensures { IsWritten result (W.contents writer.old) (W.contents writer.new) (stall_text stall) }
+fn write_stall<W: Write>(out: &mut Sink<'_, W>, stall: Option<Stall>)
+    ensures { Says W.contents out.old out.new (stall_text stall) }
 {
     match stall {
-        Some(stall) => write_name(writer, "stall", stall_name(stall)),
-        None => Ok(()),
+        Some(stall) => write_name(out, "stall", stall_name(stall)),
+        None => {}
     }
 }
 
 /// Writes what the last cycle waited for, where it dispatched nothing, and the counts so far.
-pub(crate) fn write_counts<W: Write>(writer: &mut W, progress: &Progress) -> Result<(), ReportError>
-    ensures { IsWritten result (W.contents writer.old) (W.contents writer.new) (counts_text progress.now) }
+#[tactic(auto, using(rv_text::proofs::Saying::says_both), unfolding(crate::specs::Counts::counts_text, crate::specs::Counts::counts_json))]
+pub(crate) fn write_counts<W: Write>(out: &mut Sink<'_, W>, progress: &Progress)
+    ensures { Says W.contents out.old out.new (counts_text progress.now) }
 {
-    write_stall(writer, progress.stall)?;
+    write_stall(out, progress.stall);
     write_object_member(
-        writer,
+        out,
         "counts",
         "cycles",
         progress.cycles,

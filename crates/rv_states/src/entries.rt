@@ -1,44 +1,45 @@
 ghost use Rattle.std.specs.Prelude.{◌<◌, ◌≤◌, [], get_or, length};
 ghost use Rattle.rv_states.specs.Entries.{buffer_json, entry_json};
 ghost use Rattle.rv_states.specs.Operands.{status_at};
-ghost use Rattle.rv_text.specs.Written.{IsWritten};
+ghost use Rattle.rv_text.specs.Said.{Says};
 
 use crate::operands::{entry_at, number_at, write_operands};
 use rv_json::{Values, write_entry};
 use rv_rob::{Entry, Rob};
-use rv_text::{ReportError, put};
+use rv_text::Sink;
 use std::io::Write;
 
 // The entry, and what it reads at this place.
+#[tactic(auto, using(rv_text::proofs::Saying::says_both), unfolding(crate::specs::Entries::entry_json))]
 fn write_entry_with<W: Write>(
-    writer: &mut W,
+    out: &mut Sink<'_, W>,
     buffer: &Rob,
     registers: &[u32; 32],
     place: usize,
     number: u64,
     entry: &Entry,
-) -> Result<(), ReportError>
+)
     requires { place ≤ length buffer.now.entries }
-    ensures { IsWritten result (W.contents writer.old) (W.contents writer.new) (entry_json (status_at registers.now buffer.now place) number entry.now) }
+    ensures { Says W.contents out.old out.new (entry_json (status_at registers.now buffer.now place) number entry.now) }
 {
-    write_entry(writer, number, entry)?;
-    write_operands(writer, buffer, registers, place, entry)?;
-    put(writer, b"}")
+    write_entry(out, number, entry);
+    write_operands(out, buffer, registers, place, entry);
+    out.put(b"}")
 }
 
 // The entry at a place.
 fn write_entry_at<W: Write>(
-    writer: &mut W,
+    out: &mut Sink<'_, W>,
     buffer: &Rob,
     registers: &[u32; 32],
     place: usize,
-) -> Result<(), ReportError>
+)
     requires { place < length buffer.now.entries }
-    ensures { IsWritten result (W.contents writer.old) (W.contents writer.new) (get_or (buffer_json registers.now buffer.now) place []) }
+    ensures { Says W.contents out.old out.new (get_or (buffer_json registers.now buffer.now) place []) }
 {
     let entry = entry_at(buffer, place);
     write_entry_with(
-        writer,
+        out,
         buffer,
         registers,
         place,
@@ -63,7 +64,7 @@ impl Values for Entries<'_> {
         self.buffer.len()
     }
 
-    fn write_value<W: Write>(&self, writer: &mut W, place: usize) -> Result<(), ReportError> {
-        write_entry_at(writer, self.buffer, self.registers, place)
+    fn write_value<W: Write>(&self, out: &mut Sink<'_, W>, place: usize) {
+        write_entry_at(out, self.buffer, self.registers, place)
     }
 }

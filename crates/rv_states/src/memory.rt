@@ -1,11 +1,11 @@
 ghost use Rattle.std.specs.Prelude.{◌≡◌};
 ghost use Rattle.rv_hardware.specs.Seen.{layout_of, seen};
 ghost use Rattle.rv_states.specs.Memory.{memory_line, memory_lines, word_seen};
-ghost use Rattle.rv_text.specs.Written.{IsWritten};
+ghost use Rattle.rv_text.specs.Said.{Says};
 
 use rv_core::Pipeline;
 use rv_json::{word_address, write_word};
-use rv_text::ReportError;
+use rv_text::Sink;
 use std::io::Write;
 
 // The word that programs see at an address, or `None` outside RAM.
@@ -23,27 +23,22 @@ fn word_at(pipeline: &Pipeline, address: u32) -> Option<u32>
 }
 
 // Writes the line of the word that programs see at an address; nothing where it is 0 and not stale, or outside RAM.
-fn write_memory_line<W: Write>(
-    writer: &mut W,
-    pipeline: &Pipeline,
-    address: u32,
-) -> Result<(), ReportError>
-    ensures { IsWritten result (W.contents writer.old) (W.contents writer.new) (memory_line pipeline.now address) }
+fn write_memory_line<W: Write>(out: &mut Sink<'_, W>, pipeline: &Pipeline, address: u32)
+    ensures { Says W.contents out.old out.new (memory_line pipeline.now address) }
 {
     let stale = pipeline.is_stale(address);
     match word_at(pipeline, address) {
-        Some(word) if word != 0 || stale => write_word(writer, address, word, stale),
-        _ => Ok(()),
+        Some(word) if word != 0 || stale => write_word(out, address, word, stale),
+        _ => {}
     }
 }
 
 /// Writes a line for each word of RAM, as programs see it, that is not 0 or was stored to since the last FENCE.I.
-pub fn write_memory<W: Write>(writer: &mut W, pipeline: &Pipeline) -> Result<(), ReportError>
-    ensures { IsWritten result (W.contents writer.old) (W.contents writer.new) (memory_lines pipeline.now pipeline.now.values) }
+pub fn write_memory<W: Write>(out: &mut Sink<'_, W>, pipeline: &Pipeline)
+    ensures { Says W.contents out.old out.new (memory_lines pipeline.now pipeline.now.values) }
 {
     let values = pipeline.values();
     for number in 0..values.ram_size / 4 {
-        write_memory_line(writer, pipeline, word_address(values.ram_base, number))?;
+        write_memory_line(out, pipeline, word_address(values.ram_base, number));
     }
-    Ok(())
 }

@@ -3,7 +3,7 @@ ghost use Rattle.rv_core.specs.Progress.{progress_of};
 ghost use Rattle.rv_states.specs.Page.{after_lines, before_lines};
 ghost use Rattle.rv_states.specs.States.{begun_text, head_text, opening_text, shown_text, window_text};
 ghost use Rattle.rv_json.specs.Stop.{stop_line};
-ghost use Rattle.rv_text.specs.Written.{IsWritten};
+ghost use Rattle.rv_text.specs.Said.{Says};
 
 use crate::cycle::{write_cycle, write_start};
 use crate::form::Form;
@@ -17,56 +17,52 @@ use rv_isa::Values;
 use rv_json::{write_header, write_listing, write_stop};
 use rv_passage::Passage;
 use rv_source::Listing;
-use rv_text::ReportError;
+use rv_text::Sink;
 use std::io::Write;
 
-#[tactic(auto, unfolding(crate::specs::States::window_text))]
+#[tactic(auto, using(rv_text::proofs::Saying::says_both), unfolding(crate::specs::States::window_text, crate::specs::States::storage_text))]
 fn write_window<W: Write>(
-    writer: &mut W,
+    out: &mut Sink<'_, W>,
     rows: &[Passage],
     pipeline: &Pipeline,
     progress: &Progress,
-) -> Result<(), ReportError>
-    ensures { IsWritten result (W.contents writer.old) (W.contents writer.new) (window_text rows.now pipeline.now progress.now) }
+)
+    ensures { Says W.contents out.old out.new (window_text rows.now pipeline.now progress.now) }
 {
-    write_memory(writer, pipeline)?;
-    write_sets(writer, pipeline)?;
-    write_start(writer, rows, pipeline, progress)
+    write_memory(out, pipeline);
+    write_sets(out, pipeline);
+    write_start(out, rows, pipeline, progress)
 }
 
 /// Writes the lines before the window, after the last of the cycles before it; else nothing.
 pub(crate) fn write_begun<W: Write>(
-    writer: &mut W,
+    out: &mut Sink<'_, W>,
     from: u64,
     rows: &[Passage],
     pipeline: &Pipeline,
     progress: &Progress,
-) -> Result<(), ReportError>
-    ensures { IsWritten result (W.contents writer.old) (W.contents writer.new) (begun_text from rows.now pipeline.now progress.now) }
+)
+    ensures { Says W.contents out.old out.new (begun_text from rows.now pipeline.now progress.now) }
 {
     if progress.cycles == from {
-        write_window(writer, rows, pipeline, progress)
-    } else {
-        Ok(())
+        write_window(out, rows, pipeline, progress)
     }
 }
 
 /// Writes the line of a cycle, unless it is one of the first `from`.
 pub(crate) fn write_shown<W: Write>(
-    writer: &mut W,
+    out: &mut Sink<'_, W>,
     from: u64,
     cycle: u64,
     rows: &[Passage],
     steps: &[Step],
     pipeline: &Pipeline,
     progress: &Progress,
-) -> Result<(), ReportError>
-    ensures { IsWritten result (W.contents writer.old) (W.contents writer.new) (shown_text from cycle rows.now steps.now pipeline.now progress.now) }
+)
+    ensures { Says W.contents out.old out.new (shown_text from cycle rows.now steps.now pipeline.now progress.now) }
 {
     if from < progress.cycles {
-        write_cycle(writer, cycle, rows, steps, pipeline, progress)
-    } else {
-        Ok(())
+        write_cycle(out, cycle, rows, steps, pipeline, progress)
     }
 }
 
@@ -91,44 +87,36 @@ fn no_cycle() -> Progress
 }
 
 // Writes the lines of the machine and the program.
-#[tactic(auto, unfolding(crate::specs::States::opening_text))]
-fn write_opening<W: Write>(
-    writer: &mut W,
-    from: u64,
-    listing: &Listing,
-    values: &Values,
-) -> Result<(), ReportError>
-    ensures { IsWritten result (W.contents writer.old) (W.contents writer.new) (opening_text from listing.now values.now) }
+#[tactic(auto, using(rv_text::proofs::Saying::says_both), unfolding(crate::specs::States::opening_text))]
+fn write_opening<W: Write>(out: &mut Sink<'_, W>, from: u64, listing: &Listing, values: &Values)
+    ensures { Says W.contents out.old out.new (opening_text from listing.now values.now) }
 {
-    write_header(writer, from, values)?;
-    write_listing(writer, listing, values)
+    write_header(out, from, values);
+    write_listing(out, listing, values)
 }
 
 /// Writes what stands before the lines, and what is shown before the first cycle of a run.
+#[tactic(auto, using(rv_text::proofs::Saying::says_both), unfolding(crate::specs::States::head_text))]
 pub(crate) fn write_head<W: Write>(
-    writer: &mut W,
+    out: &mut Sink<'_, W>,
     form: Form,
     from: u64,
     listing: &Listing,
     rows: &[Passage],
     pipeline: &Pipeline,
-) -> Result<(), ReportError>
-    ensures { IsWritten result (W.contents writer.old) (W.contents writer.new) (before_lines form ++ head_text from listing.now rows.now pipeline.now) }
+)
+    ensures { Says W.contents out.old out.new (before_lines form ++ head_text from listing.now rows.now pipeline.now) }
 {
-    write_before(writer, form)?;
-    write_opening(writer, from, listing, pipeline.values())?;
-    write_begun(writer, from, rows, pipeline, &no_cycle())
+    write_before(out, form);
+    write_opening(out, from, listing, pipeline.values());
+    write_begun(out, from, rows, pipeline, &no_cycle())
 }
 
 /// Writes the last line, and what stands after the lines.
-pub(crate) fn write_end<W: Write>(
-    writer: &mut W,
-    form: Form,
-    cycles: u64,
-    stop: Stop,
-) -> Result<(), ReportError>
-    ensures { IsWritten result (W.contents writer.old) (W.contents writer.new) (stop_line cycles stop ++ after_lines form) }
+#[tactic(auto, using(rv_text::proofs::Saying::says_both))]
+pub(crate) fn write_end<W: Write>(out: &mut Sink<'_, W>, form: Form, cycles: u64, stop: Stop)
+    ensures { Says W.contents out.old out.new (stop_line cycles stop ++ after_lines form) }
 {
-    write_stop(writer, cycles, stop)?;
-    write_after(writer, form)
+    write_stop(out, cycles, stop);
+    write_after(out, form)
 }

@@ -2,13 +2,13 @@ ghost use Rattle.std.specs.Prelude.{◌≡◌, ◌+◌, ◌<◌, ◌≤◌, ◌+
 ghost use Rattle.rv_core.specs.Ties.{operand_by};
 ghost use Rattle.rv_hardware.specs.InFlight.{broadcast_of, writes};
 ghost use Rattle.rv_states.specs.Operands.{both_text, operand_text, operands_of, operands_text, status_at};
-ghost use Rattle.rv_text.specs.Written.{IsWritten};
+ghost use Rattle.rv_text.specs.Said.{Says};
 
 use rv_isa::{Instr, Reg, sources, target};
 use rv_json::{broadcast, write_operand};
 use rv_rob::{Entry, Rob, Stage};
 use rv_stations::Operand;
-use rv_text::ReportError;
+use rv_text::Sink;
 use std::io::Write;
 
 /// The sequence number of the entry at a place of the reorder buffer.
@@ -88,70 +88,71 @@ fn operand_after(buffer: &Rob, registers: &[u32; 32], count: usize, register: Re
 
 #[tactic(auto, unfolding(crate::specs::Operands::operand_text))]
 fn write_operand_member<W: Write>(
-    writer: &mut W,
+    out: &mut Sink<'_, W>,
     name: &str,
     buffer: &Rob,
     registers: &[u32; 32],
     count: usize,
     register: Option<Reg>,
-) -> Result<(), ReportError>
+)
     requires { count ≤ length buffer.now.entries }
-    ensures { IsWritten result (W.contents writer.old) (W.contents writer.new) (operand_text name.now (status_at registers.now buffer.now count) register) }
+    ensures { Says W.contents out.old out.new (operand_text name.now (status_at registers.now buffer.now count) register) }
 {
     match register {
         Some(register) => {
             let operand = operand_after(buffer, registers, count, register);
-            write_operand(writer, name, register, operand)
+            write_operand(out, name, register, operand)
         }
-        None => Ok(()),
+        None => {}
     }
 }
 
+#[tactic(auto, using(rv_text::proofs::Saying::says_both))]
 fn write_both<W: Write>(
-    writer: &mut W,
+    out: &mut Sink<'_, W>,
     buffer: &Rob,
     registers: &[u32; 32],
     count: usize,
     first: Option<Reg>,
     second: Option<Reg>,
-) -> Result<(), ReportError>
+)
     requires { count ≤ length buffer.now.entries }
-    ensures { IsWritten result (W.contents writer.old) (W.contents writer.new) (both_text (status_at registers.now buffer.now count) first second) }
+    ensures { Says W.contents out.old out.new (both_text (status_at registers.now buffer.now count) first second) }
 {
-    write_operand_member(writer, "first", buffer, registers, count, first)?;
-    write_operand_member(writer, "second", buffer, registers, count, second)
+    write_operand_member(out, "first", buffer, registers, count, first);
+    write_operand_member(out, "second", buffer, registers, count, second)
 }
 
 #[tactic(auto, unfolding(crate::specs::Operands::operands_of))]
 fn write_sources<W: Write>(
-    writer: &mut W,
+    out: &mut Sink<'_, W>,
     buffer: &Rob,
     registers: &[u32; 32],
     count: usize,
     instruction: &Instr,
-) -> Result<(), ReportError>
+)
     requires { count ≤ length buffer.now.entries }
-    ensures { IsWritten result (W.contents writer.old) (W.contents writer.new) (operands_of (status_at registers.now buffer.now count) instruction.now) }
+    ensures { Says W.contents out.old out.new (operands_of (status_at registers.now buffer.now count) instruction.now) }
 {
     let sources = sources(instruction);
-    write_both(writer, buffer, registers, count, sources[0], sources[1])
+    write_both(out, buffer, registers, count, sources[0], sources[1])
 }
 
 /// Writes what an instruction that waits reads, after so many older ones in flight.
 pub(crate) fn write_operands<W: Write>(
-    writer: &mut W,
+    out: &mut Sink<'_, W>,
     buffer: &Rob,
     registers: &[u32; 32],
     count: usize,
     entry: &Entry,
-) -> Result<(), ReportError>
+)
     requires { count ≤ length buffer.now.entries }
-    ensures { IsWritten result (W.contents writer.old) (W.contents writer.new) (operands_text (status_at registers.now buffer.now count) entry.now.stage entry.now.instruction) }
+    ensures { Says W.contents out.old out.new (operands_text (status_at registers.now buffer.now count) entry.now.stage entry.now.instruction) }
 {
     match (&entry.stage, &entry.instruction) {
         (Stage::Waiting, Some(instruction)) => {
-            write_sources(writer, buffer, registers, count, instruction)
+            write_sources(out, buffer, registers, count, instruction)
         }
-        _ => Ok(()),
+        _ => {}
     }
 }

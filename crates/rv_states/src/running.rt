@@ -1,10 +1,10 @@
-ghost use Rattle.std.specs.Prelude.{◌≡◌, ◌≤◌, ◌++◌, length, vec_capacity};
+ghost use Rattle.std.specs.Prelude.{◌≡◌, ◌≤◌, ◌++◌, false, length, vec_capacity};
 ghost use Rattle.rv_hardware.specs.Guided.{guided};
 ghost use Rattle.rv_passage.specs.Table.{HasRoom, passages_of, table_at};
-ghost use Rattle.rv_states.specs.Page.{after_lines};
-ghost use Rattle.rv_states.specs.States.{WritesStates, begun_text, shown_text};
+ghost use Rattle.rv_states.specs.Page.{after_lines, before_lines};
+ghost use Rattle.rv_states.specs.States.{WritesStates, head_text};
 ghost use Rattle.rv_json.specs.Stop.{stop_line};
-ghost use Rattle.rv_text.specs.Written.{IsContinued};
+ghost use Rattle.rv_text.specs.Said.{Extends};
 
 use crate::form::Form;
 use crate::moment::{write_begun, write_end, write_head, write_shown};
@@ -15,24 +15,24 @@ use rv_hardware::Step;
 use rv_isa::Arrivals;
 use rv_passage::{Passage, Table};
 use rv_source::Listing;
-use rv_text::ReportError;
+use rv_text::Sink;
 use std::convert::Infallible;
 use std::io::Write;
 
-/// Why a run ended, and whether its states were written.
+/// Why a run ended, and whether a write of its states failed.
 #[derive(Clone, Copy)]
 pub(crate) struct Shown {
     pub(crate) stop: Stop,
-    pub(crate) written: Result<(), ReportError>,
+    pub(crate) has_failed: bool,
 }
 
 // The watcher that writes the states after the first `from` cycles: what became of the instructions that may still go on, and
-// whether all was written so far.
+// whether a write failed.
 #[derive(Drop)]
 struct Shower {
     from: u64,
     table: Table,
-    written: Result<(), ReportError>,
+    has_failed: bool,
 }
 
 impl Watcher for Shower {
@@ -40,7 +40,7 @@ impl Watcher for Shower {
 
     type Refusal = Infallible;
 
-    ghost has_seen = { λ start shower seen before now. IsShowing start.from shower.from start.written shower.written shower.table seen before now };
+    ghost has_seen = { λ start shower seen before now. IsShowing start.from shower.from start.has_failed shower.has_failed shower.table seen before now };
 
     ghost has_room = { λ _. Unit {0} };
 
@@ -62,73 +62,46 @@ impl Watcher for Shower {
         let pc = pipeline.observe().pc;
         self.table
             .follow(cycle, steps, buffer, pipeline.front(), pc);
-        let rows = self.table.rows();
         let from = self.from;
-        let shown = show_next(
-            self.written,
-            output,
+        let mut out = Sink::after(output, self.has_failed);
+        write_shown(
+            &mut out,
             from,
             cycle,
-            rows,
+            self.table.rows(),
             steps,
             pipeline,
             progress,
         );
         self.table.drop_ended();
-        self.written = begin_next(shown, output, from, self.table.rows(), pipeline, progress);
+        write_begun(&mut out, from, self.table.rows(), pipeline, progress);
+        self.has_failed = out.has_failed();
     }
 }
 
-// Writes the line of a cycle after what was written before, unless a write failed there.
-fn show_next<W: Write>(
-    written: Result<(), ReportError>,
-    writer: &mut W,
-    from: u64,
-    cycle: u64,
-    rows: &[Passage],
-    steps: &[Step],
-    pipeline: &Pipeline,
-    progress: &Progress,
-) -> Result<(), ReportError>
-    ensures { IsContinued written result (W.contents writer.old) (W.contents writer.new) (shown_text from cycle rows.now steps.now pipeline.now progress.now) }
-{
-    match written {
-        Ok(()) => write_shown(writer, from, cycle, rows, steps, pipeline, progress),
-        Err(error) => Err(error),
-    }
-}
-
-// Writes the lines before the window after what was written before, unless a write failed there.
-fn begin_next<W: Write>(
-    written: Result<(), ReportError>,
-    writer: &mut W,
-    from: u64,
-    rows: &[Passage],
-    pipeline: &Pipeline,
-    progress: &Progress,
-) -> Result<(), ReportError>
-    ensures { IsContinued written result (W.contents writer.old) (W.contents writer.new) (begun_text from rows.now pipeline.now progress.now) }
-{
-    match written {
-        Ok(()) => write_begun(writer, from, rows, pipeline, progress),
-        Err(error) => Err(error),
-    }
-}
-
-// Writes the end after what was written before, unless a write failed there.
-fn end_next<W: Write>(
-    written: Result<(), ReportError>,
+// Writes what is shown before the first cycle. Answers whether a write failed.
+fn begin<W: Write>(
     writer: &mut W,
     form: Form,
-    cycles: u64,
-    stop: Stop,
-) -> Result<(), ReportError>
-    ensures { IsContinued written result (W.contents writer.old) (W.contents writer.new) (stop_line cycles stop ++ after_lines form) }
+    from: u64,
+    listing: &Listing,
+    rows: &[Passage],
+    pipeline: &Pipeline,
+) -> bool
+    ensures { Extends false result (W.contents writer.old) (W.contents writer.new) (before_lines form ++ head_text from listing.now rows.now pipeline.now) }
 {
-    match written {
-        Ok(()) => write_end(writer, form, cycles, stop),
-        Err(error) => Err(error),
-    }
+    let mut out = Sink::new(writer);
+    write_head(&mut out, form, from, listing, rows, pipeline);
+    out.has_failed()
+}
+
+// Writes the end after what was written before. Answers whether a write failed.
+fn end<W: Write>(writer: &mut W, has_failed: bool, form: Form, cycles: u64, stop: Stop) -> bool
+    ensures { Extends has_failed result (W.contents writer.old) (W.contents writer.new) (stop_line cycles stop ++ after_lines form) }
+{
+    let mut out = Sink::after(writer, has_failed);
+    write_end(&mut out, form, cycles, stop);
+    out.has_failed()
 }
 
 /// Runs a pipeline that a predictor guides up to so many cycles, and writes the states after the first `from` of them as far as no
@@ -152,13 +125,13 @@ pub(crate) fn run_shown<W: Write>(
     requires interrupts { 8 ≤ vec_capacity table.interrupts }
     requires few { length (passages_of table).rows ≤ 288 }
     requires steps { 8 ≤ vec_capacity steps }
-    ensures { WritesStates arrivals.now from limit form listing.now (guided pipeline.old (known predictor.old)) (guided pipeline.new (known predictor.new)) result.stop result.written (W.contents writer.old) (W.contents writer.new) }
+    ensures { WritesStates arrivals.now from limit form listing.now (guided pipeline.old (known predictor.old)) (guided pipeline.new (known predictor.new)) result.stop result.has_failed (W.contents writer.old) (W.contents writer.new) }
 {
-    let written = write_head(writer, form, from, listing, table.rows(), pipeline);
+    let has_failed = begin(writer, form, from, listing, table.rows(), pipeline);
     let mut shower = Shower {
         from,
         table,
-        written,
+        has_failed,
     };
     let ended = watch(
         pipeline,
@@ -172,7 +145,7 @@ pub(crate) fn run_shown<W: Write>(
     match ended.stop {
         Ok(stop) => Shown {
             stop,
-            written: end_next(shower.written, writer, form, ended.progress.cycles, stop),
+            has_failed: end(writer, shower.has_failed, form, ended.progress.cycles, stop),
         },
     }
 }

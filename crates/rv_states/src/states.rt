@@ -11,7 +11,7 @@ use rv_front::Predictor;
 use rv_isa::Arrivals;
 use rv_passage::Table;
 use rv_source::Listing;
-use rv_text::{ReportError, TextError};
+use rv_text::TextError;
 use std::alloc::Global;
 use std::io::Write;
 
@@ -50,8 +50,9 @@ pub fn write_states<W: Write>(
     let shown = run_shown(
         pipeline, predictor, arrivals, from, limit, form, listing, table, steps, writer,
     );
-    match shown.written {
-        Ok(()) => Ok(shown.stop),
-        Err(ReportError::WriteFailed) => Err(TextError::WriteFailed),
+    if shown.has_failed {
+        Err(TextError::WriteFailed)
+    } else {
+        Ok(shown.stop)
     }
 }

@@ -1,10 +1,10 @@
 -- What was said, and then said on.
-use Rattle.std.proofs.Common.{◌≡◌, ℕ, ◌+◌, ◌<◌, ◌≤◌, List, [], ◌++◌, length, get_or, take, Option, refl, sym, ap, ◌∙◌, append_assoc, append-nil, add-one}
+use Rattle.std.proofs.Common.{◌≡◌, ℕ, ◌+◌, ◌<◌, ◌≤◌, List, [], ◌++◌, length, get_or, take, Option, refl, sym, ap, subst, ◌∙◌, append_assoc, append-nil, add-one}
 use Rattle.std.specs.Prelude.{Bool, true, false, Result, Ok, Err, is_err}
 use Rattle.std.specs.List.{flat_map}
 use Rattle.std.proofs.lemmas.List.{take_all}
 use Rattle.rv_text.specs.IsText.{IsText}
-use Rattle.rv_text.specs.Said.{IsSaid, Says, answered}
+use Rattle.rv_text.specs.Said.{Extends, IsSaid, Says, answered}
 use Rattle.rv_text.specs.Written.{IsWritten}
 use Rattle.rv_text.specs.declared.sink.Sink.{Sink}
 use Rattle.rv_text.proofs.Writing.{Appends-both, Appends-nothing, Appends-same, beginning-both, beginning-longer, beginning-same, flat_map-more, texts_below, texts_below-more}
@@ -12,6 +12,23 @@ use Rattle.rv_text.proofs.Writing.{Appends-both, Appends-nothing, Appends-same, 
 said_same : (failed : Bool) (before now : Option (List ℕ)) (xs ys : List ℕ) → xs ≡ ys → IsSaid failed before now xs → IsSaid failed before now ys
 said_same true before now xs ys same said = beginning-same before now xs ys same said
 said_same false before now xs ys same said = Appends-same before now xs ys same said
+
+-- what was said is extended by nothing, by one text after the other, by the same text
+pub extends_nothing : (failed : Bool) (known : Option (List ℕ)) → Extends failed failed known known []
+extends_nothing failed known = record { extends = λ before first said. said_same failed before known first (first ++ []) (sym (append-nil first)) said }
+
+pub extends_both : {f g h : Bool} {a b c : Option (List ℕ)} {xs ys : List ℕ} → Extends f g a b xs → Extends g h b c ys → Extends f h a c (xs ++ ys)
+extends_both {h = h} {c = c} {xs = xs} {ys = ys} one other = record {
+  extends = λ before first said.
+      said_same h before c ((first ++ xs) ++ ys) (first ++ (xs ++ ys)) (append_assoc first xs ys) (other.extends before (first ++ xs) (one.extends before first said));
+}
+
+pub extends_same : {f g : Bool} {a b : Option (List ℕ)} {xs ys : List ℕ} → xs ≡ ys → Extends f g a b xs → Extends f g a b ys
+extends_same same extended = rw same at extended
+
+-- what extends nothing that failed is said
+pub extends_whole : {failed : Bool} {old new : Option (List ℕ)} {text : List ℕ} → Extends false failed old new text → IsSaid failed old new text
+extends_whole {old = old} extended = extended.extends old [] (Appends-nothing old)
 
 answered_text : {T : Type 0} (Is : T → List ℕ → Type 0) (answer : T) (text : List ℕ) (failed : Bool) (before now : Option (List ℕ)) → Is answer text → IsSaid failed before now text → IsText Is (answered failed answer) before now
 answered_text Is answer text true before now is said = (answer, text, is, said)
@@ -70,6 +87,13 @@ module _ {W : Type 0} {contents : W → Option (List ℕ)} where
   -- what is written that began with nothing failed
   pub said_whole : {a b : Sink W} {text : List ℕ} → Says contents a b text → a.has_failed ≡ false → IsSaid b.has_failed (contents a.writer.now) (contents b.writer.now) text
   said_whole {a = a} says whole = says.grows (contents a.writer.now) [] (rw whole (Appends-nothing (contents a.writer.now)))
+
+  -- what is said to a sink extends what its writer held
+  pub says_extends : {a b : Sink W} {text : List ℕ} {was is : Bool} {old new : W} → a.has_failed ≡ was → a.writer.now ≡ old → is ≡ b.has_failed → new ≡ b.writer.now
+      → Says contents a b text → Extends was is (contents old) (contents new) text
+  says_extends {a = a} {b = b} {text = text} failed known fails holds says =
+      subst (λ (held : Bool × (Bool × (W × W))). Extends held.0 held.1.0 (contents held.1.1.0) (contents held.1.1.1) text)
+      (λ i. (failed i, (sym fails i, (known i, sym holds i)))) (record { extends = says.grows })
 
   -- what a call has written that began with nothing failed
   pub says_written : {T E : Type 0} {a b : Sink W} {text : List ℕ} (r : Result T E) → is_err r ≡ b.has_failed → a.has_failed ≡ false → Says contents a b text → IsWritten r (contents a.writer.now) (contents b.writer.now) text

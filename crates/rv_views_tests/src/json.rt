@@ -12,11 +12,9 @@ mod stores;
 mod units;
 mod words;
 
-use rv_text::ReportError;
 use std::process::Abort;
 
-// A text that was written whole is this one.
-fn expect_text(rt: &impl Abort, written: Result<(), ReportError>, text: &Vec<u8>, expected: &[u8]) {
-    assert!(rt; written.is_ok());
+// A text that was written is this one.
+fn expect_text(rt: &impl Abort, text: &Vec<u8>, expected: &[u8]) {
     assert_eq!(rt; text.as_slice(), expected);
 }

@@ -2,6 +2,7 @@ use crate::json::expect_text;
 use rv_isa::{AluOp, Cause, Fault, Immediate, Instr, Issue, Message, Reg, Width};
 use rv_json::write_entry;
 use rv_rob::{Entry, Stage};
+use rv_text::Sink;
 
 fn register(number: u8) -> Reg {
     Reg::new(number).unwrap_or(Reg::ZERO)
@@ -96,9 +97,13 @@ fn an_entry_shows_how_far_it_has_come(rt: HostRuntime) {
     for (stage, end) in STAGES {
         let alloc = rt.alloc();
         let mut text = Vec::new(alloc);
-        let written = write_entry(&mut text, 19, &entry(operation(AluOp::Mul), stage));
+        write_entry(
+            &mut Sink::new(&mut text),
+            19,
+            &entry(operation(AluOp::Mul), stage),
+        );
         let expected = format!(in alloc; "{HEAD}{end}").expect(&rt, "a text");
-        expect_text(&rt, written, &text, expected.as_bytes());
+        expect_text(&rt, &text, expected.as_bytes());
     }
 }
 
@@ -110,9 +115,9 @@ fn an_entry_of_no_word_has_neither_target_nor_kind(rt: HostRuntime) {
         instruction: None,
         ..entry(Instr::Ecall, Stage::Waiting)
     };
-    let written = write_entry(&mut text, 19, &entry);
+    write_entry(&mut Sink::new(&mut text), 19, &entry);
     let expected = b"{\"sequence\":19,\"pc\":20,\"fetched\":25,\"dispatched\":26,\"predicted\":24";
-    expect_text(&rt, written, &text, expected);
+    expect_text(&rt, &text, expected);
 }
 
 #[test]
@@ -135,8 +140,11 @@ fn an_entry_has_its_target_and_its_kind_of_unit(rt: HostRuntime) {
     ];
     for (instruction, end) in kinds {
         let mut text = Vec::new(rt.alloc());
-        let written = write_entry(&mut text, 19, &entry(instruction, Stage::Waiting));
-        assert!(&rt; written.is_ok());
+        write_entry(
+            &mut Sink::new(&mut text),
+            19,
+            &entry(instruction, Stage::Waiting),
+        );
         assert!(&rt; text.as_slice().ends_with(end.as_bytes()));
     }
 }

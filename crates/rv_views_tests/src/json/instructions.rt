@@ -2,6 +2,7 @@ use crate::json::expect_text;
 use rv_isa::{Cause, Issue, Reg};
 use rv_json::{Instructions, write_array_member};
 use rv_passage::{Ending, Passage, Producers};
+use rv_text::Sink;
 
 // An instruction that passed through all stages.
 fn passed(number: u64, ending: Ending) -> Passage {
@@ -55,11 +56,15 @@ fn an_instruction_that_left_has_its_stages_and_its_end(rt: HostRuntime) {
         let alloc = rt.alloc();
         let mut text = Vec::new(alloc);
         let rows = [passed(9, ending)];
-        let written = write_array_member(&mut text, "instructions", &Instructions { rows: &rows });
+        write_array_member(
+            &mut Sink::new(&mut text),
+            "instructions",
+            &Instructions { rows: &rows },
+        );
         let expected = format!(in alloc; ",\"instructions\":[{{\"number\":9,{PASSED}{end}").expect(
             &rt, "a text",
         );
-        expect_text(&rt, written, &text, expected.as_bytes());
+        expect_text(&rt, &text, expected.as_bytes());
     }
 }
 
@@ -67,7 +72,11 @@ fn an_instruction_that_left_has_its_stages_and_its_end(rt: HostRuntime) {
 fn an_instruction_in_flight_has_its_number_alone(rt: HostRuntime) {
     let rows = [passed(9, Ending::InFlight), passed(10, Ending::InFlight)];
     let mut text = Vec::new(rt.alloc());
-    let written = write_array_member(&mut text, "instructions", &Instructions { rows: &rows });
+    write_array_member(
+        &mut Sink::new(&mut text),
+        "instructions",
+        &Instructions { rows: &rows },
+    );
     let expected = b",\"instructions\":[{\"number\":9},{\"number\":10}]";
-    expect_text(&rt, written, &text, expected);
+    expect_text(&rt, &text, expected);
 }

@@ -3,6 +3,7 @@ use crate::machine::listing;
 use rv_isa::Values;
 use rv_json::write_listing;
 use rv_source::{Listing, SourceLine};
+use rv_text::Sink;
 
 // The values of a RAM of three words.
 fn three_words() -> Values {
@@ -26,8 +27,8 @@ fn a_word_of_the_program_has_its_address_and_its_line(rt: HostRuntime) {
     let pushed = listing.push_line(SourceLine::new(5, third), 1);
     assert!(&rt; pushed.is_ok());
     let mut text = Vec::new(alloc);
-    let written = write_listing(&mut text, &listing, &three_words());
-    expect_text(&rt, written, &text, LINES);
+    write_listing(&mut Sink::new(&mut text), &listing, &three_words());
+    expect_text(&rt, &text, LINES);
 }
 
 #[test]
@@ -40,11 +41,11 @@ fn a_line_of_two_words_stands_at_both_addresses_in_ram(rt: HostRuntime) {
         assert!(&rt; pushed.is_ok());
     }
     let mut text = Vec::new(alloc);
-    let written = write_listing(&mut text, &listing, &three_words());
+    write_listing(&mut Sink::new(&mut text), &listing, &three_words());
     let expected = b"{\"address\":2147483648,\"line\":3,\"text\":\"li x1,5000\"}\n\
 {\"address\":2147483652,\"line\":3,\"text\":\"li x1,5000\"}\n\
 {\"address\":2147483656,\"line\":4,\"text\":\"li x2,5000\"}\n";
-    expect_text(&rt, written, &text, expected);
+    expect_text(&rt, &text, expected);
 }
 
 // What a line of the program is shown as.
@@ -65,8 +66,7 @@ fn no_line_of_the_program_becomes_markup(rt: HostRuntime) {
         let alloc = rt.alloc();
         let listing = listing(&rt, alloc, &[line]);
         let mut text = Vec::new(alloc);
-        let written = write_listing(&mut text, &listing, &three_words());
-        assert!(&rt; written.is_ok());
+        write_listing(&mut Sink::new(&mut text), &listing, &three_words());
         let shown = format!(in alloc;
             "{{\"address\":2147483648,\"line\":1,\"text\":\"{shown}\"}}\n"
         ).expect(&rt, "a text");

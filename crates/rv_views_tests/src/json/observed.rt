@@ -2,6 +2,7 @@ use crate::json::expect_text;
 use rv_arch::{CsrOperand, Csrs, Observed};
 use rv_isa::{CsrAddress, CsrOp, Lines};
 use rv_json::write_observed;
+use rv_text::Sink;
 use std::process::Abort;
 
 // x0 to x31.
@@ -82,8 +83,8 @@ fn what_retired_instructions_left_has_each_register(rt: HostRuntime) {
             },
         };
         let mut text = Vec::new(alloc);
-        let written = write_observed(&mut text, &seen);
+        write_observed(&mut Sink::new(&mut text), &seen);
         let expected = format!(in alloc; "{FRONT}{end}").expect(&rt, "a text");
-        expect_text(&rt, written, &text, expected.as_bytes());
+        expect_text(&rt, &text, expected.as_bytes());
     }
 }

@@ -1,6 +1,7 @@
 use crate::json::expect_text;
 use rv_cache::CacheLine;
 use rv_json::write_set;
+use rv_text::Sink;
 
 #[test]
 fn a_set_has_its_lines_the_last_used_first(rt: HostRuntime) {
@@ -19,8 +20,8 @@ fn a_set_has_its_lines_the_last_used_first(rt: HostRuntime) {
         },
     ];
     let mut text = Vec::new(rt.alloc());
-    let written = write_set(&mut text, 3, &lines);
+    write_set(&mut Sink::new(&mut text), 3, &lines);
     let expected = b"{\"set\":3,\"lines\":[{\"line\":11,\"dirty\":true},\
 {\"line\":10,\"dirty\":false},{\"line\":12,\"dirty\":true}]}\n";
-    expect_text(&rt, written, &text, expected);
+    expect_text(&rt, &text, expected);
 }

@@ -2,6 +2,7 @@ use crate::json::expect_text;
 use rv_hardware::{Execution, Row, Step};
 use rv_isa::{Cause, Reg};
 use rv_json::{Steps, write_array_member};
+use rv_text::Sink;
 
 // A load that retired.
 fn retired(register: Reg) -> Step {
@@ -41,6 +42,6 @@ fn each_kind_of_step_has_its_pc_and_what_it_was(rt: HostRuntime) {
         },
     ];
     let mut text = Vec::new(rt.alloc());
-    let written = write_array_member(&mut text, "steps", &Steps { steps: &steps });
-    expect_text(&rt, written, &text, STEPS);
+    write_array_member(&mut Sink::new(&mut text), "steps", &Steps { steps: &steps });
+    expect_text(&rt, &text, STEPS);
 }

@@ -1,6 +1,7 @@
 use crate::json::expect_text;
 use rv_arch::Stop;
 use rv_json::write_stop;
+use rv_text::Sink;
 
 const STOPS: [(Stop, &[u8]); 4] = [
     (Stop::Limit, b"{\"cycles\":9,\"stop\":\"limit\"}\n"),
@@ -16,7 +17,7 @@ const STOPS: [(Stop, &[u8]); 4] = [
 fn the_last_line_says_why_the_run_ended(rt: HostRuntime) {
     for (stop, line) in STOPS {
         let mut text = Vec::new(rt.alloc());
-        let written = write_stop(&mut text, 9, stop);
-        expect_text(&rt, written, &text, line);
+        write_stop(&mut Sink::new(&mut text), 9, stop);
+        expect_text(&rt, &text, line);
     }
 }

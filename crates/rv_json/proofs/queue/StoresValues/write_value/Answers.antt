@@ -1,11 +1,11 @@
 use Rattle.std.proofs.Common.{sym}
 use Rattle.rv_json.specs.Queue.{store_json}
-use Rattle.rv_json.proofs.Arrays.{found_written, missing_written}
+use Rattle.rv_json.proofs.Arrays.{found_said, missing_said}
 use Rattle.rv_json.proofs.queue.StoresValues.write_value.Goals as goal
 
 pub returns-in-Some : goal.returns-in-Some
 returns-in-Some g c =
-    found_written store_json c.args.self.now.queue.now.stores _ _ _ _ _ (sym c.in-Some.ensures) c.write_store.ensures
+    found_said store_json c.args.self.now.queue.now.stores _ _ (sym c.in-Some.ensures) c.write_store.ensures
 
 pub returns-in-None : goal.returns-in-None
-returns-in-None g c = missing_written store_json c.args.self.now.queue.now.stores _ _ (sym c.in-None.ensures)
+returns-in-None g c = missing_said store_json c.args.self.now.queue.now.stores _ (sym c.in-None.ensures)
