@@ -86,7 +86,8 @@ function showTable({ output }) {
   const table = tableOf(lines, (cell, column) => {
     const made = element("td", { className: isFigure(cell) ? "figure" : "words" });
     made.append(column === line && cell !== "" ? lineButton(cell) : cell);
-    if (column === head) made.append(element("span", { className: "bar", style: "width: " + (4 * Number(cell)) / most + "rem" }));
+    const length = (4 * Number(cell)) / most;
+    if (column === head) made.append(element("span", { className: "bar", style: "width: " + length + "rem; margin-right: " + (4 - length) + "rem" }));
     return made;
   });
   byId("shown").append(table, restNote(rest));
