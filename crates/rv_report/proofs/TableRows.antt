@@ -1,16 +1,15 @@
 -- The lines of a table, one after the other.
 use Rattle.std.proofs.Common.{◌≡◌, ◌∙◌, ℕ, ◌+◌, ◌-◌, ◌<◌, List, [], length, take, get_or, Option, sym, ap, arith}
 use Rattle.std.specs.List.{enumerate_from, flat_map}
-use Rattle.std.specs.Io.KnownBytes.{Appends}
 use Rattle.std.proofs.lemmas.List.{take_all}
 use Rattle.std.proofs.lemmas.List.FromFn.{get_or-enumerate_from, length-enumerate_from}
 use Rattle.rv_report.specs.Comparison.{row_of, table_row}
 use Rattle.rv_report.specs.declared.losses.ComparedRun.{ComparedRun}
-use Rattle.rv_text.specs.Written.{AppendsBeginning}
-use Rattle.rv_text.proofs.Writing.{Appends-at, Appends-same, beginning-at, beginning-same}
+use Rattle.rv_text.specs.Said.{Says}
+use Rattle.rv_text.specs.declared.sink.Sink.{Sink}
+use Rattle.rv_text.proofs.Saying.{says_at, says_same}
 
-module _ (names : List (List ℕ)) (runs : List ComparedRun) (place : ℕ) (below : place < length runs) (other : ComparedRun) (a b c : Option (List ℕ))
-    (front : Appends a b (flat_map (row_of names) (take place (enumerate_from 1 runs)))) where
+module _ (names : List (List ℕ)) (runs : List ComparedRun) (place : ℕ) (below : place < length runs) (other : ComparedRun) where
   abbrev run : ComparedRun
   run = get_or runs place other
 
@@ -26,13 +25,10 @@ module _ (names : List (List ℕ)) (runs : List ComparedRun) (place : ℕ) (belo
       ap (λ n. table_row (1 + place) (get_or names n []) run) before
       ∙ ap (row_of names) (sym (get_or-enumerate_from 1 runs place here below))
 
-  -- a line that was not written whole
-  pub beginning_at_row : AppendsBeginning b c (table_row (1 + place) (get_or names place []) run) → AppendsBeginning a c (flat_map (row_of names) (enumerate_from 1 runs))
-  beginning_at_row last = beginning-at (row_of names) (enumerate_from 1 runs) place here within a b c front (beginning-same _ _ _ _ line_is last)
-
   -- one more line
-  pub row_written : Appends b c (table_row (1 + place) (get_or names place []) run) → Appends a c (flat_map (row_of names) (take (place + 1) (enumerate_from 1 runs)))
-  row_written last = Appends-at (row_of names) (enumerate_from 1 runs) place here within a b c front (Appends-same _ _ _ _ line_is last)
+  pub row_said : {W : Type 0} {contents : W → Option (List ℕ)} {a b c : Sink W} → Says contents a b (flat_map (row_of names) (take place (enumerate_from 1 runs)))
+      → Says contents b c (table_row (1 + place) (get_or names place []) run) → Says contents a c (flat_map (row_of names) (take (place + 1) (enumerate_from 1 runs)))
+  row_said front last = says_at (row_of names) (enumerate_from 1 runs) place here within front (says_same line_is last)
 
 -- the lines of all runs
 pub all_rows : (names : List (List ℕ)) (runs : List ComparedRun) (place : ℕ) → place ≡ length runs → flat_map (row_of names) (take place (enumerate_from 1 runs)) ≡ flat_map (row_of names) (enumerate_from 1 runs)

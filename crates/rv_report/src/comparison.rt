@@ -3,31 +3,29 @@ ghost use Rattle.std.specs.List.{enumerate_from, flat_map};
 ghost use Rattle.rv_report.specs.Comparison.{count_values, loss_values, name_text, row_of, table_head, table_of, table_row};
 ghost use Rattle.rv_report.specs.State.{stop_text};
 ghost use Rattle.rv_text.specs.ReadField.{cell_text};
+ghost use Rattle.rv_text.specs.Said.{Says};
 ghost use Rattle.rv_text.specs.Written.{IsWritten};
 
 use crate::losses::ComparedRun;
 use crate::state::write_reason;
 use crate::totals::Totals;
 use rv_arch::Stop;
-use rv_text::{ReportError, Value, put, put_all, write_cells, write_plain};
+use rv_text::{ReportError, Sink, Value};
 use std::io::Write;
 
 #[tactic(auto, unfolding(crate::specs::Comparison::table_head))]
-fn write_head<W: Write>(writer: &mut W) -> Result<(), ReportError>
-    ensures { IsWritten result (W.contents writer.old) (W.contents writer.new) table_head }
+fn write_head<W: Write>(out: &mut Sink<'_, W>)
+    ensures { Says W.contents out.old out.new table_head }
 {
-    put_all(
-        writer,
-        &[
-            b"number\tcycles\tretired\tcpi\ttraps\tinterrupts\tbusy\tstall_fetch\tstall_serial\tstall_rob\t",
-            b"stall_station\tstall_store\tmispredicted\tsquashed\tmisses\tname\tstop\n",
-        ],
-    )
+    out.put_all(&[
+        b"number\tcycles\tretired\tcpi\ttraps\tinterrupts\tbusy\tstall_fetch\tstall_serial\tstall_rob\t",
+        b"stall_station\tstall_store\tmispredicted\tsquashed\tmisses\tname\tstop\n",
+    ]);
 }
 
 // The number of a run, and the counts of its cycles and steps.
-fn write_counts<W: Write>(writer: &mut W, number: u64, totals: &Totals) -> Result<(), ReportError>
-    ensures { IsWritten result (W.contents writer.old) (W.contents writer.new) (flat_map cell_text (count_values number totals.now)) }
+fn write_counts<W: Write>(out: &mut Sink<'_, W>, number: u64, totals: &Totals)
+    ensures { Says W.contents out.old out.new (flat_map cell_text (count_values number totals.now)) }
 {
     let values = [
         Value::Count(number),
@@ -41,12 +39,12 @@ fn write_counts<W: Write>(writer: &mut W, number: u64, totals: &Totals) -> Resul
         Value::Count(totals.steps.interrupts),
         Value::Count(totals.busy),
     ];
-    write_cells(writer, &values)
+    out.put_cells(&values);
 }
 
 // The cycles of a run that dispatched nothing, by the reason, and what it lost cycles to.
-fn write_losses<W: Write>(writer: &mut W, run: &ComparedRun) -> Result<(), ReportError>
-    ensures { IsWritten result (W.contents writer.old) (W.contents writer.new) (flat_map cell_text (loss_values run.now)) }
+fn write_losses<W: Write>(out: &mut Sink<'_, W>, run: &ComparedRun)
+    ensures { Says W.contents out.old out.new (flat_map cell_text (loss_values run.now)) }
 {
     let values = [
         Value::Count(run.totals.stalls.fetch),
@@ -58,48 +56,45 @@ fn write_losses<W: Write>(writer: &mut W, run: &ComparedRun) -> Result<(), Repor
         Value::Count(run.losses.squashed),
         Value::Count(run.losses.misses),
     ];
-    write_cells(writer, &values)
+    out.put_cells(&values);
 }
 
 // The name of a machine, or a hyphen where it has none.
 #[tactic(auto, unfolding(crate::specs::Comparison::name_text))]
-fn write_name<W: Write>(writer: &mut W, name: &[u8]) -> Result<(), ReportError>
-    ensures { IsWritten result (W.contents writer.old) (W.contents writer.new) (name_text name.now) }
+fn write_name<W: Write>(out: &mut Sink<'_, W>, name: &[u8])
+    ensures { Says W.contents out.old out.new (name_text name.now) }
 {
     match name {
-        [] => put(writer, b"-"),
-        _ => write_plain(writer, name),
+        [] => out.put(b"-"),
+        _ => out.put_plain(name),
     }
 }
 
 // What the line of a run ends with: a tab, and why the run ended.
-fn write_end<W: Write>(writer: &mut W, stop: Stop) -> Result<(), ReportError>
-    ensures { IsWritten result (W.contents writer.old) (W.contents writer.new) (codes "\t" ++ (stop_text stop ++ codes "\n")) }
+#[tactic(auto, using(rv_text::proofs::Saying::saying))]
+fn write_end<W: Write>(out: &mut Sink<'_, W>, stop: Stop)
+    ensures { Says W.contents out.old out.new (codes "\t" ++ (stop_text stop ++ codes "\n")) }
 {
-    put(writer, b"\t")?;
-    write_reason(writer, stop)
+    out.put(b"\t");
+    write_reason(out, stop);
 }
 
 // The name of a run's machine, and why the run ended.
-fn write_name_and_end<W: Write>(writer: &mut W, name: &[u8], stop: Stop) -> Result<(), ReportError>
-    ensures { IsWritten result (W.contents writer.old) (W.contents writer.new) (name_text name.now ++ (codes "\t" ++ (stop_text stop ++ codes "\n"))) }
+#[tactic(auto, using(rv_text::proofs::Saying::saying))]
+fn write_name_and_end<W: Write>(out: &mut Sink<'_, W>, name: &[u8], stop: Stop)
+    ensures { Says W.contents out.old out.new (name_text name.now ++ (codes "\t" ++ (stop_text stop ++ codes "\n"))) }
 {
-    write_name(writer, name)?;
-    write_end(writer, stop)
+    write_name(out, name);
+    write_end(out, stop);
 }
 
 // The line of a run.
-fn write_row<W: Write>(
-    writer: &mut W,
-    number: u64,
-    name: &[u8],
-    run: &ComparedRun,
-) -> Result<(), ReportError>
-    ensures { IsWritten result (W.contents writer.old) (W.contents writer.new) (table_row number name.now run.now) }
+fn write_row<W: Write>(out: &mut Sink<'_, W>, number: u64, name: &[u8], run: &ComparedRun)
+    ensures { Says W.contents out.old out.new (table_row number name.now run.now) }
 {
-    write_counts(writer, number, &run.totals)?;
-    write_losses(writer, run)?;
-    write_name_and_end(writer, name, run.totals.stop)
+    write_counts(out, number, &run.totals);
+    write_losses(out, run);
+    write_name_and_end(out, name, run.totals.stop);
 }
 
 // The name at a place, or none.
@@ -114,23 +109,28 @@ fn name_at(names: &[Vec<u8>], place: usize) -> &[u8]
 }
 
 // The lines of runs, which are numbered from 1.
-fn write_rows<W: Write>(
-    writer: &mut W,
-    names: &[Vec<u8>],
-    runs: &[ComparedRun],
-) -> Result<(), ReportError>
-    ensures { IsWritten result (W.contents writer.old) (W.contents writer.new) (flat_map (row_of (map (λ name. name.items) names.now)) (enumerate_from 1 runs.now)) }
+fn write_rows<W: Write>(out: &mut Sink<'_, W>, names: &[Vec<u8>], runs: &[ComparedRun])
+    ensures { Says W.contents out.old out.new (flat_map (row_of (map (λ name. name.items) names.now)) (enumerate_from 1 runs.now)) }
 {
     for place in 0..runs.len() {
         let run = runs[place];
-        write_row(writer, 1 + place as u64, name_at(names, place), &run)?;
+        write_row(out, 1 + place as u64, name_at(names, place), &run);
     }
-    Ok(())
+}
+
+// The names of the columns, and the lines of the runs.
+#[tactic(auto, using(rv_text::proofs::Saying::saying), unfolding(crate::specs::Comparison::table_of))]
+fn say_table<W: Write>(names: &[Vec<u8>], runs: &[ComparedRun], out: &mut Sink<'_, W>)
+    ensures { Says W.contents out.old out.new (table_of (map (λ name. name.items) names.now) runs.now) }
+{
+    write_head(out);
+    write_rows(out, names, runs);
 }
 
 /// Writes what several runs came to as a table: a line with the names of the columns, and a line for each run, numbered from
 /// 1, with a tab between two cells. `names` has the names of the runs' machines, in their order. Asks for no memory. Fails by
 /// `WriteFailed` alone, and what was written is then a beginning of the table.
+#[tactic(auto, using(rv_text::proofs::Saying::says_written))]
 pub fn write_table<W: Write>(
     names: &[Vec<u8>],
     runs: &[ComparedRun],
@@ -138,6 +138,7 @@ pub fn write_table<W: Write>(
 ) -> Result<(), ReportError>
     ensures { IsWritten result (W.contents writer.old) (W.contents writer.new) (table_of (map (λ name. name.items) names.now) runs.now) }
 {
-    write_head(writer)?;
-    write_rows(writer, names, runs)
+    let mut out = Sink::new(writer);
+    say_table(names, runs, &mut out);
+    out.outcome()
 }

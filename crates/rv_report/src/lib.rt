@@ -23,6 +23,5 @@ pub use live_report::write_run;
 pub use losses::{ComparedRun, Losses};
 pub use options::Options;
 pub use reference_report::write_reference;
-pub use rows::write_steps;
 pub use run_report::{write_report, write_totals, write_trace};
 pub use totals::{StepCounts, Totals, count_steps};

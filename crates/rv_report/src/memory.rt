@@ -1,10 +1,10 @@
 ghost use Rattle.std.specs.Prelude.{◌≡◌};
 ghost use Rattle.rv_hardware.specs.Seen.{layout_of, seen};
 ghost use Rattle.rv_report.specs.Memory.{memory_line, memory_text, word_of, word_seen, seen_memory_lines};
-ghost use Rattle.rv_text.specs.Written.{IsWritten};
+ghost use Rattle.rv_text.specs.Said.{Says};
 
 use rv_core::Pipeline;
-use rv_text::{ReportError, hexadecimal, put_all};
+use rv_text::{Sink, hexadecimal};
 use std::io::Write;
 
 // The text of a word of memory, or of `None` outside RAM.
@@ -20,19 +20,12 @@ fn memory_text(word: Option<u32>) -> [u8; 8]
 
 /// Writes the line of a word of memory, or of `None` outside RAM.
 #[tactic(auto, unfolding(crate::specs::Memory::memory_line, rv_text::specs::Line::line_of))]
-pub(crate) fn write_word<W: Write>(
-    writer: &mut W,
-    address: u32,
-    word: Option<u32>,
-) -> Result<(), ReportError>
-    ensures { IsWritten result (W.contents writer.old) (W.contents writer.new) (memory_line address word) }
+pub(crate) fn write_word<W: Write>(out: &mut Sink<'_, W>, address: u32, word: Option<u32>)
+    ensures { Says W.contents out.old out.new (memory_line address word) }
 {
     let place = hexadecimal(address);
     let text = memory_text(word);
-    put_all(
-        writer,
-        &[b"m ", place.as_slice(), b" ", text.as_slice(), b"\n"],
-    )
+    out.put_all(&[b"m ", place.as_slice(), b" ", text.as_slice(), b"\n"]);
 }
 
 /// The word of four bytes, the lowest first, if there is each of them.
@@ -67,16 +60,15 @@ fn word_at(pipeline: &Pipeline, address: u32) -> Option<u32>
 
 /// Writes so many words of the core's memory from an address on.
 pub(crate) fn write_memory<W: Write>(
-    writer: &mut W,
+    out: &mut Sink<'_, W>,
     pipeline: &Pipeline,
     address: u32,
     words: u32,
-) -> Result<(), ReportError>
-    ensures { IsWritten result (W.contents writer.old) (W.contents writer.new) (seen_memory_lines (layout_of pipeline.now.values) (seen pipeline.now).ram address words) }
+)
+    ensures { Says W.contents out.old out.new (seen_memory_lines (layout_of pipeline.now.values) (seen pipeline.now).ram address words) }
 {
     for number in 0..words {
         let place = address.wrapping_add(number.wrapping_mul(4));
-        write_word(writer, place, word_at(pipeline, place))?;
+        write_word(out, place, word_at(pipeline, place));
     }
-    Ok(())
 }

@@ -2,55 +2,51 @@ ghost use Rattle.std.specs.Prelude.{◌≡◌, ◌++◌, codes};
 ghost use Rattle.rv_isa.specs.Csr.{row_of};
 ghost use Rattle.rv_arch.specs.Csr.{value_of};
 ghost use Rattle.rv_report.specs.State.{stop_line, stop_text, register_line, register_lines, csr_lines, state_lines};
-ghost use Rattle.rv_text.specs.Written.{IsWritten};
+ghost use Rattle.rv_text.specs.Said.{Says};
 
 use itoa::Buffer;
 use rv_arch::{Observed, Stop};
 use rv_isa::Csr;
-use rv_text::{Field, ReportError, Value, hexadecimal, put, put_all, write_fields};
+use rv_text::{Field, Sink, Value, hexadecimal};
 use std::io::Write;
 
 /// Writes why a run ended, and a line feed.
 #[tactic(auto, unfolding(crate::specs::State::stop_text))]
-pub(crate) fn write_reason<W: Write>(writer: &mut W, stop: Stop) -> Result<(), ReportError>
-    ensures { IsWritten result (W.contents writer.old) (W.contents writer.new) (stop_text stop ++ codes "\n") }
+pub(crate) fn write_reason<W: Write>(out: &mut Sink<'_, W>, stop: Stop)
+    ensures { Says W.contents out.old out.new (stop_text stop ++ codes "\n") }
 {
     match stop {
-        Stop::Limit => put(writer, b"limit\n"),
-        Stop::Breakpoint => put(writer, b"breakpoint\n"),
-        Stop::Stale(pc) => put_all(writer, &[b"stale ", hexadecimal(pc).as_slice(), b"\n"]),
-        Stop::Exhausted => put(writer, b"exhausted\n"),
+        Stop::Limit => out.put(b"limit\n"),
+        Stop::Breakpoint => out.put(b"breakpoint\n"),
+        Stop::Stale(pc) => out.put_all(&[b"stale ", hexadecimal(pc).as_slice(), b"\n"]),
+        Stop::Exhausted => out.put(b"exhausted\n"),
     }
 }
 
 /// Writes the line that says why a run ended.
-pub(crate) fn write_stop<W: Write>(writer: &mut W, stop: Stop) -> Result<(), ReportError>
-    ensures { IsWritten result (W.contents writer.old) (W.contents writer.new) (stop_line stop) }
+pub(crate) fn write_stop<W: Write>(out: &mut Sink<'_, W>, stop: Stop)
+    ensures { Says W.contents out.old out.new (stop_line stop) }
 {
-    put(writer, b"stop ")?;
-    write_reason(writer, stop)
+    out.put(b"stop ");
+    write_reason(out, stop);
 }
 
 #[tactic(auto, unfolding(crate::specs::State::register_line, rv_text::specs::Line::word_line, rv_text::specs::Line::line_of))]
-fn write_register<W: Write>(writer: &mut W, number: usize, word: u32) -> Result<(), ReportError>
-    ensures { IsWritten result (W.contents writer.old) (W.contents writer.new) (register_line number word) }
+fn write_register<W: Write>(out: &mut Sink<'_, W>, number: usize, word: u32)
+    ensures { Says W.contents out.old out.new (register_line number word) }
 {
     let mut buffer = Buffer::new();
     let digits = buffer.format(number).as_bytes();
-    put_all(
-        writer,
-        &[b"x", digits, b" ", hexadecimal(word).as_slice(), b"\n"],
-    )
+    out.put_all(&[b"x", digits, b" ", hexadecimal(word).as_slice(), b"\n"]);
 }
 
 // The registers, a line each.
-fn write_registers<W: Write>(writer: &mut W, registers: &[u32; 32]) -> Result<(), ReportError>
-    ensures { IsWritten result (W.contents writer.old) (W.contents writer.new) (register_lines registers.now) }
+fn write_registers<W: Write>(out: &mut Sink<'_, W>, registers: &[u32; 32])
+    ensures { Says W.contents out.old out.new (register_lines registers.now) }
 {
     for number in 0..32 {
-        write_register(writer, number, registers[number])?;
+        write_register(out, number, registers[number]);
     }
-    Ok(())
 }
 
 // The line of a control and status register.
@@ -65,8 +61,8 @@ fn field(seen: &Observed, csr: Csr) -> Field<'static>
 }
 
 #[tactic(auto, unfolding(crate::specs::State::csr_lines, rv_text::specs::Line::word_line))]
-fn write_csrs<W: Write>(writer: &mut W, seen: &Observed) -> Result<(), ReportError>
-    ensures { IsWritten result (W.contents writer.old) (W.contents writer.new) (csr_lines seen.now.csrs seen.now.lines) }
+fn write_csrs<W: Write>(out: &mut Sink<'_, W>, seen: &Observed)
+    ensures { Says W.contents out.old out.new (csr_lines seen.now.csrs seen.now.lines) }
 {
     let fields = [
         field(seen, Csr::Mstatus),
@@ -78,21 +74,17 @@ fn write_csrs<W: Write>(writer: &mut W, seen: &Observed) -> Result<(), ReportErr
         field(seen, Csr::Mtval),
         field(seen, Csr::Mip),
     ];
-    write_fields(writer, &fields)
+    out.put_fields(&fields);
 }
 
 /// Writes the pc, the registers and the control and status registers.
-#[tactic(auto, unfolding(rv_text::specs::Line::word_line))]
-pub(crate) fn write_state<W: Write>(writer: &mut W, seen: &Observed) -> Result<(), ReportError>
-    ensures { IsWritten result (W.contents writer.old) (W.contents writer.new) (state_lines seen.now.pc seen.now.regs seen.now.csrs seen.now.lines) }
+pub(crate) fn write_state<W: Write>(out: &mut Sink<'_, W>, seen: &Observed)
+    ensures { Says W.contents out.old out.new (state_lines seen.now.pc seen.now.regs seen.now.csrs seen.now.lines) }
 {
-    write_fields(
-        writer,
-        &[Field {
-            name: "pc",
-            value: Value::Word(seen.pc),
-        }],
-    )?;
-    write_registers(writer, &seen.regs)?;
-    write_csrs(writer, seen)
+    out.put_fields(&[Field {
+        name: "pc",
+        value: Value::Word(seen.pc),
+    }]);
+    write_registers(out, &seen.regs);
+    write_csrs(out, seen);
 }

@@ -4,7 +4,7 @@ use rv_front::NotTaken;
 use rv_hardware::{Execution, Row, StallCounts, Step};
 use rv_isa::{Arrival, Arrivals, Cause, Line, Reg, Values};
 use rv_report::{
-    Options, StepCounts, Totals, write_reference, write_run, write_steps, write_totals,
+    Options, StepCounts, Totals, write_reference, write_run, write_totals, write_trace,
 };
 use std::alloc::Global;
 use std::test::Fail;
@@ -227,7 +227,7 @@ fn each_stamp_of_a_step_has_its_own_letter(rt: HostRuntime) -> Result<(), Fail> 
         },
     ];
     let mut trace = Vec::new(rt.alloc());
-    write_steps(&mut trace, &steps)?;
+    write_trace(&mut trace, true, &steps)?;
     let lines = "R 80000010 00500093 F1 D2 I4 B6 C8 x31=deadbeef
 R 80000010 00500093 F1 D2 I- B- C8 -
 T 80000020 00000006 80001002 C9

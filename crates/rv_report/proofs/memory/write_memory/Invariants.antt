@@ -1,4 +1,4 @@
-use Rattle.std.specs.Io.KnownBytes.{Appends}
+use Rattle.rv_text.specs.Said.{Says}
 use Rattle.rv_hardware.specs.Seen.{layout_of, seen}
 use Rattle.rv_report.proofs.MemoryLines.{line_in}
 use Rattle.rv_text.proofs.Writing.{texts_below}
@@ -6,4 +6,4 @@ use Rattle.rv_report.proofs.memory.write_memory.Given as goal
 
 -- the words so far are written
 abbrev pub invariant-loop-number : goal.invariant-loop-number
-invariant-loop-number g l = Appends (g.W.Write.contents l.initial.writer) (g.W.Write.contents l.writer) (texts_below (line_in (layout_of l.pipeline.values) (seen l.pipeline).ram l.address) l.number)
+invariant-loop-number g l = Says g.W.Write.contents l.initial.out l.out (texts_below (line_in (layout_of l.pipeline.values) (seen l.pipeline).ram l.address) l.number)

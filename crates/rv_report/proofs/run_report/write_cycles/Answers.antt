@@ -1,8 +1,8 @@
-use Rattle.std.proofs.Common.{List, ℕ, ◌++◌, ap, append-nil, codes}
+use Rattle.std.proofs.Common.{◌++◌, List, ℕ, ap, append-nil, codes}
 use Rattle.rv_text.specs.Line.{count_line, line_of, ratio_text}
 use Rattle.rv_report.specs.Totals.{cycle_lines}
 use Rattle.rv_report.specs.declared.totals.Totals.{Totals}
-use Rattle.rv_text.proofs.Writing.{written_same}
+use Rattle.rv_text.proofs.Saying.{says_same}
 use Rattle.rv_report.proofs.run_report.write_cycles.Goals as goal
 
 -- the lines of the counts, with what comes after them
@@ -17,4 +17,4 @@ lines_before t rest =
 
 pub returns : goal.returns
 unfolding cycle_lines count_line
-returns g c = written_same _ _ _ _ _ (ap (lines_before c.args.totals.now) (append-nil _)) c.write_fields.ensures
+returns g c = says_same (ap (lines_before c.args.totals.now) (append-nil _)) c.put_fields.ensures

@@ -1,8 +1,8 @@
-use Rattle.std.proofs.Common.{List, ℕ, ◌++◌, ap, append-nil, codes}
+use Rattle.std.proofs.Common.{◌++◌, List, ℕ, ap, append-nil, codes}
 use Rattle.rv_hardware.specs.declared.report.StallCounts.{StallCounts}
 use Rattle.rv_text.specs.Line.{count_line}
 use Rattle.rv_report.specs.Totals.{stall_lines}
-use Rattle.rv_text.proofs.Writing.{written_same}
+use Rattle.rv_text.proofs.Saying.{says_same}
 use Rattle.rv_report.proofs.run_report.write_stalls.Goals as goal
 
 -- the lines of the counts, with what comes after them
@@ -15,4 +15,4 @@ lines_before stalls rest =
 
 pub returns : goal.returns
 unfolding stall_lines count_line
-returns g c = written_same _ _ _ _ _ (ap (lines_before c.args.stalls.now) (append-nil _)) c.write_fields.ensures
+returns g c = says_same (ap (lines_before c.args.stalls.now) (append-nil _)) c.put_fields.ensures

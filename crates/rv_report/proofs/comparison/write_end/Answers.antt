@@ -1,8 +1,0 @@
-use Rattle.rv_text.proofs.Writing.{handed_on, beginning-longer, written_after}
-use Rattle.rv_report.proofs.comparison.write_end.Goals as goal
-
-pub returns-in_err-put : goal.returns-in_err-put
-returns-in_err-put g c = handed_on _ _ _ _ _ c.from_residual.ensures.1 (beginning-longer _ _ _ _ c.in_err-put.ensures)
-
-pub returns : goal.returns
-returns g c = written_after _ _ _ _ _ _ c.in_ok-put.ensures c.write_reason.ensures
