@@ -1,5 +1,5 @@
 -- Which line of a text each word of its image comes from.
-use Rattle.std.specs.Prelude.{ℕ, ◌+◌, ◌-◌, ◌*◌, ◌/◌, List, [], ◌∷◌, ◌++◌, map, length, take, drop, replicate, ◌&&◌, ◌==◌, nat_le, nat_lt, if◌then◌else◌, Option, Some, None}
+use Rattle.std.specs.Prelude.{ℕ, ◌+◌, ◌-◌, ◌*◌, ◌/◌, List, [], ◌∷◌, ◌++◌, map, length, take, drop, replicate, ◌&&◌, ◌==◌, nat_le, nat_lt, if◌then◌else◌, get_or, Option, Some, None}
 use Rattle.std.specs.{Char.is_ascii_whitespace, List.before_first, List.prefix_len, List.suffix_len, List.range_with_len, List.slice_split}
 use Rattle.rv_source.specs.Listing as source
 use Rattle.rv_source.specs.Listing.{Listed}
@@ -15,9 +15,15 @@ trimmed bytes =
     let rest = drop (prefix_len is_ascii_whitespace bytes) bytes in
     take (length rest - suffix_len is_ascii_whitespace rest) rest
 
--- a line that a listing shows: its number, and its statement, which a number sign ends, without white space at its ends
+-- a comment for those who read a listing: one that begins with a number sign and a colon, after a blank and without white space at its end
+abbrev pub noted : List ℕ → List ℕ
+noted comment = if get_or comment 1 0 == 58 then 32 ∷ trimmed comment else []
+
+-- a line that a listing shows: its number, and its statement, which a number sign ends, without white space at its ends, and such a comment
 abbrev pub shown : ℕ → List ℕ → source.Line
-shown number bytes = record { number = number; text = trimmed (before_first (λ byte. byte == 35) bytes) }
+shown number bytes =
+    let size = length (before_first (λ byte. byte == 35) bytes) in
+    record { number = number; text = trimmed (take size bytes) ++ noted (drop size bytes) }
 
 -- the first line whose bytes hold an offset of a section, of lines after a layout, numbered from here on: they begin
 -- where the section had come before the line, and end where it has come after it

@@ -1,8 +1,8 @@
-ghost use Rattle.std.specs.Prelude.{◌≡◌, ◌-◌, ◌++◌, Some, None, IfOk, IfErr, replicate};
+ghost use Rattle.std.specs.Prelude.{◌≡◌, ◌-◌, ◌++◌, Some, None, IfOk, IfErr, get_or, replicate};
 ghost use Rattle.rv_asm.specs.Answer.{RefusedAt};
 ghost use Rattle.rv_asm.specs.Faults.{fault_of};
 ghost use Rattle.rv_asm.specs.Layout.{layout, lines_of};
-ghost use Rattle.rv_asm.specs.Listing.{listing_of, listing_of_kept, reach_before, shown, word_count};
+ghost use Rattle.rv_asm.specs.Listing.{listing_of, listing_of_kept, noted, reach_before, shown, trimmed, word_count};
 ghost use Rattle.rv_asm.specs.Listing.{words_between, words_in, words_of_kept};
 ghost use Rattle.rv_asm.specs.Meaning.{Spells, image_parts, round_up, start_address};
 ghost use Rattle.rv_asm.specs.Symbols.{cells_in, fault_in, kept_in, layout_of};
@@ -40,13 +40,43 @@ fn words_of_gap(text_size: usize) -> usize
     ((rounded + 3) / 4 - (text_size as u128 + 3) / 4) as usize
 }
 
-/// The line as a listing shows it: without its comment, and without white space at its ends.
+// Appends bytes without white space at their ends.
+fn push_trimmed(bytes: &[u8], text: &mut Vec<u8>) -> Result<(), AllocError>
+    ensures { IfOk result (λ _. text.new.items ≡ text.old.items ++ trimmed bytes.now) }
+{
+    text.extend_from_slice(bytes.trim_ascii())?;
+    Ok(())
+}
+
+// The byte after the number sign of a comment; 0 where there is none.
+fn second_byte(comment: &[u8]) -> u8
+    ensures { result ≡ get_or comment.now 1 0 }
+{
+    match comment.get(1) {
+        Some(byte) => *byte,
+        None => 0,
+    }
+}
+
+// Appends a blank and a comment that begins with a number sign and a colon; no other one is for a listing.
+fn push_noted(comment: &[u8], text: &mut Vec<u8>) -> Result<(), AllocError>
+    ensures { IfOk result (λ _. text.new.items ≡ text.old.items ++ noted comment.now) }
+{
+    if second_byte(comment) == b':' {
+        text.push(b' ')?;
+        push_trimmed(comment, text)?;
+    }
+    Ok(())
+}
+
+/// The line as a listing shows it: without white space at its ends, and of comments with one that begins with `#:` alone.
 fn shown(alloc: Global, line: TextLine<'_>) -> Result<SourceLine, AllocError>
     ensures { IfOk result (λ source. source ≡ shown line.entry.number line.entry.bytes.now) }
 {
     let mut text = Vec::new(alloc);
-    let (statement, _) = line.bytes.split_at(length_before(b'#', line.bytes));
-    text.extend_from_slice(statement.trim_ascii())?;
+    let (statement, comment) = line.bytes.split_at(length_before(b'#', line.bytes));
+    push_trimmed(statement, &mut text)?;
+    push_noted(comment, &mut text)?;
     Ok(SourceLine::new(line.number, text))
 }
 

@@ -9,7 +9,7 @@ fn a_word_has_the_line_whose_bytes_hold_its_first_byte(rt: HostRuntime) -> Resul
         (BASE, Some(4), Some(b"la x8,d")),
         (BASE + 4, Some(4), Some(b"la x8,d")),
         (BASE + 8, Some(6), Some(b"nop")),
-        (BASE + 12, Some(7), Some(b".half 3")),
+        (BASE + 12, Some(7), Some(b".half 3 #: main a.c:5")),
         (BASE + 16, Some(9), Some(b"ebreak")),
         (BASE + 20, None, None),
         (BASE + 28, None, None),
@@ -18,7 +18,7 @@ fn a_word_has_the_line_whose_bytes_hold_its_first_byte(rt: HostRuntime) -> Resul
         (BASE + 40, None, None),
     ];
     let text =
-        " .data\nd: .byte 1\n .text\n\tla x8,d \r\n\nnop # x\n.half 3\n.half 4\nebreak\n.data\n.byte 2,3,4,5";
+        " .data\nd: .byte 1\n .text\n\tla x8,d \r\n\nnop # x #: y\n.half 3\t#: main a.c:5 \n.half 4\nebreak\n.data\n.byte 2,3,4,5";
     let listed = assemble_listed(rt.alloc(), text.as_bytes(), BASE)?;
     check_lines(&rt, &listed.listing, &ROWS);
     Ok(())
