@@ -65,6 +65,13 @@ class Firefox:
         self.profile = tempfile.TemporaryDirectory(ignore_cleanup_errors=True)
         words = [find_firefox(), "--headless", "--no-remote", "--profile", self.profile.name, "--remote-debugging-port=0", "about:blank"]
         self.process = subprocess.Popen(words, stdout=subprocess.DEVNULL, stderr=subprocess.PIPE, text=True)
+        try:
+            self.begin()
+        except BaseException:
+            self.process.kill()
+            raise
+
+    def begin(self):
         port = next(int(found[1]) for found in (re.search(r"BiDi listening on ws://127.0.0.1:(\d+)", line) for line in self.process.stderr) if found)
         self.socket, self.count, self.reports = Socket(port), 0, []
         self.send("session.new", capabilities={})
