@@ -1,6 +1,6 @@
 -- The rows of an SVG at one of them.
-use Rattle.std.proofs.Common.{◌≡◌, ◌∙◌, ℕ, ◌+◌, ◌<◌, List, [], ◌∷◌, ◌++◌, length, get_or, take, drop, sym, ap, append_assoc, append-nil, arith, count_by, Option}
-use Rattle.std.proofs.lemmas.List.{take_more, take-append-drop}
+use Rattle.std.proofs.Common.{◌≡◌, ◌∙◌, ℕ, ◌+◌, ◌<◌, List, [], ◌∷◌, ◌++◌, length, get_or, take, sym, ap, append_assoc, append-nil, arith, count_by, Option}
+use Rattle.std.proofs.lemmas.List.{take_more}
 use Rattle.std.proofs.lemmas.List.Sums.{sum_by-append}
 use Rattle.rv_hardware.specs.declared.report.Stall.{Stall}
 use Rattle.rv_passage.specs.declared.passage.Passage.{Passage}
@@ -48,7 +48,3 @@ module _ (listing : Listed) (window : Window) (all : List Passage) (reasons : Li
         let one : count (row ∷ []) ≡ rows_of window row = omega arith in
         let more = ap count (take_more items index other here) ∙ sum_by-append _ (take index items) (row ∷ []) in
         omega (arith, more, one, below)
-
-    pub svg_rows-split : (rows_from 0 (take index items) ++ placed_row listing window all reasons place row) ++ rows_from (0 + count (take (index + 1) items)) (drop (index + 1) items) ≡ rows_from 0 items
-    svg_rows-split =
-        ap (λ front. front ++ rows_from (0 + count (take (index + 1) items)) (drop (index + 1) items)) (sym svg_rows-more) ∙ sym (svg_rows-append 0 (take (index + 1) items) (drop (index + 1) items)) ∙ ap (rows_from 0) (take-append-drop (index + 1) items)

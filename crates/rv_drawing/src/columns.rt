@@ -1,7 +1,7 @@
 ghost use Rattle.std.specs.Prelude.{◌+◌, ◌<◌, ◌^◌};
 ghost use Rattle.rv_drawing.specs.ColumnText.{column_text};
 ghost use Rattle.rv_drawing.specs.Columns.{columns};
-ghost use Rattle.rv_text.specs.Written.{IsWritten};
+ghost use Rattle.rv_text.specs.Said.{Says};
 
 use crate::boxes::write_box_at;
 use crate::marks::{write_number, write_tenth};
@@ -9,7 +9,7 @@ use crate::text::{write_cell, write_interrupt_column, write_scale_column};
 use crate::window::Window;
 use rv_hardware::Stall;
 use rv_passage::Passage;
-use rv_text::ReportError;
+use rv_text::Sink;
 use std::io::Write;
 
 /// What stands in the columns of a window.
@@ -35,38 +35,29 @@ pub(crate) enum Columns<'a> {
     },
 }
 
-fn write_column<W: Write>(
-    writer: &mut W,
-    window: Window,
-    shown: Columns<'_>,
-    column: u64,
-) -> Result<(), ReportError>
+fn write_column<W: Write>(out: &mut Sink<'_, W>, window: Window, shown: Columns<'_>, column: u64)
     requires { window.first + column < 2 ^ 64 }
-    ensures { IsWritten result (W.contents writer.old) (W.contents writer.new) (column_text shown.entry window column) }
+    ensures { Says W.contents out.old out.new (column_text shown.entry window column) }
 {
     match shown {
-        Columns::Scale => write_scale_column(writer, window, column),
-        Columns::Letters(row) => write_cell(writer, window, row, column),
-        Columns::Marks(interrupts) => write_interrupt_column(writer, window, interrupts, column),
-        Columns::Tenths { rows } => write_tenth(writer, window, rows, column),
-        Columns::Numbers => write_number(writer, window, column),
+        Columns::Scale => write_scale_column(out, window, column),
+        Columns::Letters(row) => write_cell(out, window, row, column),
+        Columns::Marks(interrupts) => write_interrupt_column(out, window, interrupts, column),
+        Columns::Tenths { rows } => write_tenth(out, window, rows, column),
+        Columns::Numbers => write_number(out, window, column),
         Columns::Boxes { row, rows, stalls } => {
-            write_box_at(writer, window, rows, stalls, row, column)
+            write_box_at(out, window, rows, stalls, row, column)
         }
     }
 }
 
 /// Writes what stands in each column of a window, from its first cycle on.
-pub(crate) fn write_columns<W: Write>(
-    writer: &mut W,
-    window: Window,
-    shown: Columns<'_>,
-) -> Result<(), ReportError>
+#[tactic(auto, using(rv_text::proofs::Saying::saying), unfolding(crate::specs::Columns::columns))]
+pub(crate) fn write_columns<W: Write>(out: &mut Sink<'_, W>, window: Window, shown: Columns<'_>)
     requires { window.first + window.cycles < 2 ^ 64 }
-    ensures { IsWritten result (W.contents writer.old) (W.contents writer.new) (columns window (column_text shown.entry window)) }
+    ensures { Says W.contents out.old out.new (columns window (column_text shown.entry window)) }
 {
     for column in 0..window.cycles {
-        write_column(writer, window, shown, column)?;
+        write_column(out, window, shown, column);
     }
-    Ok(())
 }

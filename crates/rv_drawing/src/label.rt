@@ -1,7 +1,7 @@
 ghost use Rattle.std.specs.Prelude.{◌≡◌, ◌-◌};
 ghost use Rattle.std.specs.List.{flat_map};
 ghost use Rattle.rv_drawing.specs.Label.{blanks, markup_byte, statement_of, written_by, written_text, padded};
-ghost use Rattle.rv_text.specs.Written.{IsWritten};
+ghost use Rattle.rv_text.specs.Said.{Says};
 
 use crate::shorter::shortened;
 use arrayvec::ArrayVec;
@@ -9,7 +9,7 @@ use itoa::Buffer;
 use rv_isa::Reg;
 use rv_passage::{Ending, Passage, register_name};
 use rv_source::Listing;
-use rv_text::{ReportError, hexadecimal, put, put_all, write_plain_byte};
+use rv_text::{Sink, hexadecimal};
 use std::io::Write;
 
 // So many blanks, at most 40.
@@ -22,26 +22,19 @@ fn blanks(count: usize) -> &'static [u8]
 }
 
 /// Writes the blanks that are left of so many columns.
-pub(crate) fn write_blanks<W: Write>(
-    writer: &mut W,
-    width: usize,
-    used: usize,
-) -> Result<(), ReportError>
-    ensures { IsWritten result (W.contents writer.old) (W.contents writer.new) (blanks (width - used)) }
+pub(crate) fn write_blanks<W: Write>(out: &mut Sink<'_, W>, width: usize, used: usize)
+    ensures { Says W.contents out.old out.new (blanks (width - used)) }
 {
-    put(writer, blanks(width.saturating_sub(used)))
+    out.put(blanks(width.saturating_sub(used)))
 }
 
 /// Writes a text, and blanks until it takes so many columns.
-pub(crate) fn write_padded<W: Write>(
-    writer: &mut W,
-    width: usize,
-    text: &[u8],
-) -> Result<(), ReportError>
-    ensures { IsWritten result (W.contents writer.old) (W.contents writer.new) (padded width text.now) }
+#[tactic(auto, using(rv_text::proofs::Saying::saying), unfolding(crate::specs::Label::padded))]
+pub(crate) fn write_padded<W: Write>(out: &mut Sink<'_, W>, width: usize, text: &[u8])
+    ensures { Says W.contents out.old out.new (padded width text.now) }
 {
-    put(writer, text)?;
-    write_blanks(writer, width, text.len())
+    out.put(text);
+    write_blanks(out, width, text.len())
 }
 
 /// The statement of an instruction in at most 32 bytes, of which a label takes no more than it can. A word that is shown in its
@@ -58,30 +51,30 @@ pub(crate) fn statement<'a>(
 }
 
 #[tactic(auto, unfolding(crate::specs::Label::markup_byte))]
-fn write_markup_byte<W: Write>(writer: &mut W, byte: u8) -> Result<(), ReportError>
-    ensures { IsWritten result (W.contents writer.old) (W.contents writer.new) (markup_byte byte) }
+fn write_markup_byte<W: Write>(out: &mut Sink<'_, W>, byte: u8)
+    ensures { Says W.contents out.old out.new (markup_byte byte) }
 {
     if byte == b'&' {
-        put(writer, b"&amp;")
+        out.put(b"&amp;")
     } else if byte == b'<' {
-        put(writer, b"&lt;")
+        out.put(b"&lt;")
     } else if byte == b'>' {
-        put(writer, b"&gt;")
+        out.put(b"&gt;")
     } else if byte == b'"' {
-        put(writer, b"&quot;")
+        out.put(b"&quot;")
     } else {
-        write_plain_byte(writer, byte)
+        out.put_plain_byte(byte)
     }
 }
 
 /// Writes a statement for an SVG.
-pub(crate) fn write_markup<W: Write>(writer: &mut W, statement: &[u8]) -> Result<(), ReportError>
-    ensures { IsWritten result (W.contents writer.old) (W.contents writer.new) (flat_map markup_byte statement.now) }
+#[tactic(auto, using(rv_text::proofs::Saying::saying))]
+pub(crate) fn write_markup<W: Write>(out: &mut Sink<'_, W>, statement: &[u8])
+    ensures { Says W.contents out.old out.new (flat_map markup_byte statement.now) }
 {
     for byte in statement {
-        write_markup_byte(writer, *byte)?;
+        write_markup_byte(out, *byte);
     }
-    Ok(())
 }
 
 /// What an instruction wrote, if it retired.
@@ -96,8 +89,8 @@ pub(crate) fn written(ending: Ending) -> Option<(Reg, u32)>
 
 /// Writes the register that an instruction wrote, with its value.
 #[tactic(auto, unfolding(crate::specs::Label::written_text))]
-pub(crate) fn write_written<W: Write>(writer: &mut W, row: &Passage) -> Result<(), ReportError>
-    ensures { IsWritten result (W.contents writer.old) (W.contents writer.new) (written_text (written_by row.now.ending)) }
+pub(crate) fn write_written<W: Write>(out: &mut Sink<'_, W>, row: &Passage)
+    ensures { Says W.contents out.old out.new (written_text (written_by row.now.ending)) }
 {
     match written(row.ending) {
         Some((register, word)) => {
@@ -105,8 +98,8 @@ pub(crate) fn write_written<W: Write>(writer: &mut W, row: &Passage) -> Result<(
             let number = buffer.format(register.number()).as_bytes();
             let name = register_name(register);
             let value = hexadecimal(word);
-            put_all(writer, &[b"x", number, b"/", name, b"=", value.as_slice()])
+            out.put_all(&[b"x", number, b"/", name, b"=", value.as_slice()])
         }
-        None => put(writer, b"-"),
+        None => out.put(b"-"),
     }
 }

@@ -1,16 +1,15 @@
 ghost use Rattle.rv_drawing.specs.SvgLegend.{svg_legend};
-ghost use Rattle.rv_text.specs.Written.{IsWritten};
+ghost use Rattle.rv_text.specs.Said.{Says};
 
-use rv_text::{ReportError, put};
+use rv_text::Sink;
 use std::io::Write;
 
 /// Writes the legend, and the begin of what stands below it.
 #[tactic(auto, unfolding(crate::specs::SvgLegend::svg_legend))]
-pub(crate) fn write_legend<W: Write>(writer: &mut W) -> Result<(), ReportError>
-    ensures { IsWritten result (W.contents writer.old) (W.contents writer.new) svg_legend }
+pub(crate) fn write_legend<W: Write>(out: &mut Sink<'_, W>)
+    ensures { Says W.contents out.old out.new svg_legend }
 {
-    put(
-        writer,
+    out.put(
         b"<g transform='translate(8 8)'>
 <g transform='translate(0 0)'><g class='p f'><rect width='14' height='18'/><text x='7' y='13'>F</text></g><text x='20' y='13'>fetch</text></g>
 <g transform='translate(150 0)'><g class='p d'><rect width='14' height='18'/><text x='7' y='13'>D</text></g><text x='20' y='13'>dispatch</text></g>

@@ -1,16 +1,15 @@
 ghost use Rattle.rv_drawing.specs.SvgStyle.{svg_style};
-ghost use Rattle.rv_text.specs.Written.{IsWritten};
+ghost use Rattle.rv_text.specs.Said.{Says};
 
-use rv_text::{ReportError, put};
+use rv_text::Sink;
 use std::io::Write;
 
 /// Writes fonts, and a colour for each class of cells, on a white ground and on a dark one.
 #[tactic(auto, unfolding(crate::specs::SvgStyle::svg_style))]
-pub(crate) fn write_style<W: Write>(writer: &mut W) -> Result<(), ReportError>
-    ensures { IsWritten result (W.contents writer.old) (W.contents writer.new) svg_style }
+pub(crate) fn write_style<W: Write>(out: &mut Sink<'_, W>)
+    ensures { Says W.contents out.old out.new svg_style }
 {
-    put(
-        writer,
+    out.put(
         b"<style>
 .page{fill:#fff}
 text{font:12px monospace;fill:#111}

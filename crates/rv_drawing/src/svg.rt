@@ -6,6 +6,7 @@ ghost use Rattle.rv_drawing.specs.Places.{row_y};
 ghost use Rattle.rv_drawing.specs.SvgPicture.{class_of_row, row_class, row_begin, near_address, svg_row, placed_row, rows_of, svg_rows, svg_of, svg_picture};
 ghost use Rattle.rv_drawing.specs.Stopped.{is_stopped};
 ghost use Rattle.rv_text.specs.Line.{word_text};
+ghost use Rattle.rv_text.specs.Said.{Says};
 ghost use Rattle.rv_text.specs.Written.{IsWritten};
 
 use crate::cell::has_cell;
@@ -25,7 +26,7 @@ use itoa::Buffer;
 use rv_hardware::Stall;
 use rv_passage::{Ending, Passage};
 use rv_source::Listing;
-use rv_text::{ReportError, hexadecimal, put, put_all};
+use rv_text::{ReportError, Sink, hexadecimal};
 use std::io::Write;
 
 #[tactic(auto, unfolding(crate::specs::SvgPicture::row_class))]
@@ -47,113 +48,90 @@ fn class_of_row(is_stopped: bool, ending: Ending) -> &'static [u8]
     if is_stopped { b"stale" } else { class(ending) }
 }
 
-fn write_row_begin<W: Write>(
-    writer: &mut W,
-    window: Window,
-    place: usize,
-    row: &Passage,
-) -> Result<(), ReportError>
-    ensures { IsWritten result (W.contents writer.old) (W.contents writer.new) (row_begin (class_of_row (is_stopped window row.now) row.now.ending) (decimal (row_y place)) (word_text row.now.pc)) }
+fn write_row_begin<W: Write>(out: &mut Sink<'_, W>, window: Window, place: usize, row: &Passage)
+    ensures { Says W.contents out.old out.new (row_begin (class_of_row (is_stopped window row.now) row.now.ending) (decimal (row_y place)) (word_text row.now.pc)) }
 {
     let mut at_row = Buffer::new();
     let y = digits(&mut at_row, row_y(place));
     let pc = hexadecimal(row.pc);
     let class = class_of_row(window.is_stopped(row), row.ending);
-    put_all(
-        writer,
-        &[
-            b"<g class='",
-            class,
-            b"' transform='translate(0 ",
-            y,
-            b")'><text x='8' y='13'>",
-            pc.as_slice(),
-            b"</text><text x='84' y='13'>",
-        ],
-    )
+    out.put_all(&[
+        b"<g class='",
+        class,
+        b"' transform='translate(0 ",
+        y,
+        b")'><text x='8' y='13'>",
+        pc.as_slice(),
+        b"</text><text x='84' y='13'>",
+    ])
 }
 
-fn write_statement<W: Write>(
-    writer: &mut W,
-    listing: &Listing,
-    row: &Passage,
-) -> Result<(), ReportError>
-    ensures { IsWritten result (W.contents writer.old) (W.contents writer.new) (flat_map markup_byte (statement_of listing.now row.now)) }
+fn write_statement<W: Write>(out: &mut Sink<'_, W>, listing: &Listing, row: &Passage)
+    ensures { Says W.contents out.old out.new (flat_map markup_byte (statement_of listing.now row.now)) }
 {
     let mut buffer = [0; 8];
     let mut room = ArrayVec::new();
-    write_markup(writer, statement(&mut buffer, &mut room, listing, row))
+    write_markup(out, statement(&mut buffer, &mut room, listing, row))
 }
 
 // Writes the address again in front of the first cell, where that is far from the left.
-#[tactic(auto, unfolding(crate::specs::SvgPicture::near_address))]
-fn write_near_address<W: Write>(
-    writer: &mut W,
-    window: Window,
-    row: &Passage,
-) -> Result<(), ReportError>
-    ensures { IsWritten result (W.contents writer.old) (W.contents writer.new) (near_address window row.now) }
+#[tactic(auto, using(rv_text::proofs::Saying::saying), unfolding(crate::specs::SvgPicture::near_address))]
+fn write_near_address<W: Write>(out: &mut Sink<'_, W>, window: Window, row: &Passage)
+    ensures { Says W.contents out.old out.new (near_address window row.now) }
 {
     let column = row.fetched.saturating_sub(window.first);
     if 50 <= column {
         let mut at_column = Buffer::new();
         let x = digits(&mut at_column, column_x(column));
         let pc = hexadecimal(row.pc);
-        put_all(
-            writer,
-            &[
-                b"<text class='a' dx='-4' y='13' x='",
-                x,
-                b"'>",
-                pc.as_slice(),
-                b"</text>\n",
-            ],
-        )
-    } else {
-        Ok(())
+        out.put_all(&[
+            b"<text class='a' dx='-4' y='13' x='",
+            x,
+            b"'>",
+            pc.as_slice(),
+            b"</text>\n",
+        ])
     }
 }
 
 fn write_row<W: Write>(
-    writer: &mut W,
+    out: &mut Sink<'_, W>,
     listing: &Listing,
     window: Window,
     rows: &[Passage],
     stalls: &[Option<Stall>],
     place: usize,
     row: &Passage,
-) -> Result<(), ReportError>
+)
     requires { window.first + window.cycles < 2 ^ 64 }
-    ensures { IsWritten result (W.contents writer.old) (W.contents writer.new) (svg_row listing.now window rows.now stalls.now place row.now) }
+    ensures { Says W.contents out.old out.new (svg_row listing.now window rows.now stalls.now place row.now) }
 {
-    write_row_begin(writer, window, place, row)?;
-    write_statement(writer, listing, row)?;
-    put(writer, b"</text><text x='328' y='13'>")?;
-    write_outcome(writer, window, row)?;
-    put(writer, b"</text>\n")?;
-    write_numbers_again(writer, window, place)?;
-    write_columns(writer, window, Columns::Boxes { row, rows, stalls })?;
-    write_near_address(writer, window, row)?;
-    write_row_end(writer, window, row)
+    write_row_begin(out, window, place, row);
+    write_statement(out, listing, row);
+    out.put(b"</text><text x='328' y='13'>");
+    write_outcome(out, window, row);
+    out.put(b"</text>\n");
+    write_numbers_again(out, window, place);
+    write_columns(out, window, Columns::Boxes { row, rows, stalls });
+    write_near_address(out, window, row);
+    write_row_end(out, window, row)
 }
 
-#[tactic(auto, unfolding(crate::specs::SvgPicture::placed_row))]
+#[tactic(auto, using(rv_text::proofs::Saying::saying), unfolding(crate::specs::SvgPicture::placed_row))]
 fn write_placed<W: Write>(
-    writer: &mut W,
+    out: &mut Sink<'_, W>,
     listing: &Listing,
     window: Window,
     rows: &[Passage],
     stalls: &[Option<Stall>],
     place: usize,
     row: &Passage,
-) -> Result<(), ReportError>
+)
     requires { window.first + window.cycles < 2 ^ 64 }
-    ensures { IsWritten result (W.contents writer.old) (W.contents writer.new) (placed_row listing.now window rows.now stalls.now place row.now) }
+    ensures { Says W.contents out.old out.new (placed_row listing.now window rows.now stalls.now place row.now) }
 {
     if has_cell(window, row) {
-        write_row(writer, listing, window, rows, stalls, place, row)
-    } else {
-        Ok(())
+        write_row(out, listing, window, rows, stalls, place, row)
     }
 }
 
@@ -165,22 +143,22 @@ fn rows_of(window: Window, row: &Passage) -> usize
     if has_cell(window, row) { 1 } else { 0 }
 }
 
+#[tactic(auto, using(rv_text::proofs::Saying::saying), unfolding(crate::specs::SvgPicture::svg_rows))]
 fn write_rows<W: Write>(
-    writer: &mut W,
+    out: &mut Sink<'_, W>,
     listing: &Listing,
     window: Window,
     rows: &[Passage],
     stalls: &[Option<Stall>],
-) -> Result<(), ReportError>
+)
     requires { window.first + window.cycles < 2 ^ 64 }
-    ensures { IsWritten result (W.contents writer.old) (W.contents writer.new) (svg_rows listing.now window rows.now stalls.now 0 rows.now) }
+    ensures { Says W.contents out.old out.new (svg_rows listing.now window rows.now stalls.now 0 rows.now) }
 {
     let mut place = 0;
     for row in rows {
-        write_placed(writer, listing, window, rows, stalls, place, row)?;
+        write_placed(out, listing, window, rows, stalls, place, row);
         place += rows_of(window, row);
     }
-    Ok(())
 }
 
 // How many rows have a cell in a window.
@@ -199,32 +177,48 @@ fn count_shown(window: Window, rows: &[Passage]) -> usize
 
 // Writes a picture with so many rows.
 fn write_shown<W: Write>(
-    writer: &mut W,
+    out: &mut Sink<'_, W>,
     rows: &[Passage],
     interrupts: &[u64],
     stalls: &[Option<Stall>],
     listing: &Listing,
     window: Window,
     shown: usize,
-) -> Result<(), ReportError>
+)
     requires { window.first + window.cycles < 2 ^ 64 }
-    ensures { IsWritten result (W.contents writer.old) (W.contents writer.new) (svg_of shown rows.now interrupts.now stalls.now listing.now window) }
+    ensures { Says W.contents out.old out.new (svg_of shown rows.now interrupts.now stalls.now listing.now window) }
 {
-    write_begin(writer, window.cycles, shown)?;
-    write_style(writer)?;
-    write_legend(writer)?;
-    write_columns(writer, window, Columns::Tenths { rows: shown })?;
-    write_rows(writer, listing, window, rows, stalls)?;
-    write_interrupts(writer, window, shown, interrupts)?;
-    write_over(writer, b"<text x='8' y='34'>", window, b"</text>\n")?;
-    write_end(writer)
+    write_begin(out, window.cycles, shown);
+    write_style(out);
+    write_legend(out);
+    write_columns(out, window, Columns::Tenths { rows: shown });
+    write_rows(out, listing, window, rows, stalls);
+    write_interrupts(out, window, shown, interrupts);
+    write_over(out, b"<text x='8' y='34'>", window, b"</text>\n");
+    write_end(out)
+}
+
+#[tactic(auto, unfolding(crate::specs::SvgPicture::svg_picture))]
+fn write_picture<W: Write>(
+    out: &mut Sink<'_, W>,
+    listing: &Listing,
+    window: Window,
+    rows: &[Passage],
+    interrupts: &[u64],
+    stalls: &[Option<Stall>],
+)
+    requires { window.first + window.cycles < 2 ^ 64 }
+    ensures { Says W.contents out.old out.new (svg_picture rows.now interrupts.now stalls.now listing.now window) }
+{
+    let shown = count_shown(window, rows);
+    write_shown(out, rows, interrupts, stalls, listing, window, shown)
 }
 
 /// Writes a picture as an SVG: a legend on top, cycle numbers, a row for each instruction that shows something in the window,
 /// with a box for each cell, and a line for each interrupt. `stalls` has what the oldest fetched word waited for in each cycle of
 /// the window in which nothing was dispatched. The window ends below cycle 2^64. Asks for no memory. Fails
 /// by `WriteFailed` alone, and what was written is then a beginning of the picture.
-#[tactic(auto, unfolding(crate::specs::SvgPicture::svg_picture))]
+#[tactic(auto, using(rv_text::proofs::Saying::says_written))]
 pub fn write_picture_svg<W: Write>(
     rows: &[Passage],
     interrupts: &[u64],
@@ -236,6 +230,7 @@ pub fn write_picture_svg<W: Write>(
     requires { window.first + window.cycles < 2 ^ 64 }
     ensures { IsWritten result (W.contents writer.old) (W.contents writer.new) (svg_picture rows.now interrupts.now stalls.now listing.now window) }
 {
-    let shown = count_shown(window, rows);
-    write_shown(writer, rows, interrupts, stalls, listing, window, shown)
+    let mut out = Sink::new(writer);
+    write_picture(&mut out, listing, window, rows, interrupts, stalls);
+    out.outcome()
 }

@@ -1,6 +1,7 @@
 ghost use Rattle.std.specs.Prelude.{◌≡◌, ◌++◌, codes};
 ghost use Rattle.rv_isa.specs.Instruction.{kind_of_word};
 ghost use Rattle.rv_drawing.specs.Wait.{awaited, issue_wait, one_wait, operand_wait, producer_text, result_text, second_wait, tip_of, unit_text};
+ghost use Rattle.rv_text.specs.Said.{Says};
 ghost use Rattle.rv_text.specs.Written.{IsWritten};
 
 use crate::cell::{Cell, is_past};
@@ -10,7 +11,7 @@ use itoa::Buffer;
 use rv_hardware::Stall;
 use rv_isa::{Instr, Kind, Reg, kind};
 use rv_passage::{Passage, Producer, register_name};
-use rv_text::{ReportError, hexadecimal, put, put_all};
+use rv_text::{ReportError, Sink, hexadecimal};
 use std::io::Write;
 
 fn kind_of(instruction: &Option<Instr>) -> Option<Kind>
@@ -31,28 +32,32 @@ fn awaited(producer: Option<Producer>, cycle: u64) -> Option<Producer>
 
 /// Writes which result an instruction waits for: a register, and the address of the instruction that writes it.
 #[tactic(auto, unfolding(crate::specs::Wait::result_text))]
-pub fn write_result<W: Write>(writer: &mut W, register: Reg, pc: u32) -> Result<(), ReportError>
-    ensures { IsWritten result (W.contents writer.old) (W.contents writer.new) (result_text register pc) }
+pub fn put_result<W: Write>(out: &mut Sink<'_, W>, register: Reg, pc: u32)
+    ensures { Says W.contents out.old out.new (result_text register pc) }
 {
     let mut buffer = Buffer::new();
     let number = buffer.format(register.number()).as_bytes();
     let name = register_name(register);
     let address = hexadecimal(pc);
-    put_all(
-        writer,
-        &[b"x", number, b"/", name, b" of ", address.as_slice()],
-    )
+    out.put_all(&[b"x", number, b"/", name, b" of ", address.as_slice()])
 }
 
-fn write_producer<W: Write>(
-    writer: &mut W,
-    before: &[u8],
-    producer: &Producer,
-) -> Result<(), ReportError>
-    ensures { IsWritten result (W.contents writer.old) (W.contents writer.new) (producer_text before.now producer.now) }
+/// Writes the same to a writer.
+#[tactic(auto, using(rv_text::proofs::Saying::says_written))]
+pub fn write_result<W: Write>(writer: &mut W, register: Reg, pc: u32) -> Result<(), ReportError>
+    ensures { IsWritten result (W.contents writer.old) (W.contents writer.new) (result_text register pc) }
 {
-    put(writer, before)?;
-    write_result(writer, producer.register, producer.pc)
+    let mut out = Sink::new(writer);
+    put_result(&mut out, register, pc);
+    out.outcome()
+}
+
+#[tactic(auto, using(rv_text::proofs::Saying::saying), unfolding(crate::specs::Wait::producer_text))]
+fn write_producer<W: Write>(out: &mut Sink<'_, W>, before: &[u8], producer: &Producer)
+    ensures { Says W.contents out.old out.new (producer_text before.now producer.now) }
+{
+    out.put(before);
+    put_result(out, producer.register, producer.pc)
 }
 
 /// What an instruction of a kind waits for after its dispatch, where it waits for no result: a unit, and where it reads or writes
@@ -69,77 +74,64 @@ pub fn unit_name(kind: Option<Kind>) -> &'static [u8]
 }
 
 #[tactic(auto, unfolding(crate::specs::Wait::one_wait))]
-fn write_one_wait<W: Write>(
-    writer: &mut W,
-    kind: Option<Kind>,
-    producer: &Option<Producer>,
-) -> Result<(), ReportError>
-    ensures { IsWritten result (W.contents writer.old) (W.contents writer.new) (one_wait kind producer.now) }
+fn write_one_wait<W: Write>(out: &mut Sink<'_, W>, kind: Option<Kind>, producer: &Option<Producer>)
+    ensures { Says W.contents out.old out.new (one_wait kind producer.now) }
 {
     match producer {
-        Some(producer) => write_producer(writer, b"wait for ", producer),
-        None => put_all(writer, &[b"wait for ", unit_name(kind)]),
+        Some(producer) => write_producer(out, b"wait for ", producer),
+        None => out.put_all(&[b"wait for ", unit_name(kind)]),
     }
 }
 
-#[tactic(auto, unfolding(crate::specs::Wait::second_wait))]
-fn write_second_wait<W: Write>(writer: &mut W, second: &Option<Producer>) -> Result<(), ReportError>
-    ensures { IsWritten result (W.contents writer.old) (W.contents writer.new) (second_wait second.now) }
+#[tactic(auto, using(rv_text::proofs::Saying::saying), unfolding(crate::specs::Wait::second_wait))]
+fn write_second_wait<W: Write>(out: &mut Sink<'_, W>, second: &Option<Producer>)
+    ensures { Says W.contents out.old out.new (second_wait second.now) }
 {
-    match second {
-        Some(second) => write_producer(writer, b" and ", second),
-        None => Ok(()),
+    if let Some(second) = second {
+        write_producer(out, b" and ", second)
     }
 }
 
-fn write_two_waits<W: Write>(
-    writer: &mut W,
-    first: &Producer,
-    second: &Option<Producer>,
-) -> Result<(), ReportError>
-    ensures { IsWritten result (W.contents writer.old) (W.contents writer.new) (producer_text (codes "wait for ") first.now ++ second_wait second.now) }
+#[tactic(auto, using(rv_text::proofs::Saying::saying))]
+fn write_two_waits<W: Write>(out: &mut Sink<'_, W>, first: &Producer, second: &Option<Producer>)
+    ensures { Says W.contents out.old out.new (producer_text (codes "wait for ") first.now ++ second_wait second.now) }
 {
-    write_producer(writer, b"wait for ", first)?;
-    write_second_wait(writer, second)
+    write_producer(out, b"wait for ", first);
+    write_second_wait(out, second)
 }
 
 #[tactic(auto, unfolding(crate::specs::Wait::operand_wait))]
 fn write_operand_wait<W: Write>(
-    writer: &mut W,
+    out: &mut Sink<'_, W>,
     kind: Option<Kind>,
     first: &Option<Producer>,
     second: &Option<Producer>,
-) -> Result<(), ReportError>
-    ensures { IsWritten result (W.contents writer.old) (W.contents writer.new) (operand_wait kind first.now second.now) }
+)
+    ensures { Says W.contents out.old out.new (operand_wait kind first.now second.now) }
 {
     match first {
-        Some(first) => write_two_waits(writer, first, second),
-        None => write_one_wait(writer, kind, second),
+        Some(first) => write_two_waits(out, first, second),
+        None => write_one_wait(out, kind, second),
     }
 }
 
-fn write_seen_wait<W: Write>(writer: &mut W, row: &Passage, cycle: u64) -> Result<(), ReportError>
-    ensures { IsWritten result (W.contents writer.old) (W.contents writer.new) (operand_wait (kind_of_word row.now.instruction) (awaited cycle row.now.producers.first) (awaited cycle row.now.producers.second)) }
+fn write_seen_wait<W: Write>(out: &mut Sink<'_, W>, row: &Passage, cycle: u64)
+    ensures { Says W.contents out.old out.new (operand_wait (kind_of_word row.now.instruction) (awaited cycle row.now.producers.first) (awaited cycle row.now.producers.second)) }
 {
     let kind = kind_of(&row.instruction);
     let first = awaited(row.producers.first, cycle);
     let second = awaited(row.producers.second, cycle);
-    write_operand_wait(writer, kind, &first, &second)
+    write_operand_wait(out, kind, &first, &second)
 }
 
 #[tactic(auto, unfolding(crate::specs::Wait::issue_wait))]
-fn write_issue_wait<W: Write>(
-    writer: &mut W,
-    window: Window,
-    row: &Passage,
-    cycle: u64,
-) -> Result<(), ReportError>
-    ensures { IsWritten result (W.contents writer.old) (W.contents writer.new) (issue_wait window row.now cycle) }
+fn write_issue_wait<W: Write>(out: &mut Sink<'_, W>, window: Window, row: &Passage, cycle: u64)
+    ensures { Says W.contents out.old out.new (issue_wait window row.now cycle) }
 {
     if is_past(row.dispatched, window.first) {
-        put(writer, Cell::IssueWait.name())
+        out.put(Cell::IssueWait.name())
     } else {
-        write_seen_wait(writer, row, cycle)
+        write_seen_wait(out, row, cycle)
     }
 }
 
@@ -147,21 +139,21 @@ fn write_issue_wait<W: Write>(
 /// word waits for this.
 #[tactic(auto, unfolding(crate::specs::Wait::tip_of))]
 pub(crate) fn write_tip<W: Write>(
-    writer: &mut W,
+    out: &mut Sink<'_, W>,
     window: Window,
     rows: &[Passage],
     stall: Option<Stall>,
     row: &Passage,
     cycle: u64,
     cell: Cell,
-) -> Result<(), ReportError>
-    ensures { IsWritten result (W.contents writer.old) (W.contents writer.new) (tip_of window rows.now stall row.now cycle cell) }
+)
+    ensures { Says W.contents out.old out.new (tip_of window rows.now stall row.now cycle cell) }
 {
     if cell.is_issue_wait() {
-        write_issue_wait(writer, window, row, cycle)
+        write_issue_wait(out, window, row, cycle)
     } else if cell.is_dispatch_wait() {
-        put(writer, dispatch_wait(rows, stall, row.number, cycle))
+        out.put(dispatch_wait(rows, stall, row.number, cycle))
     } else {
-        put(writer, cell.name())
+        out.put(cell.name())
     }
 }

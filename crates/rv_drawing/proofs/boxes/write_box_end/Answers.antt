@@ -1,7 +1,7 @@
 use Rattle.std.proofs.Common.{◌∙◌, ap}
 use Rattle.std.specs.Prelude.{decimal}
 use Rattle.rv_drawing.specs.SvgBoxes.{box_end}
-use Rattle.rv_text.proofs.Writing.{written_same}
+use Rattle.rv_text.proofs.Saying.{says_same}
 use Rattle.rv_drawing.proofs.boxes.write_box_end.Goals as goal
 
 pub returns : goal.returns
@@ -9,4 +9,4 @@ unfolding box_end
 returns g c =
     let cycle = c.digits-cycle.ensures ∙ ap decimal c.from.ensures in
     let letter = c.letter-letter.ensures in
-    written_same _ _ _ _ _ (λ i. box_end (cycle i) (letter i)) c.put_all.ensures
+    says_same (λ i. box_end (cycle i) (letter i)) c.put_all.ensures

@@ -1,18 +1,7 @@
 use Rattle.rv_drawing.specs.SvgMarks.{numbers}
-use Rattle.rv_text.proofs.Writing.{beginning-both, beginning-longer, handed_on, written_after}
+use Rattle.rv_text.proofs.Saying.{says_both}
 use Rattle.rv_drawing.proofs.marks.write_numbers.Goals as goal
-
-pub returns-in_err-put : goal.returns-in_err-put
-unfolding numbers
-returns-in_err-put g c =
-    handed_on _ _ _ _ _ c.from_residual.ensures.1 (beginning-longer _ _ _ _ c.in_err-put.ensures)
-
-pub returns-in_err-write_columns : goal.returns-in_err-write_columns
-unfolding numbers
-returns-in_err-write_columns g c =
-    handed_on _ _ _ _ _ c.from_residual-in_err-write_columns.ensures.1 (beginning-both _ _ _ _ _ c.in_ok-put.ensures (beginning-longer _ _ _ _ c.in_err-write_columns.ensures))
 
 pub returns : goal.returns
 unfolding numbers
-returns g c =
-    written_after _ _ _ _ _ _ c.in_ok-put.ensures (written_after _ _ _ _ _ _ c.in_ok-write_columns.ensures c.put-2.ensures)
+returns g c = says_both c.put.ensures (says_both c.write_columns.ensures c.put-2.ensures)

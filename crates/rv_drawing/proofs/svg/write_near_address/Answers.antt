@@ -3,7 +3,7 @@ use Rattle.std.specs.Prelude.{decimal}
 use Rattle.rv_drawing.specs.Places.{column_x}
 use Rattle.rv_drawing.specs.SvgPicture.{near_address, near_text}
 use Rattle.rv_text.specs.Line.{word_text}
-use Rattle.rv_text.proofs.Writing.{written_same}
+use Rattle.rv_text.proofs.Saying.{says_same}
 use Rattle.rv_drawing.proofs.svg.write_near_address.Goals as goal
 
 pub returns-then-column-ge50 : goal.returns-then-column-ge50
@@ -15,4 +15,4 @@ returns-then-column-ge50 g c =
     let pc = c.as_slice.ensures ∙ c.hexadecimal-pc.ensures in
     let far : nat_le 50 column ≡ true = le-leb 50 column (omega arith) in
     let text = near_text (decimal (column_x column)) (word_text row.pc) in
-    written_same _ _ _ _ _ ((λ i. near_text (x i) (pc i)) ∙ (λ i. if sym far i then text else [])) c.put_all.ensures
+    says_same ((λ i. near_text (x i) (pc i)) ∙ (λ i. if sym far i then text else [])) c.put_all.ensures

@@ -1,8 +1,8 @@
 use Rattle.rv_drawing.specs.Title.{predicted_title, prediction_title}
-use Rattle.rv_text.proofs.Writing.{written_same}
+use Rattle.rv_text.proofs.Saying.{says_same}
 use Rattle.rv_drawing.proofs.title.write_prediction.Goals as goal
 
 pub returns-in-Some : goal.returns-in-Some
 unfolding prediction_title predicted_title
 returns-in-Some g c =
-    written_same _ _ _ _ _ (λ i. predicted_title (c.in-Some.ensures i) (c.correction.ensures i)) c.write_correction.ensures
+    says_same (λ i. predicted_title (c.in-Some.ensures i) (c.correction.ensures i)) c.put_correction.ensures
