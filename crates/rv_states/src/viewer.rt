@@ -5,6 +5,7 @@ pub(crate) const BEFORE: &[u8] = br#"<!DOCTYPE html>
 <html lang="en">
 <head>
 <meta charset="utf-8">
+<meta http-equiv="Content-Security-Policy" content="default-src 'none'; script-src 'sha256-3E2rPiKwIR06ihhCfJv+XZt7cHX+ppcI8l/qkjEisHg='; style-src 'sha256-nUYESEvHfkb+pYvyLBGB+QYlLl2xH1juWKTUfCIFEKI='; img-src data:; frame-src 'self' file:; base-uri 'none'; form-action 'none'">
 <meta name="viewport" content="width=device-width, initial-scale=1">
 <title>rv_sim: a run, cycle by cycle</title>
 <style>
@@ -22,7 +23,9 @@ pub(crate) const BEFORE: &[u8] = br#"<!DOCTYPE html>
   .w { color: #bbb; }
 }
 * { box-sizing: border-box; margin: 0; }
-html { font-size: clamp(9px, min(0.84vw, 1.5vh), 24px); }
+html { font-size: calc(var(--size, 1) * clamp(9px, min(0.84vw, 1.5vh), 24px)); }
+html.framed { font-size: calc(var(--size, 1) * clamp(8px, min(1.55vw, 1.5vh), 24px)); }
+[hidden] { display: none !important; }
 body { font: 1rem/1.25rem "DejaVu Sans Mono", Menlo, Consolas, monospace; background: var(--ground); color: var(--text); height: 100vh; display: flex; flex-direction: column; padding: 0.4rem; gap: 0.4rem; }
 h1, h2 { font: inherit; font-weight: bold; }
 header { display: grid; grid-template-columns: auto 1fr; column-gap: 1rem; flex: none; }
@@ -34,13 +37,28 @@ header p { grid-column: 1 / 3; }
 button, input, select { font: inherit; color: inherit; background: var(--title); border: 1px solid var(--edge); border-radius: 0.25rem; padding: 0 0.4rem; }
 input[type=number] { width: 6.5rem; }
 :focus-visible { outline: 2px solid var(--accent); outline-offset: -1px; }
-main { flex: 1 1 auto; min-height: 0; display: grid; grid-template-columns: 24fr 45fr 27.5fr 27.5fr; gap: 0.4rem; }
+main { flex: 1 1 auto; min-height: 0; display: flex; gap: 0.4rem; }
+#left { flex: 24 1 0; } #middle { flex: 45 1 0; } #right { flex: 27.5 1 0; } #last { flex: 27.5 1 0; }
+.framed main { flex-wrap: wrap; }
+.framed #middle { flex: 1 1 100%; height: 66%; } .framed #right, .framed #last, .framed #left { flex: 1 1 40%; height: 32%; }
 .column { display: flex; flex-direction: column; gap: 0.4rem; min-width: 0; min-height: 0; }
 .panel { border: 1px solid var(--edge); border-radius: 0.3rem; background: var(--panel); display: grid; grid-template: auto minmax(0, 1fr) / auto 1fr; min-height: 0; min-width: 0; overflow: hidden; flex: 0 1 auto; }
 .panel.grows { flex: 1 1 0; min-height: 6rem; }
+.panel.drawing { min-height: 16rem; }
+.panel.tall { flex: 3 1 0; }
+.framed #tools label:has(#address), .framed #tools label:has(#what), .framed [data-step=previous], .framed [data-step=next] { display: none; }
 .panel h2 { background: var(--title); padding: 0 0.4rem; white-space: nowrap; }
 .note { background: var(--title); color: var(--quiet); padding: 0 0.4rem; text-align: right; white-space: nowrap; overflow: hidden; text-overflow: ellipsis; font-size: 0.9rem; }
 #stations-note { font-size: 0.8rem; }
+#machine { color: var(--quiet); font-size: 0.85rem; line-height: 1.1rem; max-height: 2.2rem; overflow: auto; scrollbar-width: thin; }
+#switches, #keys { grid-column: 1 / 3; }
+#switches { display: flex; flex-wrap: wrap; gap: 0 1rem; }
+#stop, #quiz, #beside { background: var(--mark); font-size: 1.4rem; line-height: 1.8rem; padding: 0 0.4rem; }
+.unseen th { height: 0; line-height: 0; font-size: 0; padding: 0; }
+[data-panel="registers"] { flex: none; }
+#stations { font-size: 0.88rem; } #accesses, #accesses tr { font-size: 0.85rem; } #accesses td { padding: 0 0.15rem; }
+.missed, .differs { color: var(--fault); font-weight: bold; }
+.differs { outline: 2px dashed var(--fault); outline-offset: -2px; }
 .scroll, .list, #picture { grid-column: 1 / 3; overflow: auto; min-height: 0; scrollbar-width: thin; position: relative; contain: layout paint style; }
 table { border-collapse: collapse; width: 100%; table-layout: auto; }
 th, td { padding: 0 0.25rem; white-space: nowrap; text-align: left; font-weight: normal; height: 1.25rem; overflow: hidden; }
@@ -56,9 +74,10 @@ td.wide { width: 99%; max-width: 0; text-overflow: ellipsis; }
 .list > div { position: relative; min-width: 100%; }
 .list .row { position: absolute; left: 0; right: 0; height: 1.25rem; white-space: pre; overflow: hidden; display: flex; gap: 0.4rem; padding: 0 0.25rem; }
 .list .text { white-space: nowrap; overflow: hidden; text-overflow: ellipsis; }
-#memory .row { gap: 0.35rem; }
+#memory .row { gap: 0; justify-content: space-between; font-size: 0.9rem; }
 .list .line { width: 2.5rem; text-align: right; color: var(--quiet); flex: none; }
 .list .pc { color: var(--quiet); flex: none; }
+.stops .pc { color: var(--fault); font-weight: bold; }
 .list .tags { flex: none; min-width: 1.4rem; display: flex; gap: 0.1rem; }
 .flying { background: var(--title); font-weight: bold; }
 .stale { text-decoration: underline dotted; }
@@ -89,6 +108,9 @@ td.wide { width: 99%; max-width: 0; text-overflow: ellipsis; }
 #picture .cell { position: absolute; width: 1.05rem; height: 1.25rem; text-align: center; border: 1px solid var(--panel); line-height: 1.15rem; }
 #picture .gone .label { color: var(--quiet); font-style: italic; }
 #picture .trap .label { color: var(--fault); }
+#picture-arrows { position: absolute; top: 0; left: 0; z-index: 1; pointer-events: none; }
+#picture-arrows svg { display: block; }
+.arrow { fill: none; stroke: var(--fault); stroke-width: 0.15; }
 #picture-cursor { position: absolute; top: 0; bottom: 0; width: 1.05rem; border: solid var(--accent); border-width: 0 2px; z-index: 1; pointer-events: none; }
 .cell { text-align: center; }
 .f { background: var(--f); color: var(--on); } .d { background: var(--d); color: var(--on); } .i { background: var(--i); color: var(--on); } .e { background: var(--e); color: var(--on); }
@@ -106,13 +128,20 @@ td.wide { width: 99%; max-width: 0; text-overflow: ellipsis; }
 .busy { background: #1f7a3d; color: #fff; } .fetch { background: #e3eefc; color: #000; } .serial { background: #8c1616; color: #fff; }
 .rob { background: #7fb2ea; color: #000; } .station { background: #fbe3a3; color: #000; } .store { background: #f0a848; color: #000; }
 .six { max-height: 6.4rem; } .ten { max-height: 10.2rem; } .fourteen { max-height: 15.2rem; } .eighteen { max-height: 21.4rem; }
-@media screen and (max-width: 60rem) { body { height: auto; } main { display: block; } .column { margin-bottom: 0.4rem; } .panel.grows { height: 24rem; flex: none; } }
+@media screen and (max-width: 60rem) { html:not(.framed) body { height: auto; } html:not(.framed) main { display: block; } html:not(.framed) .column { margin-bottom: 0.4rem; } html:not(.framed) .panel.grows { height: 24rem; flex: none; } }
+/* Two runs side by side. */
+body.pair > header, body.pair > main { display: none; }
+#pair { display: flex; flex-direction: column; height: 100%; gap: 0.4rem; }
+#pair p { display: flex; gap: 1rem; align-items: center; }
+#pair label:first-child { flex: 1; display: flex; gap: 0.4rem; } #pair-slider { flex: 1; }
+#sides { flex: 1; display: flex; gap: 0.4rem; min-height: 0; }
+#sides iframe { flex: 1 1 0; width: 0; border: 1px solid var(--edge); }
 @page { size: A4 landscape; margin: 8mm; }
 /* On paper nothing is scrolled: the picture is moved to where it was, and its labels with it. */
 @media print {
   html { font-size: 10.5px; }
   body { width: 1262px; height: 850px; }
-  #tools, #keys { display: none; }
+  #tools, #keys, #switches, #quiz, #beside { display: none; }
   * { print-color-adjust: exact; -webkit-print-color-adjust: exact; }
   #picture { overflow: clip; }
   #picture-space { top: calc(-1rem * var(--down)); left: calc(-1rem * var(--along)); }
@@ -135,46 +164,68 @@ td.wide { width: 99%; max-width: 0; text-overflow: ellipsis; }
 <label>next <select id="what" title="what to jump to">
 <option value="retirement">retirement</option><option value="wrong">wrong prediction</option><option value="trap">trap</option><option value="interrupt">interrupt</option>
 <option value="stall">stall, any</option><option value="fetch">stall fetch</option><option value="serial">stall serial</option><option value="rob">stall rob</option><option value="station">stall station</option><option value="store">stall store</option>
+<option value="access">cache access</option><option value="miss">cache miss</option><option value="register">register written</option><option value="stored">address stored</option><option value="breakpoint">breakpoint</option>
 </select></label>
 <button type="button" data-step="previous" title="the one before (N)" aria-label="jump back">&lt;&lt;</button>
 <button type="button" data-step="next" title="the next one (n)" aria-label="jump on">&gt;&gt;</button>
-<label>address <input type="text" id="address" size="9" title="hexadecimal: the next cycle that fetches it, and its place in source and memory"></label>
-<label><input type="checkbox" id="abi"> ABI names</label>
+<label>go to <input type="text" id="address" size="8" title="an address, hexadecimal: the next cycle that fetches it, and its place in source and memory; a register: the next cycle that writes it (d)"></label>
+<label title="a"><input type="checkbox" id="abi"> ABI</label>
+<label title="leave out of the picture what was squashed, and words after the program's end (h)"><input type="checkbox" id="hide"> hide squashed</label>
+<label title="Tomasulo's tables as in the textbook (o)"><input type="checkbox" id="textbook"> tables</label>
+<button type="button" id="panels" aria-expanded="false" aria-controls="switches" title="which panels are shown (p)">panels</button>
 <button type="button" id="help" aria-expanded="false" aria-controls="keys" title="keys (?)">?</button>
 </div>
+<p id="machine"></p>
+<div id="switches" role="group" aria-label="Panels" hidden></div>
 <p id="keys" hidden>Arrow left and right: a cycle back and on. Page up and down: ten. Home, End: first and last. Space: play; + and -: its speed.
-r, w, t, i, s: the next retirement, wrong prediction, trap, interrupt, stall; with shift the one before. n and N: what the list says.
-j, k: follow the next instruction, the one before; Escape: follow none. a: ABI names. g: type a cycle. d: type an address. A click on an instruction follows it: blue
-and double are its places, dashed its producers, dotted its consumers.</p>
+r, w, t, i, s: the next retirement, wrong prediction, trap, interrupt, stall; c, m: the next access and miss of the cache; x: the next write of the
+register that was typed or of the followed one's; y: the next store, to the address that was typed; with shift the one before. n and N: what the list says.
+j, k: follow the next instruction, the one before; Escape: follow none. b: a breakpoint there; B: to its next retirement. g: type a cycle. d: type an address or
+a register. a: ABI names. h: hide what was squashed. o: tables as in the textbook. p: panels. ] and [: size of type; 0: as at first. v, V: save the
+panel with the focus, else the page, as SVG, PNG. . and , : the next stop of the lecture, the one before. q: quiz. 2: another run beside this one, then: by cycle or by
+retired instructions; 3: to the other one. A click on an instruction follows it: blue and double are its places, dashed its producers, dotted its consumers.</p>
+<p id="stop" role="status" aria-live="polite" hidden></p>
+<p id="quiz" hidden><span id="question" role="status" aria-live="polite"></span> <input type="text" id="answer" aria-labelledby="question" size="16"> <span id="verdict" role="status" aria-live="polite"></span></p>
+<p id="beside" hidden><label>The page of the other run: <input type="text" id="other" size="40"></label></p>
 <p id="happened" role="status" aria-live="polite"></p>
 <p id="following" role="status" aria-live="polite"></p>
 </header>
 <main>
 <div class="column" id="left">
-<section class="panel grows" aria-labelledby="h-source"><h2 id="h-source">Source</h2><span class="note" id="source-note"></span><div class="list" id="source" tabindex="0" role="region" aria-labelledby="h-source"><div></div></div></section>
-<section class="panel" aria-labelledby="h-fetch"><h2 id="h-fetch">Fetch buffer</h2><span class="note" id="fetch-note"></span><div class="scroll ten" tabindex="0" role="region" aria-labelledby="h-fetch"><table><tbody id="fetch"></tbody></table></div></section>
-<section class="panel" aria-labelledby="h-stores"><h2 id="h-stores">Store queue</h2><span class="note" id="stores-note"></span><div class="scroll ten" tabindex="0" role="region" aria-labelledby="h-stores"><table><tbody id="stores"></tbody></table></div></section>
+<section class="panel grows" data-panel="source" aria-labelledby="h-source"><h2 id="h-source">Source</h2><span class="note" id="source-note"></span><div class="list" id="source" tabindex="0" role="region" aria-labelledby="h-source"><div></div></div></section>
+<section class="panel" data-panel="fetch" data-phase="7" aria-labelledby="h-fetch"><h2 id="h-fetch">Fetch buffer</h2><span class="note" id="fetch-note"></span><div class="scroll ten" tabindex="0" role="region" aria-labelledby="h-fetch"><table aria-labelledby="h-fetch">
+<thead><tr><th scope="col">no.</th><th scope="col">pc</th><th scope="col">statement</th><th scope="col" title="the pc that was fetched next, where it is not the next word">then</th></tr></thead><tbody id="fetch"></tbody></table></div></section>
+<section class="panel" data-panel="stores" data-phase="3" aria-labelledby="h-stores"><h2 id="h-stores">Store queue</h2><span class="note" id="stores-note"></span><div class="scroll ten" tabindex="0" role="region" aria-labelledby="h-stores"><table aria-labelledby="h-stores">
+<thead><tr><th scope="col">no.</th><th scope="col">state</th><th scope="col">address</th><th scope="col">bytes</th></tr></thead><tbody id="stores"></tbody></table></div></section>
 </div>
 <div class="column" id="middle">
-<section class="panel grows drawing" aria-labelledby="h-picture"><h2 id="h-picture">Pipeline</h2><span class="note" id="picture-note"></span><p id="legend"></p>
-<div id="picture" tabindex="0" role="region" aria-labelledby="h-picture"><div id="picture-space"><div id="picture-heads"></div><div id="picture-cursor"></div><div id="picture-rows"></div></div></div></section>
-<section class="panel" aria-labelledby="h-rob"><h2 id="h-rob">Reorder buffer</h2><span class="note" id="rob-note"></span><div class="scroll eighteen" tabindex="0" role="region" aria-labelledby="h-rob"><table>
-<thead><tr><th scope="col"></th><th scope="col">no.</th><th scope="col">pc</th><th scope="col">statement</th><th scope="col"></th><th scope="col">D</th><th scope="col">I</th><th scope="col">B</th><th scope="col" title="the register and its value; after an arrow where the program is predicted to go on, where that is not the next word">result</th></tr></thead><tbody id="rob"></tbody></table></div></section>
+<section class="panel grows drawing" data-panel="pipeline" aria-labelledby="h-picture"><h2 id="h-picture">Pipeline</h2><span class="note" id="picture-note"></span><p id="legend"></p>
+<div id="picture" tabindex="0" role="region" aria-labelledby="h-picture"><div id="picture-space"><div id="picture-heads"></div><div id="picture-cursor"></div><div id="picture-rows" role="table" aria-labelledby="h-picture"></div><div id="picture-arrows" aria-hidden="true"></div></div></div></section>
+<section class="panel" data-panel="rob" data-phase="2" aria-labelledby="h-rob"><h2 id="h-rob">Reorder buffer</h2><span class="note" id="rob-note"></span><div class="scroll eighteen" tabindex="0" role="region" aria-labelledby="h-rob"><table aria-labelledby="h-rob">
+<thead><tr><th scope="col"></th><th scope="col">no.</th><th scope="col">pc</th><th scope="col">statement</th><th scope="col"></th><th scope="col" title="dispatched in cycle">D</th><th scope="col" title="issued in cycle">I</th><th scope="col" title="broadcast in cycle, or after an arrow the first in which it can be">B</th><th scope="col" title="the register and its value; after an arrow where the program is predicted to go on, where that is not the next word">result</th></tr></thead><tbody id="rob"></tbody></table></div></section>
+<section class="panel grows tall" data-panel="textbook" aria-labelledby="h-textbook"><h2 id="h-textbook">As in the textbook</h2><span class="note" title="issue is the cycle of dispatch, execute the cycles in a unit, write result the cycle of the broadcast">issue: dispatch; write result: broadcast; ROBn: entry n</span><div class="scroll" tabindex="0" role="region" aria-labelledby="h-textbook">
+<table aria-label="Instruction status"><thead><tr><th scope="col">entry</th><th scope="col">no.</th><th scope="col">instruction status</th><th scope="col">issue</th><th scope="col">execute</th><th scope="col">write result</th><th scope="col">commit</th></tr></thead><tbody id="status"></tbody></table>
+<table aria-label="Reservation stations"><thead><tr><th scope="col">station</th><th scope="col">busy</th><th scope="col">op</th><th scope="col">Vj</th><th scope="col">Vk</th><th scope="col">Qj</th><th scope="col">Qk</th><th scope="col">dest</th><th scope="col">A</th></tr></thead><tbody id="waiting"></tbody></table>
+<table aria-label="Register result status"><thead><tr><th scope="colgroup" colspan="16">register result status: the entry that writes it</th></tr></thead><tbody id="results"></tbody></table></div></section>
 </div>
 <div class="column" id="right">
-<section class="panel" aria-labelledby="h-stations"><h2 id="h-stations">Stations</h2><span class="note" id="stations-note"></span><div class="scroll fourteen" tabindex="0" role="region" aria-labelledby="h-stations"><table><tbody id="stations"></tbody></table></div></section>
-<section class="panel" aria-labelledby="h-units"><h2 id="h-units">Units and port</h2><span class="note">held of all; &#8594; end</span><div class="scroll six" tabindex="0" role="region" aria-labelledby="h-units"><table><tbody id="units"></tbody></table></div></section>
-<section class="panel" aria-labelledby="h-bus"><h2 id="h-bus">Common data bus</h2><span class="note" id="bus-note"></span><div class="scroll six" tabindex="0" role="region" aria-labelledby="h-bus"><table><tbody id="bus"></tbody></table></div></section>
-<section class="panel" aria-labelledby="h-csrs"><h2 id="h-csrs">CSRs</h2><span class="note" id="csrs-note"></span><div class="scroll ten" tabindex="0" role="region" aria-labelledby="h-csrs"><table><tbody id="csrs"></tbody></table></div></section>
-<section class="panel grows counting" aria-labelledby="h-counts"><h2 id="h-counts">Counts</h2><span class="note" id="counts-note"></span><p id="counted"></p><p id="stack" role="img" aria-label="where the cycles went; the table below has the numbers"></p><div class="scroll" tabindex="0" role="region" aria-labelledby="h-counts"><table><tbody id="counts"></tbody></table></div></section>
+<section class="panel" data-panel="stations" data-phase="6" aria-labelledby="h-stations"><h2 id="h-stations">Stations</h2><span class="note" id="stations-note"></span><div class="scroll fourteen" tabindex="0" role="region" aria-labelledby="h-stations"><table aria-labelledby="h-stations">
+<thead><tr><th scope="col">kind</th><th scope="col">no.</th><th scope="col">statement</th><th scope="col">operands</th></tr></thead><tbody id="stations"></tbody></table></div></section>
+<section class="panel" data-panel="units" data-phase="4" aria-labelledby="h-units"><h2 id="h-units">Units and port</h2><span class="note">held of all; &#8594; end</span><div class="scroll six" tabindex="0" role="region" aria-labelledby="h-units"><table aria-labelledby="h-units"><thead class="unseen"><tr><th scope="col">unit</th><th scope="col">held</th><th scope="col">executes</th></tr></thead><tbody id="units"></tbody></table></div></section>
+<section class="panel" data-panel="bus" data-phase="5" aria-labelledby="h-bus"><h2 id="h-bus">Common data bus</h2><span class="note" id="bus-note"></span><div class="scroll six" tabindex="0" role="region" aria-labelledby="h-bus"><table aria-labelledby="h-bus"><thead class="unseen"><tr><th scope="col">stage</th><th scope="col">no.</th><th scope="col">result</th></tr></thead><tbody id="bus"></tbody></table></div></section>
+<section class="panel" data-panel="csrs" data-phase="2" aria-labelledby="h-csrs"><h2 id="h-csrs">CSRs</h2><span class="note" id="csrs-note"></span><div class="scroll ten" tabindex="0" role="region" aria-labelledby="h-csrs"><table aria-labelledby="h-csrs"><thead class="unseen"><tr><th scope="col">name</th><th scope="col">value</th><th scope="col">meaning</th></tr></thead><tbody id="csrs"></tbody></table></div></section>
+<section class="panel grows counting" data-panel="counts" aria-labelledby="h-counts"><h2 id="h-counts">Counts</h2><span class="note" id="counts-note"></span><p id="counted"></p><p id="stack" role="img" aria-label="where the cycles went; the table below has the numbers"></p><div class="scroll" tabindex="0" role="region" aria-labelledby="h-counts"><table aria-labelledby="h-counts"><thead class="unseen"><tr><th scope="col">count</th><th scope="col">cycles</th><th scope="col">share</th></tr></thead><tbody id="counts"></tbody></table></div></section>
 </div>
 <div class="column" id="last">
-<section class="panel" aria-labelledby="h-registers"><h2 id="h-registers">Registers</h2><span class="note">and who writes them</span><div class="scroll" tabindex="0" role="region" aria-labelledby="h-registers"><table><tbody id="registers"></tbody></table></div></section>
-<section class="panel" aria-labelledby="h-cache"><h2 id="h-cache">Cache</h2><span class="note" id="cache-note" title="sets, ways, bytes of a line; replayed: what the accesses of each cycle leave in the sets, where each cost what it would then cost"></span><div class="scroll eighteen" tabindex="0" role="region" aria-labelledby="h-cache"><table><thead><tr><th scope="col">set</th><th scope="col">last used</th><th scope="col">used before</th></tr></thead><tbody id="cache"></tbody></table></div></section>
-<section class="panel grows" aria-labelledby="h-memory"><h2 id="h-memory">Memory</h2><span class="note">as programs see it</span><div class="list" id="memory" tabindex="0" role="region" aria-labelledby="h-memory"><div></div></div></section>
+<section class="panel" data-panel="registers" data-phase="2" aria-labelledby="h-registers"><h2 id="h-registers">Registers</h2><span class="note">and who writes them</span><div class="scroll" tabindex="0" role="region" aria-labelledby="h-registers"><table aria-labelledby="h-registers"><thead class="unseen"><tr><th scope="col">register</th><th scope="col">value</th><th scope="col">writer</th><th scope="col">register</th><th scope="col">value</th><th scope="col">writer</th></tr></thead><tbody id="registers"></tbody></table></div></section>
+<section class="panel" data-panel="cache" data-phase="3" aria-labelledby="h-cache"><h2 id="h-cache">Cache</h2><span class="note" id="cache-note" title="sets, ways, bytes of a line; replayed: what the accesses of each cycle leave in the sets, where each cost what it would then cost"></span><div class="scroll eighteen" tabindex="0" role="region" aria-labelledby="h-cache"><table aria-labelledby="h-cache"><thead><tr><th scope="col">set</th><th scope="col">last used</th><th scope="col">used before</th></tr></thead><tbody id="cache"></tbody></table></div></section>
+<section class="panel" data-panel="accesses" data-phase="3" aria-labelledby="h-accesses"><h2 id="h-accesses">Accesses</h2><span class="note" id="accesses-note"></span><div class="scroll six" tabindex="0" role="region" aria-labelledby="h-accesses"><table aria-labelledby="h-accesses"><thead><tr><th scope="col">cycle</th><th scope="col">no.</th><th scope="col">what</th><th scope="col">address</th><th scope="col">outcome</th><th scope="col">cost</th><th scope="col">end</th></tr></thead><tbody id="accesses"></tbody></table></div></section>
+<section class="panel grows" data-panel="memory" aria-labelledby="h-memory"><h2 id="h-memory">Memory</h2><span class="note">as programs see it</span><div class="list" id="memory" tabindex="0" role="region" aria-labelledby="h-memory"><div></div></div></section>
 </div>
 </main>
+<div id="pair" hidden><p><label>cycle <input type="range" id="pair-slider" step="1"></label> <span id="pair-note" role="status"></span> <label title="2"><input type="checkbox" id="pair-by"> by retired instructions</label></p><div id="sides"></div></div>
 <noscript>This page needs JavaScript.</noscript>
+<script type="text/plain" id="notes"></script>
 <script type="application/json" id="run">"#;
 
 /// The rest of the viewer.
@@ -187,7 +238,7 @@ const abiNames = ("zero ra sp gp tp t0 t1 t2 s0 s1 a0 a1 a2 a3 a4 a5 a6 a7 s2 s3
 const kinds = ["alu", "mul", "div", "mem"];
 const stallWords = {
   fetch: "the fetch buffer is empty", serial: "a serialising instruction is in flight", rob: "the reorder buffer is full",
-  station: "the stations of its kind are full", store: "the store queue is full",
+  station: "its stations are full", store: "the store queue is full",
 };
 const letterWords = {
   F: "fetch", D: "dispatch", I: "issue", "=": "execution", "~": "wait for the bus", B: "broadcast", ".": "wait", C: "retirement",
@@ -213,6 +264,14 @@ function called(run, number) {
 
 function writtenBy(written) { return written ? " (" + registerName(written.register) + "=" + hex(written.value) + ")" : ""; }
 
+// Why a cycle dispatched nothing, and which instruction waited.
+function stallSentence(run, here) {
+  if (here.stalled === undefined) return stallWords[here.stall];
+  const kind = kindOf(run.table[here.stalled].word), full = counted(run.machine[kind].stations, "station") + " of " + kind;
+  return (here.stall === "station" ? "the " + full + (run.machine[kind].stations === 1 ? " is taken" : " are full") : stallWords[here.stall]) +
+    " (" + called(run, here.stalled) + " waits)";
+}
+
 // What happened in the cycle before a place.
 function cycleSentence(run, place) {
   const here = run.places[place];
@@ -235,7 +294,7 @@ function cycleSentence(run, place) {
   if (phases.issue.length) parts.push(tags(phases.issue) + (phases.issue.length > 1 ? " issue" : " issues"));
   if (phases.broadcast.length) parts.push("broadcast of " + tags(phases.broadcast));
   if (phases.dispatch.length) parts.push("dispatch of " + tags(phases.dispatch));
-  else if (here.stall) parts.push("nothing is dispatched, since " + stallWords[here.stall]);
+  else if (here.stall) parts.push("nothing is dispatched, since " + stallSentence(run, here));
   if (phases.fetch.length) parts.push("fetch of " + tags(phases.fetch));
   const text = parts.length ? parts.join("; ") + "." : "nothing happens.";
   if (!run.stop || place < run.places.length - 1) return "Cycle " + here.cycle + ": " + text;
@@ -267,7 +326,7 @@ function endSentence(instruction) {
 function fetchedSentence(run, line, place, older) {
   const here = run.places[place];
   if (older > 0) return "waits in the fetch buffer for the dispatch of " + counted(older, "older word") + ".";
-  return here.stall && here.stall !== "fetch" ? "waits for its dispatch, since " + stallWords[here.stall] + "."
+  return here.stall && here.stall !== "fetch" ? "waits for its dispatch, since " + stallSentence(run, here) + "."
     : "can be dispatched in cycle " + (run.cycleOf(place) + 1) + ".";
 }
 
@@ -363,6 +422,7 @@ class Run {
     this.cleaned = [];           // places at which FENCE.I retired
     this.sets = new Changes();   // the lines of each cache set
     this.table = [];             // each instruction by its number
+    this.accesses = [];          // the accesses of the cache, in order
     this.places = [];            // what happened in the cycle before each place, and where its line stands
     this.stop = null;
     this.replays = false;        // whether the sets follow from accesses, since the lines do not tell them
@@ -387,7 +447,7 @@ class Run {
   readOther(value) {
     if (value.text !== undefined) {
       this.listing.push(value);
-      this.statements.set(value.address, value.text.trim());
+      this.statements.set(value.address, unlabelled(value.text.trim()));
     } else if (value.memory !== undefined) {
       this.words.put(value.memory, 0, value.word);
       if (value.stale) this.stale.put(value.memory, 0, true);
@@ -405,12 +465,14 @@ class Run {
       stall: value.stall, phases: this.phasesIn(value), stored: before ? storedIn(state, before.state) : [], fetchedBefore: this.table.length,
       changedSets: (value.sets || []).map((each) => each.set), head: state.reorder_buffer.length ? state.reorder_buffer[0].sequence : undefined,
     };
+    if (value.stall && value.stall !== "fetch") here.stalled = value.in_flight[state.reorder_buffer.length];
     this.places.push(here);
     here.wrong = wronglyPredicted(here, value, before);
     if (here.wrong !== undefined) this.table[here.wrong].wrong = cycle;
     for (const store of here.stored) this.readStore(store, place);
     if (here.ended.some((each) => each.end === "retired" && isFenceI(each.word))) this.cleaned.push(place);
     here.access = accessIn(this, here, value, before);
+    if (here.access) this.accesses.push(here.access);
     if (value.sets) for (const each of value.sets) this.sets.put(each.set, place, each.lines);
     else replay(this, here, value, before, place);
   }
@@ -500,6 +562,11 @@ class Run {
     return instruction.word === undefined ? "-" : hex(instruction.word);
   }
 
+  // Whether an instruction was fetched in vain: it was squashed, or it is no word of the program and never retired.
+  isGone(instruction) {
+    return instruction.end === "squashed" || (instruction.end === undefined && !this.statements.has(instruction.pc));
+  }
+
   wordAt(address, place) { const change = this.words.at(address, place); return change ? change.value : 0; }
 
   isStale(address, place) {
@@ -519,10 +586,21 @@ class Run {
   }
 }
 
+// A statement without the labels in front of it: where it stands, its address or its line says already.
+function unlabelled(text) { return text.replace(/^([A-Za-z_.$][\w.$]*|[0-9]+):\s*(?=\S)/, ""); }
+
 const isFenceI = (word) => word !== undefined && (word & 0x707f) === 0x100f;
 const isLoad = (word) => word !== undefined && (word & 0x7f) === 0x03;
 const isStore = (word) => word !== undefined && (word & 0x7f) === 0x23;
+const isSerial = (word) => word !== undefined && ((word & 0x7f) === 0x73 || isFenceI(word));
 const isRetired = (store) => store.state === "committed" || store.state === "draining";
+
+// The kind of unit that a word uses.
+function kindOf(word) {
+  if (isLoad(word) || isStore(word)) return "mem";
+  const isMul = (word & 0x7f) === 0x33 && word >>> 25 === 1;
+  return isMul ? ((word >>> 12) & 7) < 4 ? "mul" : "div" : "alu";
+}
 
 // A line. That of a place gets in_flight and ended, its instructions apart, and what an instruction of the reorder buffer waits for and
 // has come to: operands, broadcast, fault.
@@ -573,14 +651,15 @@ function letterOf(instruction, cycle) {
   if (issued < cycle && !(broadcast < cycle)) return issued + cost <= cycle ? "~" : "=";
   return ".";
 }
-// The data cache: which line a cycle touched, and which lines each set holds.
+// The data cache: which line a cycle touched, which lines each set holds, and what each access cost.
 
 // The access of the cache that began in a cycle: a store's drain, or a load that did not get all its bytes from stores.
 function accessIn(run, here, value, before) {
   const port = value.state.port_free;
   if (!before || port <= value.cycle || port === before.state.port_free) return undefined;
   const size = run.machine.cache.line;
-  const made = (number, address, what) => ({ number, address, what, line: (address - address % size) / size, cost: port - value.cycle });
+  const made = (number, address, what) => ({ number, address, what, line: (address - address % size) / size, cost: port - value.cycle,
+    outcome: outcomeOf(run, port - value.cycle), place: run.places.length - 1, cycle: value.cycle });
   const oldest = value.state.store_queue[0], was = oldest && before.state.store_queue.find((store) => store.sequence === oldest.sequence);
   const drains = oldest && oldest.state === "draining" && !(was && was.state === "draining");
   if (drains) return made(run.numberOf(oldest.sequence, value), oldest.address, "drain");
@@ -621,30 +700,127 @@ function replay(run, here, value, before, place) {
     const held = old.find((each) => each.line === line), dropped = !held && old.length >= ways ? old[old.length - 1] : undefined;
     const rest = old.filter((each) => each !== held && each !== dropped);
     if (cost !== hit + (held ? 0 : miss) + (dropped && dropped.dirty ? write_back : 0)) run.replayFits = false;
-    run.sets.put(set, place, [{ line, dirty: what === "drain" || Boolean(held && held.dirty) }, ...rest]);
+    const by = held ? held.by : { number: here.access.number, cycle: value.cycle };
+    run.sets.put(set, place, [{ line, by, dirty: what === "drain" || Boolean(held && held.dirty) }, ...rest]);
     here.changedSets = [set];
   } else if (before && isFenceI((before.state.reorder_buffer[0] || {}).word) && value.state.port_free !== before.state.port_free) {
-    for (const set of run.sets.keys()) run.sets.put(set, place, run.sets.last(set).map((each) => ({ line: each.line, dirty: false })));
+    for (const set of run.sets.keys()) run.sets.put(set, place, run.sets.last(set).map((each) => ({ ...each, dirty: false })));
   }
 }
-// The hardware after a cycle, panel by panel. All text of a program goes into text nodes, never into markup.
+
+// An access in a word: what it cost says whether its line was there.
+function outcomeOf(run, cost) {
+  const { hit, miss, write_back } = run.machine.cache;
+  if (cost === hit && (miss > 0 || write_back > 0)) return "hit";
+  if (cost === hit + miss) return miss > 0 ? "miss" : "hit or miss";
+  return cost === hit + miss + write_back ? "miss, write-back" : "cost " + cost;
+}
+
+function isMiss(access) { return access !== undefined && access.outcome.startsWith("miss"); }
+
+function showCache(view) {
+  const { run, place } = view, { sets, ways, line } = run.machine.cache, touched = run.places[place].access, changed = run.places[place].changedSets;
+  const shown = sets <= 4 ? [...Array(sets).keys()] : run.usedSets, rows = [];
+  for (const set of shown) {
+    const lines = run.replayFits ? (run.sets.at(set, place) || { value: [] }).value : [];
+    if (sets > 4 && lines.length === 0) continue;
+    const cells = [];
+    for (let way = 0; way < Math.min(ways, Math.max(lines.length, 2)); way += 1) {
+      const held = lines[way], is = held && touched && touched.line === held.line, by = held && held.by;
+      const title = held && (is ? "touched in this cycle; " : "") + (held.dirty ? "dirty: differs from RAM" : "clean") +
+        (by ? "; brought by #" + by.number + " in cycle " + by.cycle : "");
+      const data = { class: words(is && "touched", held && held.dirty && "dirty"), title };
+      cells.push(element("td", data, held ? hex(held.line * line) + (held.dirty ? "*" : "") : "-"));
+    }
+    rows.push(element("tr", { class: changed.includes(set) ? "changed" : "" }, heading(set), ...cells));
+  }
+  const size = (run.replays ? "replayed; " : "") + [sets, ways, line].join("\u00d7") + " bytes; * dirty";
+  note("cache-note", run.replayFits ? size : "not known: the costs do not fit");
+  fill("cache", rows, Math.min(sets, 4), 3);
+}
+
+// The accesses up to the cursor, the last one first.
+function showAccesses(view) {
+  const { run, place } = view, until = run.accesses.filter((access) => access.place <= place);
+  const hits = until.filter((access) => !isMiss(access)).length;
+  note("accesses-note", until.length ? "hits " + hits + " of " + until.length + ", " + (100 * hits / until.length).toFixed(1) + "%" : "none yet");
+  const cycle = run.cycleOf(place), ends = { retired: "retires", squashed: "squashed", trapped: "traps" };
+  fill("accesses", until.slice(-40).reverse().map((access) => {
+    const { left, end } = run.table[access.number] || {}, known = end !== undefined && (left <= cycle || !settings.quiz);
+    return row({ "data-number": access.number, key: access.place, class: access.place === place ? "changed" : "" }, access.cycle, tag(access.number), access.what, hex(access.address),
+      element("td", { class: isMiss(access) ? "missed" : "" }, access.outcome), access.cost, known ? ends[end] : "");
+  }), 4, 7);
+}
+// What is drawn. An element is described by a plain object, and the document is brought to the description: a step changes only what differs.
+// All text of a program goes into text nodes, never into markup.
 
 function byId(id) { return document.getElementById(id); }
 
-// An element with its attributes and children; an attribute that is undefined is left out, and a child that is no element is text.
+// The description of an element. An attribute that is undefined or false is left out, and a child that is no description is text. Among the
+// children of one parent an element with a key stays the same element wherever it comes to stand.
 function element(tag, attributes, ...children) {
-  const made = document.createElement(tag);
-  for (const [name, value] of Object.entries(attributes)) {
-    if (value !== undefined && value !== false) made.setAttribute(name, value === true ? "" : value);
-  }
-  for (const child of children) made.append(child instanceof Node ? child : document.createTextNode(child));
+  const { key, ...others } = attributes;
+  return { tag, key, attributes: others, children: children.flat().filter((child) => child !== undefined && child !== "") };
+}
+
+const drawings = ["svg", "path", "defs", "marker"];
+
+function put(node, name, value) {
+  if (value === undefined || value === false) node.removeAttribute(name);
+  else if (name === "style") node.style.cssText = value;
+  else node.setAttribute(name, value === true ? "" : value);
+}
+
+function make(wanted) {
+  if (!wanted.tag) return document.createTextNode(wanted);
+  const made = drawings.includes(wanted.tag) ? document.createElementNS("http://www.w3.org/2000/svg", wanted.tag) : document.createElement(wanted.tag);
+  made.drawn = { tag: wanted.tag, key: wanted.key, attributes: {}, children: [] };
+  bring(made, wanted);
   return made;
 }
 
-// A row of a table, its heading, and the cell that takes the room that is left.
+function bring(node, wanted) {
+  if (!wanted.tag) { if (node.data !== String(wanted)) node.data = wanted; return; }
+  const old = node.drawn.attributes, now = wanted.attributes;
+  for (const name of Object.keys(old)) if (!(name in now)) put(node, name, undefined);
+  for (const [name, value] of Object.entries(now)) if (value !== old[name]) put(node, name, value);
+  node.drawn = wanted;
+  bringChildren(node, wanted.children);
+}
+
+function isKind(node, wanted) {
+  if (!node) return false;
+  if (!wanted.tag) return node.nodeType === Node.TEXT_NODE;
+  return Boolean(node.drawn) && node.drawn.tag === wanted.tag && node.drawn.key === undefined;
+}
+
+function bringChildren(box, wanted) {
+  const keys = new Set(wanted.map((each) => each.key).filter((key) => key !== undefined)), kept = new Map();
+  for (const node of [...box.childNodes]) {
+    const key = node.drawn && node.drawn.key;
+    if (key === undefined) continue;
+    if (keys.has(key)) kept.set(key, node); else node.remove();
+  }
+  let next = box.firstChild;
+  for (const each of wanted) {
+    let node = each.key === undefined ? (isKind(next, each) ? next : undefined) : kept.get(each.key);
+    kept.delete(each.key);
+    if (node) bring(node, each); else node = make(each);
+    if (node === next) next = next.nextSibling; else box.insertBefore(node, next);
+  }
+  while (next) {
+    const gone = next;
+    next = next.nextSibling;
+    gone.remove();
+  }
+}
+
+function draw(id, ...children) { bringChildren(byId(id), children.flat()); }
+
+// A row of a table, which an instruction's number tells from the others; its heading; and the cell that takes the room that is left.
 function row(attributes, ...cells) {
-  const isCell = (cell) => cell instanceof Element && /^T[DH]$/.test(cell.tagName);
-  return element("tr", attributes, ...cells.map((cell) => isCell(cell) ? cell : element("td", {}, cell)));
+  const isCell = (cell) => cell && (cell.tag === "td" || cell.tag === "th");
+  return element("tr", { key: attributes["data-number"], ...attributes }, ...cells.map((cell) => isCell(cell) ? cell : element("td", {}, cell)));
 }
 function heading(text) { return element("th", { scope: "row" }, text); }
 function wide(...children) { return element("td", { class: "wide" }, ...children); }
@@ -657,19 +833,17 @@ function tag(number, text, title) {
   return element("button", { class: "tag", type: "button", "data-number": number, title, tabindex: -1 }, text || "#" + number);
 }
 
+// Fills a table with rows, and with as many empty ones as make it so long.
 function fill(id, rows, least, columns) {
   while (rows.length < least) rows.push(element("tr", { class: "free" }, element("td", { colspan: columns }, "\u00a0")));
-  byId(id).replaceChildren(...rows);
+  draw(id, rows);
 }
 
-function note(id, text) { byId(id).textContent = text; }
+function note(id, text) { if (byId(id).textContent !== text) byId(id).textContent = text; }
 function markChange(changed) { return changed ? { class: "changed", title: "changed in this cycle" } : {}; }
+// The layout: what is measured of it, what is scrolled into view, the size of type, and which panels are shown.
 
-// The instructions of the reorder buffer with their numbers, and whether one is on its way to the bus.
-function entriesOf(line) { return line.state.reorder_buffer.map((entry, k) => ({ entry, number: line.in_flight[k] })); }
-function isRunning(entry) { return entry.issued !== undefined && entry.broadcast === undefined; }
-
-// What the layout is, measured once for a size of the window: reading it between changes would lay the page out each time.
+// The layout is measured once a step, when the panels are filled: reading it between changes would lay the page out each time.
 const measures = { rem: 11 };
 const scrolled = ["source", "memory", "picture"];
 function measure() {
@@ -695,12 +869,16 @@ function scrollList(id, wanted) {
 function drawList(id) {
   const { count, rowAt } = lists[id], { top, height: high } = measures[id], height = 1.25 * measures.rem, rows = [];
   const from = Math.max(0, Math.floor(top / height) - 4), to = Math.min(count - 1, Math.ceil((top + high) / height) + 4);
-  for (let k = from; k <= to; k += 1) { const made = rowAt(k); made.style.top = 1.25 * k + "rem"; rows.push(made); }
-  byId(id).firstElementChild.replaceChildren(...rows);
+  for (let k = from; k <= to; k += 1) {
+    const made = rowAt(k);
+    Object.assign(made, { key: k, attributes: { ...made.attributes, style: "top:" + 1.25 * k + "rem" } });
+    rows.push(made);
+  }
+  bringChildren(byId(id).firstElementChild, rows);
 }
 function sizeList(id, count) { byId(id).firstElementChild.style.height = 1.25 * count + "rem"; }
 
-// Scrolls to what a view wants to be seen, before anything is drawn.
+// Scrolls to what a view wants to be seen, before the lists and the picture are drawn.
 function scrollAll(view) {
   const { run, place, line } = view, stored = run.places[place].stored[0];
   const first = line.in_flight.length ? run.table[line.in_flight[0]].pc : line.state.pc;
@@ -709,6 +887,62 @@ function scrollAll(view) {
   scrollList("memory", wanted === undefined ? -1 : run.memoryRows.indexOf(wanted - wanted % 16));
   scrollPicture(view);
 }
+
+// The size of type: 1 is that at which all panels are in view.
+function sizeType(factor) {
+  settings.size = Math.min(4, Math.max(0.5, Math.round(100 * factor) / 100));
+  document.documentElement.style.setProperty("--size", settings.size);
+}
+
+// The panels by name, and those that are left out. A column without a panel gives its room to the others.
+function panelNames() { return [...document.querySelectorAll("[data-panel]")].map((each) => each.dataset.panel); }
+function showPanels() {
+  for (const each of document.querySelectorAll("[data-panel]")) {
+    const name = each.dataset.panel, isOther = name === "textbook" ? !settings.textbook : settings.textbook && ["rob", "stations"].includes(name);
+    each.hidden = isOther || settings.without.has(name);
+  }
+  for (const each of document.querySelectorAll(".column")) each.hidden = !each.querySelector(".panel:not([hidden])");
+}
+function drawSwitches() {
+  draw("switches", panelNames().map((name) => element("label", {},
+    element("input", { type: "checkbox", "data-switch": name, checked: !settings.without.has(name) }), " " + name)));
+}
+// Which machine and which run: on the page, on its print and in the title of its tab.
+
+// The name of the run: that of the file, or what the address says.
+function runName() {
+  const named = new URLSearchParams(location.hash.slice(1)).get("name");
+  const file = location.protocol === "about:" || location.protocol === "blob:" ? "" : decodeURIComponent(location.pathname.split("/").pop() || "");
+  return named || file.replace(/\.x?html?$/, "") || "rv_sim";
+}
+
+function kindWords(name, kind) {
+  return name + " " + counted(kind.units, "unit") + ", " + counted(kind.stations, "station") + ", latency " + kind.latency + (kind.pipelined ? "" : ", not pipelined");
+}
+
+function machineWords(machine) {
+  const { cache, predictor } = machine;
+  return [
+    "fetch " + machine.fetch_width + ", dispatch " + machine.dispatch_width + ", commit " + machine.commit_width + ", bus " + machine.bus_width,
+    "reorder buffer " + machine.rob + ", fetch buffer " + machine.fetch_buffer + ", store queue " + machine.store_queue,
+    ...kinds.map((kind) => kindWords(kind, machine[kind])),
+    "forward " + machine.forward,
+    "cache " + [cache.sets, cache.ways, cache.line].join("\u00d7") + " bytes, hit " + cache.hit + ", miss " + cache.miss + ", write-back " + cache.write_back,
+    "predictor " + predictor.kind + (predictor.entries === undefined ? "" : " " + predictor.entries) + ", recovery " + machine.recovery,
+  ].join("; ");
+}
+
+function showMachine(run) {
+  const { machine } = run, name = runName();
+  draw("machine", element("b", {}, name), " " + machineWords(machine));
+  document.title = name + ": width " + machine.fetch_width + ", reorder buffer " + machine.rob + ", " + machine.predictor.kind;
+}
+// The hardware after a cycle, panel by panel.
+
+// The instructions of the reorder buffer with their numbers, and whether one is on its way to the bus.
+function entriesOf(line) { return line.state.reorder_buffer.map((entry, k) => ({ entry, number: line.in_flight[k] })); }
+function isRunning(entry) { return entry.issued !== undefined && entry.broadcast === undefined; }
+function isJump(entry) { return entry.predicted !== ((entry.pc + 4) >>> 0); }
 
 function showSource(view) {
   const { run, place, line } = view, cycle = run.cycleOf(place), flying = new Map();
@@ -723,9 +957,10 @@ function showSource(view) {
       return tag(number, letter, "#" + number + ": " + letterWords[letter]);
     });
     if (numbers.length > 4) tags.push("+" + (numbers.length - 4));
-    const stale = run.isStale(address, place), title = hex(address) + ": " + hex(run.wordAt(address, place)) + (stale ? ", stale" : "");
-    return element("div", { class: words("row", numbers.length && "flying", stale && "stale"), "data-address": address, title: title + "\n" + text.trim() },
-      span("line", of), span("pc", (address === line.state.pc ? ">" : " ") + hex(address)), element("span", { class: "tags" }, ...tags),
+    const stale = run.isStale(address, place), stops = view.breakpoints.has(address);
+    const title = hex(address) + ": " + hex(run.wordAt(address, place)) + (stale ? ", stale" : "") + (stops ? ", breakpoint" : "");
+    return element("div", { class: words("row", numbers.length && "flying", stale && "stale", stops && "stops"), "data-address": address, title: title + "\n" + text.trim() },
+      span("line", of), span("pc", (address === line.state.pc ? ">" : stops ? "*" : "\u00a0") + hex(address)), element("span", { class: "tags" }, ...tags),
       span("text", text.trim()));
   };
   note("source-note", "> " + hex(line.state.pc) + " is next to retire");
@@ -734,13 +969,11 @@ function showSource(view) {
 }
 
 function showFetch(view) {
-  const { run, line, place } = view, buffer = line.state.fetch_buffer, from = line.state.reorder_buffer.length, size = run.machine.fetch_buffer;
+  const { run, line } = view, buffer = line.state.fetch_buffer, from = line.state.reorder_buffer.length, size = run.machine.fetch_buffer;
   note("fetch-note", buffer.length + " of " + size + (line.state.halted ? ", halted" : ", next " + hex(line.state.next_fetch)));
   fill("fetch", buffer.map((word, k) => {
     const number = line.in_flight[from + k];
-    const jumps = word.predicted !== ((word.pc + 4) >>> 0);
-    return row({ "data-number": number, "data-pc": hex(word.pc), "data-stage": letterOf(run.table[number], run.cycleOf(place)) },
-      tag(number), hex(word.pc), wide(run.statement(word)), jumps ? "\u2192" + hex(word.predicted) : "");
+    return row({ "data-number": number }, tag(number), hex(word.pc), wide(run.statement(word)), isJump(word) ? "\u2192" + hex(word.predicted) : "");
   }), Math.min(size, 8), 4);
 }
 
@@ -748,19 +981,15 @@ function showReorderBuffer(view) {
   const { run, line, place } = view, buffer = line.state.reorder_buffer, size = run.machine.rob, cycle = run.cycleOf(place);
   note("rob-note", buffer.length + " of " + size + ", tail at the bottom");
   fill("rob", buffer.map((entry, k) => {
-    const number = line.in_flight[k], letter = letterOf(run.table[number], cycle), jumps = entry.predicted !== ((entry.pc + 4) >>> 0);
+    const number = line.in_flight[k], letter = letterOf(run.table[number], cycle);
     const ends = (k === 0 ? "head" : "") + (k === buffer.length - 1 ? (k === 0 ? "+tail" : "tail") : "");
     const stamp = (value) => value === undefined ? "-" : value;
     const target = entry.target ? registerName(entry.target) + "=" + (entry.value === undefined ? "?" : hex(entry.value)) : "";
-    const result = entry.fault ? causeName(entry.fault.cause) : target + (jumps ? "\u2192" + hex(entry.predicted) : "") || "-";
-    const state = entry.issued !== undefined && entry.broadcast === undefined ? "\u2192" + (entry.issued + entry.cost) : stamp(entry.broadcast);
-    const data = {
-      "data-number": number, "data-sequence": entry.sequence, "data-pc": hex(entry.pc), "data-stage": letter, "data-fetched": entry.fetched,
-      "data-dispatched": entry.dispatched, "data-issued": entry.issued, "data-broadcast": entry.broadcast,
-      title: "fetched in cycle " + entry.fetched + ", sequence number " + entry.sequence,
-    };
-    return row(data, heading(ends), tag(number), hex(entry.pc), wide(run.statement(entry)),
-      element("td", { class: "cell " + cellClass(letter), title: letterWords[letter] }, letter), entry.dispatched, stamp(entry.issued), state,
+    const result = entry.fault ? causeName(entry.fault.cause) : target + (isJump(entry) ? "\u2192" + hex(entry.predicted) : "") || "-";
+    const finish = isRunning(entry) ? "\u2192" + (entry.issued + entry.cost) : stamp(entry.broadcast);
+    const title = "fetched in cycle " + entry.fetched + ", sequence number " + entry.sequence;
+    return row({ "data-number": number, title }, heading(ends), tag(number), hex(entry.pc), wide(run.statement(entry)),
+      element("td", { class: "cell " + cellClass(letter), title: letterWords[letter] }, letter), entry.dispatched, stamp(entry.issued), finish,
       element("td", { class: entry.fault ? "fault" : "", title: "predicted to go on at " + hex(entry.predicted) }, result));
   }), Math.min(size, 16), 9);
 }
@@ -771,7 +1000,7 @@ function showStations(view) {
     const waiting = entriesOf(line).filter(({ entry }) => entry.kind === kind && entry.issued === undefined);
     const size = run.machine[kind].stations;
     counts.push(kind + " " + waiting.length + "/" + size);
-    const made = waiting.map(({ entry, number }) => row({ "data-number": number, "data-station": kind }, kind, tag(number),
+    const made = waiting.map(({ entry, number }) => row({ "data-number": number }, kind, tag(number),
       wide(run.statement(entry)), element("td", {}, ...entry.operands.flatMap((operand) => operandOf(view, operand)))));
     while (made.length < Math.min(size, 4)) made.push(element("tr", { class: "free" }, element("td", {}, kind), element("td", { colspan: 3 })));
     rows.push(...made);
@@ -782,10 +1011,8 @@ function showStations(view) {
 
 function operandOf(view, operand) {
   const name = registerName(operand.register);
-  if (operand.producer === undefined) return [span("operand", name + "=" + hex(operand.value), { "data-operand": operand.register }), " "];
-  const producer = view.run.numberOf(operand.producer, view.line);
-  const data = { class: "operand waits", "data-operand": operand.register, "data-producer": producer };
-  return [element("span", data, name + "\u2190", tag(producer)), " "];
+  if (operand.producer === undefined) return [span("operand", name + "=" + hex(operand.value)), " "];
+  return [element("span", { class: "operand waits" }, name + "\u2190", tag(view.run.numberOf(operand.producer, view.line))), " "];
 }
 
 function showUnits(view) {
@@ -793,15 +1020,14 @@ function showUnits(view) {
   const rows = kinds.map((kind) => {
     const held = line.state.units[kind].filter((unit) => unit.since + unit.cycles > cycle).length;
     const under = entriesOf(line).filter(({ entry }) => entry.kind === kind && isRunning(entry) && entry.issued + entry.cost > cycle);
-    return row({ "data-unit": kind, "data-held": held }, heading(kind), held + "/" + machine[kind].units, wide(...under.flatMap(({ entry, number }) => {
+    return row({}, heading(kind), held + "/" + machine[kind].units, wide(...under.flatMap(({ entry, number }) => {
       const end = entry.issued + entry.cost;
       return [tag(number, "#" + number + "\u2192" + end, "executes until cycle " + end), " "];
     })));
   });
   const port = line.state.port_free, access = run.places[place].access;
   const began = access ? [access.what + " ", tag(access.number), " " + hex(access.address)] : [];
-  rows.push(row({ "data-unit": "port", "data-until": port }, heading("port"), port > cycle + 1 ? "busy" : "free",
-    wide(port > cycle ? "\u2192" + port + " " : "", ...began)));
+  rows.push(row({}, heading("port"), port > cycle + 1 ? "busy" : "free", wide(port > cycle ? "\u2192" + port + " " : "", ...began)));
   fill("units", rows, 5, 3);
 }
 
@@ -810,13 +1036,13 @@ function showBus(view) {
   const rows = now.map((number) => {
     const { target, value } = run.table[number];
     const result = target && value !== undefined ? registerName(target) + "=" + hex(value) : run.statement(run.table[number]);
-    return row({ "data-number": number, "data-bus": "broadcast" }, "B", tag(number), wide(result));
+    return row({ "data-number": number }, "B", tag(number), wide(result));
   });
   while (rows.length < Math.min(run.machine.bus_width, 2)) rows.push(row({ class: "free" }, "B", "", ""));
   for (const { entry, number } of entriesOf(line)) {
     const ready = entry.issued + entry.cost;
     if (!isRunning(entry) || ready > cycle + 1) continue;
-    rows.push(row({ "data-number": number, "data-bus": "waits" }, ready <= cycle ? "~" : "", tag(number), wide((ready <= cycle ? "waits since " : "ready in ") + ready)));
+    rows.push(row({ "data-number": number }, ready <= cycle ? "~" : "", tag(number), wide((ready <= cycle ? "waits since " : "ready in ") + ready)));
   }
   note("bus-note", "of width " + run.machine.bus_width);
   fill("bus", rows, 5, 3);
@@ -828,23 +1054,20 @@ function showStores(view) {
   fill("stores", queue.map((store) => {
     const number = run.numberOf(store.sequence, line);
     const bytes = store.bytes ? store.bytes.map((byte) => byte.toString(16).padStart(2, "0")).join(" ") : "";
-    const address = store.address === undefined ? "" : hex(store.address);
-    const data = { "data-number": number, "data-sequence": store.sequence, "data-store": store.state, "data-address": address, "data-bytes": bytes };
-    return row(data, tag(number), store.state, address, bytes);
+    return row({ "data-number": number }, tag(number), store.state, store.address === undefined ? "" : hex(store.address), bytes);
   }), Math.min(size, 8), 4);
 }
 
 function showRegisters(view) {
-  const { run, line, before } = view, producers = new Map(), rows = [];
+  const { line, before } = view, producers = new Map(), rows = [];
   line.state.reorder_buffer.forEach((entry, k) => { if (entry.target) producers.set(entry.target, line.in_flight[k]); });
   const cells = line.state.registers.map((value, register) => {
     const changed = before && before.state.registers[register] !== value, producer = producers.get(register);
-    const data = { "data-register": register, "data-value": hex(value), "data-producer": producer };
-    return [heading(registerName(register)), element("td", { ...data, ...markChange(changed) }, hex(value)),
+    return [heading(registerName(register)), element("td", { "data-fact": "x" + register, ...markChange(changed) }, hex(value)),
       element("td", {}, producer === undefined ? "" : tag(producer, undefined, "#" + producer + " in flight writes " + registerName(register)))];
   });
   for (let k = 0; k < 16; k += 1) rows.push(element("tr", {}, ...cells[k], ...cells[k + 16]));
-  byId("registers").replaceChildren(...rows);
+  draw("registers", rows);
 }
 
 function showCsrs(view) {
@@ -852,42 +1075,21 @@ function showCsrs(view) {
   const shown = Object.entries(line.state.csrs).filter(([name, value]) => value !== 0 || (before && before.state.csrs[name] !== 0));
   const rows = shown.map(([name, value]) => {
     const changed = before && before.state.csrs[name] !== value;
-    return row({ "data-csr": name }, heading(name), element("td", { "data-value": hex(value), ...markChange(changed) }, hex(value)),
-      wide(name === "mcause" && value !== 0 ? causeName(value) : ""));
+    return row({}, heading(name), element("td", { "data-fact": name, ...markChange(changed) }, hex(value)), wide(name === "mcause" && value !== 0 ? causeName(value) : ""));
   });
   note("csrs-note", ["software", "timer", "external"].filter((name) => line.state[name]).map((name) => name + " line high").join(", "));
   fill("csrs", rows, 8, 3);
-}
-
-function showCache(view) {
-  const { run, place } = view, { sets, ways, line } = run.machine.cache, touched = run.places[place].access, changed = run.places[place].changedSets;
-  const shown = sets <= 16 ? [...Array(sets).keys()] : run.usedSets, rows = [];
-  for (const set of shown) {
-    const lines = run.replayFits ? (run.sets.at(set, place) || { value: [] }).value : [];
-    if (sets > 16 && lines.length === 0) continue;
-    const cells = [];
-    for (let way = 0; way < Math.min(ways, Math.max(lines.length, 2)); way += 1) {
-      const held = lines[way], is = held && touched && touched.line === held.line;
-      const title = held && (is ? "touched in this cycle; " : "") + (held.dirty ? "dirty: differs from RAM" : "clean");
-      const data = { class: words(is && "touched", held && held.dirty && "dirty"), "data-line": held && hex(held.line * line), title };
-      cells.push(element("td", data, held ? hex(held.line * line) + (held.dirty ? "*" : " ") : "-"));
-    }
-    rows.push(element("tr", { class: changed.includes(set) ? "changed" : "", "data-set": set }, heading(set), ...cells));
-  }
-  const size = (run.replays ? "replayed; " : "") + [sets, ways, line].join("\u00d7") + " bytes; * dirty";
-  note("cache-note", run.replayFits ? size : "not known: the costs do not fit");
-  fill("cache", rows, Math.min(sets, 16), 3);
 }
 
 function showMemory(view) {
   const { run, place } = view;
   const rowAt = (k) => {
     const address = run.memoryRows[k], four = [0, 4, 8, 12].map((offset) => {
-      const at = address + offset, stale = run.isStale(at, place), word = hex(run.wordAt(at, place));
-      const data = { "data-memory": hex(at), "data-value": word, title: stale ? "stale until fence.i" : undefined };
-      return span(words("word", run.isStored(at, place) && "changed", stale && "stale"), word, data);
+      const at = address + offset, stale = run.isStale(at, place);
+      const title = hex(at) + (stale ? ": stale until fence.i" : "");
+      return span(words("word", run.isStored(at, place) && "changed", stale && "stale"), hex(run.wordAt(at, place)), { title });
     });
-    return element("div", { class: "row" }, span("pc", hex(address).slice(2)), ...four);
+    return element("div", { class: "row" }, span("pc", hex(address)), ...four);
   };
   lists.memory = { count: run.memoryRows.length, rowAt };
   drawList("memory");
@@ -899,12 +1101,12 @@ function showCounts(view) {
   const cpi = here.retired ? (Math.floor(1000 * counts.cycles / here.retired) / 1000).toFixed(3) : "-";
   note("counts-note", "CPI " + cpi);
   const numbers = { cycles: counts.cycles, retired: here.retired, traps: here.traps, interrupts: here.interrupted };
-  byId("counted").replaceChildren(...Object.entries(numbers).map(([name, value]) => element("span", { "data-count": name, "data-value": value },
+  draw("counted", Object.entries(numbers).map(([name, value]) => element("span", { "data-fact": name },
     name + (run.first > 0 && name !== "cycles" && name !== "retired" ? " here " : " ") + value)));
   const total = Math.max(1, counts.cycles), share = (value) => (100 * value / total).toFixed(1);
-  byId("stack").replaceChildren(...parts.filter(([, value]) => value > 0).map(([name, value]) =>
+  draw("stack", parts.filter(([, value]) => value > 0).map(([name, value]) =>
     element("span", { class: "part " + name, style: "width:" + share(value) + "%", title: name + ": " + share(value) + "% of the cycles" }, name)));
-  fill("counts", parts.map(([name, value]) => row({ "data-count": name, "data-value": value }, heading(name === "busy" ? name : "stall " + name), value,
+  fill("counts", parts.map(([name, value]) => row({}, heading(name === "busy" ? name : "stall " + name), element("td", { "data-fact": name }, value),
     share(value) + "%", wide(span("bar " + name, "", { style: "width:" + share(value) + "%" })))), 6, 4);
 }
 
@@ -919,48 +1121,123 @@ function markFollowed(view, box) {
   }
 }
 
+// The panels are filled first, since how high they are says how much room the lists and the picture have.
 function showAll(view) {
+  const panels = [showFetch, showReorderBuffer, showTextbook, showStations, showUnits, showBus, showStores, showRegisters, showCsrs, showCache, showAccesses, showCounts];
+  for (const show of panels) show(view);
+  measure();
   scrollAll(view);
-  const panels = [showSource, showFetch, showReorderBuffer, showStations, showUnits, showBus, showStores, showRegisters, showCsrs, showCache, showMemory];
-  for (const show of [...panels, showCounts, drawPicture]) show(view);
+  for (const show of [showSource, showMemory, drawPicture]) show(view);
+}
+// Tomasulo's tables as the textbook prints them, of the same cycle: instruction status, reservation stations, register result status. There
+// an instruction issues where it is dispatched here, and writes its result where it is broadcast. A producer is an entry of the reorder
+// buffer, by its place: entries are used in turn.
+
+function entryName(run, sequence) { return "ROB" + (sequence % run.machine.rob + 1); }
+
+function mnemonic(run, instruction) { return run.statement(instruction).split(/\s/)[0]; }
+
+// The offset of a load or store, which is all of its address that is known before its operands are.
+function offsetOf(word) {
+  if (isLoad(word)) return word >> 20;
+  return isStore(word) ? ((word >> 25) << 5) | ((word >> 7) & 31) : undefined;
+}
+
+function showTextbook(view) {
+  if (!settings.textbook) return;
+  showStatus(view);
+  showStationTable(view);
+  showResultStatus(view);
+}
+
+function showStatus({ run, line, place }) {
+  const cycle = run.cycleOf(place), buffer = line.state.reorder_buffer, entered = line.in_flight.slice(0, buffer.length);
+  const last = entered.length ? entered[entered.length - 1] : run.places[place].fetchedBefore - 1;
+  const oldest = entered.length ? entered[0] : last;
+  const shown = run.table.slice(Math.max(run.firstNumber, oldest - 6), last + 1).filter((each) => each.dispatched <= cycle && !(settings.hide && run.isGone(each)));
+  const upTo = (at) => at !== undefined && at <= cycle ? at : "";
+  fill("status", shown.map((each) => {
+    const k = entered.indexOf(each.number), done = each.issued + each.cost <= cycle ? each.issued + "\u2013" + (each.issued + each.cost - 1) : upTo(each.issued);
+    const left = each.left <= cycle ? (each.end === "retired" ? each.left : each.end) : "";
+    return row({ "data-number": each.number }, k < 0 ? "" : entryName(run, buffer[k].sequence), tag(each.number), wide(run.statement(each)), each.dispatched, done, upTo(each.broadcast), left);
+  }), 8, 7);
+}
+
+function showStationTable({ run, line }) {
+  const rows = [];
+  for (const kind of kinds) {
+    const waiting = entriesOf(line).filter(({ entry }) => entry.kind === kind && entry.issued === undefined), size = run.machine[kind].stations;
+    waiting.forEach(({ entry, number }, k) => {
+      const value = (operand) => operand && operand.value !== undefined ? hex(operand.value) : "";
+      const producer = (operand) => operand && operand.producer !== undefined ? entryName(run, operand.producer) : "";
+      const offset = offsetOf(entry.word);
+      rows.push(row({ "data-number": number }, heading(kind + (k + 1)), "yes", mnemonic(run, entry), value(entry.first), value(entry.second),
+        producer(entry.first), producer(entry.second), entryName(run, entry.sequence), offset === undefined ? "" : offset));
+    });
+    for (let k = waiting.length; k < Math.min(size, 4); k += 1) rows.push(element("tr", { class: "free" }, heading(kind + (k + 1)), element("td", {}, "no"), element("td", { colspan: 7 })));
+  }
+  fill("waiting", rows, 0, 9);
+}
+
+function showResultStatus({ run, line }) {
+  const producers = new Map();
+  for (const entry of line.state.reorder_buffer) if (entry.target) producers.set(entry.target, entryName(run, entry.sequence));
+  const rows = [];
+  for (let from = 0; from < 32; from += 8) {
+    const registers = [...Array(8).keys()].map((k) => from + k);
+    rows.push(element("tr", {}, registers.flatMap((register) => [heading(registerName(register)), element("td", {}, producers.get(register) || "")])));
+  }
+  fill("results", rows, 4, 16);
 }
 // The pipeline picture: a row for each fetched instruction, a column for each cycle. Only the part that is in view is in the document; the
 // labels and the cycles' numbers stay in view. Measures in rem.
 
 const picture = { row: 1.25, column: 1.05, label: 19 };
 
+// The instructions that have a row, and the row of each: all, or those that were not fetched in vain.
+const pictured = { numbers: [], rows: new Map() };
+
 function sizePicture(run) {
+  const all = run.table.filter((each) => each !== undefined), shown = settings.hide ? all.filter((each) => !run.isGone(each)) : all;
+  pictured.numbers = shown.map((each) => each.number);
+  pictured.rows = new Map(pictured.numbers.map((number, k) => [number, k]));
   byId("picture-space").style.width = picture.label + run.places.length * picture.column + "rem";
-  byId("picture-space").style.height = (run.table.length - run.firstNumber + 2) * picture.row + "rem";
-  note("picture-note", counted(run.table.length - run.firstNumber, "instruction") + " fetched in cycles " + run.first + " to " + run.last);
+  byId("picture-space").style.height = (shown.length + 2) * picture.row + "rem";
+  note("picture-note", counted(all.length, "instruction") + " fetched in cycles " + run.first + " to " + run.last +
+    (all.length > shown.length ? ", " + (all.length - shown.length) + " hidden" : ""));
 }
 
-// Scrolls to the cursor's column, and to the rows of what is in flight.
+// The row of the first instruction that is not older than a number.
+function rowFrom(number) {
+  const k = pictured.numbers.findIndex((each) => each >= number);
+  return k < 0 ? pictured.numbers.length : k;
+}
+
+// Scrolls to the cursor's column, and to the rows of what is in flight: all of them where they fit, else as many of the oldest as do.
 function scrollPicture(view) {
   const { run, place, line } = view, rem = measures.rem, width = picture.column * rem, height = picture.row * rem;
   let { top, left, width: wide, height: high } = measures.picture;
   wide -= picture.label * rem;
-  high -= height;
   const column = Math.max(place - 1, 0) * width;
   if (column < left + 3 * width || column + 4 * width > left + wide) left = Math.max(0, column - wide * 0.7);
-  const rows = Math.max(0, run.places[place].fetchedBefore - run.firstNumber), end = (rows + 1) * height;
-  const oldest = line.in_flight.length ? line.in_flight[0] - run.firstNumber - 1 : rows - 3;
-  if (end > top + high) top = end - high;
-  if (oldest * height < top) top = Math.max(0, oldest * height);
-  scrollBox("picture", top, left);
+  const flying = line.in_flight.map((number) => pictured.rows.get(number)).filter((k) => k !== undefined);
+  const beside = Math.max(0, rowFrom(run.places[place].fetchedBefore) - 1);
+  const first = flying.length ? flying[0] : Math.max(0, beside - 2), last = flying.length ? flying[flying.length - 1] : beside;
+  // A row stands below the heads, which stay at the top of the box.
+  const least = Math.ceil((last + 2) * height - high), most = Math.floor(first * height);
+  if (top < least) top = least;
+  if (top > most) top = most;
+  scrollBox("picture", Math.max(0, top), left);
 }
 
 function drawPicture(view) {
   const { run } = view, { top, left, width: wide, height: high } = measures.picture;
-  const height = picture.row * measures.rem, width = picture.column * measures.rem;
+  const height = picture.row * measures.rem, width = picture.column * measures.rem, last = settings.quiz ? view.place - 1 : run.places.length - 2;
   const firstRow = Math.max(0, Math.floor(top / height) - 4), lastRow = Math.ceil((top + high) / height) + 4;
-  const firstColumn = Math.max(0, Math.floor(left / width) - 4), lastColumn = Math.min(run.places.length - 2, Math.ceil((left + wide) / width) + 4);
+  const firstColumn = Math.max(0, Math.floor(left / width) - 4), lastColumn = Math.min(last, Math.ceil((left + wide) / width) + 4);
   const at = (column) => picture.label + column * picture.column + "rem";
-  const rows = [];
-  for (let number = run.firstNumber + firstRow; number <= run.firstNumber + lastRow; number += 1) {
-    if (run.table[number]) rows.push(pictureRow(view, run.table[number], firstColumn, lastColumn, at));
-  }
-  byId("picture-rows").replaceChildren(...rows);
+  const shown = pictured.numbers.slice(firstRow, lastRow + 1).filter((number) => !settings.quiz || run.table[number].fetched <= run.cycleOf(view.place));
+  draw("picture-rows", shown.map((number, k) => pictureRow(view, run.table[number], firstRow + k, firstColumn, lastColumn, at)));
   const heads = [element("div", { class: "corner" }, "instruction")];
   for (let column = firstColumn; column <= lastColumn; column += 1) {
     const cycle = run.first + column, now = column === view.place - 1, interrupt = run.places[column + 1].interrupts.length > 0;
@@ -970,45 +1247,406 @@ function drawPicture(view) {
     const kinds = words("head", interrupt && "interrupt", now && "now");
     heads.push(element("div", { class: kinds, "data-go": cycle, style: "left:" + at(column), title }, text));
   }
-  byId("picture-heads").replaceChildren(...heads);
+  draw("picture-heads", heads);
   byId("picture-cursor").style.left = at(view.place - 1);
   byId("picture-cursor").hidden = view.place === 0;
   byId("picture-space").style.setProperty("--along", left / measures.rem);
   byId("picture-space").style.setProperty("--down", top / measures.rem);
   markFollowed(view, byId("picture"));
+  drawArrows(view);
 }
 
-function pictureRow(view, instruction, firstColumn, lastColumn, at) {
-  const { run } = view, number = instruction.number;
-  const gone = instruction.end === "squashed" ? " gone" : instruction.end === "trapped" ? " trap" : "";
+// What a label has room for: the address is left off where it would cut the statement.
+function labelOf(number, pc, statement) {
+  const gap = "\u00a0".repeat(Math.max(1, 5 - String(number).length)), room = 29;
+  const whole = "#" + number + gap + hex(pc) + " " + statement;
+  return whole.length <= room || statement === hex(pc) ? whole : "#" + number + gap + statement;
+}
+
+function pictureRow(view, instruction, k, firstColumn, lastColumn, at) {
+  const { run } = view, number = instruction.number, now = run.cycleOf(view.place);
+  const end = instruction.left !== undefined && (!settings.quiz || instruction.left <= now) ? instruction.end : undefined;
+  const gone = end === "squashed" ? " gone" : end === "trapped" ? " trap" : "";
   const cells = [];
-  const end = instruction.left === undefined ? run.last : instruction.left;
-  const from = Math.max(instruction.fetched, run.first + firstColumn), to = Math.min(end, run.first + lastColumn);
+  const until = instruction.left === undefined ? run.last : instruction.left;
+  const from = Math.max(instruction.fetched, run.first + firstColumn), to = Math.min(until, run.first + lastColumn);
   for (let cycle = from; cycle <= to; cycle += 1) {
     const letter = letterOf(instruction, cycle);
     const title = "#" + number + " in cycle " + cycle + ": " + letterWords[letter];
-    cells.push(span("cell " + cellClass(letter), letter, { style: "left:" + at(cycle - run.first), title, "data-cycle": cycle }));
+    cells.push(span("cell " + cellClass(letter), letter, { key: cycle, role: "cell", style: "left:" + at(cycle - run.first), title, "data-cycle": cycle }));
   }
-  const statement = run.statement(instruction), gap = "\u00a0".repeat(Math.max(1, 5 - String(number).length));
-  const label = span("label", "#" + number + gap + hex(instruction.pc) + " " + statement, { title: statement });
-  const style = "top:" + (number - run.firstNumber + 1) * picture.row + "rem";
-  return element("div", { class: "row" + gone, "data-number": number, style }, label, ...cells);
+  const statement = run.statement(instruction);
+  const label = span("label", labelOf(number, instruction.pc, statement), { role: "rowheader", title: hex(instruction.pc) + " " + statement });
+  return element("div", { class: "row" + gone, key: number, role: "row", "data-number": number, style: "top:" + (k + 1) * picture.row + "rem" }, label, ...cells);
+}
+
+// A cell's tip says for what an instruction waits, worked out when the cell is pointed at.
+function tellWait(view, cell) {
+  const number = Number(cell.parentNode.dataset.number), cycle = Number(cell.dataset.cycle);
+  cell.title = "In cycle " + cycle + ": " + instructionSentence(view.run, number, cycle - view.run.first + 1);
+}
+
+// Lines from the broadcasts of the followed instruction's producers to its issue.
+function drawArrows(view) {
+  const { run } = view, followed = run.table[view.followed], row = pictured.rows.get(view.followed), lines = [];
+  const cycle = run.cycleOf(view.place), isKnown = (at) => at !== undefined && (!settings.quiz || at <= cycle);
+  for (const { number } of row === undefined ? [] : followed.producers) {
+    const from = pictured.rows.get(number), { broadcast } = run.table[number];
+    if (from === undefined || !isKnown(broadcast)) continue;
+    const to = isKnown(followed.issued) ? followed.issued : Math.max(broadcast + 1, Math.min(cycle, run.last));
+    const x = (at) => picture.label + (at - run.first + 0.5) * picture.column, y = (k) => (k + 1.5) * picture.row;
+    lines.push(element("path", { class: "arrow", d: "M" + x(broadcast) + " " + (y(from) + 0.5) + " L" + x(to) + " " + (y(row) - 0.5), "data-from": number }));
+  }
+  const size = [byId("picture-space").style.width, byId("picture-space").style.height].map(parseFloat);
+  draw("picture-arrows", lines.length ? [element("svg", { viewBox: "0 0 " + size.join(" "), style: "width:" + size[0] + "rem;height:" + size[1] + "rem" }, ...lines)] : []);
 }
 
 function showLegend() {
   const item = (kind, letter, word) => element("span", {}, element("b", { class: kind }, letter), " " + word);
   const items = Object.entries(letterWords).map(([letter, word]) => item(cellClass(letter), letter, word));
-  byId("legend").replaceChildren(...items, item("interrupt", "!", "interrupt"));
+  draw("legend", [...items, item("interrupt", "!", "interrupt")]);
 }
 
 function cellClass(letter) {
   return { F: "f", D: "d", I: "i", "=": "e", "~": "r", B: "b", C: "c", T: "t", x: "x", ".": "w" }[letter];
 }
-// The cursor: buttons, keys, jumps, the address of the page, and play.
+// Jumps: to the next cycle, or the one before, in which something happens; to an address, a register; and breakpoints.
 
-const settings = { abi: false, speed: 2 };
+const tests = {
+  retirement: (here) => here.ended.some((each) => each.end === "retired"),
+  wrong: (here) => here.wrong !== undefined,
+  trap: (here) => here.ended.some((each) => each.end === "trapped"),
+  interrupt: (here) => here.interrupts.length > 0,
+  stall: (here) => here.stall !== undefined,
+  access: (here) => here.access !== undefined,
+  miss: (here) => isMiss(here.access),
+  register: (here) => here.ended.some((each) => each.written && (chosenRegister() || each.written.register) === each.written.register),
+  stored: (here) => here.stored.some((store) => view.address === undefined || (store.address <= view.address + 3 && view.address < store.address + store.bytes.length)),
+  breakpoint: (here) => here.ended.some((each) => each.end === "retired" && view.breakpoints.has(each.pc)),
+};
+
+const testNames = {
+  wrong: () => "wrong prediction", register: () => "write of " + (chosenRegister() ? registerName(chosenRegister()) : "a register"),
+  stored: () => "store" + (view.address === undefined ? "" : " to " + hex(view.address)), breakpoint: () => "breakpoint that retires",
+  access: () => "access of the cache", miss: () => "miss of the cache",
+};
+
+// The register that was typed, else that of the followed instruction.
+function chosenRegister() {
+  const followed = run.table[view.followed];
+  return view.register || (followed && followed.target) || 0;
+}
+
+function jump(what, way) {
+  const test = tests[what] || ((here) => here.stall === what);
+  for (let place = view.place + way; place > 0 && place <= lastPlace; place += way) if (test(run.places[place])) return go(place);
+  say("No " + (testNames[what] ? testNames[what]() : tests[what] ? what : "stall " + what) + (way > 0 ? " after" : " before") + " this cycle.");
+}
+
+function registerCalled(text) {
+  const named = abiNames.indexOf(text === "fp" ? "s0" : text);
+  if (named >= 0) return named;
+  return /^x([12]?[0-9]|3[01])$/.test(text) ? Number(text.slice(1)) : undefined;
+}
+
+// A register's name: the next cycle that writes it. An address: the next cycle that fetches it, and its place in source and memory.
+function goToTyped(text) {
+  const register = registerCalled(text.toLowerCase());
+  if (register === undefined) return goToAddress(text);
+  view.register = register;
+  jump("register", 1);
+}
+
+function goToAddress(text) {
+  const address = /^(0x)?[0-9a-f]{1,8}$/i.test(text) ? parseInt(text.replace(/^0x/i, ""), 16) : -1;
+  if (address < 0) return say("An address has up to eight hexadecimal digits, and a register a name such as x5 or t0.");
+  view.address = address;
+  for (let k = 1; k <= lastPlace; k += 1) {
+    const place = (view.place + k - 1) % lastPlace + 1;
+    const found = run.places[place].phases.fetch.find((number) => run.table[number].pc === address);
+    if (found !== undefined) { view.followed = found; return go(place); }
+  }
+  show();
+  say("No cycle of this page fetches " + hex(address) + ".");
+}
+
+// Sets a breakpoint where the followed instruction stands, or takes it away. Play stops where such an instruction retires.
+function turnBreakpoint() {
+  const followed = run.table[view.followed], at = followed ? followed.pc : view.address;
+  if (at === undefined) return say("A breakpoint stands at the followed instruction: press j, or type an address.");
+  const had = view.breakpoints.delete(at);
+  if (!had) view.breakpoints.add(at);
+  show();
+  say("Breakpoint " + (had ? "taken from " : "at ") + hex(at) + ". Play stops there, and B goes to where it retires next.");
+}
+// A lecture: a script of stops, and a quiz on what the next cycle does.
+
+// The stops: a line for each, or `|` between them in the address: a cycle, the number of the followed instruction after `#` (may be left
+// out), and a sentence.
+function readStops(text) {
+  const found = text.split(/[\n|]/).map((line) => /^\s*([0-9]+)\s*(?:#([0-9]+))?\s*(.*)$/.exec(line)).filter((each) => each);
+  return found.map(([, cycle, followed, sentence]) => ({ cycle: Number(cycle), followed: followed === undefined ? undefined : Number(followed), sentence: sentence.trim() }));
+}
+
+const lecture = { stops: [], at: -1 };
+
+function goToStop(way) {
+  const { stops } = lecture, next = lecture.at + way;
+  if (!stops.length) return say("This page has no stops: its address may give them, as in #notes=3 %230 The division issues.|8 It is broadcast.");
+  if (next < 0 || next >= stops.length) return say(way > 0 ? "This is the last stop." : "This is the first stop.");
+  lecture.at = next;
+  const { cycle, followed } = stops[next];
+  view.followed = run.table[followed] ? followed : undefined;
+  go(cycle - run.first + 1);
+  showStop();
+}
+
+function showStop() {
+  const stop = lecture.stops[lecture.at];
+  byId("stop").hidden = !stop;
+  if (stop) note("stop", lecture.at + 1 + " of " + lecture.stops.length + ": " + stop.sentence);
+}
+
+// The quiz: the next cycle is hidden until Enter. Each question is made from the states: its text, and its answer as words.
+const quiz = { asked: 0, right: 0, question: undefined, answered: false };
+
+function numbersWords(numbers) { return numbers.length ? numbers.join(" ") : "none"; }
+
+function questionAt(place) {
+  const here = run.places[place + 1], now = run.at(place), next = run.at(place + 1), cycle = run.cycleOf(place + 1), made = [];
+  const retired = here.ended.filter((each) => each.end === "retired").map((each) => each.number);
+  const written = next.state.registers.findIndex((value, register) => value !== now.state.registers[register]);
+  const numbers = " (numbers, or none)";
+  if (now.state.reorder_buffer.some((entry) => entry.issued === undefined)) made.push({ text: "Which instructions issue in cycle " + cycle + "?" + numbers, answer: numbersWords(here.phases.issue) });
+  if (written > 0) made.push({ text: "What does " + registerName(written) + " hold after cycle " + cycle + "? (hexadecimal)", answer: hex(next.state.registers[written]), isWord: true });
+  if (now.state.reorder_buffer.length) made.push({ text: "Which entries of the reorder buffer retire in cycle " + cycle + "?" + numbers, answer: numbersWords(retired) });
+  if (now.state.reorder_buffer.some(isRunning)) made.push({ text: "Whose results are broadcast in cycle " + cycle + "?" + numbers, answer: numbersWords(here.phases.broadcast) });
+  if (now.state.fetch_buffer.length) made.push({ text: "Which instructions are dispatched in cycle " + cycle + "?" + numbers, answer: numbersWords(here.phases.dispatch) });
+  if (!made.length) made.push({ text: "Which instructions are fetched in cycle " + cycle + "?" + numbers, answer: numbersWords(here.phases.fetch) });
+  return made[place % made.length];
+}
+
+function isAnswer(question, text) {
+  if (question.isWord) return /^(0x)?[0-9a-f]{1,8}$/i.test(text) && parseInt(text.replace(/^0x/i, ""), 16) === parseInt(question.answer, 16);
+  const said = (text.match(/[0-9]+/g) || []).map(Number).sort((a, b) => a - b).join(" ");
+  return said === "" ? question.answer === "none" && /^(none|-|no)$/i.test(text) : said === question.answer;
+}
+
+function turnQuiz() {
+  settings.quiz = !settings.quiz;
+  byId("quiz").hidden = !settings.quiz;
+  Object.assign(quiz, { asked: 0, right: 0 });
+  show();
+  if (settings.quiz) ask(); else document.activeElement.blur();
+}
+
+function ask() {
+  if (view.place >= lastPlace) {
+    note("question", "The page ends here: " + quiz.right + " of " + quiz.asked + " right.");
+    quiz.question = undefined;
+    return;
+  }
+  Object.assign(quiz, { question: questionAt(view.place), answered: false });
+  note("question", quiz.question.text);
+  byId("answer").value = "";
+  byId("answer").focus();
+  note("verdict", quiz.right + " of " + quiz.asked + " right");
+}
+
+// Enter: the first time it answers, the second time the next cycle is shown, with its question.
+function answer() {
+  if (!quiz.question) return;
+  if (quiz.answered) { go(view.place + 1); return ask(); }
+  const right = isAnswer(quiz.question, byId("answer").value.trim());
+  Object.assign(quiz, { answered: true, asked: quiz.asked + 1, right: quiz.right + (right ? 1 : 0) });
+  note("verdict", (right ? "Right" : "No: " + quiz.question.answer) + ". " + quiz.right + " of " + quiz.asked + " right. Enter: the next cycle.");
+}
+// A panel, or the page, as a picture for a slide: an SVG of rectangles and texts that stand where the browser has them, or a PNG of it.
+
+function svgText(text) { return text.replace(/[&<>"]/g, (sign) => "&#" + sign.charCodeAt(0) + ";").replace(/[\u0000-\u001f]/g, " "); }
+function svgBox(box) { return `x="${box.left.toFixed(2)}" y="${box.top.toFixed(2)}" width="${box.width.toFixed(2)}" height="${box.height.toFixed(2)}"`; }
+function isSeen(colour) { return colour !== "transparent" && !/, 0\)$/.test(colour); }
+
+// The lines of a text node, each with its box.
+function linesOf(node) {
+  const found = [], range = document.createRange();
+  for (const word of node.data.matchAll(/\S+/g)) {
+    range.setStart(node, word.index);
+    range.setEnd(node, word.index + word[0].length);
+    const box = range.getBoundingClientRect(), last = found[found.length - 1];
+    if (box.width === 0) continue;
+    if (last && Math.abs(last.top - box.top) < 2) Object.assign(last, { text: node.data.slice(last.from, word.index + word[0].length), width: box.right - last.left });
+    else found.push({ text: word[0], from: word.index, left: box.left, top: box.top, width: box.width, height: box.height });
+  }
+  return found;
+}
+
+function drawnText(node, style) {
+  const kind = `font-size="${parseFloat(style.fontSize)}" font-weight="${style.fontWeight}" font-style="${style.fontStyle}" fill="${style.color}"`;
+  return linesOf(node).map((line) => `<text x="${line.left.toFixed(2)}" y="${(line.top + 0.8 * line.height).toFixed(2)}" ` +
+    `textLength="${line.width.toFixed(2)}" lengthAdjust="spacingAndGlyphs" xml:space="preserve" ${kind}>${svgText(line.text)}</text>`).join("");
+}
+
+function drawnBox(style, box) {
+  let text = isSeen(style.backgroundColor) ? `<rect ${svgBox(box)} fill="${style.backgroundColor}"/>` : "";
+  const line = (x1, y1, x2, y2, width, colour) => `<line x1="${x1}" y1="${y1}" x2="${x2}" y2="${y2}" stroke="${colour}" stroke-width="${width}"/>`;
+  const [top, right, bottom, left] = ["Top", "Right", "Bottom", "Left"].map((side) => style["border" + side + "Style"] === "none" ? 0 : parseFloat(style["border" + side + "Width"]));
+  if (top) text += line(box.left, box.top + top / 2, box.right, box.top + top / 2, top, style.borderTopColor);
+  if (bottom) text += line(box.left, box.bottom - bottom / 2, box.right, box.bottom - bottom / 2, bottom, style.borderBottomColor);
+  if (left) text += line(box.left + left / 2, box.top, box.left + left / 2, box.bottom, left, style.borderLeftColor);
+  if (right) text += line(box.right - right / 2, box.top, box.right - right / 2, box.bottom, right, style.borderRightColor);
+  if (style.outlineStyle !== "none" && parseFloat(style.outlineWidth) > 0) {
+    text += `<rect ${svgBox(box)} fill="none" stroke="${style.outlineColor}" stroke-width="${style.outlineWidth}"${style.outlineStyle === "solid" ? "" : ' stroke-dasharray="3 2"'}/>`;
+  }
+  return text;
+}
+
+function drawnElement(each) {
+  if (each.tagName === "svg") return drawnLines(each);
+  const style = getComputedStyle(each), box = each.getBoundingClientRect();
+  if (style.display === "none" || style.visibility === "hidden" || box.width === 0 || box.height === 0) return "";
+  const layer = (child) => child.nodeType === 1 ? parseInt(getComputedStyle(child).zIndex, 10) || 0 : 0;
+  const children = [...each.childNodes].sort((a, b) => layer(a) - layer(b));
+  const inside = children.map((child) => child.nodeType === 3 ? drawnText(child, style) : child.nodeType === 1 ? drawnElement(child) : "").join("");
+  const clipped = style.overflowX === "visible" ? inside
+    : inside && `<svg ${svgBox(box)} viewBox="${[box.left, box.top, box.width, box.height].join(" ")}">${inside}</svg>`;
+  return drawnBox(style, box) + clipped;
+}
+
+// The lines from producers are drawn already.
+function drawnLines(svg) {
+  const box = svg.getBoundingClientRect();
+  const paths = [...svg.querySelectorAll("path")].map((path) => `<path d="${path.getAttribute("d")}" fill="none" stroke="${getComputedStyle(path).stroke}" stroke-width="0.15"/>`);
+  return `<svg ${svgBox(box)} viewBox="${svg.getAttribute("viewBox")}">${paths.join("")}</svg>`;
+}
+
+function savedName(each) { return runName() + "-" + (each.dataset.panel || "page") + "-" + run.cycleOf(view.place); }
+
+function svgOf(each) {
+  const box = each.getBoundingClientRect(), style = getComputedStyle(document.body);
+  const title = (each.dataset.panel ? each.querySelector("h2").textContent : "The page") + " of " + runName() + " after cycle " + run.cycleOf(view.place);
+  return `<svg xmlns="http://www.w3.org/2000/svg" width="${box.width}" height="${box.height}" viewBox="${[box.left, box.top, box.width, box.height].join(" ")}" ` +
+    `font-family="${svgText(style.fontFamily)}" role="img"><title>${svgText(title)}</title><desc>${svgText(byId("machine").textContent + ". " + byId("happened").textContent)}</desc>` +
+    `<rect ${svgBox(box)} fill="${style.backgroundColor}"/>${drawnElement(each)}</svg>`;
+}
+
+function give(blob, name) {
+  const link = document.createElement("a");
+  link.href = URL.createObjectURL(blob);
+  link.download = name;
+  link.click();
+  setTimeout(() => URL.revokeObjectURL(link.href), 10000);
+  say("Saved as " + name + ".");
+}
+
+// Saves the panel that has the focus, else the page.
+function save(asImage) {
+  const each = document.activeElement.closest("[data-panel]") || document.body, name = savedName(each), svg = svgOf(each);
+  if (!asImage) return give(new Blob([svg], { type: "image/svg+xml" }), name + ".svg");
+  const image = new Image(), canvas = document.createElement("canvas");
+  image.onload = () => {
+    Object.assign(canvas, { width: 2 * image.width, height: 2 * image.height });
+    canvas.getContext("2d").drawImage(image, 0, 0, canvas.width, canvas.height);
+    canvas.toBlob((blob) => give(blob, name + ".png"), "image/png");
+  };
+  image.onerror = () => say("This browser makes no PNG of it; v saves an SVG.");
+  image.src = "data:image/svg+xml;charset=utf-8," + encodeURIComponent(svg);
+}
+// Two runs side by side: this page and another in two frames, with one cursor. Where one goes the other follows, to the same cycle or to
+// as many retired instructions. The frames and the page around them speak by messages, since files are of different origins.
+
+const framed = window.parent !== window;
+
+// What a frame tells the page around it: where it stands, and what it shows that may differ.
+function tell(asked) {
+  if (!framed) return;
+  const facts = {};
+  for (const each of document.querySelectorAll("[data-fact]")) facts[each.dataset.fact] = each.textContent;
+  window.parent.postMessage({
+    rv_sim: "shown", asked: Boolean(asked), cycle: run.cycleOf(view.place), retired: run.places[view.place].retired, first: run.first, last: run.last, facts,
+  }, "*");
+}
+
+// Marks what differs from the other run.
+function markDifferences(others) {
+  for (const each of document.querySelectorAll("[data-fact]")) {
+    const other = others[each.dataset.fact];
+    each.classList.toggle("differs", other === undefined ? each.textContent !== "00000000" : other !== each.textContent);
+  }
+}
+
+// The first place with as many retired instructions, else the last one before it.
+function placeOfRetired(retired) {
+  const place = run.places.findIndex((here) => here.retired >= retired);
+  return place < 0 ? lastPlace : place;
+}
+
+function hear(event) {
+  const said = event.data;
+  if (event.source !== window.parent || !said || typeof said !== "object") return;
+  if (said.rv_sim === "go" && Number.isInteger(said.cycle)) go(said.cycle - run.first + 1, true);
+  if (said.rv_sim === "retired" && Number.isInteger(said.retired)) go(placeOfRetired(said.retired), true);
+  if (said.rv_sim === "differ" && said.facts && typeof said.facts === "object") markDifferences(said.facts);
+}
+
+// The page around the frames.
+const pair = { frames: [], shown: [], byRetired: false };
+
+function besideName() { return framed ? null : new URLSearchParams(location.hash.slice(1)).get("beside"); }
+
+function frameOf(address, title) {
+  const frame = document.createElement("iframe");
+  Object.assign(frame, { src: address, title });
+  return frame;
+}
+
+function startPair(other) {
+  const words = new URLSearchParams(location.hash.slice(1));
+  words.delete("beside");
+  const own = location.href.split("#")[0] + "#" + words, that = new URL(other.split("#")[0], location.href);
+  document.body.className = "pair";
+  pair.frames = [frameOf(own, "this run"), frameOf(that.href + "#" + words, "the other run")];
+  byId("sides").replaceChildren(...pair.frames);
+  byId("pair").hidden = false;
+  document.title = runName() + " beside " + decodeURIComponent(that.pathname.split("/").pop());
+  window.addEventListener("message", hearFrame);
+  byId("pair-slider").addEventListener("input", (event) => pair.frames.forEach((frame) => frame.contentWindow.postMessage({ rv_sim: "go", cycle: Number(event.target.value) }, "*")));
+  byId("pair-by").addEventListener("change", (event) => { pair.byRetired = event.target.checked; followLeader(0); });
+  pair.frames[0].addEventListener("load", () => pair.frames[0].contentWindow.focus());
+}
+
+function followLeader(k) {
+  const { cycle, retired } = pair.shown[k] || {};
+  if (cycle === undefined) return;
+  pair.frames[1 - k].contentWindow.postMessage(pair.byRetired ? { rv_sim: "retired", retired } : { rv_sim: "go", cycle }, "*");
+}
+
+function hearFrame(event) {
+  const k = pair.frames.findIndex((frame) => frame.contentWindow === event.source), said = event.data;
+  if (k < 0 || !said || typeof said !== "object") return;
+  if (said.rv_sim === "turn") { pair.byRetired = byId("pair-by").checked = !pair.byRetired; return followLeader(k); }
+  if (said.rv_sim === "other") return pair.frames[1 - k].contentWindow.focus();
+  if (said.rv_sim !== "shown") return;
+  pair.shown[k] = said;
+  if (!said.asked) followLeader(k);
+  const both = pair.shown.filter((each) => each !== undefined), slider = byId("pair-slider");
+  Object.assign(slider, { min: Math.min(...both.map((each) => each.first)) - 1, max: Math.max(...both.map((each) => each.last)) });
+  slider.value = said.cycle;
+  byId("pair-note").textContent = both.map((each) => "cycle " + each.cycle + ", " + each.retired + " retired").join(" | ");
+  if (both.length === 2) pair.frames.forEach((frame, j) => frame.contentWindow.postMessage({ rv_sim: "differ", facts: pair.shown[1 - j].facts }, "*"));
+}
+
+// In a frame: by cycle or by retired instructions. In a page alone: asks for the other page.
+function turnPair() {
+  if (framed) return window.parent.postMessage({ rv_sim: "turn" }, "*");
+  byId("beside").hidden = false;
+  byId("other").focus();
+}
+// The cursor: buttons, keys, the address of the page, and play.
+
+const settings = { abi: false, speed: 2, size: 1, hide: false, textbook: false, quiz: false, without: new Set() };
 const run = new Run(byId("run").textContent);
-const view = { run, place: 0, followed: undefined, address: undefined, line: undefined, before: undefined };
+const view = { run, place: 0, followed: undefined, address: undefined, register: 0, breakpoints: new Set(), line: undefined, before: undefined };
 const lastPlace = run.places.length - 1;
 let playing = null, writing = null;
 
@@ -1021,7 +1659,7 @@ function show() {
   byId("slider").value = cycle;
   byId("slider").setAttribute("aria-valuetext", view.place === 0 ? "before the first cycle" : "cycle " + cycle);
   if (document.activeElement !== byId("cycle")) byId("cycle").value = cycle;
-  byId("happened").textContent = cycleSentence(run, view.place);
+  note("happened", cycleSentence(run, view.place));
   showAll(view);
   showFollowed();
   document.documentElement.dataset.drawn = (performance.now() - began).toFixed(1);
@@ -1031,6 +1669,7 @@ function showFollowed() {
   const followed = view.followed;
   say(followed === undefined ? "Follow an instruction: click on it, or press j." : instructionSentence(run, followed, view.place) + relatives(followed));
   markFollowed(view);
+  drawArrows(view);
 }
 
 function relatives(number) {
@@ -1040,59 +1679,64 @@ function relatives(number) {
   return (from.length ? " Producers: " + listed(from) + "." : "") + (consumers.length ? " Consumers: " + some(consumers) + "." : "");
 }
 
-function go(place) {
+// Goes to a place; the page around a frame asks for one without being told so as if it were the reader's wish.
+function go(place, asked) {
   view.place = Math.max(0, Math.min(lastPlace, place));
   show();
+  tell(asked);
   clearTimeout(writing);
   writing = setTimeout(writeAddress, 200);
 }
 
-// The cursor's cycle and the followed instruction stand in the page's address, so that a lecture can point to them.
+// The cursor's cycle, the followed instruction and what is shown stand in the page's address, so that a lecture can point to them.
 function writeAddress() {
-  const followed = view.followed === undefined ? "" : "&follow=" + view.followed;
-  history.replaceState(null, "", "#cycle=" + run.cycleOf(view.place) + followed);
+  const words = new URLSearchParams(location.hash.slice(1));
+  for (const name of ["cycle", "follow", "abi", "hide", "textbook", "size", "without", "address"]) words.delete(name);
+  words.set("cycle", run.cycleOf(view.place));
+  if (view.followed !== undefined) words.set("follow", view.followed);
+  for (const name of ["abi", "hide", "textbook"]) if (settings[name]) words.set(name, "");
+  if (settings.size !== 1) words.set("size", settings.size);
+  if (settings.without.size) words.set("without", [...settings.without].join(","));
+  history.replaceState(null, "", "#" + words.toString().replace(/=(?=&|$)/g, ""));
 }
 
 function readAddress() {
   const words = new URLSearchParams(location.hash.slice(1));
+  if (besideName()) return location.reload();
   const number = (name) => /^-?[0-9]+$/.test(words.get(name) || "") ? Number(words.get(name)) : undefined;
-  const cycle = number("cycle"), followed = number("follow"), at = words.get("address");
+  const cycle = number("cycle"), followed = number("follow"), at = words.get("address"), size = Number(words.get("size"));
   view.followed = run.table[followed] ? followed : undefined;
   view.address = at && /^[0-9a-f]{1,8}$/i.test(at) ? parseInt(at, 16) : undefined;
-  settings.abi = words.has("abi") || settings.abi;
-  byId("abi").checked = settings.abi;
+  for (const name of ["abi", "hide", "textbook"]) settings[name] = words.has(name);
+  if (size > 0) sizeType(size);
+  settings.without = new Set((words.get("without") || (framed ? framedWithout : "")).split(",").filter((name) => panelNames().includes(name)));
+  lecture.stops = readStops(words.get("notes") || byId("notes").textContent);
   view.place = Math.max(0, Math.min(lastPlace, cycle === undefined ? 1 : cycle - run.first + 1));
+  settle();
+}
+
+// Beside another run there is room for a few panels.
+const framedWithout = "source,fetch,stores,stations,units,bus,csrs,cache,accesses,memory";
+
+// After a change of what is shown.
+function settle() {
+  for (const name of ["abi", "hide", "textbook"]) byId(name).checked = settings[name];
+  showPanels();
+  drawSwitches();
+  sizePicture(run);
   show();
+  tell(true);
 }
 
-const tests = {
-  retirement: (here) => here.ended.some((each) => each.end === "retired"),
-  wrong: (here) => here.wrong !== undefined,
-  trap: (here) => here.ended.some((each) => each.end === "trapped"),
-  interrupt: (here) => here.interrupts.length > 0,
-  stall: (here) => here.stall !== undefined,
-};
-
-function jump(what, way) {
-  const test = tests[what] || ((here) => here.stall === what);
-  for (let place = view.place + way; place > 0 && place <= lastPlace; place += way) if (test(run.places[place])) return go(place);
-  say("No " + (tests[what] ? what.replace("wrong", "wrong prediction") : "stall " + what) + (way > 0 ? " after" : " before") + " this cycle.");
+function turn(name) {
+  settings[name] = !settings[name];
+  settle();
+  writeAddress();
 }
 
-function say(text) { byId("following").textContent = text; }
+function resize(factor) { sizeType(factor === 1 ? 1 : settings.size * factor); settle(); writeAddress(); say("Size of type: " + Math.round(100 * settings.size) + "%."); }
 
-function goToAddress(text) {
-  const address = parseInt(text.replace(/^0x/i, ""), 16);
-  if (!(address >= 0 && address < 2 ** 32)) return say("An address has up to eight hexadecimal digits.");
-  view.address = address;
-  for (let k = 1; k <= lastPlace; k += 1) {
-    const place = (view.place + k - 1) % lastPlace + 1;
-    const found = run.places[place].phases.fetch.find((number) => run.table[number].pc === address);
-    if (found !== undefined) { view.followed = found; return go(place); }
-  }
-  show();
-  say("No cycle of this page fetches " + hex(address) + ".");
-}
+function say(text) { note("following", text); }
 
 function follow(number) {
   view.followed = run.table[number] ? number : undefined;
@@ -1107,21 +1751,25 @@ function followNext(way) {
   follow(Math.max(run.firstNumber, Math.min(run.table.length - 1, view.followed + way)));
 }
 
+function isStopped() { return view.place === lastPlace || (view.breakpoints.size > 0 && tests.breakpoint(run.places[view.place])); }
+
 function play(on) {
   clearInterval(playing);
-  playing = on ? setInterval(() => { if (view.place === lastPlace) play(false); else go(view.place + 1); }, 1000 / settings.speed) : null;
+  playing = on ? setInterval(() => { if (view.place < lastPlace) go(view.place + 1); if (isStopped()) play(false); }, 1000 / settings.speed) : null;
   byId("play").setAttribute("aria-pressed", String(Boolean(on)));
-  byId("play").textContent = on ? "pause" : "play";
+  note("play", on ? "pause" : "play");
 }
 
-function setAbi(on) { settings.abi = on; byId("abi").checked = on; show(); }
-
-function showKeys() {
-  const text = byId("keys");
+function openPart(id, button) {
+  const text = byId(id);
   text.hidden = !text.hidden;
-  byId("help").setAttribute("aria-expanded", String(!text.hidden));
-  measure();
+  byId(button).setAttribute("aria-expanded", String(!text.hidden));
   show();
+}
+function showKeys() { openPart("keys", "help"); }
+function showSwitches() {
+  openPart("switches", "panels");
+  if (!byId("switches").hidden) byId("switches").querySelector("input").focus();
 }
 
 function speed(factor) {
@@ -1140,67 +1788,96 @@ const keys = {
   PageUp: () => go(view.place - 10), PageDown: () => go(view.place + 10),
   " ": () => play(!playing), "+": () => speed(2), "-": () => speed(0.5), n: steps.next, N: steps.previous,
   j: () => followNext(1), k: () => followNext(-1), Escape: () => follow(undefined), "?": showKeys,
-  a: () => setAbi(!settings.abi), g: () => byId("cycle").select(), d: () => byId("address").select(),
+  a: () => turn("abi"), h: () => turn("hide"), o: () => turn("textbook"), g: () => byId("cycle").select(), d: () => byId("address").select(),
+  "]": () => resize(1.15), "[": () => resize(1 / 1.15), "0": () => resize(1), p: showSwitches,
+  b: turnBreakpoint, B: () => jump("breakpoint", 1), ".": () => goToStop(1), ",": () => goToStop(-1), q: turnQuiz,
+  v: () => save(false), V: () => save(true), "2": turnPair, "3": () => framed && window.parent.postMessage({ rv_sim: "other" }, "*"),
 };
-for (const [key, what] of Object.entries({ r: "retirement", w: "wrong", t: "trap", i: "interrupt", s: "stall" })) {
+for (const [key, what] of Object.entries({ r: "retirement", w: "wrong", t: "trap", i: "interrupt", s: "stall", c: "access", m: "miss", x: "register", y: "stored" })) {
   keys[key] = () => jump(what, 1);
   keys[key.toUpperCase()] = () => jump(what, -1);
+}
+
+function onKey(event) {
+  const { tagName, type, id } = event.target;
+  const typing = (tagName === "INPUT" && type !== "checkbox") || tagName === "SELECT", isWritten = typing && type !== "range";
+  if (event.ctrlKey || event.altKey || event.metaKey) return;
+  if (id === "answer" && event.key === "Enter") { event.preventDefault(); return answer(); }
+  if (id === "answer" && event.key === "Escape") return turnQuiz();
+  // Enter takes what was typed, and gives the keys back to the cursor.
+  if (isWritten && event.key === "Enter") { event.target.blur(); return; }
+  if (isWritten && event.key !== "Escape") return;
+  if (event.key === " " && (tagName === "BUTTON" || tagName === "INPUT")) return;
+  if (typing || event.key === "Escape") document.activeElement.blur();
+  const act = keys[event.key];
+  if (!act) return;
+  event.preventDefault();
+  act();
+}
+
+function onClick(event) {
+  const step = event.target.closest("[data-step]"), head = event.target.closest("[data-go]"), instruction = event.target.closest("[data-number]");
+  if (step) steps[step.dataset.step]();
+  else if (head) go(Number(head.dataset.go) - run.first + 1);
+  else if (instruction) follow(Number(instruction.dataset.number));
+}
+
+function onSwitch(event) {
+  const name = event.target.dataset.switch;
+  if (!name) return;
+  if (event.target.checked) settings.without.delete(name); else settings.without.add(name);
+  showPanels();
+  show();
+  writeAddress();
 }
 
 // Where the run ended before the window, there is nothing to step through.
 function showNothing() {
   const { cycles, stop } = run.stop;
-  byId("happened").textContent = "The run ended after " + counted(cycles, "cycle") + " (" + stop + "), before cycle " + run.first + ".";
+  note("happened", "The run ended after " + counted(cycles, "cycle") + " (" + stop + "), before cycle " + run.first + ".");
+}
+
+function listen() {
+  document.addEventListener("keydown", onKey);
+  document.addEventListener("click", onClick);
+  byId("switches").addEventListener("change", onSwitch);
+  byId("slider").addEventListener("input", (event) => go(Number(event.target.value) - run.first + 1));
+  byId("cycle").addEventListener("change", (event) => { if (event.target.value !== "") go(Number(event.target.value) - run.first + 1); });
+  byId("address").addEventListener("change", (event) => goToTyped(event.target.value.trim()));
+  for (const name of ["abi", "hide", "textbook"]) byId(name).addEventListener("change", () => turn(name));
+  byId("play").addEventListener("click", () => play(!playing));
+  byId("help").addEventListener("click", showKeys);
+  byId("panels").addEventListener("click", showSwitches);
+  byId("other").addEventListener("change", (event) => { location.hash = location.hash.slice(1) + "&beside=" + encodeURIComponent(event.target.value.trim()); });
+  byId("picture").addEventListener("pointerover", (event) => { if (event.target.dataset.cycle && event.target.textContent === ".") tellWait(view, event.target); });
+  for (const id of scrolled) byId(id).addEventListener("scroll", () => requestAnimationFrame(() => redraw(id)));
+  window.addEventListener("hashchange", readAddress);
+  window.addEventListener("resize", show);
+  window.addEventListener("message", hear);
+}
+
+// After the reader scrolled a list or the picture.
+function redraw(id) {
+  const { scrollTop: top, scrollLeft: left } = byId(id);
+  if (top === measures[id].top && left === measures[id].left) return;
+  Object.assign(measures[id], { top, left });
+  if (id === "picture") drawPicture(view); else { drawList(id); markFollowed(view, byId(id)); }
 }
 
 function start() {
-  document.addEventListener("keydown", (event) => {
-    const tag = event.target.tagName, typing = (tag === "INPUT" && event.target.type !== "checkbox") || tag === "SELECT";
-    if (event.ctrlKey || event.altKey || event.metaKey || (typing && event.key !== "Escape")) return;
-    if (event.key === " " && (tag === "BUTTON" || tag === "INPUT")) return;
-    if (typing) event.target.blur();
-    const act = keys[event.key];
-    if (!act) return;
-    event.preventDefault();
-    act();
-  });
-
-  document.addEventListener("click", (event) => {
-    const step = event.target.closest("[data-step]"), head = event.target.closest("[data-go]"), instruction = event.target.closest("[data-number]");
-    if (step) steps[step.dataset.step]();
-    else if (head) go(Number(head.dataset.go) - run.first + 1);
-    else if (instruction) follow(Number(instruction.dataset.number));
-  });
-
-  byId("slider").addEventListener("input", (event) => go(Number(event.target.value) - run.first + 1));
-  byId("cycle").addEventListener("change", (event) => { if (event.target.value !== "") go(Number(event.target.value) - run.first + 1); });
-  byId("address").addEventListener("change", (event) => goToAddress(event.target.value.trim()));
-  byId("abi").addEventListener("change", (event) => setAbi(event.target.checked));
-  byId("play").addEventListener("click", () => play(!playing));
-  byId("help").addEventListener("click", showKeys);
-  for (const id of scrolled) {
-    byId(id).addEventListener("scroll", () => requestAnimationFrame(() => {
-      Object.assign(measures[id], { top: byId(id).scrollTop, left: byId(id).scrollLeft });
-      if (id === "picture") drawPicture(view); else { drawList(id); markFollowed(view, byId(id)); }
-    }));
-  }
-  window.addEventListener("hashchange", readAddress);
-  window.addEventListener("resize", () => { measure(); show(); });
-
+  document.documentElement.classList.toggle("framed", framed);
+  listen();
   for (const id of ["slider", "cycle"]) { byId(id).min = run.first - 1; byId(id).max = run.last; }
-  byId("range").textContent = "of " + run.first + " to " + run.last;
+  note("range", "of " + run.first + " to " + run.last);
   showLegend();
-  sizePicture(run);
+  showMachine(run);
   sizeList("source", run.listing.length);
   sizeList("memory", run.memoryRows.length);
-  measure();
-  document.documentElement.dataset.first = run.first;
-  document.documentElement.dataset.last = run.last;
   readAddress();
   document.documentElement.dataset.opened = performance.now().toFixed(0);
 }
 
-if (run.places.length === 0) showNothing(); else start();
+if (besideName()) startPair(besideName()); else if (run.places.length === 0) showNothing(); else start();
 </script>
 </body>
 </html>

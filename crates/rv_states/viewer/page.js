@@ -1,8 +1,8 @@
-// The cursor: buttons, keys, jumps, the address of the page, and play.
+// The cursor: buttons, keys, the address of the page, and play.
 
-const settings = { abi: false, speed: 2 };
+const settings = { abi: false, speed: 2, size: 1, hide: false, textbook: false, quiz: false, without: new Set() };
 const run = new Run(byId("run").textContent);
-const view = { run, place: 0, followed: undefined, address: undefined, line: undefined, before: undefined };
+const view = { run, place: 0, followed: undefined, address: undefined, register: 0, breakpoints: new Set(), line: undefined, before: undefined };
 const lastPlace = run.places.length - 1;
 let playing = null, writing = null;
 
@@ -15,7 +15,7 @@ function show() {
   byId("slider").value = cycle;
   byId("slider").setAttribute("aria-valuetext", view.place === 0 ? "before the first cycle" : "cycle " + cycle);
   if (document.activeElement !== byId("cycle")) byId("cycle").value = cycle;
-  byId("happened").textContent = cycleSentence(run, view.place);
+  note("happened", cycleSentence(run, view.place));
   showAll(view);
   showFollowed();
   document.documentElement.dataset.drawn = (performance.now() - began).toFixed(1);
@@ -25,6 +25,7 @@ function showFollowed() {
   const followed = view.followed;
   say(followed === undefined ? "Follow an instruction: click on it, or press j." : instructionSentence(run, followed, view.place) + relatives(followed));
   markFollowed(view);
+  drawArrows(view);
 }
 
 function relatives(number) {
@@ -34,59 +35,64 @@ function relatives(number) {
   return (from.length ? " Producers: " + listed(from) + "." : "") + (consumers.length ? " Consumers: " + some(consumers) + "." : "");
 }
 
-function go(place) {
+// Goes to a place; the page around a frame asks for one without being told so as if it were the reader's wish.
+function go(place, asked) {
   view.place = Math.max(0, Math.min(lastPlace, place));
   show();
+  tell(asked);
   clearTimeout(writing);
   writing = setTimeout(writeAddress, 200);
 }
 
-// The cursor's cycle and the followed instruction stand in the page's address, so that a lecture can point to them.
+// The cursor's cycle, the followed instruction and what is shown stand in the page's address, so that a lecture can point to them.
 function writeAddress() {
-  const followed = view.followed === undefined ? "" : "&follow=" + view.followed;
-  history.replaceState(null, "", "#cycle=" + run.cycleOf(view.place) + followed);
+  const words = new URLSearchParams(location.hash.slice(1));
+  for (const name of ["cycle", "follow", "abi", "hide", "textbook", "size", "without", "address"]) words.delete(name);
+  words.set("cycle", run.cycleOf(view.place));
+  if (view.followed !== undefined) words.set("follow", view.followed);
+  for (const name of ["abi", "hide", "textbook"]) if (settings[name]) words.set(name, "");
+  if (settings.size !== 1) words.set("size", settings.size);
+  if (settings.without.size) words.set("without", [...settings.without].join(","));
+  history.replaceState(null, "", "#" + words.toString().replace(/=(?=&|$)/g, ""));
 }
 
 function readAddress() {
   const words = new URLSearchParams(location.hash.slice(1));
+  if (besideName()) return location.reload();
   const number = (name) => /^-?[0-9]+$/.test(words.get(name) || "") ? Number(words.get(name)) : undefined;
-  const cycle = number("cycle"), followed = number("follow"), at = words.get("address");
+  const cycle = number("cycle"), followed = number("follow"), at = words.get("address"), size = Number(words.get("size"));
   view.followed = run.table[followed] ? followed : undefined;
   view.address = at && /^[0-9a-f]{1,8}$/i.test(at) ? parseInt(at, 16) : undefined;
-  settings.abi = words.has("abi") || settings.abi;
-  byId("abi").checked = settings.abi;
+  for (const name of ["abi", "hide", "textbook"]) settings[name] = words.has(name);
+  if (size > 0) sizeType(size);
+  settings.without = new Set((words.get("without") || (framed ? framedWithout : "")).split(",").filter((name) => panelNames().includes(name)));
+  lecture.stops = readStops(words.get("notes") || byId("notes").textContent);
   view.place = Math.max(0, Math.min(lastPlace, cycle === undefined ? 1 : cycle - run.first + 1));
+  settle();
+}
+
+// Beside another run there is room for a few panels.
+const framedWithout = "source,fetch,stores,stations,units,bus,csrs,cache,accesses,memory";
+
+// After a change of what is shown.
+function settle() {
+  for (const name of ["abi", "hide", "textbook"]) byId(name).checked = settings[name];
+  showPanels();
+  drawSwitches();
+  sizePicture(run);
   show();
+  tell(true);
 }
 
-const tests = {
-  retirement: (here) => here.ended.some((each) => each.end === "retired"),
-  wrong: (here) => here.wrong !== undefined,
-  trap: (here) => here.ended.some((each) => each.end === "trapped"),
-  interrupt: (here) => here.interrupts.length > 0,
-  stall: (here) => here.stall !== undefined,
-};
-
-function jump(what, way) {
-  const test = tests[what] || ((here) => here.stall === what);
-  for (let place = view.place + way; place > 0 && place <= lastPlace; place += way) if (test(run.places[place])) return go(place);
-  say("No " + (tests[what] ? what.replace("wrong", "wrong prediction") : "stall " + what) + (way > 0 ? " after" : " before") + " this cycle.");
+function turn(name) {
+  settings[name] = !settings[name];
+  settle();
+  writeAddress();
 }
 
-function say(text) { byId("following").textContent = text; }
+function resize(factor) { sizeType(factor === 1 ? 1 : settings.size * factor); settle(); writeAddress(); say("Size of type: " + Math.round(100 * settings.size) + "%."); }
 
-function goToAddress(text) {
-  const address = parseInt(text.replace(/^0x/i, ""), 16);
-  if (!(address >= 0 && address < 2 ** 32)) return say("An address has up to eight hexadecimal digits.");
-  view.address = address;
-  for (let k = 1; k <= lastPlace; k += 1) {
-    const place = (view.place + k - 1) % lastPlace + 1;
-    const found = run.places[place].phases.fetch.find((number) => run.table[number].pc === address);
-    if (found !== undefined) { view.followed = found; return go(place); }
-  }
-  show();
-  say("No cycle of this page fetches " + hex(address) + ".");
-}
+function say(text) { note("following", text); }
 
 function follow(number) {
   view.followed = run.table[number] ? number : undefined;
@@ -101,21 +107,25 @@ function followNext(way) {
   follow(Math.max(run.firstNumber, Math.min(run.table.length - 1, view.followed + way)));
 }
 
+function isStopped() { return view.place === lastPlace || (view.breakpoints.size > 0 && tests.breakpoint(run.places[view.place])); }
+
 function play(on) {
   clearInterval(playing);
-  playing = on ? setInterval(() => { if (view.place === lastPlace) play(false); else go(view.place + 1); }, 1000 / settings.speed) : null;
+  playing = on ? setInterval(() => { if (view.place < lastPlace) go(view.place + 1); if (isStopped()) play(false); }, 1000 / settings.speed) : null;
   byId("play").setAttribute("aria-pressed", String(Boolean(on)));
-  byId("play").textContent = on ? "pause" : "play";
+  note("play", on ? "pause" : "play");
 }
 
-function setAbi(on) { settings.abi = on; byId("abi").checked = on; show(); }
-
-function showKeys() {
-  const text = byId("keys");
+function openPart(id, button) {
+  const text = byId(id);
   text.hidden = !text.hidden;
-  byId("help").setAttribute("aria-expanded", String(!text.hidden));
-  measure();
+  byId(button).setAttribute("aria-expanded", String(!text.hidden));
   show();
+}
+function showKeys() { openPart("keys", "help"); }
+function showSwitches() {
+  openPart("switches", "panels");
+  if (!byId("switches").hidden) byId("switches").querySelector("input").focus();
 }
 
 function speed(factor) {
@@ -134,64 +144,93 @@ const keys = {
   PageUp: () => go(view.place - 10), PageDown: () => go(view.place + 10),
   " ": () => play(!playing), "+": () => speed(2), "-": () => speed(0.5), n: steps.next, N: steps.previous,
   j: () => followNext(1), k: () => followNext(-1), Escape: () => follow(undefined), "?": showKeys,
-  a: () => setAbi(!settings.abi), g: () => byId("cycle").select(), d: () => byId("address").select(),
+  a: () => turn("abi"), h: () => turn("hide"), o: () => turn("textbook"), g: () => byId("cycle").select(), d: () => byId("address").select(),
+  "]": () => resize(1.15), "[": () => resize(1 / 1.15), "0": () => resize(1), p: showSwitches,
+  b: turnBreakpoint, B: () => jump("breakpoint", 1), ".": () => goToStop(1), ",": () => goToStop(-1), q: turnQuiz,
+  v: () => save(false), V: () => save(true), "2": turnPair, "3": () => framed && window.parent.postMessage({ rv_sim: "other" }, "*"),
 };
-for (const [key, what] of Object.entries({ r: "retirement", w: "wrong", t: "trap", i: "interrupt", s: "stall" })) {
+for (const [key, what] of Object.entries({ r: "retirement", w: "wrong", t: "trap", i: "interrupt", s: "stall", c: "access", m: "miss", x: "register", y: "stored" })) {
   keys[key] = () => jump(what, 1);
   keys[key.toUpperCase()] = () => jump(what, -1);
+}
+
+function onKey(event) {
+  const { tagName, type, id } = event.target;
+  const typing = (tagName === "INPUT" && type !== "checkbox") || tagName === "SELECT", isWritten = typing && type !== "range";
+  if (event.ctrlKey || event.altKey || event.metaKey) return;
+  if (id === "answer" && event.key === "Enter") { event.preventDefault(); return answer(); }
+  if (id === "answer" && event.key === "Escape") return turnQuiz();
+  // Enter takes what was typed, and gives the keys back to the cursor.
+  if (isWritten && event.key === "Enter") { event.target.blur(); return; }
+  if (isWritten && event.key !== "Escape") return;
+  if (event.key === " " && (tagName === "BUTTON" || tagName === "INPUT")) return;
+  if (typing || event.key === "Escape") document.activeElement.blur();
+  const act = keys[event.key];
+  if (!act) return;
+  event.preventDefault();
+  act();
+}
+
+function onClick(event) {
+  const step = event.target.closest("[data-step]"), head = event.target.closest("[data-go]"), instruction = event.target.closest("[data-number]");
+  if (step) steps[step.dataset.step]();
+  else if (head) go(Number(head.dataset.go) - run.first + 1);
+  else if (instruction) follow(Number(instruction.dataset.number));
+}
+
+function onSwitch(event) {
+  const name = event.target.dataset.switch;
+  if (!name) return;
+  if (event.target.checked) settings.without.delete(name); else settings.without.add(name);
+  showPanels();
+  show();
+  writeAddress();
 }
 
 // Where the run ended before the window, there is nothing to step through.
 function showNothing() {
   const { cycles, stop } = run.stop;
-  byId("happened").textContent = "The run ended after " + counted(cycles, "cycle") + " (" + stop + "), before cycle " + run.first + ".";
+  note("happened", "The run ended after " + counted(cycles, "cycle") + " (" + stop + "), before cycle " + run.first + ".");
+}
+
+function listen() {
+  document.addEventListener("keydown", onKey);
+  document.addEventListener("click", onClick);
+  byId("switches").addEventListener("change", onSwitch);
+  byId("slider").addEventListener("input", (event) => go(Number(event.target.value) - run.first + 1));
+  byId("cycle").addEventListener("change", (event) => { if (event.target.value !== "") go(Number(event.target.value) - run.first + 1); });
+  byId("address").addEventListener("change", (event) => goToTyped(event.target.value.trim()));
+  for (const name of ["abi", "hide", "textbook"]) byId(name).addEventListener("change", () => turn(name));
+  byId("play").addEventListener("click", () => play(!playing));
+  byId("help").addEventListener("click", showKeys);
+  byId("panels").addEventListener("click", showSwitches);
+  byId("other").addEventListener("change", (event) => { location.hash = location.hash.slice(1) + "&beside=" + encodeURIComponent(event.target.value.trim()); });
+  byId("picture").addEventListener("pointerover", (event) => { if (event.target.dataset.cycle && event.target.textContent === ".") tellWait(view, event.target); });
+  for (const id of scrolled) byId(id).addEventListener("scroll", () => requestAnimationFrame(() => redraw(id)));
+  window.addEventListener("hashchange", readAddress);
+  window.addEventListener("resize", show);
+  window.addEventListener("message", hear);
+}
+
+// After the reader scrolled a list or the picture.
+function redraw(id) {
+  const { scrollTop: top, scrollLeft: left } = byId(id);
+  if (top === measures[id].top && left === measures[id].left) return;
+  Object.assign(measures[id], { top, left });
+  if (id === "picture") drawPicture(view); else { drawList(id); markFollowed(view, byId(id)); }
 }
 
 function start() {
-  document.addEventListener("keydown", (event) => {
-    const tag = event.target.tagName, typing = (tag === "INPUT" && event.target.type !== "checkbox") || tag === "SELECT";
-    if (event.ctrlKey || event.altKey || event.metaKey || (typing && event.key !== "Escape")) return;
-    if (event.key === " " && (tag === "BUTTON" || tag === "INPUT")) return;
-    if (typing) event.target.blur();
-    const act = keys[event.key];
-    if (!act) return;
-    event.preventDefault();
-    act();
-  });
-
-  document.addEventListener("click", (event) => {
-    const step = event.target.closest("[data-step]"), head = event.target.closest("[data-go]"), instruction = event.target.closest("[data-number]");
-    if (step) steps[step.dataset.step]();
-    else if (head) go(Number(head.dataset.go) - run.first + 1);
-    else if (instruction) follow(Number(instruction.dataset.number));
-  });
-
-  byId("slider").addEventListener("input", (event) => go(Number(event.target.value) - run.first + 1));
-  byId("cycle").addEventListener("change", (event) => { if (event.target.value !== "") go(Number(event.target.value) - run.first + 1); });
-  byId("address").addEventListener("change", (event) => goToAddress(event.target.value.trim()));
-  byId("abi").addEventListener("change", (event) => setAbi(event.target.checked));
-  byId("play").addEventListener("click", () => play(!playing));
-  byId("help").addEventListener("click", showKeys);
-  for (const id of scrolled) {
-    byId(id).addEventListener("scroll", () => requestAnimationFrame(() => {
-      Object.assign(measures[id], { top: byId(id).scrollTop, left: byId(id).scrollLeft });
-      if (id === "picture") drawPicture(view); else { drawList(id); markFollowed(view, byId(id)); }
-    }));
-  }
-  window.addEventListener("hashchange", readAddress);
-  window.addEventListener("resize", () => { measure(); show(); });
-
+  document.documentElement.classList.toggle("framed", framed);
+  listen();
   for (const id of ["slider", "cycle"]) { byId(id).min = run.first - 1; byId(id).max = run.last; }
-  byId("range").textContent = "of " + run.first + " to " + run.last;
+  note("range", "of " + run.first + " to " + run.last);
   showLegend();
-  sizePicture(run);
+  showMachine(run);
   sizeList("source", run.listing.length);
   sizeList("memory", run.memoryRows.length);
-  measure();
-  document.documentElement.dataset.first = run.first;
-  document.documentElement.dataset.last = run.last;
   readAddress();
   document.documentElement.dataset.opened = performance.now().toFixed(0);
 }
 
-if (run.places.length === 0) showNothing(); else start();
+if (besideName()) startPair(besideName()); else if (run.places.length === 0) showNothing(); else start();

@@ -3,38 +3,50 @@
 
 const picture = { row: 1.25, column: 1.05, label: 19 };
 
+// The instructions that have a row, and the row of each: all, or those that were not fetched in vain.
+const pictured = { numbers: [], rows: new Map() };
+
 function sizePicture(run) {
+  const all = run.table.filter((each) => each !== undefined), shown = settings.hide ? all.filter((each) => !run.isGone(each)) : all;
+  pictured.numbers = shown.map((each) => each.number);
+  pictured.rows = new Map(pictured.numbers.map((number, k) => [number, k]));
   byId("picture-space").style.width = picture.label + run.places.length * picture.column + "rem";
-  byId("picture-space").style.height = (run.table.length - run.firstNumber + 2) * picture.row + "rem";
-  note("picture-note", counted(run.table.length - run.firstNumber, "instruction") + " fetched in cycles " + run.first + " to " + run.last);
+  byId("picture-space").style.height = (shown.length + 2) * picture.row + "rem";
+  note("picture-note", counted(all.length, "instruction") + " fetched in cycles " + run.first + " to " + run.last +
+    (all.length > shown.length ? ", " + (all.length - shown.length) + " hidden" : ""));
 }
 
-// Scrolls to the cursor's column, and to the rows of what is in flight.
+// The row of the first instruction that is not older than a number.
+function rowFrom(number) {
+  const k = pictured.numbers.findIndex((each) => each >= number);
+  return k < 0 ? pictured.numbers.length : k;
+}
+
+// Scrolls to the cursor's column, and to the rows of what is in flight: all of them where they fit, else as many of the oldest as do.
 function scrollPicture(view) {
   const { run, place, line } = view, rem = measures.rem, width = picture.column * rem, height = picture.row * rem;
   let { top, left, width: wide, height: high } = measures.picture;
   wide -= picture.label * rem;
-  high -= height;
   const column = Math.max(place - 1, 0) * width;
   if (column < left + 3 * width || column + 4 * width > left + wide) left = Math.max(0, column - wide * 0.7);
-  const rows = Math.max(0, run.places[place].fetchedBefore - run.firstNumber), end = (rows + 1) * height;
-  const oldest = line.in_flight.length ? line.in_flight[0] - run.firstNumber - 1 : rows - 3;
-  if (end > top + high) top = end - high;
-  if (oldest * height < top) top = Math.max(0, oldest * height);
-  scrollBox("picture", top, left);
+  const flying = line.in_flight.map((number) => pictured.rows.get(number)).filter((k) => k !== undefined);
+  const beside = Math.max(0, rowFrom(run.places[place].fetchedBefore) - 1);
+  const first = flying.length ? flying[0] : Math.max(0, beside - 2), last = flying.length ? flying[flying.length - 1] : beside;
+  // A row stands below the heads, which stay at the top of the box.
+  const least = Math.ceil((last + 2) * height - high), most = Math.floor(first * height);
+  if (top < least) top = least;
+  if (top > most) top = most;
+  scrollBox("picture", Math.max(0, top), left);
 }
 
 function drawPicture(view) {
   const { run } = view, { top, left, width: wide, height: high } = measures.picture;
-  const height = picture.row * measures.rem, width = picture.column * measures.rem;
+  const height = picture.row * measures.rem, width = picture.column * measures.rem, last = settings.quiz ? view.place - 1 : run.places.length - 2;
   const firstRow = Math.max(0, Math.floor(top / height) - 4), lastRow = Math.ceil((top + high) / height) + 4;
-  const firstColumn = Math.max(0, Math.floor(left / width) - 4), lastColumn = Math.min(run.places.length - 2, Math.ceil((left + wide) / width) + 4);
+  const firstColumn = Math.max(0, Math.floor(left / width) - 4), lastColumn = Math.min(last, Math.ceil((left + wide) / width) + 4);
   const at = (column) => picture.label + column * picture.column + "rem";
-  const rows = [];
-  for (let number = run.firstNumber + firstRow; number <= run.firstNumber + lastRow; number += 1) {
-    if (run.table[number]) rows.push(pictureRow(view, run.table[number], firstColumn, lastColumn, at));
-  }
-  byId("picture-rows").replaceChildren(...rows);
+  const shown = pictured.numbers.slice(firstRow, lastRow + 1).filter((number) => !settings.quiz || run.table[number].fetched <= run.cycleOf(view.place));
+  draw("picture-rows", shown.map((number, k) => pictureRow(view, run.table[number], firstRow + k, firstColumn, lastColumn, at)));
   const heads = [element("div", { class: "corner" }, "instruction")];
   for (let column = firstColumn; column <= lastColumn; column += 1) {
     const cycle = run.first + column, now = column === view.place - 1, interrupt = run.places[column + 1].interrupts.length > 0;
@@ -44,35 +56,64 @@ function drawPicture(view) {
     const kinds = words("head", interrupt && "interrupt", now && "now");
     heads.push(element("div", { class: kinds, "data-go": cycle, style: "left:" + at(column), title }, text));
   }
-  byId("picture-heads").replaceChildren(...heads);
+  draw("picture-heads", heads);
   byId("picture-cursor").style.left = at(view.place - 1);
   byId("picture-cursor").hidden = view.place === 0;
   byId("picture-space").style.setProperty("--along", left / measures.rem);
   byId("picture-space").style.setProperty("--down", top / measures.rem);
   markFollowed(view, byId("picture"));
+  drawArrows(view);
 }
 
-function pictureRow(view, instruction, firstColumn, lastColumn, at) {
-  const { run } = view, number = instruction.number;
-  const gone = instruction.end === "squashed" ? " gone" : instruction.end === "trapped" ? " trap" : "";
+// What a label has room for: the address is left off where it would cut the statement.
+function labelOf(number, pc, statement) {
+  const gap = "\u00a0".repeat(Math.max(1, 5 - String(number).length)), room = 29;
+  const whole = "#" + number + gap + hex(pc) + " " + statement;
+  return whole.length <= room || statement === hex(pc) ? whole : "#" + number + gap + statement;
+}
+
+function pictureRow(view, instruction, k, firstColumn, lastColumn, at) {
+  const { run } = view, number = instruction.number, now = run.cycleOf(view.place);
+  const end = instruction.left !== undefined && (!settings.quiz || instruction.left <= now) ? instruction.end : undefined;
+  const gone = end === "squashed" ? " gone" : end === "trapped" ? " trap" : "";
   const cells = [];
-  const end = instruction.left === undefined ? run.last : instruction.left;
-  const from = Math.max(instruction.fetched, run.first + firstColumn), to = Math.min(end, run.first + lastColumn);
+  const until = instruction.left === undefined ? run.last : instruction.left;
+  const from = Math.max(instruction.fetched, run.first + firstColumn), to = Math.min(until, run.first + lastColumn);
   for (let cycle = from; cycle <= to; cycle += 1) {
     const letter = letterOf(instruction, cycle);
     const title = "#" + number + " in cycle " + cycle + ": " + letterWords[letter];
-    cells.push(span("cell " + cellClass(letter), letter, { style: "left:" + at(cycle - run.first), title, "data-cycle": cycle }));
+    cells.push(span("cell " + cellClass(letter), letter, { key: cycle, role: "cell", style: "left:" + at(cycle - run.first), title, "data-cycle": cycle }));
   }
-  const statement = run.statement(instruction), gap = "\u00a0".repeat(Math.max(1, 5 - String(number).length));
-  const label = span("label", "#" + number + gap + hex(instruction.pc) + " " + statement, { title: statement });
-  const style = "top:" + (number - run.firstNumber + 1) * picture.row + "rem";
-  return element("div", { class: "row" + gone, "data-number": number, style }, label, ...cells);
+  const statement = run.statement(instruction);
+  const label = span("label", labelOf(number, instruction.pc, statement), { role: "rowheader", title: hex(instruction.pc) + " " + statement });
+  return element("div", { class: "row" + gone, key: number, role: "row", "data-number": number, style: "top:" + (k + 1) * picture.row + "rem" }, label, ...cells);
+}
+
+// A cell's tip says for what an instruction waits, worked out when the cell is pointed at.
+function tellWait(view, cell) {
+  const number = Number(cell.parentNode.dataset.number), cycle = Number(cell.dataset.cycle);
+  cell.title = "In cycle " + cycle + ": " + instructionSentence(view.run, number, cycle - view.run.first + 1);
+}
+
+// Lines from the broadcasts of the followed instruction's producers to its issue.
+function drawArrows(view) {
+  const { run } = view, followed = run.table[view.followed], row = pictured.rows.get(view.followed), lines = [];
+  const cycle = run.cycleOf(view.place), isKnown = (at) => at !== undefined && (!settings.quiz || at <= cycle);
+  for (const { number } of row === undefined ? [] : followed.producers) {
+    const from = pictured.rows.get(number), { broadcast } = run.table[number];
+    if (from === undefined || !isKnown(broadcast)) continue;
+    const to = isKnown(followed.issued) ? followed.issued : Math.max(broadcast + 1, Math.min(cycle, run.last));
+    const x = (at) => picture.label + (at - run.first + 0.5) * picture.column, y = (k) => (k + 1.5) * picture.row;
+    lines.push(element("path", { class: "arrow", d: "M" + x(broadcast) + " " + (y(from) + 0.5) + " L" + x(to) + " " + (y(row) - 0.5), "data-from": number }));
+  }
+  const size = [byId("picture-space").style.width, byId("picture-space").style.height].map(parseFloat);
+  draw("picture-arrows", lines.length ? [element("svg", { viewBox: "0 0 " + size.join(" "), style: "width:" + size[0] + "rem;height:" + size[1] + "rem" }, ...lines)] : []);
 }
 
 function showLegend() {
   const item = (kind, letter, word) => element("span", {}, element("b", { class: kind }, letter), " " + word);
   const items = Object.entries(letterWords).map(([letter, word]) => item(cellClass(letter), letter, word));
-  byId("legend").replaceChildren(...items, item("interrupt", "!", "interrupt"));
+  draw("legend", [...items, item("interrupt", "!", "interrupt")]);
 }
 
 function cellClass(letter) {

@@ -40,6 +40,7 @@ class Run {
     this.cleaned = [];           // places at which FENCE.I retired
     this.sets = new Changes();   // the lines of each cache set
     this.table = [];             // each instruction by its number
+    this.accesses = [];          // the accesses of the cache, in order
     this.places = [];            // what happened in the cycle before each place, and where its line stands
     this.stop = null;
     this.replays = false;        // whether the sets follow from accesses, since the lines do not tell them
@@ -64,7 +65,7 @@ class Run {
   readOther(value) {
     if (value.text !== undefined) {
       this.listing.push(value);
-      this.statements.set(value.address, value.text.trim());
+      this.statements.set(value.address, unlabelled(value.text.trim()));
     } else if (value.memory !== undefined) {
       this.words.put(value.memory, 0, value.word);
       if (value.stale) this.stale.put(value.memory, 0, true);
@@ -82,12 +83,14 @@ class Run {
       stall: value.stall, phases: this.phasesIn(value), stored: before ? storedIn(state, before.state) : [], fetchedBefore: this.table.length,
       changedSets: (value.sets || []).map((each) => each.set), head: state.reorder_buffer.length ? state.reorder_buffer[0].sequence : undefined,
     };
+    if (value.stall && value.stall !== "fetch") here.stalled = value.in_flight[state.reorder_buffer.length];
     this.places.push(here);
     here.wrong = wronglyPredicted(here, value, before);
     if (here.wrong !== undefined) this.table[here.wrong].wrong = cycle;
     for (const store of here.stored) this.readStore(store, place);
     if (here.ended.some((each) => each.end === "retired" && isFenceI(each.word))) this.cleaned.push(place);
     here.access = accessIn(this, here, value, before);
+    if (here.access) this.accesses.push(here.access);
     if (value.sets) for (const each of value.sets) this.sets.put(each.set, place, each.lines);
     else replay(this, here, value, before, place);
   }
@@ -177,6 +180,11 @@ class Run {
     return instruction.word === undefined ? "-" : hex(instruction.word);
   }
 
+  // Whether an instruction was fetched in vain: it was squashed, or it is no word of the program and never retired.
+  isGone(instruction) {
+    return instruction.end === "squashed" || (instruction.end === undefined && !this.statements.has(instruction.pc));
+  }
+
   wordAt(address, place) { const change = this.words.at(address, place); return change ? change.value : 0; }
 
   isStale(address, place) {
@@ -196,10 +204,21 @@ class Run {
   }
 }
 
+// A statement without the labels in front of it: where it stands, its address or its line says already.
+function unlabelled(text) { return text.replace(/^([A-Za-z_.$][\w.$]*|[0-9]+):\s*(?=\S)/, ""); }
+
 const isFenceI = (word) => word !== undefined && (word & 0x707f) === 0x100f;
 const isLoad = (word) => word !== undefined && (word & 0x7f) === 0x03;
 const isStore = (word) => word !== undefined && (word & 0x7f) === 0x23;
+const isSerial = (word) => word !== undefined && ((word & 0x7f) === 0x73 || isFenceI(word));
 const isRetired = (store) => store.state === "committed" || store.state === "draining";
+
+// The kind of unit that a word uses.
+function kindOf(word) {
+  if (isLoad(word) || isStore(word)) return "mem";
+  const isMul = (word & 0x7f) === 0x33 && word >>> 25 === 1;
+  return isMul ? ((word >>> 12) & 7) < 4 ? "mul" : "div" : "alu";
+}
 
 // A line. That of a place gets in_flight and ended, its instructions apart, and what an instruction of the reorder buffer waits for and
 // has come to: operands, broadcast, fault.

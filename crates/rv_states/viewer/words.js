@@ -4,7 +4,7 @@ const abiNames = ("zero ra sp gp tp t0 t1 t2 s0 s1 a0 a1 a2 a3 a4 a5 a6 a7 s2 s3
 const kinds = ["alu", "mul", "div", "mem"];
 const stallWords = {
   fetch: "the fetch buffer is empty", serial: "a serialising instruction is in flight", rob: "the reorder buffer is full",
-  station: "the stations of its kind are full", store: "the store queue is full",
+  station: "its stations are full", store: "the store queue is full",
 };
 const letterWords = {
   F: "fetch", D: "dispatch", I: "issue", "=": "execution", "~": "wait for the bus", B: "broadcast", ".": "wait", C: "retirement",
@@ -30,6 +30,14 @@ function called(run, number) {
 
 function writtenBy(written) { return written ? " (" + registerName(written.register) + "=" + hex(written.value) + ")" : ""; }
 
+// Why a cycle dispatched nothing, and which instruction waited.
+function stallSentence(run, here) {
+  if (here.stalled === undefined) return stallWords[here.stall];
+  const kind = kindOf(run.table[here.stalled].word), full = counted(run.machine[kind].stations, "station") + " of " + kind;
+  return (here.stall === "station" ? "the " + full + (run.machine[kind].stations === 1 ? " is taken" : " are full") : stallWords[here.stall]) +
+    " (" + called(run, here.stalled) + " waits)";
+}
+
 // What happened in the cycle before a place.
 function cycleSentence(run, place) {
   const here = run.places[place];
@@ -52,7 +60,7 @@ function cycleSentence(run, place) {
   if (phases.issue.length) parts.push(tags(phases.issue) + (phases.issue.length > 1 ? " issue" : " issues"));
   if (phases.broadcast.length) parts.push("broadcast of " + tags(phases.broadcast));
   if (phases.dispatch.length) parts.push("dispatch of " + tags(phases.dispatch));
-  else if (here.stall) parts.push("nothing is dispatched, since " + stallWords[here.stall]);
+  else if (here.stall) parts.push("nothing is dispatched, since " + stallSentence(run, here));
   if (phases.fetch.length) parts.push("fetch of " + tags(phases.fetch));
   const text = parts.length ? parts.join("; ") + "." : "nothing happens.";
   if (!run.stop || place < run.places.length - 1) return "Cycle " + here.cycle + ": " + text;
@@ -84,7 +92,7 @@ function endSentence(instruction) {
 function fetchedSentence(run, line, place, older) {
   const here = run.places[place];
   if (older > 0) return "waits in the fetch buffer for the dispatch of " + counted(older, "older word") + ".";
-  return here.stall && here.stall !== "fetch" ? "waits for its dispatch, since " + stallWords[here.stall] + "."
+  return here.stall && here.stall !== "fetch" ? "waits for its dispatch, since " + stallSentence(run, here) + "."
     : "can be dispatched in cycle " + (run.cycleOf(place) + 1) + ".";
 }
 

@@ -1,0 +1,248 @@
+"""The panels' texts and marks beside log, report, states and the one-at-a-time machine."""
+
+KINDS = ("alu", "mul", "div", "mem")
+STALLS = ("fetch", "serial", "rob", "station", "store")
+CAUSES = {0: "instruction address misaligned", 1: "instruction access fault", 2: "illegal instruction", 3: "breakpoint", 4: "load address misaligned",
+          5: "load access fault", 6: "store address misaligned", 7: "store access fault", 11: "environment call", 0x80000003: "software interrupt",
+          0x80000007: "timer interrupt", 0x8000000b: "external interrupt"}
+STAGES = {"F": "f", "D": "d", "I": "i", "=": "e", "~": "r", "B": "b", "C": "c", "T": "t", "x": "x", ".": "w"}
+
+
+def word(value):
+    return f"{value:08x}"
+
+
+def texts(rows):
+    """The texts of the rows that are not left free."""
+    return [[cell["text"] for cell in row["cells"]] for row in rows if "free" not in row["marks"]]
+
+
+class Panels:
+    """What the panels should show of a cycle, and whether a page shows that."""
+
+    def __init__(self, facts, page, cycle, same):
+        self.facts, self.page, self.cycle, self.same = facts, page, cycle, same
+        self.window = facts.lines
+        self.line = self.window.at[cycle]
+        self.state, self.numbers = self.line["state"], self.line["numbers"]
+        self.buffer = self.state["reorder_buffer"]
+        self.entries = list(zip(self.numbers, self.buffer))
+        self.tables, self.notes, self.machine = page["tables"], page["notes"], self.window.machine
+
+    def compare(self):
+        for check in (self.front, self.reorder_buffer, self.stations, self.units, self.bus, self.stores, self.registers, self.csrs, self.counts,
+                      self.reference, self.cache, self.accesses, self.memory, self.source):
+            check()
+
+    def number(self, sequence):
+        return self.window.number(sequence, self.cycle)
+
+    def running(self):
+        return [(number, entry, entry["issued"] + entry["cost"]) for number, entry in self.entries if "issued" in entry and "finished" not in entry]
+
+    @staticmethod
+    def then(entry):
+        """Where an instruction is predicted to go on, where that is not the next word."""
+        return "" if entry["predicted"] == (entry["pc"] + 4) % 2 ** 32 else "\u2192" + word(entry["predicted"])
+
+    def front(self):
+        buffer, known = self.state["fetch_buffer"], self.numbers[len(self.buffer):]
+        self.same("fetch buffer", texts(self.tables["fetch"]),
+                  [[f"#{number}", word(each["pc"]), self.window.statement(each), self.then(each)] for number, each in zip(known, buffer)])
+        self.same("fetch buffer's note", self.notes["fetch-note"], f"{len(buffer)} of {self.machine['fetch_buffer']}, " +
+                  ("halted" if self.state["halted"] else f"next {word(self.state['next_fetch'])}"))
+        self.same("the log's fetch buffer", known, [each.number for each in self.facts.flying(self.cycle) if each.at("D", self.cycle) is None])
+
+    def reorder_buffer(self):
+        rows, last = [], len(self.buffer) - 1
+        for k, (number, entry) in enumerate(self.entries):
+            each = self.facts.log[number]
+            stamps = [each.at(stage, self.cycle) for stage in "DXB"]
+            shown = ["-" if stamp is None else str(stamp) for stamp in stamps]
+            if stamps[1] is not None and stamps[2] is None:
+                shown[2] = f"\u2192{entry['issued'] + entry['cost']}"
+            ends = "+".join(["head"] * (k == 0) + ["tail"] * (k == last))
+            target = f"x{entry['target']}=" + (word(entry["value"]) if "value" in entry else "?") if entry.get("target") else ""
+            result = CAUSES[entry["cause"]] if "cause" in entry else target + self.then(entry) or "-"
+            rows.append([ends, f"#{number}", f"{each.pc:08x}", self.window.statement(entry), each.letter(self.cycle), *shown, result])
+        self.same("reorder buffer", texts(self.tables["rob"]), rows)
+        self.same("stages' colours", [row["cells"][4]["kind"] for row in self.tables["rob"] if len(row["cells"]) == 9], ["cell " + STAGES[row[4]] for row in rows])
+        self.same("faults' marks", ["fault" in row["cells"][8]["marks"] for row in self.tables["rob"] if len(row["cells"]) == 9], ["cause" in entry for entry in self.buffer])
+        self.same("reorder buffer's note", self.notes["rob-note"], f"{len(rows)} of {self.machine['rob']}, tail at the bottom")
+
+    def waiting(self, kind):
+        return [(number, entry) for number, entry in self.entries if entry.get("kind") == kind and "issued" not in entry]
+
+    def operand(self, operand):
+        name = f"x{operand['register']}"
+        return f"{name}={word(operand['value'])}" if "value" in operand else f"{name}\u2190#{self.number(operand['producer'])}"
+
+    def stations(self):
+        rows, counts = [], []
+        for kind in KINDS:
+            for number, entry in self.waiting(kind):
+                operands = [self.operand(entry[name]) for name in ("first", "second") if name in entry]
+                rows.append([kind, f"#{number}", self.window.statement(entry), " ".join(operands)])
+            counts.append(f"{kind} {len(self.waiting(kind))}/{self.machine[kind]['stations']}")
+        self.same("stations", texts(self.tables["stations"]), rows)
+        self.same("stations' note", self.notes["stations-note"], " ".join(counts))
+        log = self.facts.log
+        waited = [each.number for each in self.facts.flying(self.cycle) if each.at("D", self.cycle) is not None and each.at("X", self.cycle) is None]
+        # (whether an instruction that was squashed before its issue would have had one, the log does not say)
+        self.same("the log's stations", sorted(int(row[1][1:]) for row in texts(self.tables["stations"]) if "X" in log[int(row[1][1:])].stages),
+                  [number for number in waited if "X" in log[number].stages])
+
+    def units(self):
+        rows = []
+        for kind in KINDS:
+            held = sum(unit["since"] + unit["cycles"] > self.cycle for unit in self.state["units"][kind])
+            under = [f"#{number}\u2192{end}" for number, entry, end in self.running() if entry["kind"] == kind and end > self.cycle]
+            rows.append([kind, f"{held}/{self.machine[kind]['units']}", " ".join(under)])
+        port, began = self.state["port_free"], [each for each in self.window.accesses if each["cycle"] == self.cycle]
+        what = [f"{each['what']} #{each['number']} {word(each['address'])}" for each in began]
+        rows.append(["port", "busy" if port > self.cycle + 1 else "free", " ".join([f"\u2192{port}"] * (port > self.cycle) + what)])
+        self.same("units and port", texts(self.tables["units"]), rows)
+
+    def bus(self):
+        rows = []
+        for each in sorted(self.facts.log.values(), key=lambda each: each.number):
+            if each.stages.get("B") == self.cycle:
+                entry = dict(self.entries).get(each.number, {})
+                has = entry.get("target") and "value" in entry
+                rows.append(["B", f"#{each.number}", f"x{entry['target']}={word(entry['value'])}" if has else self.window.statements.get(each.pc, each.text)])
+        for number, _, ready in self.running():
+            if ready <= self.cycle:
+                rows.append(["~", f"#{number}", f"waits since {ready}"])
+            elif ready == self.cycle + 1:
+                rows.append(["", f"#{number}", f"ready in {ready}"])
+        self.same("bus", texts(self.tables["bus"]), rows)
+        self.same("bus's note", self.notes["bus-note"], f"of width {self.machine['bus_width']}")
+
+    def stores(self):
+        log, queue = self.facts.log, self.state["store_queue"]
+        flying = [each.number for each in self.facts.flying(self.cycle) if each.is_store() and each.at("D", self.cycle) is not None]
+        retired = [each.number for each in log.values() if each.is_store() and each.end == "C" and each.left <= self.cycle]
+        # (the log's label names a store by its statement; a statement that stands for two words may hide one)
+        own = [self.number(store["sequence"]) for store in queue]
+        count = len(queue) - len(flying)
+        self.same("the log's stores", own, retired[len(retired) - count:] + flying if count else flying)
+        rows = [[f"#{number}" if number is not None else "-", store["state"], word(store["address"]) if "address" in store else "",
+                 " ".join(f"{byte:02x}" for byte in store.get("bytes", ()))] for number, store in zip(own, queue)]
+        self.same("store queue", texts(self.tables["stores"]), rows)
+        self.same("store queue's note", self.notes["stores-note"], f"{len(queue)} of {self.machine['store_queue']}")
+
+    def registers(self):
+        writers = {entry["target"]: f"#{number}" for number, entry in self.entries if entry.get("target")}
+        values, old = self.state["registers"], self.window.at.get(self.cycle - 1, self.line)["state"]["registers"]
+        rows = [[text for k in (row, row + 16) for text in (f"x{k}", word(values[k]), writers.get(k, ""))] for row in range(16)]
+        self.same("registers", texts(self.tables["registers"]), rows)
+        changed = [k for k in range(32) if values[k] != old[k]]
+        cells = {int(row["cells"][at]["text"][1:]): row["cells"][at + 1] for row in self.tables["registers"] for at in (0, 3)}
+        self.same("changed registers", [k for k in range(32) if "changed" in cells[k]["marks"]], changed)
+
+    def csrs(self):
+        values, old = self.state["csrs"], self.window.at.get(self.cycle - 1, self.line)["state"]["csrs"]
+        names = [name for name in values if values[name] or old[name]]
+        rows = [[name, word(values[name]), CAUSES.get(values[name], f"cause {word(values[name])}") if name == "mcause" and values[name] else ""] for name in names]
+        self.same("CSRs", texts(self.tables["csrs"]), rows)
+        marked = [row["cells"][0]["text"] for row in self.tables["csrs"] if "free" not in row["marks"] and "changed" in row["cells"][1]["marks"]]
+        self.same("changed CSRs", marked, [name for name in names if values[name] != old[name]])
+        self.same("lines", self.notes["csrs-note"], ", ".join(f"{name} line high" for name in ("software", "timer", "external") if self.state[name]))
+
+    def counts(self):
+        report, here = self.facts.run_up_to(self.cycle), " here" if self.window.first > 0 else ""
+        steps = [kind for kind, at in self.facts.steps if self.window.first <= at <= self.cycle]
+        self.same("counts", self.page["counted"], [f"cycles {report['cycles']}", f"retired {report['retired']}", f"traps{here} {steps.count('T')}",
+                                                   f"interrupts{here} {steps.count('N')}"])
+        if not here:
+            self.same("the report's traps and interrupts", [str(steps.count(kind)) for kind in "TN"], [report["traps"], report["interrupts"]])
+        self.same("CPI", self.notes["counts-note"], "CPI " + report["cpi"] if report["retired"] != "0" else "CPI -")
+        total = max(1, int(report["cycles"]))
+        names = [("busy", "busy"), *((f"stall {name}", f"stall {name}") for name in STALLS)]
+        shares = [f"{int(1000 * int(report[name]) / total + 0.5) / 10:.1f}%" for name, _ in names]
+        rows = texts(self.tables["counts"])
+        self.same("cycles by what they did", [row[:2] for row in rows], [[head, report[name]] for head, name in names])
+        self.same("shares", [row[2] for row in rows if abs(float(row[2][:-1]) - 100 * int(row[1]) / total) > 0.051], [])
+        self.same("bars", [[float(width[:-1]) for width in row["widths"]] for row in self.tables["counts"]], [[float(row[2][:-1])] for row in rows])
+        self.same("stack", [[name, float(width[:-1])] for name, width in self.page["stack"]],
+                  [[head.split()[-1], float(row[2][:-1])] for (head, name), row in zip(names, rows) if report[name] != "0"])
+        self.same("number of shares", len(rows), len(shares))
+
+    def reference(self):
+        address = self.window.listing[0]["address"] if self.window.listing else self.machine["ram_base"]
+        reference = self.facts.reference(self.cycle, address)
+        cells = {row["cells"][at]["text"]: row["cells"][at + 1]["text"] for row in self.tables["registers"] for at in (0, 3)}
+        if reference is None:
+            return self.same("registers at first", cells, {f"x{register}": "00000000" for register in range(32)})
+        self.same("the one-at-a-time machine's registers", cells, {f"x{register}": reference[f"x{register}"] for register in range(32)})
+        self.same("pc", self.notes["source-note"], f"> {reference['pc']} is next to retire")
+        shown = {row["cells"][0]["text"]: row["cells"][1]["text"] for row in self.tables["csrs"] if "free" not in row["marks"]}
+        self.same("the one-at-a-time machine's CSRs", shown, {name: reference.get(name, value) for name, value in shown.items()})
+
+    def cache(self):
+        sets, _ = self.facts.storage(self.cycle)
+        before, _ = self.facts.storage(self.cycle - 1) if self.cycle > self.window.first else (sets, None)
+        rows = [row for row in self.tables["cache"] if "free" not in row["marks"]]
+        shown = {int(row["cells"][0]["text"]): [cell["text"] for cell in row["cells"][1:] if cell["text"] != "-"] for row in rows}
+        self.same("sets of the cache", {at: lines for at, lines in shown.items() if lines}, sets)
+        size, began = self.machine["cache"]["line"], [each["address"] for each in self.window.accesses if each["cycle"] == self.cycle]
+        touched = [cell["text"].rstrip("*") for row in rows for cell in row["cells"][1:] if "touched" in cell["marks"]]
+        self.same("touched lines", touched, [word(address - address % size) for address in began])
+        marked = {int(row["cells"][0]["text"]) for row in rows if "changed" in row["marks"]}
+        self.same("sets that changed without a mark", [at for at in sets if before.get(at) != sets[at] and at not in marked and began], [])
+        self.same("marked sets without an access", bool(marked) and not began and before == sets, False)
+        dirty = [cell["text"] for row in rows for cell in row["cells"][1:] if ("dirty" in cell["marks"]) != cell["text"].endswith("*")]
+        self.same("lines whose form does not say whether they are dirty", dirty, [])
+
+    def accesses(self):
+        known, log = [each for each in self.window.accesses if each["cycle"] <= self.cycle], self.facts.log
+        rows, hits = [], 0
+        for each in known:
+            outcome, left = self.window.outcome(each["cost"]), log[each["number"]]
+            hits += not outcome.startswith("miss")
+            gone = left.left is not None and left.left <= self.window.last
+            end = {"C": "retires", "T": "traps", "x": "squashed"}[left.end] if gone else ""
+            rows.append([str(each["cycle"]), f"#{each['number']}", each["what"], word(each["address"]), outcome, str(each["cost"]), end])
+        self.same("accesses", texts(self.tables["accesses"]), rows[::-1][:40])
+        self.same("hits", self.notes["accesses-note"], f"hits {hits} of {len(rows)}, {int(1000 * hits / len(rows) + 0.5) / 10:.1f}%" if rows else "none yet")
+        marked = [row["cells"][0]["text"] for row in self.tables["accesses"] if "changed" in row["marks"]]
+        self.same("the access of this cycle", marked, [str(each["cycle"]) for each in known if each["cycle"] == self.cycle])
+        missed = [row["cells"][4]["text"] for row in self.tables["accesses"] if "free" not in row["marks"] and "missed" in row["cells"][4]["marks"]]
+        self.same("marked misses", missed, [row[4] for row in rows[::-1][:40] if row[4].startswith("miss")])
+
+    def memory(self):
+        _, words = self.facts.storage(self.cycle)
+        stored, seen = self.window.stored(self.cycle), set()
+        for row in self.page["memory"]:
+            base = int(row["parts"][0]["text"], 16)
+            self.same(f"address in memory {row['parts'][0]['text']}", len(row["parts"][0]["text"]), 8)
+            for k, cell in enumerate(row["parts"][1:]):
+                at = base + 4 * k
+                seen.add(at)
+                value, stale = words.get(at, ("00000000", False))
+                self.same(f"memory at {at:08x}", (cell["text"], "stale" in cell["marks"], "changed" in cell["marks"]), (value, stale, at in stored))
+        tops = [row["top"] for row in self.page["memory"]]
+        bases = [int(row["parts"][0]["text"], 16) for row in self.page["memory"]]
+        self.same("order of memory", bases, [base for _, base in sorted(zip(tops, bases))])
+        self.same("rows of memory in order of addresses", bases, sorted(bases))
+        if not seen:
+            self.same("words of memory that were compared", 0, "some")
+
+    def source(self):
+        flying = {}
+        for number in self.numbers:
+            flying.setdefault(self.facts.log[number].pc, []).append(number)
+        known = {each["address"]: each for each in self.window.listing}
+        for row in self.page["source"]:
+            line, pc, tags, text = row["parts"]
+            address, here = int(pc["text"].lstrip(">*"), 16), []
+            for number in flying.get(address, [])[:4]:
+                here.append(self.facts.log[number].letter(self.cycle))
+            more = len(flying.get(address, [])) - 4
+            self.same(f"source at {address:08x}", (line["text"], pc["text"].startswith(">"), tags["parts"], tags["text"], text["text"], "flying" in row["marks"]),
+                      (str(known[address]["line"]), address == self.state["pc"], here, "".join(here) + (f"+{more}" if more > 0 else ""),
+                       " ".join(known[address]["text"].replace("\u00a0", " ").split()), address in flying))
+        order = [row["top"] for row in self.page["source"]]
+        self.same("order of the source", order, sorted(order))
+        if known and not self.page["source"]:
+            self.same("lines of the source", 0, "some")

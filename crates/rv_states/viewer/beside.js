@@ -1,0 +1,90 @@
+// Two runs side by side: this page and another in two frames, with one cursor. Where one goes the other follows, to the same cycle or to
+// as many retired instructions. The frames and the page around them speak by messages, since files are of different origins.
+
+const framed = window.parent !== window;
+
+// What a frame tells the page around it: where it stands, and what it shows that may differ.
+function tell(asked) {
+  if (!framed) return;
+  const facts = {};
+  for (const each of document.querySelectorAll("[data-fact]")) facts[each.dataset.fact] = each.textContent;
+  window.parent.postMessage({
+    rv_sim: "shown", asked: Boolean(asked), cycle: run.cycleOf(view.place), retired: run.places[view.place].retired, first: run.first, last: run.last, facts,
+  }, "*");
+}
+
+// Marks what differs from the other run.
+function markDifferences(others) {
+  for (const each of document.querySelectorAll("[data-fact]")) {
+    const other = others[each.dataset.fact];
+    each.classList.toggle("differs", other === undefined ? each.textContent !== "00000000" : other !== each.textContent);
+  }
+}
+
+// The first place with as many retired instructions, else the last one before it.
+function placeOfRetired(retired) {
+  const place = run.places.findIndex((here) => here.retired >= retired);
+  return place < 0 ? lastPlace : place;
+}
+
+function hear(event) {
+  const said = event.data;
+  if (event.source !== window.parent || !said || typeof said !== "object") return;
+  if (said.rv_sim === "go" && Number.isInteger(said.cycle)) go(said.cycle - run.first + 1, true);
+  if (said.rv_sim === "retired" && Number.isInteger(said.retired)) go(placeOfRetired(said.retired), true);
+  if (said.rv_sim === "differ" && said.facts && typeof said.facts === "object") markDifferences(said.facts);
+}
+
+// The page around the frames.
+const pair = { frames: [], shown: [], byRetired: false };
+
+function besideName() { return framed ? null : new URLSearchParams(location.hash.slice(1)).get("beside"); }
+
+function frameOf(address, title) {
+  const frame = document.createElement("iframe");
+  Object.assign(frame, { src: address, title });
+  return frame;
+}
+
+function startPair(other) {
+  const words = new URLSearchParams(location.hash.slice(1));
+  words.delete("beside");
+  const own = location.href.split("#")[0] + "#" + words, that = new URL(other.split("#")[0], location.href);
+  document.body.className = "pair";
+  pair.frames = [frameOf(own, "this run"), frameOf(that.href + "#" + words, "the other run")];
+  byId("sides").replaceChildren(...pair.frames);
+  byId("pair").hidden = false;
+  document.title = runName() + " beside " + decodeURIComponent(that.pathname.split("/").pop());
+  window.addEventListener("message", hearFrame);
+  byId("pair-slider").addEventListener("input", (event) => pair.frames.forEach((frame) => frame.contentWindow.postMessage({ rv_sim: "go", cycle: Number(event.target.value) }, "*")));
+  byId("pair-by").addEventListener("change", (event) => { pair.byRetired = event.target.checked; followLeader(0); });
+  pair.frames[0].addEventListener("load", () => pair.frames[0].contentWindow.focus());
+}
+
+function followLeader(k) {
+  const { cycle, retired } = pair.shown[k] || {};
+  if (cycle === undefined) return;
+  pair.frames[1 - k].contentWindow.postMessage(pair.byRetired ? { rv_sim: "retired", retired } : { rv_sim: "go", cycle }, "*");
+}
+
+function hearFrame(event) {
+  const k = pair.frames.findIndex((frame) => frame.contentWindow === event.source), said = event.data;
+  if (k < 0 || !said || typeof said !== "object") return;
+  if (said.rv_sim === "turn") { pair.byRetired = byId("pair-by").checked = !pair.byRetired; return followLeader(k); }
+  if (said.rv_sim === "other") return pair.frames[1 - k].contentWindow.focus();
+  if (said.rv_sim !== "shown") return;
+  pair.shown[k] = said;
+  if (!said.asked) followLeader(k);
+  const both = pair.shown.filter((each) => each !== undefined), slider = byId("pair-slider");
+  Object.assign(slider, { min: Math.min(...both.map((each) => each.first)) - 1, max: Math.max(...both.map((each) => each.last)) });
+  slider.value = said.cycle;
+  byId("pair-note").textContent = both.map((each) => "cycle " + each.cycle + ", " + each.retired + " retired").join(" | ");
+  if (both.length === 2) pair.frames.forEach((frame, j) => frame.contentWindow.postMessage({ rv_sim: "differ", facts: pair.shown[1 - j].facts }, "*"));
+}
+
+// In a frame: by cycle or by retired instructions. In a page alone: asks for the other page.
+function turnPair() {
+  if (framed) return window.parent.postMessage({ rv_sim: "turn" }, "*");
+  byId("beside").hidden = false;
+  byId("other").focus();
+}

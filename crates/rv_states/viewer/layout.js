@@ -1,0 +1,66 @@
+// The layout: what is measured of it, what is scrolled into view, the size of type, and which panels are shown.
+
+// The layout is measured once a step, when the panels are filled: reading it between changes would lay the page out each time.
+const measures = { rem: 11 };
+const scrolled = ["source", "memory", "picture"];
+function measure() {
+  measures.rem = parseFloat(getComputedStyle(document.documentElement).fontSize);
+  for (const id of scrolled) {
+    const box = byId(id);
+    measures[id] = { width: box.clientWidth, height: box.clientHeight, top: box.scrollTop, left: box.scrollLeft };
+  }
+}
+function scrollBox(id, top, left) {
+  const box = byId(id);
+  if (top !== measures[id].top) box.scrollTop = top;
+  if (left !== measures[id].left) box.scrollLeft = left;
+  Object.assign(measures[id], { top: box.scrollTop, left: box.scrollLeft });
+}
+
+// A list of which only the rows in view are in the document: it is scrolled first, where a row is wanted, and drawn with the rest.
+const lists = {};
+function scrollList(id, wanted) {
+  const height = 1.25 * measures.rem, { top, height: high } = measures[id];
+  if (wanted >= 0 && (wanted * height < top || (wanted + 2) * height > top + high)) scrollBox(id, Math.max(0, wanted * height - high / 3), 0);
+}
+function drawList(id) {
+  const { count, rowAt } = lists[id], { top, height: high } = measures[id], height = 1.25 * measures.rem, rows = [];
+  const from = Math.max(0, Math.floor(top / height) - 4), to = Math.min(count - 1, Math.ceil((top + high) / height) + 4);
+  for (let k = from; k <= to; k += 1) {
+    const made = rowAt(k);
+    Object.assign(made, { key: k, attributes: { ...made.attributes, style: "top:" + 1.25 * k + "rem" } });
+    rows.push(made);
+  }
+  bringChildren(byId(id).firstElementChild, rows);
+}
+function sizeList(id, count) { byId(id).firstElementChild.style.height = 1.25 * count + "rem"; }
+
+// Scrolls to what a view wants to be seen, before the lists and the picture are drawn.
+function scrollAll(view) {
+  const { run, place, line } = view, stored = run.places[place].stored[0];
+  const first = line.in_flight.length ? run.table[line.in_flight[0]].pc : line.state.pc;
+  scrollList("source", run.lineOf.get(view.address !== undefined ? view.address : first));
+  const wanted = view.address !== undefined ? view.address : stored && stored.address;
+  scrollList("memory", wanted === undefined ? -1 : run.memoryRows.indexOf(wanted - wanted % 16));
+  scrollPicture(view);
+}
+
+// The size of type: 1 is that at which all panels are in view.
+function sizeType(factor) {
+  settings.size = Math.min(4, Math.max(0.5, Math.round(100 * factor) / 100));
+  document.documentElement.style.setProperty("--size", settings.size);
+}
+
+// The panels by name, and those that are left out. A column without a panel gives its room to the others.
+function panelNames() { return [...document.querySelectorAll("[data-panel]")].map((each) => each.dataset.panel); }
+function showPanels() {
+  for (const each of document.querySelectorAll("[data-panel]")) {
+    const name = each.dataset.panel, isOther = name === "textbook" ? !settings.textbook : settings.textbook && ["rob", "stations"].includes(name);
+    each.hidden = isOther || settings.without.has(name);
+  }
+  for (const each of document.querySelectorAll(".column")) each.hidden = !each.querySelector(".panel:not([hidden])");
+}
+function drawSwitches() {
+  draw("switches", panelNames().map((name) => element("label", {},
+    element("input", { type: "checkbox", "data-switch": name, checked: !settings.without.has(name) }), " " + name)));
+}
