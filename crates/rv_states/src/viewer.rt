@@ -5,7 +5,7 @@ pub(crate) const BEFORE: &[u8] = br#"<!DOCTYPE html>
 <html lang="en">
 <head>
 <meta charset="utf-8">
-<meta http-equiv="Content-Security-Policy" content="default-src 'none'; script-src 'sha256-3E2rPiKwIR06ihhCfJv+XZt7cHX+ppcI8l/qkjEisHg='; style-src 'sha256-nUYESEvHfkb+pYvyLBGB+QYlLl2xH1juWKTUfCIFEKI='; img-src data:; frame-src 'self' file:; base-uri 'none'; form-action 'none'">
+<meta http-equiv="Content-Security-Policy" content="default-src 'none'; script-src 'sha256-FE7boAwu99Cd+W27nIPkcpQ3Rn3NTmUPol+DzBDKlMk='; style-src 'sha256-aUguvEjTnW9FOVyOw/0tEFM0DrIeV7iVzwTCWqvYCa8='; img-src data:; frame-src 'self' file:; base-uri 'none'; form-action 'none'">
 <meta name="viewport" content="width=device-width, initial-scale=1">
 <title>rv_sim: a run, cycle by cycle</title>
 <style>
@@ -48,6 +48,7 @@ main { flex: 1 1 auto; min-height: 0; display: flex; gap: 0.4rem; }
 .panel.tall { flex: 3 1 0; }
 .framed #tools label:has(#address), .framed #tools label:has(#what), .framed [data-step=previous], .framed [data-step=next] { display: none; }
 .panel h2 { background: var(--title); padding: 0 0.4rem; white-space: nowrap; }
+h2[data-phase]::after { content: attr(data-phase); margin-left: 0.4rem; padding: 0 0.25rem; border-radius: 0.5rem; background: var(--edge); color: var(--text); font-size: 0.75rem; font-weight: normal; }
 .note { background: var(--title); color: var(--quiet); padding: 0 0.4rem; text-align: right; white-space: nowrap; overflow: hidden; text-overflow: ellipsis; font-size: 0.9rem; }
 #stations-note { font-size: 0.8rem; }
 #machine { color: var(--quiet); font-size: 0.85rem; line-height: 1.1rem; max-height: 2.2rem; overflow: auto; scrollbar-width: thin; }
@@ -116,7 +117,7 @@ td.wide { width: 99%; max-width: 0; text-overflow: ellipsis; }
 .f { background: var(--f); color: var(--on); } .d { background: var(--d); color: var(--on); } .i { background: var(--i); color: var(--on); } .e { background: var(--e); color: var(--on); }
 .b { background: var(--b); color: var(--on); } .c { background: var(--c); color: #fff; } .t { background: var(--t); color: #fff; } .x { background: var(--x); color: #fff; }
 .w { background: var(--w); } .r { color: var(--r); box-shadow: inset 0 0 0 1px var(--r); }
-.panel.counting { grid-template-rows: auto auto auto minmax(0, 1fr); }
+.panel.counting { min-height: 13.2rem; grid-template-rows: auto auto auto minmax(0, 1fr); }
 #counted, #stack, #legend { grid-column: 1 / 3; padding: 0 0.4rem; white-space: nowrap; overflow: hidden; }
 #counted { display: flex; flex-wrap: wrap; gap: 0 0.5rem; font-size: 0.95rem; }
 #stack { display: flex; height: 1.4rem; }
@@ -193,15 +194,15 @@ retired instructions; 3: to the other one. A click on an instruction follows it:
 <main>
 <div class="column" id="left">
 <section class="panel grows" data-panel="source" aria-labelledby="h-source"><h2 id="h-source">Source</h2><span class="note" id="source-note"></span><div class="list" id="source" tabindex="0" role="region" aria-labelledby="h-source"><div></div></div></section>
-<section class="panel" data-panel="fetch" data-phase="7" aria-labelledby="h-fetch"><h2 id="h-fetch">Fetch buffer</h2><span class="note" id="fetch-note"></span><div class="scroll ten" tabindex="0" role="region" aria-labelledby="h-fetch"><table aria-labelledby="h-fetch">
+<section class="panel" data-panel="fetch" aria-labelledby="h-fetch"><h2 id="h-fetch" data-phase="7" title="phase 7 of 7 of a cycle: fetch">Fetch buffer</h2><span class="note" id="fetch-note"></span><div class="scroll ten" tabindex="0" role="region" aria-labelledby="h-fetch"><table aria-labelledby="h-fetch">
 <thead><tr><th scope="col">no.</th><th scope="col">pc</th><th scope="col">statement</th><th scope="col" title="the pc that was fetched next, where it is not the next word">then</th></tr></thead><tbody id="fetch"></tbody></table></div></section>
-<section class="panel" data-panel="stores" data-phase="3" aria-labelledby="h-stores"><h2 id="h-stores">Store queue</h2><span class="note" id="stores-note"></span><div class="scroll ten" tabindex="0" role="region" aria-labelledby="h-stores"><table aria-labelledby="h-stores">
+<section class="panel" data-panel="stores" aria-labelledby="h-stores"><h2 id="h-stores" data-phase="3" title="phase 3 of 7 of a cycle: drain">Store queue</h2><span class="note" id="stores-note"></span><div class="scroll ten" tabindex="0" role="region" aria-labelledby="h-stores"><table aria-labelledby="h-stores">
 <thead><tr><th scope="col">no.</th><th scope="col">state</th><th scope="col">address</th><th scope="col">bytes</th></tr></thead><tbody id="stores"></tbody></table></div></section>
 </div>
 <div class="column" id="middle">
 <section class="panel grows drawing" data-panel="pipeline" aria-labelledby="h-picture"><h2 id="h-picture">Pipeline</h2><span class="note" id="picture-note"></span><p id="legend"></p>
 <div id="picture" tabindex="0" role="region" aria-labelledby="h-picture"><div id="picture-space"><div id="picture-heads"></div><div id="picture-cursor"></div><div id="picture-rows" role="table" aria-labelledby="h-picture"></div><div id="picture-arrows" aria-hidden="true"></div></div></div></section>
-<section class="panel" data-panel="rob" data-phase="2" aria-labelledby="h-rob"><h2 id="h-rob">Reorder buffer</h2><span class="note" id="rob-note"></span><div class="scroll eighteen" tabindex="0" role="region" aria-labelledby="h-rob"><table aria-labelledby="h-rob">
+<section class="panel" data-panel="rob" aria-labelledby="h-rob"><h2 id="h-rob" data-phase="2" title="phase 2 of 7 of a cycle: commit">Reorder buffer</h2><span class="note" id="rob-note"></span><div class="scroll eighteen" tabindex="0" role="region" aria-labelledby="h-rob"><table aria-labelledby="h-rob">
 <thead><tr><th scope="col"></th><th scope="col">no.</th><th scope="col">pc</th><th scope="col">statement</th><th scope="col"></th><th scope="col" title="dispatched in cycle">D</th><th scope="col" title="issued in cycle">I</th><th scope="col" title="broadcast in cycle, or after an arrow the first in which it can be">B</th><th scope="col" title="the register and its value; after an arrow where the program is predicted to go on, where that is not the next word">result</th></tr></thead><tbody id="rob"></tbody></table></div></section>
 <section class="panel grows tall" data-panel="textbook" aria-labelledby="h-textbook"><h2 id="h-textbook">As in the textbook</h2><span class="note" title="issue is the cycle of dispatch, execute the cycles in a unit, write result the cycle of the broadcast">issue: dispatch; write result: broadcast; ROBn: entry n</span><div class="scroll" tabindex="0" role="region" aria-labelledby="h-textbook">
 <table aria-label="Instruction status"><thead><tr><th scope="col">entry</th><th scope="col">no.</th><th scope="col">instruction status</th><th scope="col">issue</th><th scope="col">execute</th><th scope="col">write result</th><th scope="col">commit</th></tr></thead><tbody id="status"></tbody></table>
@@ -209,17 +210,17 @@ retired instructions; 3: to the other one. A click on an instruction follows it:
 <table aria-label="Register result status"><thead><tr><th scope="colgroup" colspan="16">register result status: the entry that writes it</th></tr></thead><tbody id="results"></tbody></table></div></section>
 </div>
 <div class="column" id="right">
-<section class="panel" data-panel="stations" data-phase="6" aria-labelledby="h-stations"><h2 id="h-stations">Stations</h2><span class="note" id="stations-note"></span><div class="scroll fourteen" tabindex="0" role="region" aria-labelledby="h-stations"><table aria-labelledby="h-stations">
+<section class="panel" data-panel="stations" aria-labelledby="h-stations"><h2 id="h-stations" data-phase="6" title="phase 6 of 7 of a cycle: dispatch">Stations</h2><span class="note" id="stations-note"></span><div class="scroll fourteen" tabindex="0" role="region" aria-labelledby="h-stations"><table aria-labelledby="h-stations">
 <thead><tr><th scope="col">kind</th><th scope="col">no.</th><th scope="col">statement</th><th scope="col">operands</th></tr></thead><tbody id="stations"></tbody></table></div></section>
-<section class="panel" data-panel="units" data-phase="4" aria-labelledby="h-units"><h2 id="h-units">Units and port</h2><span class="note">held of all; &#8594; end</span><div class="scroll six" tabindex="0" role="region" aria-labelledby="h-units"><table aria-labelledby="h-units"><thead class="unseen"><tr><th scope="col">unit</th><th scope="col">held</th><th scope="col">executes</th></tr></thead><tbody id="units"></tbody></table></div></section>
-<section class="panel" data-panel="bus" data-phase="5" aria-labelledby="h-bus"><h2 id="h-bus">Common data bus</h2><span class="note" id="bus-note"></span><div class="scroll six" tabindex="0" role="region" aria-labelledby="h-bus"><table aria-labelledby="h-bus"><thead class="unseen"><tr><th scope="col">stage</th><th scope="col">no.</th><th scope="col">result</th></tr></thead><tbody id="bus"></tbody></table></div></section>
-<section class="panel" data-panel="csrs" data-phase="2" aria-labelledby="h-csrs"><h2 id="h-csrs">CSRs</h2><span class="note" id="csrs-note"></span><div class="scroll ten" tabindex="0" role="region" aria-labelledby="h-csrs"><table aria-labelledby="h-csrs"><thead class="unseen"><tr><th scope="col">name</th><th scope="col">value</th><th scope="col">meaning</th></tr></thead><tbody id="csrs"></tbody></table></div></section>
+<section class="panel" data-panel="units" aria-labelledby="h-units"><h2 id="h-units" data-phase="4" title="phase 4 of 7 of a cycle: issue">Units and port</h2><span class="note">held of all; &#8594; end</span><div class="scroll six" tabindex="0" role="region" aria-labelledby="h-units"><table aria-labelledby="h-units"><thead class="unseen"><tr><th scope="col">unit</th><th scope="col">held</th><th scope="col">executes</th></tr></thead><tbody id="units"></tbody></table></div></section>
+<section class="panel" data-panel="bus" aria-labelledby="h-bus"><h2 id="h-bus" data-phase="5" title="phase 5 of 7 of a cycle: broadcast">Common data bus</h2><span class="note" id="bus-note"></span><div class="scroll six" tabindex="0" role="region" aria-labelledby="h-bus"><table aria-labelledby="h-bus"><thead class="unseen"><tr><th scope="col">stage</th><th scope="col">no.</th><th scope="col">result</th></tr></thead><tbody id="bus"></tbody></table></div></section>
+<section class="panel" data-panel="csrs" aria-labelledby="h-csrs"><h2 id="h-csrs" data-phase="2" title="phase 2 of 7 of a cycle: commit">CSRs</h2><span class="note" id="csrs-note"></span><div class="scroll ten" tabindex="0" role="region" aria-labelledby="h-csrs"><table aria-labelledby="h-csrs"><thead class="unseen"><tr><th scope="col">name</th><th scope="col">value</th><th scope="col">meaning</th></tr></thead><tbody id="csrs"></tbody></table></div></section>
 <section class="panel grows counting" data-panel="counts" aria-labelledby="h-counts"><h2 id="h-counts">Counts</h2><span class="note" id="counts-note"></span><p id="counted"></p><p id="stack" role="img" aria-label="where the cycles went; the table below has the numbers"></p><div class="scroll" tabindex="0" role="region" aria-labelledby="h-counts"><table aria-labelledby="h-counts"><thead class="unseen"><tr><th scope="col">count</th><th scope="col">cycles</th><th scope="col">share</th></tr></thead><tbody id="counts"></tbody></table></div></section>
 </div>
 <div class="column" id="last">
-<section class="panel" data-panel="registers" data-phase="2" aria-labelledby="h-registers"><h2 id="h-registers">Registers</h2><span class="note">and who writes them</span><div class="scroll" tabindex="0" role="region" aria-labelledby="h-registers"><table aria-labelledby="h-registers"><thead class="unseen"><tr><th scope="col">register</th><th scope="col">value</th><th scope="col">writer</th><th scope="col">register</th><th scope="col">value</th><th scope="col">writer</th></tr></thead><tbody id="registers"></tbody></table></div></section>
-<section class="panel" data-panel="cache" data-phase="3" aria-labelledby="h-cache"><h2 id="h-cache">Cache</h2><span class="note" id="cache-note" title="sets, ways, bytes of a line; replayed: what the accesses of each cycle leave in the sets, where each cost what it would then cost"></span><div class="scroll eighteen" tabindex="0" role="region" aria-labelledby="h-cache"><table aria-labelledby="h-cache"><thead><tr><th scope="col">set</th><th scope="col">last used</th><th scope="col">used before</th></tr></thead><tbody id="cache"></tbody></table></div></section>
-<section class="panel" data-panel="accesses" data-phase="3" aria-labelledby="h-accesses"><h2 id="h-accesses">Accesses</h2><span class="note" id="accesses-note"></span><div class="scroll six" tabindex="0" role="region" aria-labelledby="h-accesses"><table aria-labelledby="h-accesses"><thead><tr><th scope="col">cycle</th><th scope="col">no.</th><th scope="col">what</th><th scope="col">address</th><th scope="col">outcome</th><th scope="col">cost</th><th scope="col">end</th></tr></thead><tbody id="accesses"></tbody></table></div></section>
+<section class="panel" data-panel="registers" aria-labelledby="h-registers"><h2 id="h-registers" data-phase="2" title="phase 2 of 7 of a cycle: commit">Registers</h2><span class="note">and who writes them</span><div class="scroll" tabindex="0" role="region" aria-labelledby="h-registers"><table aria-labelledby="h-registers"><thead class="unseen"><tr><th scope="col">register</th><th scope="col">value</th><th scope="col">writer</th><th scope="col">register</th><th scope="col">value</th><th scope="col">writer</th></tr></thead><tbody id="registers"></tbody></table></div></section>
+<section class="panel" data-panel="cache" aria-labelledby="h-cache"><h2 id="h-cache" data-phase="3" title="phase 3 of 7 of a cycle: drain">Cache</h2><span class="note" id="cache-note" title="sets, ways, bytes of a line; replayed: what the accesses of each cycle leave in the sets, where each cost what it would then cost"></span><div class="scroll eighteen" tabindex="0" role="region" aria-labelledby="h-cache"><table aria-labelledby="h-cache"><thead><tr><th scope="col">set</th><th scope="col">last used</th><th scope="col">used before</th></tr></thead><tbody id="cache"></tbody></table></div></section>
+<section class="panel" data-panel="accesses" aria-labelledby="h-accesses"><h2 id="h-accesses" data-phase="3" title="phase 3 of 7 of a cycle: drain">Accesses</h2><span class="note" id="accesses-note"></span><div class="scroll six" tabindex="0" role="region" aria-labelledby="h-accesses"><table aria-labelledby="h-accesses"><thead><tr><th scope="col">cycle</th><th scope="col">no.</th><th scope="col">what</th><th scope="col">address</th><th scope="col">outcome</th><th scope="col">cost</th><th scope="col">end</th></tr></thead><tbody id="accesses"></tbody></table></div></section>
 <section class="panel grows" data-panel="memory" aria-labelledby="h-memory"><h2 id="h-memory">Memory</h2><span class="note">as programs see it</span><div class="list" id="memory" tabindex="0" role="region" aria-labelledby="h-memory"><div></div></div></section>
 </div>
 </main>
@@ -1242,6 +1243,7 @@ function drawPicture(view) {
   for (let column = firstColumn; column <= lastColumn; column += 1) {
     const cycle = run.first + column, now = column === view.place - 1, interrupt = run.places[column + 1].interrupts.length > 0;
     if (!now && !interrupt && (cycle % 5 !== 0 || Math.abs(column - view.place + 1) < 4)) continue;
+    if (!now && column * width < left) continue; // (it would stand half under the labels)
     const title = "cycle " + cycle + (interrupt ? ": interrupt" : "");
     const text = (interrupt ? "!" : "") + (now || !interrupt ? cycle : "");
     const kinds = words("head", interrupt && "interrupt", now && "now");
@@ -1555,7 +1557,7 @@ function save(asImage) {
 // Two runs side by side: this page and another in two frames, with one cursor. Where one goes the other follows, to the same cycle or to
 // as many retired instructions. The frames and the page around them speak by messages, since files are of different origins.
 
-const framed = window.parent !== window;
+const framed = window.parent !== window && new URLSearchParams(location.hash.slice(1)).has("side");
 
 // What a frame tells the page around it: where it stands, and what it shows that may differ.
 function tell(asked) {
@@ -1603,6 +1605,7 @@ function frameOf(address, title) {
 function startPair(other) {
   const words = new URLSearchParams(location.hash.slice(1));
   words.delete("beside");
+  words.set("side", "");
   const own = location.href.split("#")[0] + "#" + words, that = new URL(other.split("#")[0], location.href);
   document.body.className = "pair";
   pair.frames = [frameOf(own, "this run"), frameOf(that.href + "#" + words, "the other run")];

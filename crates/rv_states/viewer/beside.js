@@ -1,7 +1,7 @@
 // Two runs side by side: this page and another in two frames, with one cursor. Where one goes the other follows, to the same cycle or to
 // as many retired instructions. The frames and the page around them speak by messages, since files are of different origins.
 
-const framed = window.parent !== window;
+const framed = window.parent !== window && new URLSearchParams(location.hash.slice(1)).has("side");
 
 // What a frame tells the page around it: where it stands, and what it shows that may differ.
 function tell(asked) {
@@ -49,6 +49,7 @@ function frameOf(address, title) {
 function startPair(other) {
   const words = new URLSearchParams(location.hash.slice(1));
   words.delete("beside");
+  words.set("side", "");
   const own = location.href.split("#")[0] + "#" + words, that = new URL(other.split("#")[0], location.href);
   document.body.className = "pair";
   pair.frames = [frameOf(own, "this run"), frameOf(that.href + "#" + words, "the other run")];

@@ -51,6 +51,7 @@ function drawPicture(view) {
   for (let column = firstColumn; column <= lastColumn; column += 1) {
     const cycle = run.first + column, now = column === view.place - 1, interrupt = run.places[column + 1].interrupts.length > 0;
     if (!now && !interrupt && (cycle % 5 !== 0 || Math.abs(column - view.place + 1) < 4)) continue;
+    if (!now && column * width < left) continue; // (it would stand half under the labels)
     const title = "cycle " + cycle + (interrupt ? ": interrupt" : "");
     const text = (interrupt ? "!" : "") + (now || !interrupt ? cycle : "");
     const kinds = words("head", interrupt && "interrupt", now && "now");

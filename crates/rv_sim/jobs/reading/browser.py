@@ -36,6 +36,7 @@ class Browser:
         os.close(to_read)
         os.close(to_write)
         self.numbers, self.pending, self.answers, self.session, self.console, self.loaded = itertools.count(1), b"", {}, None, [], False
+        self.contexts = []
         target = self.call("Target.createTarget", url="about:blank")["targetId"]
         self.session = self.call("Target.attachToTarget", targetId=target, flatten=True)["sessionId"]
         for name in ("Page.enable", "Runtime.enable", "Log.enable"):
@@ -48,13 +49,18 @@ class Browser:
         os.close(self.read_end)
         shutil.rmtree(self.profile, ignore_errors=True)
 
-    def call(self, method, **words):
-        """Calls the browser and waits for its answer."""
+    def send(self, method, **words):
+        """Sends a call, and returns the number of its answer."""
         number = next(self.numbers)
         message = {"id": number, "method": method, "params": words}
         if self.session:
             message["sessionId"] = self.session
         os.write(self.write_end, json.dumps(message).encode() + b"\0")
+        return number
+
+    def call(self, method, **words):
+        """Calls the browser and waits for its answer."""
+        number = self.send(method, **words)
         while number not in self.answers:
             self.hear()
         answer = self.answers.pop(number)
@@ -72,6 +78,10 @@ class Browser:
             method, words = message.get("method"), message.get("params", {})
             if "id" in message:
                 self.answers[message["id"]] = message
+            elif method == "Runtime.executionContextCreated":
+                self.contexts.append(words["context"]["id"])
+            elif method == "Runtime.executionContextsCleared":
+                self.contexts = []
             elif method == "Page.loadEventFired":
                 self.loaded = True
             elif method == "Runtime.consoleAPICalled":
@@ -100,13 +110,18 @@ class Browser:
             raise RuntimeError(f"in the page: {answer['exceptionDetails']}"[:600])
         return answer["result"].get("value")
 
+    def tell_frames(self, expression):
+        """The values of an expression in the frames of the page, in their order."""
+        answers = [self.call("Runtime.evaluate", expression=expression, returnByValue=True, contextId=each) for each in self.contexts[1:]]
+        return [each["result"].get("value") for each in answers]
+
     def press(self, *keys):
         """Presses keys, one after the other: a named one, or one that types itself."""
         for key in keys:
             code = ARROWS.get(key, ord(key[0].upper()))
             text = {"text": "\r" if key == "Enter" else key} if len(key) == 1 or key == "Enter" else {}
             self.call("Input.dispatchKeyEvent", type="keyDown" if text else "rawKeyDown", key=key, windowsVirtualKeyCode=code, **text)
-            self.call("Input.dispatchKeyEvent", type="keyUp", key=key, windowsVirtualKeyCode=code)
+            self.send("Input.dispatchKeyEvent", type="keyUp", key=key, windowsVirtualKeyCode=code)
 
     def point(self, x, y):
         self.call("Input.dispatchMouseEvent", type="mouseMoved", x=x, y=y)

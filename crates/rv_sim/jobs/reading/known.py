@@ -262,3 +262,22 @@ class Window:
         retired = [each["number"] for each in line["ended"] if each["end"] == "retired"]
         last = then.get(retired[-1]) if retired else None
         return retired[-1] if last and "next_pc" in last and last["next_pc"] != last["predicted"] else None
+
+    def features(self, cycle):
+        """What is worth a look in a cycle, by names."""
+        line, found = self.at[cycle], set()
+        state, buffer = line["state"], line["state"]["reorder_buffer"]
+        found.add("stall " + line.get("stall", "none"))
+        found |= {each["end"] for each in line["ended"]} | {each["step"] for each in line["steps"]} | {store["state"] for store in state["store_queue"]}
+        found |= {f"{each['what']}, {self.outcome(each['cost'])}" for each in self.accesses if each["cycle"] == cycle}
+        running = [each["issued"] + each["cost"] - cycle for each in buffer if "issued" in each and "finished" not in each]
+        found |= {"waits for the bus" for left in running if left < 0} | {"waits from now on" for left in running if left == 0} | {"ready next" for left in running if left == 1}
+        found |= {f"{each['kind']} waits for {'two' if 'producer' in each.get('second', {}) else 'one'}" for each in buffer if "kind" in each and "issued" not in each
+                  and "producer" in {**each.get("first", {}), **each.get("second", {})}}
+        found |= {f"fault {each['cause']}" for each in buffer if "cause" in each} | {"jumps" for each in buffer + state["fetch_buffer"] if each["predicted"] != each["pc"] + 4}
+        found |= {name for name in ("halted", "software", "timer", "external") if state[name]} | {name for name in state["csrs"] if state["csrs"][name] != self.at[cycle - 1]["state"]["csrs"][name]}
+        if state["port_free"] > cycle:
+            found.add(f"port busy for {min(2, state['port_free'] - cycle)}")
+        if self.mispredicted(cycle) is not None:
+            found.add("wrong prediction")
+        return found
