@@ -5,7 +5,7 @@ pub(crate) const BEFORE: &[u8] = br#"<!DOCTYPE html>
 <html lang="en">
 <head>
 <meta charset="utf-8">
-<meta http-equiv="Content-Security-Policy" content="default-src 'none'; script-src 'sha256-FE7boAwu99Cd+W27nIPkcpQ3Rn3NTmUPol+DzBDKlMk='; style-src 'sha256-aUguvEjTnW9FOVyOw/0tEFM0DrIeV7iVzwTCWqvYCa8='; img-src data:; frame-src 'self' file:; base-uri 'none'; form-action 'none'">
+<meta http-equiv="Content-Security-Policy" content="default-src 'none'; script-src 'sha256-FE7boAwu99Cd+W27nIPkcpQ3Rn3NTmUPol+DzBDKlMk='; style-src 'sha256-jxTm6Ewge7uMlo4+TvEna4NBdsnlbWNuIByiXZek6iY='; img-src data:; frame-src 'self' file:; base-uri 'none'; form-action 'none'">
 <meta name="viewport" content="width=device-width, initial-scale=1">
 <title>rv_sim: a run, cycle by cycle</title>
 <style>
@@ -56,7 +56,7 @@ h2[data-phase]::after { content: attr(data-phase); margin-left: 0.4rem; padding:
 #switches { display: flex; flex-wrap: wrap; gap: 0 1rem; }
 #stop, #quiz, #beside { background: var(--mark); font-size: 1.4rem; line-height: 1.8rem; padding: 0 0.4rem; }
 .unseen th { height: 0; line-height: 0; font-size: 0; padding: 0; }
-[data-panel="registers"] { flex: none; }
+[data-panel="registers"], [data-panel="units"], [data-panel="bus"] { flex: none; }
 #stations { font-size: 0.88rem; } #accesses, #accesses tr { font-size: 0.85rem; } #accesses td { padding: 0 0.15rem; }
 .missed, .differs { color: var(--fault); font-weight: bold; }
 .differs { outline: 2px dashed var(--fault); outline-offset: -2px; }
