@@ -1,6 +1,6 @@
 // A panel, or the page, as a picture for a slide: an SVG of rectangles and texts that stand where the browser has them, or a PNG of it.
 
-function svgText(text) { return text.replace(/[&<>"]/g, (sign) => "&#" + sign.charCodeAt(0) + ";").replace(/[\u0000-\u001f]/g, " "); }
+function svgText(text) { return text.replace(/[\u0000- ]+/g, " ").replace(/[&<>"]/g, (sign) => "&#" + sign.charCodeAt(0) + ";"); }
 function svgBox(box) { return `x="${box.left.toFixed(2)}" y="${box.top.toFixed(2)}" width="${box.width.toFixed(2)}" height="${box.height.toFixed(2)}"`; }
 function isSeen(colour) { return colour !== "transparent" && !/, 0\)$/.test(colour); }
 
@@ -24,7 +24,7 @@ function drawnText(node, style) {
     `textLength="${line.width.toFixed(2)}" lengthAdjust="spacingAndGlyphs" xml:space="preserve" ${kind}>${svgText(line.text)}</text>`).join("");
 }
 
-function drawnBox(style, box) {
+function drawnBox(style, box, hasOutline) {
   let text = isSeen(style.backgroundColor) ? `<rect ${svgBox(box)} fill="${style.backgroundColor}"/>` : "";
   const line = (x1, y1, x2, y2, width, colour) => `<line x1="${x1}" y1="${y1}" x2="${x2}" y2="${y2}" stroke="${colour}" stroke-width="${width}"/>`;
   const [top, right, bottom, left] = ["Top", "Right", "Bottom", "Left"].map((side) => style["border" + side + "Style"] === "none" ? 0 : parseFloat(style["border" + side + "Width"]));
@@ -32,7 +32,7 @@ function drawnBox(style, box) {
   if (bottom) text += line(box.left, box.bottom - bottom / 2, box.right, box.bottom - bottom / 2, bottom, style.borderBottomColor);
   if (left) text += line(box.left + left / 2, box.top, box.left + left / 2, box.bottom, left, style.borderLeftColor);
   if (right) text += line(box.right - right / 2, box.top, box.right - right / 2, box.bottom, right, style.borderRightColor);
-  if (style.outlineStyle !== "none" && parseFloat(style.outlineWidth) > 0) {
+  if (hasOutline && style.outlineStyle !== "none" && parseFloat(style.outlineWidth) > 0) {
     text += `<rect ${svgBox(box)} fill="none" stroke="${style.outlineColor}" stroke-width="${style.outlineWidth}"${style.outlineStyle === "solid" ? "" : ' stroke-dasharray="3 2"'}/>`;
   }
   return text;
@@ -41,13 +41,14 @@ function drawnBox(style, box) {
 function drawnElement(each) {
   if (each.tagName === "svg") return drawnLines(each);
   const style = getComputedStyle(each), box = each.getBoundingClientRect();
-  if (style.display === "none" || style.visibility === "hidden" || box.width === 0 || box.height === 0) return "";
+  const isEmpty = (box.width === 0 || box.height === 0) && !each.firstElementChild;
+  if (style.display === "none" || style.visibility === "hidden" || isEmpty) return "";
   const layer = (child) => child.nodeType === 1 ? parseInt(getComputedStyle(child).zIndex, 10) || 0 : 0;
   const children = [...each.childNodes].sort((a, b) => layer(a) - layer(b));
   const inside = children.map((child) => child.nodeType === 3 ? drawnText(child, style) : child.nodeType === 1 ? drawnElement(child) : "").join("");
   const clipped = style.overflowX === "visible" ? inside
     : inside && `<svg ${svgBox(box)} viewBox="${[box.left, box.top, box.width, box.height].join(" ")}">${inside}</svg>`;
-  return drawnBox(style, box) + clipped;
+  return drawnBox(style, box, each !== document.activeElement) + clipped;
 }
 
 // The lines from producers are drawn already.

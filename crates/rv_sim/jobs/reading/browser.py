@@ -111,14 +111,15 @@ class Browser:
         return answer["result"].get("value")
 
     def tell_frames(self, expression):
-        """The values of an expression in the frames of the page, in their order."""
+        """The values of an expression in the frames of the page, in the order in which they were loaded."""
+        self.tell("0")  # (what came of frames is heard with its answer)
         answers = [self.call("Runtime.evaluate", expression=expression, returnByValue=True, contextId=each) for each in self.contexts[1:]]
         return [each["result"].get("value") for each in answers]
 
     def press(self, *keys):
         """Presses keys, one after the other: a named one, or one that types itself."""
         for key in keys:
-            code = ARROWS.get(key, ord(key[0].upper()))
+            code = ARROWS.get(key, ord(key.upper()) if len(key) == 1 and key.isalnum() else 0)
             text = {"text": "\r" if key == "Enter" else key} if len(key) == 1 or key == "Enter" else {}
             self.call("Input.dispatchKeyEvent", type="keyDown" if text else "rawKeyDown", key=key, windowsVirtualKeyCode=code, **text)
             self.send("Input.dispatchKeyEvent", type="keyUp", key=key, windowsVirtualKeyCode=code)

@@ -1,5 +1,6 @@
 """Keys and jumps: where they go, and what they show, beside log, trace and states."""
 import re
+from xml.etree import ElementTree
 
 from .panels import Panels, texts, word
 from .shown import READ, READ_CURSOR
@@ -20,6 +21,8 @@ class Keys:
         self.tip()
         self.hidden()
         self.textbook()
+        self.explained()
+        self.saved()
         self.stops()
         self.quiz()
 
@@ -160,6 +163,30 @@ class Keys:
             self.same(f"status of #{number}", row, known)
         shown = [int(row[1][1:]) for row in texts(page["tables"]["status"])]
         self.same("entries without a status", [number for number in entered if number not in shown], [])
+
+    def explained(self):
+        """The accesses of a whole run are those that `explain` counts: of loads that retired, and drains."""
+        if self.first > 0 or not self.window.stop or self.window.stop["stop"] == "limit":
+            return
+        text = self.facts.run(self.facts.job.text(), "explain")
+        counts = [int(each) for name in ("loads", "drains") for each in re.search(rf"(?m)^{name}: (\d+), of them (\d+) .*?, (\d+) ", text).groups()]
+        misses = {"load": 0, "drain": 0}
+        for each in self.window.accesses:
+            left = self.log[each["number"]]
+            if left.end == "C" and self.window.outcome(each["cost"]).startswith("miss"):
+                misses[each["what"]] += 1
+        self.same("misses that explain counts", [misses["load"], misses["drain"]], [counts[2], counts[5]])
+
+    def saved(self):
+        """A panel that is saved is an SVG of its texts, with a title and a description of the whole."""
+        seen = self.browser.tell(READ)
+        root = ElementTree.fromstring(self.browser.tell("svgOf(document.querySelector('[data-panel=pipeline]'))"))
+        kind = "{http://www.w3.org/2000/svg}"
+        self.same("title of what is saved", root.findtext(f"{kind}title"), f"Pipeline of {seen['title'].split(':')[0]} after cycle {seen['cycle']}")
+        self.same("description of what is saved", root.findtext(f"{kind}desc"), f"{seen['notes']['machine']}. {seen['notes']['happened']}")
+        texts_of = [" ".join(text.text.split()) for text in root.iter(f"{kind}text")]
+        inside = [row for row in seen["picture"]["rows"] if row["top"] > seen["picture"]["under"] and row["bottom"] < seen["picture"]["bottom"]]
+        self.same("rows that are not saved", [row["label"] for row in inside if row["label"] not in texts_of], [])
 
     def stops(self):
         """A script of stops is gone through by keys."""

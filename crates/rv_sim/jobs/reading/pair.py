@@ -1,7 +1,7 @@
 """Two runs side by side: one cursor for both, by cycle or by retired instructions, and marks where they differ."""
 import time
 
-READ_FRAME = r"""({ cycle: Number(document.documentElement.dataset.cycle), facts: Object.fromEntries([...document.querySelectorAll("[data-fact]")].map((each) => [each.dataset.fact, each.textContent])),
+READ_FRAME = r"""({ name: location.pathname.split("/").pop(), cycle: Number(document.documentElement.dataset.cycle), facts: Object.fromEntries([...document.querySelectorAll("[data-fact]")].map((each) => [each.dataset.fact, each.textContent])),
   differs: [...document.querySelectorAll(".differs")].map((each) => each.dataset.fact), panels: [...document.querySelectorAll("[data-panel]:not([hidden]) h2")].map((each) => each.textContent) })"""
 
 
@@ -14,11 +14,11 @@ def marked_wrong(frames):
     return wrong
 
 
-def settled(browser, wanted):
-    """The frames, when they stand where they should with the marks that they should have, or what they show after three seconds."""
+def settled(browser, names, wanted):
+    """The frames in the order of their names, when they stand where they should with the marks that they should have, or what they show after three seconds."""
     until = time.monotonic() + 3
     while True:
-        frames = browser.tell_frames(READ_FRAME)
+        frames = sorted((each for each in browser.tell_frames(READ_FRAME) if each), key=lambda each: names.index(each["name"]))
         if ([each["cycle"] for each in frames] == wanted and not marked_wrong(frames)) or time.monotonic() > until:
             return frames
         time.sleep(0.02)
@@ -41,12 +41,16 @@ def compare_pair(browser, one, other):
 
     (facts, page), (others, beside) = one, other
     browser.size(1920, 1080)
-    browser.open(f"{page.as_uri()}#cycle=20&beside={beside.name}")
+    browser.open(f"{page.as_uri()}#cycle=20")
+    browser.press("2", *beside.name, "Enter")
+    until = time.monotonic() + 3
+    while len(browser.tell_frames("0")) < 2 and time.monotonic() < until:
+        time.sleep(0.05)
     # 2 turns from cycles to retired instructions and back, and 3 goes to the other run, which leads from then on
     for keys, wanted in (((), [20, 20]), (("ArrowRight",), [21, 21]), (("PageDown",), [31, 31]), (("2",), [31, by_retired(facts, others, 31)]),
                          (("PageUp",), [21, by_retired(facts, others, 21)]), (("2",), [21, 21]), (("3", "ArrowRight"), [22, 22])):
         browser.press(*keys)
-        frames = settled(browser, wanted)
+        frames = settled(browser, [page.name, beside.name], wanted)
         same(f"cycles after {' '.join(keys)}", [each["cycle"] for each in frames], wanted)
         same("marks", marked_wrong(frames), [])
         same("panels", [each["panels"] for each in frames], [["Pipeline", "Reorder buffer", "Counts", "Registers"]] * 2)
