@@ -207,7 +207,9 @@ class Keys:
         for k in range(3):
             at = cycle + k + 1
             question = self.browser.tell("document.getElementById('question').textContent")
-            lefts = [cell["tip"] for row in self.browser.tell(READ)["picture"]["rows"] for cell in row["cells"]]
+            rows = self.browser.tell(READ)["picture"]["rows"]
+            lefts = [cell["tip"] for row in rows for cell in row["cells"]]
+            self.same("rows that the quiz hides", [row["label"] for row in rows if self.log[int(re.match(r"#(\d+)", row["label"])[1])].stages["F"] >= at], [])
             self.same("cycles that the quiz hides", [tip for tip in lefts if int(re.search(r"cycle (\d+)", tip)[1]) >= at], [])
             answer = self.answer(question, at)
             self.browser.press(*(answer if k != 1 else "99999"), "Enter")
