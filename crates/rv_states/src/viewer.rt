@@ -5,7 +5,7 @@ pub(crate) const BEFORE: &[u8] = br#"<!DOCTYPE html>
 <html lang="en">
 <head>
 <meta charset="utf-8">
-<meta http-equiv="Content-Security-Policy" content="default-src 'none'; script-src 'sha256-vOFCcgLb9A1KbNhirm4ST5njjaXDQy61DlgfICJ2508='; style-src 'sha256-jxTm6Ewge7uMlo4+TvEna4NBdsnlbWNuIByiXZek6iY='; img-src data:; frame-src 'self' file:; base-uri 'none'; form-action 'none'">
+<meta http-equiv="Content-Security-Policy" content="default-src 'none'; script-src 'sha256-JF/EHaTngsZavdVEYg0KZibYSYkDjHUzy80nOZ42Hws='; style-src 'sha256-6DpHozWTwMXFQVWTyVhCCYn0obFqpfSbGKSSKi4M8OE='; img-src data:; frame-src 'self' file:; base-uri 'none'; form-action 'none'">
 <meta name="viewport" content="width=device-width, initial-scale=1">
 <title>rv_sim: a run, cycle by cycle</title>
 <style>
@@ -38,7 +38,7 @@ button, input, select { font: inherit; color: inherit; background: var(--title);
 input[type=number] { width: 6.5rem; }
 :focus-visible { outline: 2px solid var(--accent); outline-offset: -1px; }
 main { flex: 1 1 auto; min-height: 0; display: flex; gap: 0.4rem; }
-#left { flex: 24 1 0; } #middle { flex: 45 1 0; } #right { flex: 27.5 1 0; } #last { flex: 27.5 1 0; }
+#left { flex: 23 1 0; } #middle { flex: 43 1 0; } #right { flex: 31 1 0; } #last { flex: 27 1 0; }
 .framed main { flex-wrap: wrap; }
 .framed #middle { flex: 1 1 100%; height: 66%; } .framed #right, .framed #last, .framed #left { flex: 1 1 40%; height: 32%; }
 .column { display: flex; flex-direction: column; gap: 0.4rem; min-width: 0; min-height: 0; }
@@ -57,7 +57,7 @@ h2[data-phase]::after { content: attr(data-phase); margin-left: 0.4rem; padding:
 #stop, #quiz, #beside { background: var(--mark); font-size: 1.4rem; line-height: 1.8rem; padding: 0 0.4rem; }
 .unseen th { height: 0; line-height: 0; font-size: 0; padding: 0; }
 [data-panel="registers"], [data-panel="units"], [data-panel="bus"] { flex: none; }
-#stations { font-size: 0.88rem; } #accesses, #accesses tr { font-size: 0.85rem; } #accesses td { padding: 0 0.15rem; }
+#stations, #fetch { font-size: 0.85rem; } #stations td { height: 1.1rem; line-height: 1.1rem; } #accesses { font-size: 0.8rem; } #accesses td { padding: 0 0.12rem; }
 .missed, .differs { color: var(--fault); font-weight: bold; }
 .differs { outline: 2px dashed var(--fault); outline-offset: -2px; }
 .scroll, .list, #picture { grid-column: 1 / 3; overflow: auto; min-height: 0; scrollbar-width: thin; position: relative; contain: layout paint style; }
@@ -1260,7 +1260,7 @@ function drawPicture(view) {
 
 // What a label has room for: the address is left off where it would cut the statement.
 function labelOf(number, pc, statement) {
-  const gap = "\u00a0".repeat(Math.max(1, 5 - String(number).length)), room = 29;
+  const gap = "\u00a0".repeat(Math.max(1, 5 - String(number).length)), room = 30;
   const whole = "#" + number + gap + hex(pc) + " " + statement;
   return whole.length <= room || statement === hex(pc) ? whole : "#" + number + gap + statement;
 }
@@ -1277,7 +1277,7 @@ function pictureRow(view, instruction, k, firstColumn, lastColumn, at) {
     const title = "#" + number + " in cycle " + cycle + ": " + letterWords[letter];
     cells.push(span("cell " + cellClass(letter), letter, { key: cycle, role: "cell", style: "left:" + at(cycle - run.first), title, "data-cycle": cycle }));
   }
-  const statement = run.statement(instruction);
+  const statement = run.statement(instruction).replace(/\s+/g, " ");
   const label = span("label", labelOf(number, instruction.pc, statement), { role: "rowheader", title: hex(instruction.pc) + " " + statement });
   return element("div", { class: "row" + gone, key: number, role: "row", "data-number": number, style: "top:" + (k + 1) * picture.row + "rem" }, label, ...cells);
 }

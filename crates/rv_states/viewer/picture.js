@@ -68,7 +68,7 @@ function drawPicture(view) {
 
 // What a label has room for: the address is left off where it would cut the statement.
 function labelOf(number, pc, statement) {
-  const gap = "\u00a0".repeat(Math.max(1, 5 - String(number).length)), room = 29;
+  const gap = "\u00a0".repeat(Math.max(1, 5 - String(number).length)), room = 30;
   const whole = "#" + number + gap + hex(pc) + " " + statement;
   return whole.length <= room || statement === hex(pc) ? whole : "#" + number + gap + statement;
 }
@@ -85,7 +85,7 @@ function pictureRow(view, instruction, k, firstColumn, lastColumn, at) {
     const title = "#" + number + " in cycle " + cycle + ": " + letterWords[letter];
     cells.push(span("cell " + cellClass(letter), letter, { key: cycle, role: "cell", style: "left:" + at(cycle - run.first), title, "data-cycle": cycle }));
   }
-  const statement = run.statement(instruction);
+  const statement = run.statement(instruction).replace(/\s+/g, " ");
   const label = span("label", labelOf(number, instruction.pc, statement), { role: "rowheader", title: hex(instruction.pc) + " " + statement });
   return element("div", { class: "row" + gone, key: number, role: "row", "data-number": number, style: "top:" + (k + 1) * picture.row + "rem" }, label, ...cells);
 }
