@@ -22,6 +22,8 @@ class Keys:
         self.hidden()
         self.textbook()
         self.explained()
+        self.breakpoint()
+        self.switches()
         self.saved()
         self.stops()
         self.quiz()
@@ -163,6 +165,34 @@ class Keys:
             self.same(f"status of #{number}", row, known)
         shown = [int(row[1][1:]) for row in texts(page["tables"]["status"])]
         self.same("entries without a status", [number for number in entered if number not in shown], [])
+
+    def breakpoint(self):
+        """A breakpoint stands at the followed instruction, and B goes to where one of its place retires next."""
+        retired = sorted((each.left, each.pc, each.number) for each in self.log.values() if each.end == "C" and self.first + 1 < each.left <= self.last)
+        if not retired:
+            return
+        _, pc, number = retired[len(retired) // 2]
+        self.browser.tell(f"go(1); follow({number})")
+        self.browser.press("b")
+        self.after("breakpoint", "B", next(left for left, at, _ in retired if at == pc))
+        marked = self.browser.tell("[...document.querySelectorAll('#source .stops')].map((row) => row.dataset.address)")
+        self.same("marks of breakpoints", [int(address) for address in marked], [pc] if pc in self.window.statements and marked else [])
+        self.browser.press("b", "Escape")
+
+    def switches(self):
+        """Panels are left out and type is made larger by keys."""
+        titles = "[...document.querySelectorAll('[data-panel]:not([hidden]) h2')].map((each) => each.textContent)"
+        before = self.browser.tell(titles)
+        self.browser.press("p", " ", "p")
+        self.same("panels without the first", self.browser.tell(titles), before[1:])
+        self.browser.press("p", " ", "p")
+        self.same("panels with it again", self.browser.tell(titles), before)
+        size = "parseFloat(getComputedStyle(document.documentElement).fontSize)"
+        was = self.browser.tell(size)
+        self.browser.press("]", "]")
+        self.same("larger type", round(self.browser.tell(size) / was, 2), 1.32)
+        self.browser.press("0")
+        self.same("type as at first", self.browser.tell(size), was)
 
     def explained(self):
         """The accesses of a whole run are those that `explain` counts: of loads that retired, and drains."""
