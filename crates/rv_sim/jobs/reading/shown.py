@@ -5,7 +5,7 @@ READ = r"""(() => {
   const box = (each) => { const { left, top, right, bottom, width, height } = each.getBoundingClientRect(); return { left, top, right, bottom, width, height }; };
   const marks = ["changed", "stale", "followed", "producing", "consuming", "touched", "dirty", "flying", "gone", "trap", "free", "fault", "missed"];
   const marksOf = (each) => marks.filter((name) => each.classList.contains(name));
-  const cell = (each) => ({ text: text(each), marks: marksOf(each), head: each.tagName === "TH", kind: each.className });
+  const cell = (each) => ({ text: text(each), marks: marksOf(each), head: each.tagName === "TH", kind: each.className, tip: each.title });
   const rows = (id) => [...document.querySelectorAll(`#${id} > tr`)].map((row) => ({ cells: [...row.cells].map(cell), marks: marksOf(row),
     widths: [...row.querySelectorAll(".bar")].map((bar) => bar.style.width) }));
   const tables = {};
