@@ -17,6 +17,7 @@ pub mod Operands
 pub mod Place
 pub mod Range
 pub mod Refusal
+pub mod Separator
 pub mod Statement
 pub mod Unfit
 pub mod Usage

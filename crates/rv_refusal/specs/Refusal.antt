@@ -12,12 +12,14 @@ use Rattle.rv_refusal.specs.Further.{further_lines}
 use Rattle.rv_refusal.specs.Lines.{line_at, lines_before}
 use Rattle.rv_refusal.specs.Near.{nearest_line}
 use Rattle.rv_refusal.specs.Place.{place_line, shown_line}
+use Rattle.rv_refusal.specs.Separator.{separator_question}
 use Rattle.rv_refusal.specs.Unfit.{unfit_lines}
 
--- a fault of a line with a caret below it, and what was expected there
+-- a fault of a line with a caret below it, what was expected there, and whether a separator is missing
 unfoldable pub line_text : ℕ → ℕ → AsmFault → List ℕ → List ℕ
 line_text before number fault line =
-    place_line before number fault ++ (shown_line line ++ (caret_line fault line ++ expected fault line))
+    place_line before number fault
+    ++ (shown_line line ++ (caret_line fault line ++ (expected fault line ++ separator_question before fault line)))
 
 -- the fault of an assembly that so many lines of the job stand before, the known names that are near, and the lines after it at fault
 unfoldable pub assembly_text : ℕ → List ℕ → AsmError → List ℕ

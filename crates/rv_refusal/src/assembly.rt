@@ -6,11 +6,12 @@ use crate::expected::add_expected;
 use crate::further::add_further;
 use crate::lines::line_at;
 use crate::place::{add_line, add_place};
+use crate::separator::add_separator_question;
 use crate::unknown::add_nearest_line;
 use rv_asm::{AsmError, AsmFault};
 use std::alloc::{AllocError, Global};
 
-// Appends a fault of a line with a caret below it, and what was expected there.
+// Appends a fault of a line with a caret below it, what was expected there, and whether a separator is missing.
 #[tactic(auto, unfolding(crate::specs::Refusal::line_text))]
 fn add_line_text(
     alloc: Global,
@@ -25,7 +26,8 @@ fn add_line_text(
     add_place(out, before, number, fault)?;
     add_line(out, line)?;
     add_caret_line(alloc, out, fault, line)?;
-    add_expected(alloc, out, fault, line)
+    add_expected(alloc, out, fault, line)?;
+    add_separator_question(out, before, fault, line)
 }
 
 /// Appends the fault of an assembly that so many lines of the job stand before, the known names that are near, and the lines after it

@@ -31,7 +31,7 @@ fn step(rest: &[u8], before: usize) -> Option<(usize, usize)>
 
 /// How many bytes of a line stand before the token that so many tokens stand before, or before the first bytes that are no token.
 #[tactic(auto, using(crate::proofs::Distance::distance_empty))]
-fn token_place(line: &[u8], before: usize) -> usize
+pub(crate) fn token_place(line: &[u8], before: usize) -> usize
     ensures { result ≡ token_place line.now before }
 {
     let mut rest = line;
@@ -47,7 +47,7 @@ fn token_place(line: &[u8], before: usize) -> usize
     line.len()
 }
 
-fn is_of_token(fault: AsmFault) -> bool
+pub(crate) fn is_of_token(fault: AsmFault) -> bool
     ensures { result ≡ is_of_token fault }
 {
     matches!(fault, AsmFault::BadToken)

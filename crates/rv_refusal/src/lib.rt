@@ -23,6 +23,7 @@ mod operands;
 mod place;
 mod ranges;
 mod refusal;
+mod separator;
 mod statement;
 mod symbols;
 mod text;

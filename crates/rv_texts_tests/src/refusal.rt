@@ -15,7 +15,7 @@ pub(crate) struct Refused {
     pub(crate) why: &'static [u8],
 }
 
-const REFUSED: [Refused; 15] = [
+const REFUSED: [Refused; 17] = [
     Refused {
         job: b"rob = 8\n%%\nnop\n\tslli x1, x1, 32 # \xc3\xa4\n",
         why: b"\
@@ -51,6 +51,25 @@ nearest: .word
 line 2 of the job, line 2 of its assembly: BadToken
       .ascii \"a\\q\"
              ^
+expected: names, numbers up to 4294967295, strings that end on their line, and the marks , : ( ) + -
+",
+    },
+    Refused {
+        job: b"rob = 8\nebreak\n",
+        why: b"\
+line 1 of the job, line 1 of its assembly: BadToken
+    rob = 8
+        ^
+expected: names, numbers up to 4294967295, strings that end on their line, and the marks , : ( ) + -
+is a line %% missing?
+",
+    },
+    Refused {
+        job: b"%%\nrob = 8\n",
+        why: b"\
+line 2 of the job, line 1 of its assembly: BadToken
+    rob = 8
+        ^
 expected: names, numbers up to 4294967295, strings that end on their line, and the marks , : ( ) + -
 ",
     },
