@@ -72,7 +72,7 @@ fn each_register_has_two_names(rt: HostRuntime) -> Result<(), Fail> {
 
 #[test]
 fn operands_of_another_count_or_shape_are_refused(rt: HostRuntime) -> Result<(), Fail> {
-    const CASES: [&str; 31] = [
+    const CASES: [&str; 37] = [
         "jalr x1,(x2)",
         "jalr x1,x2",
         "addi x1,x0,+5",
@@ -104,6 +104,13 @@ fn operands_of_another_count_or_shape_are_refused(rt: HostRuntime) -> Result<(),
         ".equ a,b",
         ".globl 5",
         ".text 1",
+        // a sum is a symbol, and then at most one number
+        "x: .word 4+x",
+        "x: .word x+1+1",
+        ".word - - 1",
+        "x: .word -x",
+        "add x5,(x6),x7",
+        ".globl a,b",
     ];
     each_has_fault(rt.alloc(), AsmFault::BadOperands, &CASES)?;
     is_refused(rt.alloc(), ".equ a,5\ncsrr x1,a", AsmFault::BadOperands, 2)?;

@@ -5,7 +5,7 @@ use std::test::Fail;
 
 #[test]
 fn a_value_outside_its_fields_range_is_refused(rt: HostRuntime) -> Result<(), Fail> {
-    const CASES: [&str; 27] = [
+    const CASES: [&str; 28] = [
         "addi x1,x0,2048",
         "addi x1,x0,-2049",
         "lw x1,2048(x0)",
@@ -14,6 +14,7 @@ fn a_value_outside_its_fields_range_is_refused(rt: HostRuntime) -> Result<(), Fa
         "slli x1,x0,32",
         "srai x1,x0,-1",
         "lui x1,1048576",
+        "lui x5,-1",
         "auipc x1,-1",
         "csrr x1,4096",
         "csrr x1,-1",
@@ -47,11 +48,12 @@ fn is_taken(alloc: Global, text: &'static str) -> Result<(), Fail> {
 
 #[test]
 fn the_ends_of_each_range_are_taken(rt: HostRuntime) -> Result<(), Fail> {
-    const CASES: [&str; 14] = [
+    const CASES: [&str; 15] = [
         "addi x1,x0,2047\naddi x1,x0,-2048",
         "lw x1,2047(x0)\nsw x1,-2048(x0)",
         "slli x1,x0,31\nsrli x1,x0,0",
         "lui x1,1048575\nauipc x1,0",
+        "auipc x5,1048575",
         "csrr x1,4095\ncsrr x1,0",
         "csrwi 4095,31\ncsrwi 0,0",
         "a: beq x0,x0,a+4094",

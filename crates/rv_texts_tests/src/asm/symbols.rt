@@ -44,10 +44,11 @@ fn other_symbols_may_be_defined_later(rt: HostRuntime) -> Result<(), Fail> {
 
 #[test]
 fn a_distance_is_exact_and_only_la_counts_modulo_2_to_the_32(rt: HostRuntime) -> Result<(), Fail> {
-    const CASES: [(&str, AsmFault, usize); 3] = [
+    const CASES: [(&str, AsmFault, usize); 4] = [
         ("a: j a+4294967292", AsmFault::OutOfRange, 1),
         ("a: beq x0,x0,a+4294967292", AsmFault::OutOfRange, 1),
         (".equ a,-2147483648\nj a", AsmFault::OutOfRange, 2),
+        (".equ big,4294967295\n.word big+1", AsmFault::OutOfRange, 2),
     ];
     means(
         rt.alloc(),

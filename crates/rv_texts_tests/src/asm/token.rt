@@ -37,7 +37,7 @@ fn tokens_stand_with_or_without_blanks_and_a_comment_is_left_out(
 
 #[test]
 fn what_is_no_token_is_refused(rt: HostRuntime) {
-    const LINES: [&[u8]; 20] = [
+    const LINES: [&[u8]; 22] = [
         b"4294967296",
         b"0x100000000",
         b"0x",
@@ -58,6 +58,8 @@ fn what_is_no_token_is_refused(rt: HostRuntime) {
         b"'a'",
         b"addi\x80",
         b"\x07",
+        b"nop // nothing",
+        b"nop\x0c",
     ];
     for line in &LINES {
         assert_eq!(rt; fault(rt.alloc(), line), Some((AsmFault::BadToken, 1)));

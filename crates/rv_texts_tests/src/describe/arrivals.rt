@@ -142,6 +142,14 @@ fn a_list_has_at_most_a_hundred_thousand_entries(rt: HostRuntime) -> Result<(), 
 }
 
 #[test]
+fn a_legal_entry_too_many_is_out_of_range(rt: HostRuntime) -> Result<(), Fail> {
+    let fault = Some(OutOfRange { entry: 100_001 });
+    let last = "{cycle=7,line='timer'}";
+    assert_eq!(rt; fault_of_list(rt.alloc(), "", ENTRY, last)?, fault);
+    Ok(())
+}
+
+#[test]
 fn a_wrong_type_of_an_entry_too_many_comes_first(rt: HostRuntime) -> Result<(), Fail> {
     let fault = fault_of_list(rt.alloc(), "", "{cycle=7,line=''},", "7")?;
     assert_eq!(rt; fault, Some(WrongKind { entry: 100_001 }));

@@ -4,7 +4,7 @@ use rv_describe::DescriptionError::{NotPowerOfTwo, NotToml, OutOfRange, UnknownK
 
 #[test]
 fn the_first_fault_of_a_value_is_named(rt: HostRuntime) {
-    const CASES: [(&str, DescriptionError, &str); 28] = [
+    const CASES: [(&str, DescriptionError, &str); 31] = [
         ("rob = \"a\"", WrongKind { place: 9 }, "rob"),
         ("rob.x = 1", WrongKind { place: 9 }, "rob"),
         ("[rob]", WrongKind { place: 9 }, "rob"),
@@ -48,8 +48,15 @@ fn the_first_fault_of_a_value_is_named(rt: HostRuntime) {
         ("rom_bytes = 1024", OutOfRange { place: 3 }, "rom_bytes"),
         ("rob = 4294967312", OutOfRange { place: 9 }, "rob"),
         ("recovery = \"never\"", OutOfRange { place: 12 }, "recovery"),
+        ("recovery = \"Early\"", OutOfRange { place: 12 }, "recovery"),
+        ("recovery = \"\"", OutOfRange { place: 12 }, "recovery"),
         (
             "predictor.kind = \"gshare\"",
+            OutOfRange { place: 35 },
+            "predictor.kind",
+        ),
+        (
+            "predictor.kind = \"taken\"",
             OutOfRange { place: 35 },
             "predictor.kind",
         ),
