@@ -1,6 +1,6 @@
 -- A run under way whose log is written: one more cycle of it, and its end.
 use Rattle.std.proofs.Common.{◌≡◌, ◌∙◌, ℕ, ◌+◌, ◌≤◌, List, [], ◌∷◌, ◌++◌, length, vec_capacity, Option, None, refl, sym, ap, subst, arith, append_assoc, append-nil}
-use Rattle.std.specs.Prelude.{Result}
+use Rattle.std.specs.Prelude.{Bool}
 use Rattle.rv_isa.specs.declared.lines.Arrival.{Arrival}
 use Rattle.rv_arch.specs.declared.outcome.Stop.{Stop}
 use Rattle.rv_core.specs.declared.outcome.Progress.{Progress}
@@ -20,8 +20,7 @@ use Rattle.rv_passage.specs.Table.{CanCount, Passages, after_cycle, numbered_fro
 use Rattle.rv_passage.specs.declared.passage.Passage.{Passage}
 use Rattle.rv_passage.specs.declared.table.Table.{Table}
 use Rattle.rv_source.specs.Listing.{Listed}
-use Rattle.rv_text.specs.Written.{IsWritten}
-use Rattle.rv_text.proofs.Writing.{written_same}
+use Rattle.rv_text.specs.Said.{IsSaid}
 
 length-numbered_from : (number : ℕ) (ps : List Passage) → length (numbered_from number ps) ≡ length ps
 length-numbered_from number [] = refl
@@ -68,10 +67,10 @@ roomy_again table full opened few rows interrupts = record {
 }
 
 -- the log of no cycle
-pub logging_nothing : {T E : Type 0} (arrivals : List Arrival) (h : GuidedHardware) (listing : Listed) (table : Table) (written : Result T E) (before now : Option (List ℕ)) (cycle : ℕ) (rows : List Passage)
+pub logging_nothing : (arrivals : List Arrival) (h : GuidedHardware) (listing : Listed) (table : Table) (failed : Bool) (before now : Option (List ℕ)) (cycle : ℕ) (rows : List Passage)
     → passages_of table ≡ table_at h.hardware → IsRoomy table → length table.rows.items ≤ 288 → cycle ≡ h.hardware.cycle → rows ≡ table.rows.items
-    → IsWritten written before now (begin_text listing cycle rows) → IsLogging listing listing cycle None table written (watched arrivals h [] h) before now
-logging_nothing arrivals h listing table written before now cycle rows is roomy few cycle_is rows_are wrote =
+    → IsSaid failed before now (begin_text listing cycle rows) → IsLogging listing listing cycle None table failed (watched arrivals h [] h) before now
+logging_nothing arrivals h listing table failed before now cycle rows is roomy few cycle_is rows_are wrote =
     let here : length (numbered_from 0 (in_flight h.hardware)) ≤ 288 = subst (λ (t : Passages). length t.rows ≤ 288) is few in
     let all_rows : rows ≡ (table_at h.hardware).rows = rows_are ∙ ap (λ (t : Passages). t.rows) is in
     record {
@@ -83,11 +82,11 @@ logging_nothing arrivals h listing table written before now cycle rows is roomy 
       room = roomy;
       fetched = omega (arith, ap (λ (t : Passages). t.fetched) is, length-numbered_from 0 (in_flight h.hardware), here);
       retired = omega (arith, ap (λ (t : Passages). t.retired) is);
-      wrote = written_same written before now (begin_text listing cycle rows) (log_text listing h.hardware []) ((λ i. begin_text listing (cycle_is i) (all_rows i)) ∙ log-none listing h.hardware) wrote;
+      wrote = subst (IsSaid failed before now) ((λ i. begin_text listing (cycle_is i) (all_rows i)) ∙ log-none listing h.hardware) wrote;
     }
 
-module _ {T E : Type 0} {seen : Watched} {cycle : ℕ} {steps : List Step} {after : Hardware} {progress : Progress} (shown : IsShown seen cycle steps after progress)
-    {listing listing' : Listed} {first : ℕ} {stall : Option Stall} {table : Table} {written : Result T E} {before mid : Option (List ℕ)} (logging : IsLogging listing listing' first stall table written seen before mid) where
+module _ {seen : Watched} {cycle : ℕ} {steps : List Step} {after : Hardware} {progress : Progress} (shown : IsShown seen cycle steps after progress)
+    {listing listing' : Listed} {first : ℕ} {stall : Option Stall} {table : Table} {failed : Bool} {before mid : Option (List ℕ)} (logging : IsLogging listing listing' first stall table failed seen before mid) where
   -- the counts of the table can go on
   pub can_count : CanCount (passages_of table)
   can_count = record { fetched = omega (arith, logging.fetched, shown.number, shown.counted); retired = omega (arith, logging.retired, shown.number, shown.counted) }
@@ -118,10 +117,10 @@ module _ {T E : Type 0} {seen : Watched} {cycle : ℕ} {steps : List Step} {afte
         let rows_now : rows ≡ table_now.rows = rows_are ∙ ap (λ (t : Passages). t.rows) full_is in
         (λ i. log_text listing seen.first.hardware logging.moments ++ cycle_text (logging.same i) (logging.began i) (shown.number i) (record { before = logging.stalled i; reason = stall_now i }) (rows_now i)) ∙ log-more listing seen.first.hardware logging.moments moment
 
-    pub logging_on : (kept : Table) (listing'' : Listed) (first' : ℕ) (stall' : Option Stall) (written' : Result T E) (now : Option (List ℕ)) (rows : List Passage) → passages_of kept ≡ still_open (passages_of full)
+    pub logging_on : (kept : Table) (listing'' : Listed) (first' : ℕ) (stall' : Option Stall) (failed' : Bool) (now : Option (List ℕ)) (rows : List Passage) → passages_of kept ≡ still_open (passages_of full)
         → full.fetched ≤ table.fetched + 288 → full.retired ≤ table.retired + 8 → IsRoomy kept → listing'' ≡ listing' → first' ≡ first → stall' ≡ progress.stall → rows ≡ full.rows.items
-        → IsWritten written' before now (log_text listing seen.first.hardware logging.moments ++ cycle_text listing' first cycle (record { before = stall; reason = progress.stall }) rows) → IsLogging listing listing'' first' stall' kept written' (with_shown seen shown) before now
-    logging_on kept listing'' first' stall' written' now rows opened fetched retired roomy same began stalls rows_are wrote =
+        → IsSaid failed' before now (log_text listing seen.first.hardware logging.moments ++ cycle_text listing' first cycle (record { before = stall; reason = progress.stall }) rows) → IsLogging listing listing'' first' stall' kept failed' (with_shown seen shown) before now
+    logging_on kept listing'' first' stall' failed' now rows opened fetched retired roomy same began stalls rows_are wrote =
         let one_more = cycle_counts shown.cycled in
         record {
           same = same ∙ logging.same;
@@ -132,13 +131,13 @@ module _ {T E : Type 0} {seen : Watched} {cycle : ℕ} {steps : List Step} {afte
           room = roomy;
           fetched = omega (arith, logging.fetched, fetched, one_more, ap (λ (t : Passages). t.fetched) opened);
           retired = omega (arith, logging.retired, retired, one_more, ap (λ (t : Passages). t.retired) opened);
-          wrote = written_same written' before now _ _ (text_now rows rows_are) wrote;
+          wrote = subst (IsSaid failed' before now) (text_now rows rows_are) wrote;
         }
 
 -- the log of a run that ended
-pub logged_to_the_end : {T E : Type 0} {arrivals : List Arrival} {limit : ℕ} {listing listing' : Listed} {first : ℕ} {stall : Option Stall} {old new : GuidedHardware} {moments : List HistoryMoment} {table : Table} {written : Result T E} {before after : Option (List ℕ)} {stop : Stop}
-    → History arrivals old moments new → IsStop limit (reports_of moments) new.hardware stop → IsLogging listing listing' first stall table written (watched arrivals old moments new) before after
-    → WritesLog arrivals limit listing old new stop written before after
+pub logged_to_the_end : {arrivals : List Arrival} {limit : ℕ} {listing listing' : Listed} {first : ℕ} {stall : Option Stall} {old new : GuidedHardware} {moments : List HistoryMoment} {table : Table} {failed : Bool} {before after : Option (List ℕ)} {stop : Stop}
+    → History arrivals old moments new → IsStop limit (reports_of moments) new.hardware stop → IsLogging listing listing' first stall table failed (watched arrivals old moments new) before after
+    → WritesLog arrivals limit listing old new stop failed before after
 logged_to_the_end {listing = listing} {old = old} {moments = moments} {table = table} passes stops logging = (
   log_text listing old.hardware logging.moments,
   record { reports = reports_of moments; moments = logging.moments; table = passages_of table; cycles = cycles_shown passes; passes = logging.passes; stops = stops; text_is = refl },

@@ -1,5 +1,5 @@
 -- The log of a run in Konata's format, version 0004.
-use Rattle.std.specs.Prelude.{◌≡◌, ℕ, List, [], ◌∷◌, ◌++◌, codes, decimal, Option, None, Result}
+use Rattle.std.specs.Prelude.{◌≡◌, ℕ, List, [], ◌∷◌, ◌++◌, codes, decimal, Option, None, Bool}
 use Rattle.std.specs.List.{flat_map}
 use Rattle.rv_isa.specs.Arrivals.{lines_at}
 use Rattle.rv_isa.specs.declared.lines.Arrival.{Arrival}
@@ -12,7 +12,7 @@ use Rattle.rv_hardware.specs.declared.report.Stall.{Stall}
 use Rattle.rv_passage.specs.Table.{Passages, after_cycle, still_open, table_at}
 use Rattle.rv_passage.specs.declared.passage.Passage.{Passage}
 use Rattle.rv_source.specs.Listing.{Listed}
-use Rattle.rv_text.specs.Written.{IsWritten}
+use Rattle.rv_text.specs.Said.{IsSaid}
 use Rattle.rv_log.specs.Command.{appearance_text}
 use Rattle.rv_log.specs.Dependence.{row_at}
 use Rattle.rv_log.specs.Event.{left_at}
@@ -73,7 +73,7 @@ pub record IsLog (arrivals : List Arrival) (limit : ℕ) (listing : Listed) (old
   pub stops : IsStop limit reports new.hardware stop
   pub text_is : text ≡ log_text listing old.hardware moments
 
--- the log of a run that ended for a reason is written, or a beginning of it
-abbrev pub WritesLog : {T E : Type 0} → List Arrival → ℕ → Listed → GuidedHardware → GuidedHardware → Stop → Result T E → Option (List ℕ) → Option (List ℕ) → Type 0
-WritesLog arrivals limit listing old new stop written before after =
-    (text : List ℕ) × IsLog arrivals limit listing old new stop text × IsWritten written before after text
+-- the log of a run that ended for a reason is written, or a beginning of it where a write failed
+abbrev pub WritesLog : List Arrival → ℕ → Listed → GuidedHardware → GuidedHardware → Stop → Bool → Option (List ℕ) → Option (List ℕ) → Type 0
+WritesLog arrivals limit listing old new stop failed before after =
+    (text : List ℕ) × IsLog arrivals limit listing old new stop text × IsSaid failed before after text

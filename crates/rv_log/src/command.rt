@@ -1,86 +1,72 @@
 ghost use Rattle.rv_log.specs.Command.{introduction_text, appearance_text, stage_line, retirement_line, flush_line};
-ghost use Rattle.rv_text.specs.Written.{IsWritten};
+ghost use Rattle.rv_text.specs.Said.{Says};
 
 use crate::stage::Stage;
 use crate::statement::write_statement;
 use itoa::Buffer;
 use rv_passage::Passage;
 use rv_source::Listing;
-use rv_text::{ReportError, hexadecimal, put, put_all};
+use rv_text::{Sink, hexadecimal};
 use std::io::Write;
 
 #[tactic(auto, unfolding(crate::specs::Command::introduction_text))]
-fn write_introduction<W: Write>(writer: &mut W, number: u64, pc: u32) -> Result<(), ReportError>
-    ensures { IsWritten result (W.contents writer.old) (W.contents writer.new) (introduction_text number pc) }
+fn write_introduction<W: Write>(out: &mut Sink<'_, W>, number: u64, pc: u32)
+    ensures { Says W.contents out.old out.new (introduction_text number pc) }
 {
     let mut buffer = Buffer::new();
     let id = buffer.format(number).as_bytes();
     let address = hexadecimal(pc);
-    put_all(
-        writer,
-        &[
-            b"I\t",
-            id,
-            b"\t",
-            id,
-            b"\t0\nL\t",
-            id,
-            b"\t0\t",
-            address.as_slice(),
-            b": ",
-        ],
-    )
+    out.put_all(&[
+        b"I\t",
+        id,
+        b"\t",
+        id,
+        b"\t0\nL\t",
+        id,
+        b"\t0\t",
+        address.as_slice(),
+        b": ",
+    ])
 }
 
 /// Writes that an instruction appears, and its label: its address and its statement.
-pub(crate) fn write_appearance<W: Write>(
-    writer: &mut W,
-    listing: &Listing,
-    row: &Passage,
-) -> Result<(), ReportError>
-    ensures { IsWritten result (W.contents writer.old) (W.contents writer.new) (appearance_text listing.now row.now) }
+#[tactic(auto, using(rv_text::proofs::Saying::saying), unfolding(crate::specs::Command::appearance_text))]
+pub(crate) fn write_appearance<W: Write>(out: &mut Sink<'_, W>, listing: &Listing, row: &Passage)
+    ensures { Says W.contents out.old out.new (appearance_text listing.now row.now) }
 {
-    write_introduction(writer, row.number, row.pc)?;
-    write_statement(writer, listing, row)?;
-    put(writer, b"\n")
+    write_introduction(out, row.number, row.pc);
+    write_statement(out, listing, row);
+    out.put(b"\n")
 }
 
 /// Writes that a stage of an instruction begins.
 #[tactic(auto, unfolding(crate::specs::Command::stage_line))]
-pub(crate) fn write_stage<W: Write>(
-    writer: &mut W,
-    number: u64,
-    stage: Stage,
-) -> Result<(), ReportError>
-    ensures { IsWritten result (W.contents writer.old) (W.contents writer.new) (stage_line number stage) }
+pub(crate) fn write_stage<W: Write>(out: &mut Sink<'_, W>, number: u64, stage: Stage)
+    ensures { Says W.contents out.old out.new (stage_line number stage) }
 {
     let mut buffer = Buffer::new();
     let id = buffer.format(number).as_bytes();
-    put_all(writer, &[b"S\t", id, b"\t0\t", stage.letter(), b"\n"])
+    out.put_all(&[b"S\t", id, b"\t0\t", stage.letter(), b"\n"])
 }
 
 /// Writes that an instruction retires, so many before it.
 #[tactic(auto, unfolding(crate::specs::Command::retirement_line))]
-pub(crate) fn write_retirement<W: Write>(
-    writer: &mut W,
-    number: u64,
-    order: u64,
-) -> Result<(), ReportError>
-    ensures { IsWritten result (W.contents writer.old) (W.contents writer.new) (retirement_line number order) }
+pub(crate) fn write_retirement<W: Write>(out: &mut Sink<'_, W>, number: u64, order: u64)
+    ensures { Says W.contents out.old out.new (retirement_line number order) }
 {
     let mut buffer = Buffer::new();
     let id = buffer.format(number).as_bytes();
     let mut order_buffer = Buffer::new();
     let order = order_buffer.format(order).as_bytes();
-    put_all(writer, &[b"R\t", id, b"\t", order, b"\t0\n"])
+    out.put_all(&[b"R\t", id, b"\t", order, b"\t0\n"])
 }
 
 /// Writes that an instruction is flushed.
 #[tactic(auto, unfolding(crate::specs::Command::flush_line))]
-pub(crate) fn write_flush<W: Write>(writer: &mut W, number: u64) -> Result<(), ReportError>
-    ensures { IsWritten result (W.contents writer.old) (W.contents writer.new) (flush_line number) }
+pub(crate) fn write_flush<W: Write>(out: &mut Sink<'_, W>, number: u64)
+    ensures { Says W.contents out.old out.new (flush_line number) }
 {
     let mut buffer = Buffer::new();
     let id = buffer.format(number).as_bytes();
-    put_all(writer, &[b"R\t", id, b"\t", id, b"\t1\n"])
+    out.put_all(&[b"R\t", id, b"\t", id, b"\t1\n"])
 }

@@ -1,72 +1,66 @@
 ghost use Rattle.rv_log.specs.Dependence.{dependence_at, dependence_line, dependences_at, row_at, woken_at};
-ghost use Rattle.rv_text.specs.Written.{IsWritten};
+ghost use Rattle.rv_text.specs.Said.{Says};
 
 use crate::event::{is_at, write_events};
 use itoa::Buffer;
 use rv_passage::{Passage, Producer};
 use rv_source::Listing;
-use rv_text::{ReportError, put_all};
+use rv_text::Sink;
 use std::io::Write;
 
 #[tactic(auto, unfolding(crate::specs::Dependence::dependence_line))]
-fn write_dependence<W: Write>(writer: &mut W, number: u64, producer: u64) -> Result<(), ReportError>
-    ensures { IsWritten result (W.contents writer.old) (W.contents writer.new) (dependence_line number producer) }
+fn write_dependence<W: Write>(out: &mut Sink<'_, W>, number: u64, producer: u64)
+    ensures { Says W.contents out.old out.new (dependence_line number producer) }
 {
     let mut buffer = Buffer::new();
     let id = buffer.format(number).as_bytes();
     let mut producer_buffer = Buffer::new();
     let producer = producer_buffer.format(producer).as_bytes();
-    put_all(writer, &[b"W\t", id, b"\t", producer, b"\t0\n"])
+    out.put_all(&[b"W\t", id, b"\t", producer, b"\t0\n"])
 }
 
-#[tactic(auto, unfolding(crate::specs::Dependence::woken_at))]
-fn write_woken<W: Write>(
-    writer: &mut W,
-    cycle: u64,
-    number: u64,
-    producer: &Producer,
-) -> Result<(), ReportError>
-    ensures { IsWritten result (W.contents writer.old) (W.contents writer.new) (woken_at cycle number producer.now) }
+#[tactic(auto, using(rv_text::proofs::Saying::saying), unfolding(crate::specs::Dependence::woken_at))]
+fn write_woken<W: Write>(out: &mut Sink<'_, W>, cycle: u64, number: u64, producer: &Producer)
+    ensures { Says W.contents out.old out.new (woken_at cycle number producer.now) }
 {
     if is_at(producer.broadcast, cycle) {
-        write_dependence(writer, number, producer.number)
-    } else {
-        Ok(())
+        write_dependence(out, number, producer.number)
     }
 }
 
-#[tactic(auto, unfolding(crate::specs::Dependence::dependence_at))]
+#[tactic(auto, using(rv_text::proofs::Saying::saying), unfolding(crate::specs::Dependence::dependence_at))]
 fn write_dependence_at<W: Write>(
-    writer: &mut W,
+    out: &mut Sink<'_, W>,
     cycle: u64,
     number: u64,
     producer: &Option<Producer>,
-) -> Result<(), ReportError>
-    ensures { IsWritten result (W.contents writer.old) (W.contents writer.new) (dependence_at cycle number producer.now) }
+)
+    ensures { Says W.contents out.old out.new (dependence_at cycle number producer.now) }
 {
-    match producer {
-        Some(producer) => write_woken(writer, cycle, number, producer),
-        None => Ok(()),
+    if let Some(producer) = producer {
+        write_woken(out, cycle, number, producer)
     }
 }
 
 // Writes the dependences of an instruction on what was broadcast in a cycle.
-fn write_dependences<W: Write>(writer: &mut W, cycle: u64, row: &Passage) -> Result<(), ReportError>
-    ensures { IsWritten result (W.contents writer.old) (W.contents writer.new) (dependences_at cycle row.now) }
+#[tactic(auto, using(rv_text::proofs::Saying::saying), unfolding(crate::specs::Dependence::dependences_at))]
+fn write_dependences<W: Write>(out: &mut Sink<'_, W>, cycle: u64, row: &Passage)
+    ensures { Says W.contents out.old out.new (dependences_at cycle row.now) }
 {
-    write_dependence_at(writer, cycle, row.number, &row.producers.first)?;
-    write_dependence_at(writer, cycle, row.number, &row.producers.second)
+    write_dependence_at(out, cycle, row.number, &row.producers.first);
+    write_dependence_at(out, cycle, row.number, &row.producers.second)
 }
 
 /// Writes what became of an instruction in a cycle, and whose results woke it.
+#[tactic(auto, using(rv_text::proofs::Saying::saying), unfolding(crate::specs::Dependence::row_at))]
 pub(crate) fn write_row<W: Write>(
-    writer: &mut W,
+    out: &mut Sink<'_, W>,
     listing: &Listing,
     cycle: u64,
     row: &Passage,
-) -> Result<(), ReportError>
-    ensures { IsWritten result (W.contents writer.old) (W.contents writer.new) (row_at listing.now cycle row.now) }
+)
+    ensures { Says W.contents out.old out.new (row_at listing.now cycle row.now) }
 {
-    write_events(writer, listing, cycle, row)?;
-    write_dependences(writer, cycle, row)
+    write_events(out, listing, cycle, row);
+    write_dependences(out, cycle, row)
 }

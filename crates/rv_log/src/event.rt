@@ -1,14 +1,14 @@
 ghost use Rattle.std.specs.Prelude.{◌≡◌};
 ghost use Rattle.rv_log.specs.Event.{is_at, stage_at, begins_to_wait, bus_wait_at, fetched_text, fetch_at, retired_in, end_line, ended_text, left_at, events_at};
 ghost use Rattle.rv_passage.specs.Result.{ready_in};
-ghost use Rattle.rv_text.specs.Written.{IsWritten};
+ghost use Rattle.rv_text.specs.Said.{Says};
 
 use crate::command::{write_appearance, write_flush, write_retirement, write_stage};
 use crate::details::write_details;
 use crate::stage::Stage;
 use rv_passage::{Ending, Passage};
 use rv_source::Listing;
-use rv_text::ReportError;
+use rv_text::Sink;
 use std::io::Write;
 
 /// Whether a stamp is a cycle.
@@ -38,60 +38,46 @@ fn begins_to_wait(row: &Passage, cycle: u64) -> bool
 }
 
 // Writes that a stage begins, where its stamp is this cycle.
-#[tactic(auto, unfolding(crate::specs::Event::stage_at))]
+#[tactic(auto, using(rv_text::proofs::Saying::saying), unfolding(crate::specs::Event::stage_at))]
 fn write_stage_at<W: Write>(
-    writer: &mut W,
+    out: &mut Sink<'_, W>,
     cycle: u64,
     number: u64,
     stage: Stage,
     stamp: Option<u64>,
-) -> Result<(), ReportError>
-    ensures { IsWritten result (W.contents writer.old) (W.contents writer.new) (stage_at cycle number stage stamp) }
+)
+    ensures { Says W.contents out.old out.new (stage_at cycle number stage stamp) }
 {
     if is_at(stamp, cycle) {
-        write_stage(writer, number, stage)
-    } else {
-        Ok(())
+        write_stage(out, number, stage)
     }
 }
 
 // Writes that an instruction begins to wait for the bus, where it does in this cycle.
-#[tactic(auto, unfolding(crate::specs::Event::bus_wait_at))]
-fn write_bus_wait_at<W: Write>(writer: &mut W, cycle: u64, row: &Passage) -> Result<(), ReportError>
-    ensures { IsWritten result (W.contents writer.old) (W.contents writer.new) (bus_wait_at cycle row.now) }
+#[tactic(auto, using(rv_text::proofs::Saying::saying), unfolding(crate::specs::Event::bus_wait_at))]
+fn write_bus_wait_at<W: Write>(out: &mut Sink<'_, W>, cycle: u64, row: &Passage)
+    ensures { Says W.contents out.old out.new (bus_wait_at cycle row.now) }
 {
     if begins_to_wait(row, cycle) {
-        write_stage(writer, row.number, Stage::BusWait)
-    } else {
-        Ok(())
+        write_stage(out, row.number, Stage::BusWait)
     }
 }
 
-fn write_fetched<W: Write>(
-    writer: &mut W,
-    listing: &Listing,
-    row: &Passage,
-) -> Result<(), ReportError>
-    ensures { IsWritten result (W.contents writer.old) (W.contents writer.new) (fetched_text listing.now row.now) }
+#[tactic(auto, using(rv_text::proofs::Saying::saying), unfolding(crate::specs::Event::fetched_text))]
+fn write_fetched<W: Write>(out: &mut Sink<'_, W>, listing: &Listing, row: &Passage)
+    ensures { Says W.contents out.old out.new (fetched_text listing.now row.now) }
 {
-    write_appearance(writer, listing, row)?;
-    write_stage(writer, row.number, Stage::Fetch)
+    write_appearance(out, listing, row);
+    write_stage(out, row.number, Stage::Fetch)
 }
 
 // Writes the fetch of an instruction, where it came in this cycle.
-#[tactic(auto, unfolding(crate::specs::Event::fetch_at))]
-fn write_fetch_at<W: Write>(
-    writer: &mut W,
-    listing: &Listing,
-    cycle: u64,
-    row: &Passage,
-) -> Result<(), ReportError>
-    ensures { IsWritten result (W.contents writer.old) (W.contents writer.new) (fetch_at listing.now cycle row.now) }
+#[tactic(auto, using(rv_text::proofs::Saying::saying), unfolding(crate::specs::Event::fetch_at))]
+fn write_fetch_at<W: Write>(out: &mut Sink<'_, W>, listing: &Listing, cycle: u64, row: &Passage)
+    ensures { Says W.contents out.old out.new (fetch_at listing.now cycle row.now) }
 {
     if row.fetched == cycle {
-        write_fetched(writer, listing, row)
-    } else {
-        Ok(())
+        write_fetched(out, listing, row)
     }
 }
 
@@ -106,41 +92,43 @@ fn retired(ending: Ending) -> Option<u64>
 }
 
 // Writes that an instruction retires, or is flushed.
-#[tactic(auto, unfolding(crate::specs::Event::end_line))]
-fn write_end<W: Write>(writer: &mut W, number: u64, ending: Ending) -> Result<(), ReportError>
-    ensures { IsWritten result (W.contents writer.old) (W.contents writer.new) (end_line number ending) }
+#[tactic(auto, using(rv_text::proofs::Saying::saying), unfolding(crate::specs::Event::end_line))]
+fn write_end<W: Write>(out: &mut Sink<'_, W>, number: u64, ending: Ending)
+    ensures { Says W.contents out.old out.new (end_line number ending) }
 {
     match ending {
-        Ending::InFlight => Ok(()),
-        Ending::Retired { order, .. } => write_retirement(writer, number, order),
-        Ending::Trapped { .. } => write_flush(writer, number),
-        Ending::Squashed { .. } => write_flush(writer, number),
+        Ending::InFlight => {}
+        Ending::Retired { order, .. } => write_retirement(out, number, order),
+        Ending::Trapped { .. } => write_flush(out, number),
+        Ending::Squashed { .. } => write_flush(out, number),
     }
 }
 
-fn write_ended<W: Write>(writer: &mut W, first: u64, row: &Passage) -> Result<(), ReportError>
-    ensures { IsWritten result (W.contents writer.old) (W.contents writer.new) (ended_text first row.now) }
+#[tactic(auto, using(rv_text::proofs::Saying::saying), unfolding(crate::specs::Event::ended_text))]
+fn write_ended<W: Write>(out: &mut Sink<'_, W>, first: u64, row: &Passage)
+    ensures { Says W.contents out.old out.new (ended_text first row.now) }
 {
-    write_details(writer, first, row)?;
-    write_end(writer, row.number, row.ending)
+    write_details(out, first, row);
+    write_end(out, row.number, row.ending)
 }
 
 /// Writes what became of an instruction in a cycle.
+#[tactic(auto, using(rv_text::proofs::Saying::saying), unfolding(crate::specs::Event::events_at))]
 pub(crate) fn write_events<W: Write>(
-    writer: &mut W,
+    out: &mut Sink<'_, W>,
     listing: &Listing,
     cycle: u64,
     row: &Passage,
-) -> Result<(), ReportError>
-    ensures { IsWritten result (W.contents writer.old) (W.contents writer.new) (events_at listing.now cycle row.now) }
+)
+    ensures { Says W.contents out.old out.new (events_at listing.now cycle row.now) }
 {
-    write_fetch_at(writer, listing, cycle, row)?;
-    write_stage_at(writer, cycle, row.number, Stage::Dispatch, row.dispatched)?;
-    write_stage_at(writer, cycle, row.number, Stage::Execution, row.issued())?;
-    write_bus_wait_at(writer, cycle, row)?;
-    write_stage_at(writer, cycle, row.number, Stage::Broadcast, row.broadcast)?;
+    write_fetch_at(out, listing, cycle, row);
+    write_stage_at(out, cycle, row.number, Stage::Dispatch, row.dispatched);
+    write_stage_at(out, cycle, row.number, Stage::Execution, row.issued());
+    write_bus_wait_at(out, cycle, row);
+    write_stage_at(out, cycle, row.number, Stage::Broadcast, row.broadcast);
     write_stage_at(
-        writer,
+        out,
         cycle,
         row.number,
         Stage::Retirement,
@@ -149,18 +137,11 @@ pub(crate) fn write_events<W: Write>(
 }
 
 /// Writes how an instruction left the hardware, where it did in a cycle of a log from a first one on.
-#[tactic(auto, unfolding(crate::specs::Event::left_at))]
-pub(crate) fn write_left<W: Write>(
-    writer: &mut W,
-    first: u64,
-    cycle: u64,
-    row: &Passage,
-) -> Result<(), ReportError>
-    ensures { IsWritten result (W.contents writer.old) (W.contents writer.new) (left_at first cycle row.now) }
+#[tactic(auto, using(rv_text::proofs::Saying::saying), unfolding(crate::specs::Event::left_at))]
+pub(crate) fn write_left<W: Write>(out: &mut Sink<'_, W>, first: u64, cycle: u64, row: &Passage)
+    ensures { Says W.contents out.old out.new (left_at first cycle row.now) }
 {
     if is_at(row.ending.left(), cycle) {
-        write_ended(writer, first, row)
-    } else {
-        Ok(())
+        write_ended(out, first, row)
     }
 }

@@ -1,12 +1,12 @@
 ghost use Rattle.std.specs.Prelude.{◌≡◌};
 ghost use Rattle.rv_log.specs.Room.{is_as_before, is_fetched_word, is_for_room, oldest_fetched, room_at, room_for, room_line, room_of};
-ghost use Rattle.rv_text.specs.Written.{IsWritten};
+ghost use Rattle.rv_text.specs.Said.{Says};
 
 use itoa::Buffer;
 use rv_drawing::room_name;
 use rv_hardware::Stall;
 use rv_passage::Passage;
-use rv_text::{ReportError, put_all};
+use rv_text::Sink;
 use std::io::Write;
 
 /// Why a cycle dispatched nothing, and why the cycle before did not; None where it did.
@@ -64,62 +64,48 @@ fn is_as_before(reason: Stall, before: Option<Stall>) -> bool
 }
 
 #[tactic(auto, unfolding(crate::specs::Room::room_line))]
-fn write_room_line<W: Write>(
-    writer: &mut W,
-    cycle: u64,
-    reason: Stall,
-    number: u64,
-) -> Result<(), ReportError>
-    ensures { IsWritten result (W.contents writer.old) (W.contents writer.new) (room_line cycle reason number) }
+fn write_room_line<W: Write>(out: &mut Sink<'_, W>, cycle: u64, reason: Stall, number: u64)
+    ensures { Says W.contents out.old out.new (room_line cycle reason number) }
 {
     let mut buffer = Buffer::new();
     let id = buffer.format(number).as_bytes();
     let mut cycle_buffer = Buffer::new();
     let cycle = cycle_buffer.format(cycle).as_bytes();
-    put_all(
-        writer,
-        &[
-            b"L\t",
-            id,
-            b"\t1\t",
-            room_name(Some(reason)),
-            b" from cycle ",
-            cycle,
-            b"; \n",
-        ],
-    )
+    out.put_all(&[
+        b"L\t",
+        id,
+        b"\t1\t",
+        room_name(Some(reason)),
+        b" from cycle ",
+        cycle,
+        b"; \n",
+    ])
 }
 
 // Writes what the oldest fetched word waits for, where there is one.
-#[tactic(auto, unfolding(crate::specs::Room::room_of))]
-fn write_room_of<W: Write>(
-    writer: &mut W,
-    cycle: u64,
-    reason: Stall,
-    oldest: Option<u64>,
-) -> Result<(), ReportError>
-    ensures { IsWritten result (W.contents writer.old) (W.contents writer.new) (room_of cycle reason oldest) }
+#[tactic(auto, using(rv_text::proofs::Saying::saying), unfolding(crate::specs::Room::room_of))]
+fn write_room_of<W: Write>(out: &mut Sink<'_, W>, cycle: u64, reason: Stall, oldest: Option<u64>)
+    ensures { Says W.contents out.old out.new (room_of cycle reason oldest) }
 {
-    match oldest {
-        Some(oldest) => write_room_line(writer, cycle, reason, oldest),
-        None => Ok(()),
+    if let Some(oldest) = oldest {
+        write_room_line(out, cycle, reason, oldest)
     }
 }
 
-#[tactic(auto, unfolding(crate::specs::Room::room_for))]
+#[tactic(auto, using(rv_text::proofs::Saying::saying), unfolding(crate::specs::Room::room_for))]
 fn write_room_for<W: Write>(
-    writer: &mut W,
+    out: &mut Sink<'_, W>,
     cycle: u64,
     stalled: Stalled,
     oldest: Option<u64>,
-) -> Result<(), ReportError>
-    ensures { IsWritten result (W.contents writer.old) (W.contents writer.new) (room_for cycle stalled.before stalled.reason oldest) }
+)
+    ensures { Says W.contents out.old out.new (room_for cycle stalled.before stalled.reason oldest) }
 {
     match stalled.reason {
         Some(reason) if is_for_room(reason) && !is_as_before(reason, stalled.before) => {
-            write_room_of(writer, cycle, reason, oldest)
+            write_room_of(out, cycle, reason, oldest)
         }
-        _ => Ok(()),
+        _ => {}
     }
 }
 
@@ -127,12 +113,12 @@ fn write_room_for<W: Write>(
 /// cycle before had not.
 #[tactic(auto, unfolding(crate::specs::Room::room_at))]
 pub(crate) fn write_room<W: Write>(
-    writer: &mut W,
+    out: &mut Sink<'_, W>,
     cycle: u64,
     stalled: Stalled,
     rows: &[Passage],
-) -> Result<(), ReportError>
-    ensures { IsWritten result (W.contents writer.old) (W.contents writer.new) (room_at cycle stalled rows.now) }
+)
+    ensures { Says W.contents out.old out.new (room_at cycle stalled rows.now) }
 {
-    write_room_for(writer, cycle, stalled, oldest_fetched(rows))
+    write_room_for(out, cycle, stalled, oldest_fetched(rows))
 }

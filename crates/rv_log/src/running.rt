@@ -1,8 +1,8 @@
 ghost use Rattle.std.specs.Prelude.{◌≡◌, ◌≤◌, length, vec_capacity};
 ghost use Rattle.rv_hardware.specs.Guided.{guided};
-ghost use Rattle.rv_log.specs.Log.{WritesLog, cycle_text};
+ghost use Rattle.rv_log.specs.Log.{WritesLog, begin_text};
 ghost use Rattle.rv_passage.specs.Table.{HasRoom, passages_of, table_at};
-ghost use Rattle.rv_text.specs.Written.{IsContinued};
+ghost use Rattle.rv_text.specs.Said.{IsSaid};
 
 use crate::cycle::{write_begin, write_cycle};
 use crate::room::Stalled;
@@ -13,26 +13,26 @@ use rv_hardware::{Stall, Step};
 use rv_isa::Arrivals;
 use rv_passage::{Passage, Table};
 use rv_source::Listing;
-use rv_text::ReportError;
+use rv_text::Sink;
 use std::convert::Infallible;
 use std::io::Write;
 
-/// Why a run ended, and whether its log was written.
+/// Why a run ended, and whether a write of its log failed.
 #[derive(Clone, Copy)]
 pub(crate) struct Logged {
     pub(crate) stop: Stop,
-    pub(crate) written: Result<(), ReportError>,
+    pub(crate) has_failed: bool,
 }
 
 // The watcher that writes a log: its first cycle, why the last cycle dispatched nothing, what became of the instructions that
-// may still go on, and whether all was written so far.
+// may still go on, and whether a write failed.
 #[derive(Drop)]
 struct Logger<'a> {
     listing: &'a Listing,
     first: u64,
     stall: Option<Stall>,
     table: Table,
-    written: Result<(), ReportError>,
+    has_failed: bool,
 }
 
 impl Watcher for Logger<'_> {
@@ -40,7 +40,7 @@ impl Watcher for Logger<'_> {
 
     type Refusal = Infallible;
 
-    ghost has_seen = { λ start logger seen before now. IsLogging start.listing.now logger.listing.now logger.first logger.stall logger.table logger.written seen before now };
+    ghost has_seen = { λ start logger seen before now. IsLogging start.listing.now logger.listing.now logger.first logger.stall logger.table logger.has_failed seen before now };
 
     ghost has_room = { λ _. Unit {0} };
 
@@ -66,36 +66,28 @@ impl Watcher for Logger<'_> {
             before: self.stall,
             reason: progress.stall,
         };
-        self.written = write_next(
-            self.written,
-            output,
+        let mut out = Sink::after(output, self.has_failed);
+        write_cycle(
+            &mut out,
             self.listing,
             self.first,
             cycle,
             stalled,
             self.table.rows(),
         );
+        self.has_failed = out.has_failed();
         self.stall = progress.stall;
         self.table.drop_ended();
     }
 }
 
-// Writes what a cycle did after what was written before, unless a write failed there.
-fn write_next<W: Write>(
-    written: Result<(), ReportError>,
-    writer: &mut W,
-    listing: &Listing,
-    first: u64,
-    cycle: u64,
-    stalled: Stalled,
-    rows: &[Passage],
-) -> Result<(), ReportError>
-    ensures { IsContinued written result (W.contents writer.old) (W.contents writer.new) (cycle_text listing.now first cycle stalled rows.now) }
+// Writes the begin of a log. Answers whether a write failed.
+fn begin<W: Write>(writer: &mut W, listing: &Listing, first: u64, rows: &[Passage]) -> bool
+    ensures { IsSaid result (W.contents writer.old) (W.contents writer.new) (begin_text listing.now first rows.now) }
 {
-    match written {
-        Ok(()) => write_cycle(writer, listing, first, cycle, stalled, rows),
-        Err(error) => Err(error),
-    }
+    let mut out = Sink::new(writer);
+    write_begin(&mut out, listing, first, rows);
+    out.has_failed()
 }
 
 /// Runs a pipeline that a predictor guides up to so many cycles, and writes the log as far as no write fails. The table is that
@@ -116,16 +108,16 @@ pub(crate) fn run_logged<W: Write>(
     requires interrupts { 8 ≤ vec_capacity table.interrupts }
     requires few { length (passages_of table).rows ≤ 288 }
     requires steps { 8 ≤ vec_capacity steps }
-    ensures { WritesLog arrivals.now limit listing.now (guided pipeline.old (known predictor.old)) (guided pipeline.new (known predictor.new)) result.stop result.written (W.contents writer.old) (W.contents writer.new) }
+    ensures { WritesLog arrivals.now limit listing.now (guided pipeline.old (known predictor.old)) (guided pipeline.new (known predictor.new)) result.stop result.has_failed (W.contents writer.old) (W.contents writer.new) }
 {
     let first = pipeline.cycles_done();
-    let written = write_begin(writer, listing, first, table.rows());
+    let has_failed = begin(writer, listing, first, table.rows());
     let mut logger = Logger {
         listing,
         first,
         stall: None,
         table,
-        written,
+        has_failed,
     };
     let ended = watch(
         pipeline,
@@ -139,7 +131,7 @@ pub(crate) fn run_logged<W: Write>(
     match ended.stop {
         Ok(stop) => Logged {
             stop,
-            written: logger.written,
+            has_failed: logger.has_failed,
         },
     }
 }

@@ -1,20 +1,16 @@
 ghost use Rattle.rv_log.specs.Statement.{statement_text};
-ghost use Rattle.rv_text.specs.Written.{IsWritten};
+ghost use Rattle.rv_text.specs.Said.{Says};
 
 use rv_passage::Passage;
 use rv_source::Listing;
-use rv_text::{ReportError, front, write_plain};
+use rv_text::{Sink, front};
 use std::io::Write;
 
 /// Writes the statement of an instruction, at most 64 bytes of it.
-pub(crate) fn write_statement<W: Write>(
-    writer: &mut W,
-    listing: &Listing,
-    row: &Passage,
-) -> Result<(), ReportError>
-    ensures { IsWritten result (W.contents writer.old) (W.contents writer.new) (statement_text listing.now row.now) }
+pub(crate) fn write_statement<W: Write>(out: &mut Sink<'_, W>, listing: &Listing, row: &Passage)
+    ensures { Says W.contents out.old out.new (statement_text listing.now row.now) }
 {
     let mut buffer = [0; 8];
     let statement = listing.statement(&mut buffer, row.pc, row.word);
-    write_plain(writer, front(statement, 64))
+    out.put_plain(front(statement, 64))
 }

@@ -10,7 +10,7 @@ use rv_front::Predictor;
 use rv_isa::Arrivals;
 use rv_passage::Table;
 use rv_source::Listing;
-use rv_text::{ReportError, TextError};
+use rv_text::TextError;
 use std::alloc::Global;
 use std::io::Write;
 
@@ -50,8 +50,9 @@ pub fn write_log<W: Write>(
     let logged = run_logged(
         pipeline, predictor, arrivals, limit, listing, table, steps, writer,
     );
-    match logged.written {
-        Ok(()) => Ok(logged.stop),
-        Err(ReportError::WriteFailed) => Err(TextError::WriteFailed),
+    if logged.has_failed {
+        Err(TextError::WriteFailed)
+    } else {
+        Ok(logged.stop)
     }
 }

@@ -1,10 +1,10 @@
 use Rattle.std.proofs.Common.{◌∙◌, ◌++◌, codes}
 use Rattle.rv_log.specs.Log.{head_text}
-use Rattle.rv_text.proofs.Writing.{written_same}
+use Rattle.rv_text.proofs.Saying.{says_same}
 use Rattle.rv_log.proofs.cycle.write_head.Goals as goal
 
 pub returns : goal.returns
 unfolding head_text
 returns g c =
     let number = c.as_bytes-number.ensures.value ∙ c.format.ensures.text in
-    written_same _ _ _ _ _ (λ i. codes "Kanata\t0004\nC=\t" ++ (number i ++ codes "\n")) c.put_all.ensures
+    says_same (λ i. codes "Kanata\t0004\nC=\t" ++ (number i ++ codes "\n")) c.put_all.ensures

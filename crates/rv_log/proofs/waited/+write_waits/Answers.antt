@@ -1,7 +1,7 @@
 use Rattle.std.proofs.Common.{◌∙◌, ◌≡◌, ◌++◌, ◌∷◌, ◌==◌, ℕ, Bool, true, false, List, ap, sym, codes, if◌then◌else◌, eq-eqb, ne_eqb}
 use Rattle.rv_log.specs.Waited.{cycles_of, wait_text, waits_text}
 use Rattle.rv_log.specs.declared.wait.Wait.{Wait}
-use Rattle.rv_text.proofs.Writing.{beginning-longer, beginning-same, handed_on, written_after, written_same}
+use Rattle.rv_text.proofs.Saying.{says_both, says_same}
 use Rattle.rv_log.proofs.waited.+write_waits.Goals as goal
 
 -- the first wait is of so many cycles
@@ -16,16 +16,10 @@ pub returns-then-cycles-eq0 : goal.returns-then-cycles-eq0
 returns-then-cycles-eq0 g t c =
     let text = waits_from c.args.before.now c.args.waits.now c.in-Some.wait.now c.in-Some.later.now c.cycles.result true c.in-Some.ensures.cases.0 c.cycles.ensures
     (eq-eqb c.cycles.result 0 c.if-cycles-eq0.true) in
-    written_same _ _ _ _ _ text c.write_waits.ensures
+    says_same text c.write_waits.ensures
 
-pub returns-in_err-write_wait : goal.returns-in_err-write_wait
-returns-in_err-write_wait g t c =
+pub returns-else-cycles-eq0 : goal.returns-else-cycles-eq0
+returns-else-cycles-eq0 g t c =
     let text = waits_from c.args.before.now c.args.waits.now c.in-Some.wait.now c.in-Some.later.now c.cycles.result false c.in-Some.ensures.cases.0 c.cycles.ensures
     (ne_eqb c.cycles.result 0 c.if-cycles-eq0.false) in
-    handed_on _ _ _ _ _ c.from_residual.ensures.1 (beginning-same _ _ _ _ text (beginning-longer _ _ _ _ c.in_err-write_wait.ensures))
-
-pub returns-in_ok-write_wait : goal.returns-in_ok-write_wait
-returns-in_ok-write_wait g t c =
-    let text = waits_from c.args.before.now c.args.waits.now c.in-Some.wait.now c.in-Some.later.now c.cycles.result false c.in-Some.ensures.cases.0 c.cycles.ensures
-    (ne_eqb c.cycles.result 0 c.if-cycles-eq0.false) in
-    written_same _ _ _ _ _ text (written_after _ _ _ _ _ _ c.in_ok-write_wait.ensures c.write_waits-else-cycles-eq0.ensures)
+    says_same text (says_both c.write_wait.ensures c.write_waits-else-cycles-eq0.ensures)

@@ -1,6 +1,7 @@
-use Rattle.std.proofs.Common.{◌∙◌, refl, arith}
+use Rattle.std.proofs.Common.{◌∙◌, refl, rules, arith}
 use Rattle.rv_passage.specs.Table.{after_steps, passages_of}
 use Rattle.rv_passage.proofs.InFlight.{short_buffers}
+use Rattle.rv_text.proofs.Saying.{says_extends}
 use Rattle.rv_log.proofs.Logging.{can_count, logging_on, roomy_again}
 use Rattle.rv_log.proofs.running.LoggerWatcher.see.Goals as goal
 
@@ -20,5 +21,5 @@ pub returns : goal.returns
 returns g c start seen before shown logging =
     let roomy = roomy_again c.drop_ended.new.self (passages_of c.follow.new.self) c.drop_ended.ensures.opened c.follow.ensures.open
     (omega (arith, logging.room.rows, c.follow.ensures.rows, c.drop_ended.ensures.rows)) (omega (arith, logging.room.interrupts, c.follow.ensures.interrupts, c.drop_ended.ensures.interrupts)) in
-    logging_on shown logging c.follow.new.self (c.follow.ensures.followed ∙ (λ i. after_steps c.args.cycle c.args.steps.now (c.reorder_buffer-buffer.ensures i) (c.front.ensures i) (c.observe-pc.ensures.pc i) (passages_of c.args.self.now.table))) c.drop_ended.new.self _ _ _ c.write_next-self.result _ c.rows.result.now c.drop_ended.ensures.opened
-    c.follow.ensures.fetched c.follow.ensures.retired roomy refl refl refl c.rows.ensures (c.write_next-self.ensures _ _ logging.wrote)
+    logging_on shown logging c.follow.new.self (c.follow.ensures.followed ∙ (λ i. after_steps c.args.cycle c.args.steps.now (c.reorder_buffer-buffer.ensures i) (c.front.ensures i) (c.observe-pc.ensures.pc i) (passages_of c.args.self.now.table))) c.drop_ended.new.self _ _ _ c.has_failed-self.result _ c.rows.result.now c.drop_ended.ensures.opened
+    c.follow.ensures.fetched c.follow.ensures.retired roomy refl refl refl c.rows.ensures ((says_extends c.after-out.ensures.failed c.after-out.ensures.known c.has_failed-self.ensures (search rules) c.write_cycle.ensures).extends _ _ logging.wrote)
