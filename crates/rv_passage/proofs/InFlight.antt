@@ -5,9 +5,8 @@ use Rattle.std.specs.Option.{option_map}
 use Rattle.std.proofs.lemmas.Option.{slice_get-map}
 use Rattle.rv_front.specs.FetchBuffer.{FetchBuffer}
 use Rattle.rv_front.specs.declared.fetched.Fetched.{Fetched}
-use Rattle.rv_rob.specs.ReorderBuffer.{ReorderBuffer, entry_of, next_number}
+use Rattle.rv_rob.specs.ReorderBuffer.{ReorderBuffer}
 use Rattle.rv_rob.specs.declared.entry.Entry.{Entry}
-use Rattle.rv_rob.proofs.Places.{entry_of-distance}
 use Rattle.rv_hardware.specs.Hardware.{Hardware}
 use Rattle.rv_hardware.specs.Run.{Reachable}
 use Rattle.rv_hardware.proofs.Always.Sound.{sound}
@@ -37,11 +36,11 @@ get-behind [] ys i k is = ap (slice_get ys) (omega arith)
 get-behind (x ∷ xs) ys zero k is = absurd (omega arith)
 get-behind (x ∷ xs) ys (suc i) k is = get-behind xs ys i k (omega arith)
 
--- the entry that is so far from the youngest
-pub entry_here : (rob : ReorderBuffer) (front : FetchBuffer) (number place : ℕ) (found : Option Entry) → number ≡ next_number rob - (length rob.entries - place) → place < length rob.entries →
-    found ≡ entry_of number rob.retired rob.entries → option_map of_entry found ≡ slice_get (in_buffers rob front) place
-entry_here rob front number place found is within held =
-    ap (option_map of_entry) (held ∙ entry_of-distance place number rob.retired rob.entries (omega (arith, is, within)))
+-- the entry at a place
+pub entry_here : (rob : ReorderBuffer) (front : FetchBuffer) (place : ℕ) (found : Option Entry) → place < length rob.entries →
+    found ≡ slice_get rob.entries place → option_map of_entry found ≡ slice_get (in_buffers rob front) place
+entry_here rob front place found within held =
+    ap (option_map of_entry) held
     ∙ sym (slice_get-map of_entry rob.entries place)
     ∙ sym (get-front (map of_entry rob.entries) (map of_fetched front.entries) place (omega (arith, within, length-map rob.entries of_entry)))
 

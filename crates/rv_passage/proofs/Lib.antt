@@ -1,3 +1,4 @@
 pub mod InFlight
+mod YoungestLeft
 mod Moving
 mod Youngest

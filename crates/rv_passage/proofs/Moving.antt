@@ -1,8 +1,9 @@
 -- The passages through a cycle, one by one.
-use Rattle.std.proofs.Common.{◌≡◌, ◌∙◌, ℕ, zero, suc, ◌+◌, ◌-◌, ◌<◌, ◌≤◌, nat_lt, true, false, List, [], ◌∷◌, ◌++◌, length, filter, take, drop, set, get_or, slice_get, None, Some, refl, subst, sym, ap, arith, inl, inr, length-append, append_assoc}
+use Rattle.std.proofs.Common.{◌≡◌, ◌∙◌, ℕ, zero, suc, ◌+◌, ◌-◌, ◌<◌, ◌≤◌, nat_lt, true, false, List, [], ◌∷◌, ◌++◌, length, filter, take, drop, set, get_or, slice_get, Option, None, Some, is_some, refl, subst, sym, ap, arith, inl, inr, length-append, append_assoc, add-one}
 use Rattle.std.specs.List.{position, position_or_len}
-use Rattle.std.proofs.lemmas.Bool.{cases_Bool, le-ltb, lt-ltb, ltb-false}
-use Rattle.std.proofs.lemmas.List.{drop_more, take_more_set, drop-set-lt, take_more}
+use Rattle.std.specs.Option.{option_to_list}
+use Rattle.std.proofs.lemmas.Bool.{cases_Bool, ltb-false}
+use Rattle.std.proofs.lemmas.List.{drop_more, take_more_set, drop-set-lt}
 use Rattle.std.proofs.lemmas.List.Quantifiers.{position-Some}
 use Rattle.std.proofs.lemmas.Option.{slice_get_within, get_or_from_slice_get, none-some}
 use Rattle.rv_hardware.specs.declared.step.Step.{Step}
@@ -11,7 +12,7 @@ use Rattle.rv_hardware.specs.Lessons.{first_pc}
 use Rattle.rv_hardware.specs.Step.{pc_of}
 use Rattle.rv_passage.specs.Passage.{is_in_flight, numbered, retired_by, squashed_in, trapped_by}
 use Rattle.rv_passage.specs.Producers.{standing_at}
-use Rattle.rv_passage.specs.Table.{Passages, at_the_end, left_after, moved, moved_on, numbered_from, with_oldest, with_step, with_steps}
+use Rattle.rv_passage.specs.Table.{Passages, at_the_end, left_after, moved, moved_on, next_before, numbered_from, with_oldest, with_step, with_steps}
 use Rattle.rv_passage.specs.declared.passage.Passage.{Passage}
 
 -- the oldest in flight is the first
@@ -51,6 +52,37 @@ drop-none [] zero none = refl
 drop-none [] (suc i) none = refl
 drop-none (x ∷ xs) zero none = absurd (none-some x (sym none))
 drop-none (x ∷ xs) (suc i) none = drop-none xs i none
+
+drop_one : {X : Type 0} (i : ℕ) (xs : List X) → drop (suc i) xs ≡ drop 1 (drop i xs)
+drop_one zero xs = refl
+drop_one (suc i) [] = refl
+drop_one (suc i) (x ∷ xs) = drop_one i xs
+
+set-parts : {X : Type 0} (xs : List X) (i : ℕ) (y : X) → i < length xs → take i xs ++ set (drop i xs) 0 y ≡ set xs i y
+set-parts [] i y within = absurd (omega arith)
+set-parts (x ∷ xs) zero y within = refl
+set-parts (x ∷ xs) (suc i) y within = ap (λ l. x ∷ l) (set-parts xs i y (omega (arith, within)))
+
+-- what comes next is the one at its place
+next-at : (cycle place : ℕ) (now : List Passage) → next_before cycle (drop place now) ≡ next_before cycle (option_to_list (slice_get now place))
+next-at cycle zero [] = refl
+next-at cycle zero (n ∷ now) = refl
+next-at cycle (suc place) [] = refl
+next-at cycle (suc place) (n ∷ now) = next-at cycle place now
+
+pub next-found : (cycle place : ℕ) (now : List Passage) (found : Option Passage) → found ≡ slice_get now place → next_before cycle (option_to_list found) ≡ next_before cycle (drop place now)
+next-found cycle place now found held = ap (λ o. next_before cycle (option_to_list o)) held ∙ sym (next-at cycle place now)
+
+-- what is left of those in flight where one goes on
+pub goes-left : (cycle next : ℕ) (now : List Passage) (p : Passage) → is_in_flight p ≡ true → is_some (next_before cycle (drop next now)) ≡ true → drop (next + 1) now ≡ left_after cycle (drop next now) p
+goes-left cycle next now p flies some = rw (flies, some) (ap (λ k. drop k now) (add-one next) ∙ drop_one next now)
+
+-- one at a place is changed where the others stand before and after it
+pub set-split : {X : Type 0} (xs front back : List X) (i : ℕ) (y : X) → front ≡ take i xs → back ≡ drop i xs → i < length xs → front ++ set back 0 y ≡ set xs i y
+set-split xs front back i y front_is back_is within = (λ k. front_is k ++ set (back_is k) 0 y) ∙ set-parts xs i y within
+
+pub first-is : {X : Type 0} (xs back : List X) (i : ℕ) (x d : X) → back ≡ drop i xs → slice_get xs i ≡ Some x → get_or back 0 d ≡ x
+first-is xs back i x d back_is there = ap (λ l. get_or l 0 d) (back_is ∙ drop-at xs i x there)
 
 -- what becomes of a passage, and what is left of those in flight after it
 module _ (cycle : ℕ) (older : List Passage) (p : Passage) where
@@ -104,33 +136,8 @@ module _ (cycle : ℕ) (old now rows rows' : List Passage) (place next next' : �
   moved-set q is becomes left =
       moved-to q (ap (take (place + 1)) is ∙ take_more_set rows place q within) (ap (drop (place + 1)) is ∙ drop-set-lt (place + 1) rows place q (omega arith)) becomes left
 
-  pub moved-ended : is_in_flight p ≡ false → rows' ≡ rows → next' ≡ next → Moved
-  moved-ended ended same stays =
-      moved-to p (ap (take (place + 1)) same ∙ take_more rows place p within ∙ ap (λ q. take place rows ++ q ∷ []) (sym read)) (ap (drop (place + 1)) same)
-      (stays-moved cycle (take place rows) p (drop next now) ended) (stays-left cycle (take place rows) p (drop next now) ended ∙ ap (λ k. drop k now) (sym stays))
-
-  pub moved-standing : (n q : Passage) → is_in_flight p ≡ true → slice_get now next ≡ Some n → n.fetched < cycle → q ≡ standing_at (take place rows) n p → rows' ≡ set rows place q → next' ≡ next + 1 → Moved
-  moved-standing n q flies there before is set_is one_on =
-      let first = drop-at now next n there in
-      let earlier = lt-ltb n.fetched cycle before in
-      moved-set q set_is
-      (ap (λ l. moved cycle (take place rows) l p) first ∙ stands-moved cycle (take place rows) p n (drop (next + 1) now) flies earlier ∙ sym is)
-      (ap (λ l. left_after cycle l p) first ∙ stands-left cycle (take place rows) p n (drop (next + 1) now) flies earlier ∙ ap (λ k. drop k now) (sym one_on))
-
-  pub moved-squashed : (n q : Passage) → is_in_flight p ≡ true → slice_get now next ≡ Some n → cycle ≤ n.fetched → q ≡ squashed_in cycle p → rows' ≡ set rows place q → next' ≡ next → Moved
-  moved-squashed n q flies there later is set_is stays =
-      let first = drop-at now next n there in
-      let not_before = le-ltb n.fetched cycle later in
-      moved-set q set_is
-      (ap (λ l. moved cycle (take place rows) l p) first ∙ squashed-moved cycle (take place rows) p n (drop (next + 1) now) flies not_before ∙ sym is)
-      (ap (λ l. left_after cycle l p) first ∙ squashed-left cycle (take place rows) p n (drop (next + 1) now) flies not_before ∙ sym first ∙ ap (λ k. drop k now) (sym stays))
-
-  pub moved-gone : (q : Passage) → is_in_flight p ≡ true → slice_get now next ≡ None → q ≡ squashed_in cycle p → rows' ≡ set rows place q → next' ≡ next → Moved
-  moved-gone q flies none is set_is stays =
-      let nothing = drop-none now next none in
-      moved-set q set_is
-      (ap (λ l. moved cycle (take place rows) l p) nothing ∙ gone-moved cycle (take place rows) p flies ∙ sym is)
-      (ap (λ l. left_after cycle l p) nothing ∙ gone-left cycle (take place rows) p flies ∙ sym nothing ∙ ap (λ k. drop k now) (sym stays))
+  pub moved-here : rows' ≡ set rows place (moved cycle (take place rows) (drop next now) p) → drop next' now ≡ left_after cycle (drop next now) p → Moved
+  moved-here set_is left = moved-set (moved cycle (take place rows) (drop next now) p) set_is refl (sym left)
 
 -- one more instruction is numbered and appended
 pub numbered-more : (now rows rows' : List Passage) (place fetched fetched' : ℕ) (n q : Passage) → slice_get now place ≡ Some n → q ≡ numbered fetched n → rows' ≡ rows ++ q ∷ [] → fetched' ≡ fetched + 1

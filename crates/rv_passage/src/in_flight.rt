@@ -1,10 +1,10 @@
-ghost use Rattle.std.specs.Prelude.{◌≡◌, ◌≤◌, ◌<◌, Some, length, slice_get};
+ghost use Rattle.std.specs.Prelude.{◌≡◌, ◌≤◌, ◌<◌, Some, length, option_copied, slice_get};
 ghost use Rattle.rv_passage.specs.Passage.{in_buffers};
 ghost use Rattle.rv_passage.specs.Table.{AreShort};
 
 use crate::passage::Passage;
 use rv_front::Front;
-use rv_rob::Rob;
+use rv_rob::{Entry, Rob};
 
 /// The most instructions that can be in flight: the longest reorder buffer's and the longest fetch buffer's.
 pub const MOST_IN_FLIGHT: usize = 288;
@@ -18,15 +18,22 @@ pub(crate) fn count_in_flight(rob: &Rob, front: &Front) -> usize
     rob.len() + front.len()
 }
 
+// The entry at a place of the reorder buffer, the oldest at place 0.
+pub(crate) fn entry_at(rob: &Rob, place: usize) -> Option<&Entry>
+    requires { place < length rob.now.entries }
+    ensures { option_copied result ≡ slice_get rob.now.entries place }
+{
+    let behind = rob.len() - place;
+    rob.get(rob.next_number() - behind as u64)
+}
+
 // The instruction at a place among those in flight, the oldest at place 0. A table gives it its number.
 pub(crate) fn passage_at(rob: &Rob, front: &Front, place: usize) -> Option<Passage>
     ensures { result ≡ slice_get (in_buffers rob.now front.now) place }
 {
     let dispatched = rob.len();
     if place < dispatched {
-        let behind = dispatched - place;
-        let number = rob.next_number() - behind as u64;
-        let entry = rob.get(number)?;
+        let entry = entry_at(rob, place)?;
         Some(Passage::of_entry(entry))
     } else {
         let word = front.get(place - dispatched)?;

@@ -4,6 +4,7 @@
 #![tactic(auto)]
 
 mod in_flight;
+mod left;
 mod names;
 mod passage;
 mod producers;
@@ -11,6 +12,7 @@ mod rows;
 mod table;
 
 pub use in_flight::MOST_IN_FLIGHT;
+pub use left::up_to_youngest_left;
 pub use names::register_name;
 pub use passage::{Ending, Passage};
 pub use producers::{Producer, Producers};

@@ -85,7 +85,7 @@ pub struct Passage {
 }
 
 // The cycle in which a result was broadcast.
-fn broadcast_of(stage: &Stage) -> Option<u64>
+pub(crate) fn broadcast_of(stage: &Stage) -> Option<u64>
     ensures { result ≡ broadcast_of stage.now }
 {
     match *stage {
@@ -238,41 +238,32 @@ impl Passage {
         }
     }
 
-    pub(crate) fn retired_by(self, row: &Row, order: u64, next: u32) -> Passage
-        ensures { result ≡ retired_by row.now order next self }
+    pub(crate) fn retire(&mut self, row: &Row, order: u64, next: u32)
+        ensures { self.new ≡ retired_by row.now order next self.old }
     {
-        Passage {
-            pc: row.pc,
-            word: Some(row.word),
-            fetched: row.fetched,
-            dispatched: Some(row.dispatched),
-            issue: row.execution.map(start_of),
-            broadcast: row.execution.map(|execution| execution.broadcast),
-            ending: Ending::Retired {
-                order,
-                cycle: row.retired,
-                written: row.written,
-                next,
-            },
-            ..self
-        }
+        self.pc = row.pc;
+        self.word = Some(row.word);
+        self.fetched = row.fetched;
+        self.dispatched = Some(row.dispatched);
+        self.issue = row.execution.map(start_of);
+        self.broadcast = row.execution.map(|execution| execution.broadcast);
+        self.ending = Ending::Retired {
+            order,
+            cycle: row.retired,
+            written: row.written,
+            next,
+        };
     }
 
-    pub(crate) fn trapped_by(self, cause: Cause, cycle: u64) -> Passage
-        ensures { result ≡ trapped_by cause cycle self }
+    pub(crate) fn trap(&mut self, cause: Cause, cycle: u64)
+        ensures { self.new ≡ trapped_by cause cycle self.old }
     {
-        Passage {
-            ending: Ending::Trapped { cycle, cause },
-            ..self
-        }
+        self.ending = Ending::Trapped { cycle, cause };
     }
 
-    pub(crate) fn squashed_in(self, cycle: u64) -> Passage
-        ensures { result ≡ squashed_in cycle self }
+    pub(crate) fn squash(&mut self, cycle: u64)
+        ensures { self.new ≡ squashed_in cycle self.old }
     {
-        Passage {
-            ending: Ending::Squashed { cycle },
-            ..self
-        }
+        self.ending = Ending::Squashed { cycle };
     }
 }

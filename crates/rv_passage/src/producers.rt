@@ -1,10 +1,13 @@
-ghost use Rattle.std.specs.Prelude.{◌≡◌, Some, option_and_then};
+ghost use Rattle.std.specs.Prelude.{◌≡◌, Some, true, option_and_then};
+ghost use Rattle.std.specs.Option.{option_map};
 ghost use Rattle.rv_isa.specs.Instruction.{kind_of_word, target_of_word};
 ghost use Rattle.rv_isa.specs.Operands.{sources_of};
-ghost use Rattle.rv_passage.specs.Producers.{broadcast_among, is_to_come, is_writer, other_than, producer_among, producer_by, producers_among, producers_for};
+ghost use Rattle.rv_passage.specs.Producers.{broadcast_among, followed_in, is_to_come, is_writer, other_than, producer_among, producer_by, producers_among, producers_for};
 
-use crate::passage::Passage;
+use crate::passage::{Passage, broadcast_of};
+use rv_front::Fetched;
 use rv_isa::{Instr, Kind, Reg, kind, sources, target};
+use rv_rob::Entry;
 
 /// An instruction whose result another one waits for.
 #[derive(Clone, Copy)]
@@ -30,15 +33,22 @@ pub struct Producers {
 impl Producer {
     ghost use Rattle.rv_passage.specs.Producers.{followed_in};
 
-    // The producer as it stands among the older instructions at the end of a later cycle.
-    fn followed_in(self, older: &[Passage]) -> Producer
-        ensures { result ≡ followed_in older.now self }
+    // Follows the producer among the older instructions to the end of a later cycle.
+    fn follow(&mut self, older: &[Passage])
+        ensures { self.new ≡ followed_in older.now self.old }
     {
-        let broadcast = match self.broadcast {
-            Some(cycle) => Some(cycle),
-            None => broadcast_among(older, self.number),
-        };
-        Producer { broadcast, ..self }
+        if self.broadcast.is_none() {
+            self.broadcast = broadcast_among(older, self.number);
+        }
+    }
+}
+
+// Follows a producer, if there is one.
+fn follow_in(producer: &mut Option<Producer>, older: &[Passage])
+    ensures { producer.new ≡ option_map (followed_in older.now) producer.old }
+{
+    if let Some(producer) = producer {
+        producer.follow(older);
     }
 }
 
@@ -52,14 +62,12 @@ impl Producers {
         second: None,
     };
 
-    // All of them as they stand among the older instructions at the end of a later cycle.
-    pub(crate) fn followed_in(self, older: &[Passage]) -> Producers
-        ensures { result ≡ all_followed_in older.now self }
+    // Follows all of them among the older instructions to the end of a later cycle.
+    fn follow(&mut self, older: &[Passage])
+        ensures { self.new ≡ all_followed_in older.now self.old }
     {
-        Producers {
-            first: self.first.map(|producer| producer.followed_in(older)),
-            second: self.second.map(|producer| producer.followed_in(older)),
-        }
+        follow_in(&mut self.first, older);
+        follow_in(&mut self.second, older);
     }
 }
 
@@ -178,30 +186,44 @@ fn producers_among(older: &[Passage], instruction: &Option<Instr>) -> Producers
 }
 
 impl Passage {
+    ghost use Rattle.rv_passage.specs.Passage.{is_in_flight, of_entry, of_fetched};
     ghost use Rattle.rv_passage.specs.Producers.{producers_now, standing_at};
 
-    // Its producers at the end of a cycle, where it stands so now.
-    fn producers_now(&self, older: &[Passage], now: &Passage) -> Producers
-        ensures { result ≡ producers_now older.now now.now self.now }
+    // It stands in the reorder buffer at the end of a cycle, after the older ones.
+    pub(crate) fn stand_as_entry(&mut self, older: &[Passage], entry: &Entry)
+        requires { is_in_flight self.old ≡ true }
+        ensures { self.new ≡ standing_at older.now (of_entry entry.now) self.old }
     {
         if self.dispatched.is_some() {
-            self.producers.followed_in(older)
-        } else if now.dispatched.is_some() {
-            producers_among(older, &now.instruction)
+            self.producers.follow(older);
         } else {
-            Producers::NONE
+            self.producers = producers_among(older, &entry.instruction);
         }
+        self.pc = entry.pc;
+        self.word = entry.word;
+        self.instruction = entry.instruction;
+        self.fetched = entry.fetched;
+        self.dispatched = Some(entry.dispatched);
+        self.issue = entry.stage.issue();
+        self.broadcast = broadcast_of(&entry.stage);
     }
 
-    /// The instruction as it stands at the end of a cycle, after the older ones.
-    pub(crate) fn standing_at(self, older: &[Passage], now: Passage) -> Passage
-        ensures { result ≡ standing_at older.now now self }
+    // It stands in the fetch buffer at the end of a cycle, after the older ones.
+    pub(crate) fn stand_as_fetched(&mut self, older: &[Passage], fetched: &Fetched)
+        requires { is_in_flight self.old ≡ true }
+        ensures { self.new ≡ standing_at older.now (of_fetched fetched.now) self.old }
     {
-        Passage {
-            number: self.number,
-            predicted: self.predicted,
-            producers: self.producers_now(older, &now),
-            ..now
+        if self.dispatched.is_some() {
+            self.producers.follow(older);
+        } else {
+            self.producers = Producers::NONE;
         }
+        self.pc = fetched.pc;
+        self.word = fetched.word;
+        self.instruction = fetched.instruction;
+        self.fetched = fetched.cycle;
+        self.dispatched = None;
+        self.issue = None;
+        self.broadcast = None;
     }
 }

@@ -1,14 +1,16 @@
-ghost use Rattle.std.specs.Prelude.{◌≡◌};
+ghost use Rattle.std.specs.Prelude.{◌≡◌, ◌+◌, ◌^◌, ◌<◌, ◌≤◌, true, drop, take, length, is_some, slice_get, slice_set, Some, option_copied};
+ghost use Rattle.std.specs.Option.{option_map, option_to_list};
 ghost use Rattle.std.specs.List.{position};
-ghost use Rattle.rv_passage.specs.Passage.{in_buffers, is_in_flight, retired_by, trapped_by};
-ghost use Rattle.rv_passage.specs.Table.{AreMovedOn, with_oldest};
+ghost use Rattle.rv_passage.specs.Passage.{in_buffers, is_in_flight, of_entry, of_fetched, retired_by, trapped_by};
+ghost use Rattle.rv_passage.specs.declared.passage.Passage.{Passage};
+ghost use Rattle.rv_passage.specs.Table.{AreMovedOn, gone_on, left_after, moved, next_before, with_oldest};
 
-use crate::in_flight::passage_at;
+use crate::in_flight::entry_at;
 use crate::passage::Passage;
-use rv_front::Front;
+use rv_front::{Fetched, Front};
 use rv_hardware::Row;
 use rv_isa::Cause;
-use rv_rob::Rob;
+use rv_rob::{Entry, Rob};
 
 // The place of the oldest instruction in flight.
 fn oldest_in_flight(rows: &[Passage]) -> Option<usize>
@@ -22,7 +24,7 @@ pub(crate) fn retire_oldest(rows: &mut [Passage], row: &Row, order: u64, next: u
     ensures { rows.new ≡ with_oldest (retired_by row.now order next) rows.old }
 {
     if let Some(place) = oldest_in_flight(rows) {
-        rows[place] = rows[place].retired_by(row, order, next);
+        rows[place].retire(row, order, next);
     }
 }
 
@@ -31,8 +33,115 @@ pub(crate) fn trap_oldest(rows: &mut [Passage], cause: Cause, cycle: u64)
     ensures { rows.new ≡ with_oldest (trapped_by cause cycle) rows.old }
 {
     if let Some(place) = oldest_in_flight(rows) {
-        rows[place] = rows[place].trapped_by(cause, cycle);
+        rows[place].trap(cause, cycle);
     }
+}
+
+// An instruction in flight goes on as an entry, if there is one that was fetched before the cycle, or was squashed in it.
+// Answers whether it went on.
+fn go_on_as_entry(row: &mut Passage, older: &[Passage], cycle: u64, entry: Option<&Entry>) -> bool
+    requires { is_in_flight row.old ≡ true }
+    ensures gone { row.new ≡ gone_on cycle older.now (next_before cycle (option_to_list (option_map of_entry (option_copied entry.entry)))) row.old }
+    ensures went { result ≡ is_some (next_before cycle (option_to_list (option_map of_entry (option_copied entry.entry)))) }
+{
+    match entry {
+        Some(entry) if entry.fetched < cycle => {
+            row.stand_as_entry(older, entry);
+            true
+        }
+        _ => {
+            row.squash(cycle);
+            false
+        }
+    }
+}
+
+// The same as a word in the fetch buffer.
+fn go_on_as_fetched(
+    row: &mut Passage,
+    older: &[Passage],
+    cycle: u64,
+    fetched: Option<&Fetched>,
+) -> bool
+    requires { is_in_flight row.old ≡ true }
+    ensures gone { row.new ≡ gone_on cycle older.now (next_before cycle (option_to_list (option_map of_fetched (option_copied fetched.entry)))) row.old }
+    ensures went { result ≡ is_some (next_before cycle (option_to_list (option_map of_fetched (option_copied fetched.entry)))) }
+{
+    match fetched {
+        Some(fetched) if fetched.cycle < cycle => {
+            row.stand_as_fetched(older, fetched);
+            true
+        }
+        _ => {
+            row.squash(cycle);
+            false
+        }
+    }
+}
+
+// The same as the one at a place of those in flight.
+fn go_on(
+    row: &mut Passage,
+    older: &[Passage],
+    cycle: u64,
+    rob: &Rob,
+    front: &Front,
+    next: usize,
+) -> bool
+    requires { is_in_flight row.old ≡ true }
+    ensures gone { row.new ≡ gone_on cycle older.now (next_before cycle (drop next (in_buffers rob.now front.now))) row.old }
+    ensures went { result ≡ is_some (next_before cycle (drop next (in_buffers rob.now front.now))) }
+{
+    let dispatched = rob.len();
+    if next < dispatched {
+        go_on_as_entry(row, older, cycle, entry_at(rob, next))
+    } else {
+        go_on_as_fetched(row, older, cycle, front.get(next - dispatched))
+    }
+}
+
+// What comes after the older ones is moved on to a cycle's end, where what is in flight from a place on is for it and those after it.
+// Answers from which place on it is for those after it.
+fn move_next(
+    row: &mut Passage,
+    older: &[Passage],
+    cycle: u64,
+    rob: &Rob,
+    front: &Front,
+    next: usize,
+) -> usize
+    requires { next + 1 < 2 ^ 64 }
+    ensures moved { row.new ≡ moved cycle older.now (drop next (in_buffers rob.now front.now)) row.old }
+    ensures left { drop result (in_buffers rob.now front.now) ≡ left_after cycle (drop next (in_buffers rob.now front.now)) row.old }
+    ensures few { result ≤ next + 1 }
+{
+    if !row.is_in_flight() {
+        return next;
+    }
+    if go_on(row, older, cycle, rob, front, next) {
+        next + 1
+    } else {
+        next
+    }
+}
+
+// The same of the one at a place.
+fn move_at(
+    rows: &mut [Passage],
+    place: usize,
+    cycle: u64,
+    rob: &Rob,
+    front: &Front,
+    next: usize,
+) -> usize
+    requires within { place < length rows.old }
+    requires behind { next ≤ place }
+    ensures moved { (p : Passage) → slice_get rows.old place ≡ Some p → rows.new ≡ slice_set rows.old place (moved cycle (take place rows.old) (drop next (in_buffers rob.now front.now)) p) }
+    ensures left { (p : Passage) → slice_get rows.old place ≡ Some p → drop result (in_buffers rob.now front.now) ≡ left_after cycle (drop next (in_buffers rob.now front.now)) p }
+    ensures few { result ≤ next + 1 }
+{
+    let (older, rest) = rows.split_at_mut(place);
+    move_next(&mut rest[0], older, cycle, rob, front, next)
 }
 
 // What was in flight before a cycle goes on as it stands at the cycle's end, or was squashed in it. Answers the place of the
@@ -42,16 +151,7 @@ pub(crate) fn move_on(rows: &mut [Passage], cycle: u64, rob: &Rob, front: &Front
 {
     let mut next = 0;
     for place in 0..rows.len() {
-        let row = rows[place];
-        if row.is_in_flight() {
-            match passage_at(rob, front, next) {
-                Some(now) if now.fetched < cycle => {
-                    rows[place] = row.standing_at(&rows[..place], now);
-                    next += 1;
-                }
-                _ => rows[place] = row.squashed_in(cycle),
-            }
-        }
+        next = move_at(rows, place, cycle, rob, front, next);
     }
     next
 }
