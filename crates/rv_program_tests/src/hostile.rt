@@ -22,12 +22,22 @@ fn an_input_without_end_is_cut(rt: HostRuntime) -> Result<(), Fail> {
     Ok(())
 }
 
+// What a command shows of a job that is too long.
+const SHOWN: [(Command, &str); 3] = [
+    (WHOLE, ""),
+    (Command::Check, ""),
+    (
+        Command::Explain { limit: 100_000 },
+        "expected: at most 33554432 bytes\n",
+    ),
+];
+
 #[test]
 fn what_is_cut_is_too_long(rt: HostRuntime) {
-    for command in [WHOLE, Command::Check] {
+    for (command, shown) in SHOWN {
         let ended = run_read(rt.alloc(), command, &mut Endless);
         assert_eq!(rt; ended.status, 1);
-        assert!(rt; ended.output.is_empty());
+        assert!(rt; ended.output.as_slice() == shown.as_bytes());
         assert!(rt; ended.errors.as_slice() == b"error: job too long\n".as_slice());
     }
 }

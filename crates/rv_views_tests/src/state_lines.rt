@@ -15,7 +15,7 @@ const LINE: &[u8] = b"{\"cycle\":2,\"instructions\":[{\"number\":0},\
 {\"number\":7,\"pc\":4,\"word\":19,\"fetched\":1,\"dispatched\":2,\"issued\":3,\"cost\":4,\"broadcast\":7,\
 \"end\":\"retired\",\"register\":6,\"value\":9},\
 {\"number\":8,\"pc\":8,\"fetched\":5,\"end\":\"trapped\",\"cause\":1},\
-{\"number\":9,\"pc\":12,\"fetched\":6,\"end\":\"squashed\"}],\
+{\"number\":9,\"pc\":12,\"fetched\":6,\"dispatched\":7,\"issued\":8,\"cost\":30,\"end\":\"squashed\"}],\
 \"steps\":[{\"pc\":16,\"step\":\"trap\",\"cause\":2,\"value\":3},{\"pc\":20,\"step\":\"interrupt\",\"cause\":21}],\
 \"stall\":\"rob\",\
 \"counts\":{\"cycles\":21,\"busy\":6,\"fetch\":1,\"serial\":2,\"rob\":3,\"station\":4,\"store\":5},\
@@ -67,6 +67,12 @@ fn a_cycle_shows_its_instructions_and_the_hardware(rt: HostRuntime) {
             },
         )
     };
+    // Its execution had begun.
+    let squashed = Passage {
+        dispatched: Some(7),
+        issue: Some(Issue { cycle: 8, cost: 30 }),
+        ..passage(9, 12, 6, Ending::Squashed { cycle: 8 })
+    };
     let trapped = Ending::Trapped {
         cycle: 8,
         cause: Cause::InstructionAccessFault,
@@ -75,7 +81,7 @@ fn a_cycle_shows_its_instructions_and_the_hardware(rt: HostRuntime) {
         passage(0, 0, 0, Ending::InFlight),
         retired,
         passage(8, 8, 5, trapped),
-        passage(9, 12, 6, Ending::Squashed { cycle: 8 }),
+        squashed,
     ];
     let steps = [
         Step::Trap {

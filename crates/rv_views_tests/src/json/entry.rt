@@ -47,7 +47,7 @@ const FAULTING: Message = Message {
     value: 30,
     fault: Some(Fault {
         cause: Cause::LoadAccessFault,
-        value: 32,
+        value: 2147483680,
     }),
     next_pc: 31,
     store: None,
@@ -80,7 +80,7 @@ const STAGES: [(Stage, &str); 5] = [
             cycle: 29,
             message: FAULTING,
         },
-        ",\"issued\":27,\"cost\":28,\"finished\":29,\"value\":30,\"next_pc\":31,\"cause\":5,\"mtval\":32",
+        ",\"issued\":27,\"cost\":28,\"finished\":29,\"value\":30,\"next_pc\":31,\"cause\":5,\"mtval\":2147483680",
     ),
     (
         Stage::Finished {
@@ -88,7 +88,7 @@ const STAGES: [(Stage, &str); 5] = [
             cycle: 29,
             message: FAULTING,
         },
-        ",\"finished\":29,\"value\":30,\"next_pc\":31,\"cause\":5,\"mtval\":32",
+        ",\"finished\":29,\"value\":30,\"next_pc\":31,\"cause\":5,\"mtval\":2147483680",
     ),
 ];
 

@@ -45,8 +45,8 @@ fn an_instruction_that_left_has_its_stages_and_its_end(rt: HostRuntime) {
     };
     let ends = [
         (
-            retired(Some((register, 7))),
-            "\"end\":\"retired\",\"register\":6,\"value\":7}]",
+            retired(Some((register, 4294967289))),
+            "\"end\":\"retired\",\"register\":6,\"value\":4294967289}]",
         ),
         (retired(None), "\"end\":\"retired\"}]"),
         (trapped, "\"end\":\"trapped\",\"cause\":11}]"),
