@@ -2,3 +2,7 @@ pub mod InFlight
 mod YoungestLeft
 mod Moving
 mod Youngest
+pub mod Walk
+pub mod Followed
+pub mod EndedRun
+pub mod OneRun
