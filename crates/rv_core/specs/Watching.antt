@@ -1,4 +1,7 @@
--- What a watcher of a run is shown, and what a run comes to that is watched.
+-- What a watcher of a run is shown, and what a run comes to that is watched. Read it from its end: `IsWatchedRun` is what
+-- `watch` says of the cycles, and that the watcher has seen them all. What that means each watcher says itself, by its
+-- `has_seen`: it holds where no cycle was done yet (`HasSeenBegin`), and each call that shows the watcher the next cycle
+-- (`IsNextShown`) leaves it so with that cycle (`SeesNext`).
 use Rattle.std.specs.Prelude.{◌≡◌, ℕ, ◌*◌, ◌^◌, ◌<◌, ◌≤◌, List, [], ◌∷◌, ◌++◌, length, Option, Result, MatchResult}
 use Rattle.rv_isa.specs.Arrivals.{lines_at}
 use Rattle.rv_isa.specs.declared.lines.Arrival.{Arrival}
