@@ -35,6 +35,7 @@ use Rattle.rv_json.specs.Markup.{HasNoMarkup}
 use Rattle.rv_json.specs.Observed.{lines_text as levels_text, observed_text}
 use Rattle.rv_json.specs.Operand.{known_text, operand_json}
 use Rattle.rv_json.specs.Place.{word_address}
+use Rattle.rv_json.specs.Predictor.{asked_json, place_json}
 use Rattle.rv_json.specs.Queue.{access_text, filling_text, head_text as store_head, phase_name, state_name, store_json}
 use Rattle.rv_json.specs.Registers.{csrs_json, interrupts_text, trap_text}
 use Rattle.rv_json.specs.Set.{line_json, lines_text}
@@ -260,3 +261,15 @@ stop_named Exhausted = plain refl
 pub stop_plain : (cycles : ℕ) (stop : Stop) → HasNoMarkup (stop_line cycles stop)
 unfolding stop_json stop_line
 stop_plain cycles stop = both (both (beginning _ refl (number _)) (both (member _ refl (in_quotes (stop_named stop))) (plain refl))) (plain refl)
+
+-- a place of the predictor's tables
+pub place_plain : (place counter : ℕ) (target : Option ℕ) → HasNoMarkup (place_json place counter target)
+unfolding place_json
+place_plain place counter target =
+    both (beginning _ refl (number place)) (both (both (counted _ refl counter) (counted_some _ refl target)) (plain refl))
+
+-- a word that it was asked of
+pub asked_plain : (pc : ℕ) (place : Option ℕ) (answer : ℕ) → HasNoMarkup (asked_json pc place answer)
+unfolding asked_json
+asked_plain pc place answer =
+    both (beginning _ refl (number pc)) (both (both (counted_some _ refl place) (counted _ refl answer)) (plain refl))

@@ -9,6 +9,7 @@ pub mod Member
 pub mod Observed
 pub mod Operand
 pub mod Place
+pub mod Predictor
 pub mod Queue
 pub mod Registers
 pub mod Set

@@ -31,12 +31,19 @@ fn comma_at(place: usize) -> &'static [u8]
     if place == 0 { b"" } else { b"," }
 }
 
+/// Writes the comma before the value at a place of an array, if one stands there.
+pub fn write_comma<W: Write>(out: &mut Sink<'_, W>, place: usize)
+    ensures { Says W.contents out.old out.new (comma_at place) }
+{
+    out.put(comma_at(place))
+}
+
 #[tactic(auto, using(rv_text::proofs::Saying::says_both))]
 fn write_after_comma<T: Values, W: Write>(out: &mut Sink<'_, W>, values: &T, place: usize)
     requires { place < length (T.values values.now) }
     ensures { Says W.contents out.old out.new (comma_at place ++ get_or (T.values values.now) place []) }
 {
-    out.put(comma_at(place));
+    write_comma(out, place);
     values.write_value(out, place)
 }
 

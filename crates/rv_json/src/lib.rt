@@ -1,6 +1,6 @@
 //! The hardware's parts, its instructions and the program as JSON, each a text of its own: the machine's values, a line of
 //! the program, a word of memory, a set of the cache, an instruction in flight, a fetched word, a store, the units, the
-//! registers. Its model is the text, a function of the part alone. The states of a run stand on it.
+//! registers, a place of the predictor's tables. Its model is the text, a function of the part alone. The states of a run stand on it.
 #![tactic(auto)]
 
 mod array;
@@ -13,6 +13,7 @@ mod machine;
 mod observed;
 mod operand;
 mod place;
+mod predictor;
 mod queue;
 mod registers;
 mod set;
@@ -21,7 +22,7 @@ mod stop;
 mod units;
 mod word;
 
-pub use array::{Values, write_array_member};
+pub use array::{Values, write_array_member, write_comma};
 pub use entry::{broadcast, write_entry};
 pub use fetched::write_fetch_buffer;
 pub use instruction::Instructions;
@@ -33,6 +34,7 @@ pub use machine::write_header;
 pub use observed::write_observed;
 pub use operand::write_operand;
 pub use place::word_address;
+pub use predictor::{write_asked, write_place};
 pub use queue::write_store_queue;
 pub use set::write_set;
 pub use step::Steps;

@@ -1,18 +1,24 @@
 -- No line of the states of a run has a byte that HTML gives a meaning.
 use Rattle.std.proofs.Common.{◌≡◌, ℕ, ◌+◌, List, [], ◌∷◌, Option, Some, None, refl}
-use Rattle.std.specs.Prelude.{Bool, false, codes, get_or}
+use Rattle.std.specs.Prelude.{◌++◌, ◌==◌, Bool, true, false, codes, get_or, if◌then◌else◌}
 use Rattle.std.specs.FinSet as set
-use Rattle.std.specs.List.{list_any}
+use Rattle.std.specs.List.{flat_map, list_any}
 use Rattle.rv_isa.specs.declared.instructions.Instr.{Instr}
 use Rattle.rv_arch.specs.declared.outcome.Stop.{Stop}
 use Rattle.rv_cache.specs.declared.line.CacheLine.{CacheLine}
 use Rattle.rv_core.specs.Ties.{RegisterStatus, status_with}
 use Rattle.rv_core.specs.declared.outcome.Progress.{Progress}
 use Rattle.rv_memory.specs.Memory.{word_of}
+use Rattle.rv_front.specs.Flow.{flow_at}
+use Rattle.rv_front.specs.Predictors.{answer}
+use Rattle.rv_front.specs.Tables.{Tables}
+use Rattle.rv_front.specs.declared.{fetched.Fetched.Fetched, predictors.DescribedPredictor.DescribedPredictor}
+use Rattle.rv_front.specs.declared.predictors.DescribedPredictor.TheVariants.{NotTaken, BackwardTaken, Bimodal}
 use Rattle.rv_hardware.specs.Hardware.{Hardware}
 use Rattle.rv_hardware.specs.Seen.{layout_of, seen}
 use Rattle.rv_hardware.specs.declared.{report.Stall.Stall, step.Step.Step}
 use Rattle.rv_hardware.specs.declared.report.Stall.TheVariants.{Fetch, Serial, Rob, Station, Store}
+use Rattle.rv_hardware.specs.declared.step.Step.TheVariants.{Retired, Trap, Interrupt}
 use Rattle.rv_passage.specs.declared.passage.Passage.{Passage}
 use Rattle.rv_rob.specs.declared.entry.{Entry.Entry, Stage.Stage}
 use Rattle.rv_rob.specs.declared.entry.Stage.TheVariants.{Waiting, Running, Finished}
@@ -24,15 +30,16 @@ use Rattle.rv_json.specs.Place.{word_address}
 use Rattle.rv_json.specs.Queue.{store_json}
 use Rattle.rv_json.specs.Step.{step_json}
 use Rattle.rv_json.proofs.Markup.{AllPlain, array_of, beginning, both, chosen, counted, each, each_plain, in_quotes, member, number, otherwise, plain}
-use Rattle.rv_json.proofs.Parts.{entry_plain, fetched_plain, header_plain, instruction_plain, listing_plain, next_fetch_plain, observed_plain, operand_plain, set_plain, step_plain, stop_plain, store_plain, units_plain, word_plain}
+use Rattle.rv_json.proofs.Parts.{asked_plain, entry_plain, fetched_plain, header_plain, instruction_plain, listing_plain, next_fetch_plain, observed_plain, operand_plain, place_plain, set_plain, step_plain, stop_plain, store_plain, units_plain, word_plain}
 use Rattle.rv_states.specs.Counts.{counts_json, counts_text, stall_text}
 use Rattle.rv_states.specs.Cycle.{cycle_line, rest_text, start_line}
 use Rattle.rv_states.specs.Entries.{entries_json, entry_json}
 use Rattle.rv_states.specs.Memory.{memory_line, memory_lines, word_if, word_seen}
 use Rattle.rv_states.specs.Operands.{operand_text, operands_of, operands_text}
+use Rattle.rv_states.specs.Predictor.{asked_in, asked_of, asked_text, learned_text, place_if, place_in, place_line, place_lines, place_taught, predictor_lines, predictor_text, uses_tables, untaught_predictor}
 use Rattle.rv_states.specs.Sets.{lines_if, set_line, set_lines}
 use Rattle.rv_states.specs.State.{in_flight_text, parts_text, state_json}
-use Rattle.rv_states.specs.States.{Moment, head_text, lines_text, moment_text, opening_text, states_text, storage_text, window_text}
+use Rattle.rv_states.specs.States.{Moment, after_moment, head_text, lines_text, moment_text, moments_text, opening_text, states_text, storage_text, window_text}
 
 stall : (s : Option Stall) → HasNoMarkup (stall_text s)
 unfolding stall_text
@@ -78,17 +85,67 @@ state h =
 
 rest : (h : Hardware) (p : Progress) → HasNoMarkup (rest_text h p)
 unfolding rest_text
-rest h p = both (counts p) (both (member _ refl (state h)) (plain refl))
+rest h p = both (counts p) (member _ refl (state h))
 
 start : (rows : List Passage) (h : Hardware) (p : Progress) → HasNoMarkup (start_line rows h p)
 unfolding start_line
-start rows h p = both (beginning _ refl (number _)) (both (member _ refl (array_of _ (each_plain instruction_json instruction_plain rows))) (rest h p))
+start rows h p = both (beginning _ refl (number _)) (both (member _ refl (array_of _ (each_plain instruction_json instruction_plain rows))) (both (rest h p) (plain refl)))
 
-cycle : (n : ℕ) (rows : List Passage) (steps : List Step) (h : Hardware) (p : Progress) → HasNoMarkup (cycle_line n rows steps h p)
+-- what the predictor knows and answers
+place_of_tables : (place counter : ℕ) (target : Option ℕ) → HasNoMarkup (place_if place counter target)
+place_of_tables place counter target = otherwise _ (both (place_plain place counter target) (plain refl))
+
+places : (predictor : DescribedPredictor) → HasNoMarkup (predictor_lines predictor)
+unfolding place_lines
+places (NotTaken plainly) = plain refl
+places (BackwardTaken plainly) = plain refl
+places (Bimodal tables) = each (place_line tables) (λ place. place_of_tables place _ _) _
+
+one_plain : (shown : Bool) (value : List ℕ) → HasNoMarkup value → AllPlain (if shown then value ∷ [] else [])
+one_plain true value none = (none, tt)
+one_plain false value none = tt
+
+all_plain-append : (xs ys : List (List ℕ)) → AllPlain xs → AllPlain ys → AllPlain (xs ++ ys)
+all_plain-append [] ys first second = second
+all_plain-append (x ∷ xs) ys first second = (first.0, all_plain-append xs ys first.1 second)
+
+given_plain : {X : Type 0} (values : X → List (List ℕ)) → ((x : X) → AllPlain (values x)) → (xs : List X) → AllPlain (flat_map values xs)
+given_plain values none [] = tt
+given_plain values none (x ∷ xs) = all_plain-append (values x) (flat_map values xs) (none x) (given_plain values none xs)
+
+taught_place : (tables : Tables) (step : Step) → AllPlain (place_taught tables step)
+taught_place tables (Retired row) = one_plain (uses_tables (flow_at row.pc row.word)) _ (place_plain _ _ _)
+taught_place tables (Trap pc cause value cycle) = tt
+taught_place tables (Interrupt pc cause cycle) = tt
+
+learned : (predictor : DescribedPredictor) (steps : List Step) → HasNoMarkup (learned_text predictor steps)
+unfolding learned_text
+learned (NotTaken plainly) steps = plain refl
+learned (BackwardTaken plainly) steps = plain refl
+learned (Bimodal tables) steps = member _ refl (array_of _ (given_plain (place_taught tables) (taught_place tables) steps))
+
+asked_word : (predictor : DescribedPredictor) (pc : ℕ) (word : Option ℕ) → AllPlain (asked_of predictor pc word)
+asked_word predictor pc None = tt
+asked_word predictor pc (Some word) = (asked_plain pc (place_in predictor pc) (answer predictor pc (flow_at pc word)), tt)
+
+if_asked : (shown : Bool) (values : List (List ℕ)) → AllPlain values → AllPlain (if shown then values else [])
+if_asked true values none = none
+if_asked false values none = tt
+
+asked : (predictor : DescribedPredictor) (n : ℕ) (words : List Fetched) → HasNoMarkup (asked_text predictor n words)
+unfolding asked_text
+asked predictor n words =
+    member _ refl (array_of _ (given_plain (asked_in predictor n) (λ f. if_asked (f.cycle == n) _ (asked_word predictor f.pc f.word)) words))
+
+predictor_plain : (predictor : DescribedPredictor) (n : ℕ) (steps : List Step) (words : List Fetched) → HasNoMarkup (predictor_text predictor n steps words)
+unfolding predictor_text
+predictor_plain predictor n steps words = both (learned predictor steps) (asked predictor n words)
+
+cycle : (n : ℕ) (rows : List Passage) (steps : List Step) (h : Hardware) (p : Progress) (predictor : DescribedPredictor) → HasNoMarkup (cycle_line n rows steps h p predictor)
 unfolding cycle_line
-cycle n rows steps h p =
+cycle n rows steps h p predictor =
     both (beginning _ refl (number _)) (both (member _ refl (array_of _ (each_plain instruction_json instruction_plain rows)))
-    (both (member _ refl (array_of _ (each_plain step_json step_plain steps))) (rest h p)))
+    (both (member _ refl (array_of _ (each_plain step_json step_plain steps))) (both (rest h p) (both (predictor_plain predictor n steps h.front.entries) (plain refl)))))
 
 word : (address : ℕ) (stale : Bool) (w : Option ℕ) → HasNoMarkup (word_if address stale w)
 word address stale None = plain refl
@@ -101,18 +158,22 @@ lines_of_set n (line ∷ lines) = set_plain n (line ∷ lines)
 memory : (h : Hardware) (address : ℕ) → HasNoMarkup (memory_line h address)
 memory h address = word address (set.contains h.stale (word_of address)) (word_seen (layout_of h.values) (seen h).ram address)
 
-window : (rows : List Passage) (h : Hardware) (p : Progress) → HasNoMarkup (window_text rows h p)
+window : (rows : List Passage) (h : Hardware) (p : Progress) (predictor : DescribedPredictor) → HasNoMarkup (window_text rows h p predictor)
 unfolding memory_lines set_lines storage_text window_text
-window rows h p =
+window rows h p predictor =
     both (both (each (λ n. memory_line h (word_address h.values.ram_base n)) (λ n. memory h (word_address h.values.ram_base n)) _) (each (set_line h) (λ n. lines_of_set n (get_or h.cache.sets n [])) _))
-    (start rows h p)
+    (both (places predictor) (start rows h p))
 
-moment : (from : ℕ) (m : Moment) → HasNoMarkup (moment_text from m)
+moment : (from : ℕ) (m : Moment) (predictor : DescribedPredictor) → HasNoMarkup (moment_text from m predictor)
 unfolding moment_text
-moment from m = both (chosen _ (cycle m.cycle m.rows m.steps m.after m.progress)) (chosen _ (window m.remaining m.after m.progress))
+moment from m predictor = both (chosen _ (cycle m.cycle m.rows m.steps m.after m.progress predictor)) (chosen _ (window m.remaining m.after m.progress predictor))
+
+moments_plain : (from : ℕ) (predictor : DescribedPredictor) (moments : List Moment) → HasNoMarkup (moments_text from predictor moments)
+moments_plain from predictor [] = plain refl
+moments_plain from predictor (m ∷ moments) = both (moment from m _) (moments_plain from (after_moment predictor m) moments)
 
 -- the lines of a run
 pub states_plain : (from : ℕ) (listing : Listed) (first : Hardware) (moments : List Moment) (cycles : ℕ) (stop : Stop) → HasNoMarkup (states_text from listing first moments cycles stop)
 unfolding opening_text head_text lines_text states_text
 states_plain from listing first moments cycles stop =
-    both (both (both (both (header_plain from _) (listing_plain listing _)) (chosen _ (window _ first _))) (each (moment_text from) (moment from) moments)) (stop_plain cycles stop)
+    both (both (both (both (header_plain from _) (listing_plain listing _)) (chosen _ (window _ first _ _))) (moments_plain from (untaught_predictor first.values) moments)) (stop_plain cycles stop)

@@ -1,29 +1,32 @@
 -- The lines of the hardware before the first cycle, and of a cycle.
 use Rattle.std.specs.Prelude.{ℕ, List, ◌++◌, codes, decimal, map}
 use Rattle.rv_core.specs.declared.outcome.Progress.{Progress}
+use Rattle.rv_front.specs.declared.predictors.DescribedPredictor.{DescribedPredictor}
 use Rattle.rv_hardware.specs.Hardware.{Hardware}
 use Rattle.rv_hardware.specs.declared.step.Step.{Step}
 use Rattle.rv_passage.specs.declared.passage.Passage.{Passage}
 use Rattle.rv_states.specs.Counts.{counts_text}
 use Rattle.rv_json.specs.Instruction.{instruction_json}
 use Rattle.rv_json.specs.Json.{also, array, begins}
+use Rattle.rv_states.specs.Predictor.{predictor_text}
 use Rattle.rv_states.specs.State.{state_json}
 use Rattle.rv_json.specs.Step.{step_json}
 
--- the counts so far, and the hardware, up to the end of a line
+-- the counts so far, and the hardware
 unfoldable pub rest_text : Hardware → Progress → List ℕ
-rest_text h progress = counts_text progress ++ (also (codes "state") (state_json h) ++ codes "}\n")
+rest_text h progress = counts_text progress ++ also (codes "state") (state_json h)
 
 -- the number of the next cycle, what is in flight before it, the counts so far, and the hardware
 unfoldable pub start_line : List Passage → Hardware → Progress → List ℕ
 start_line rows h progress =
     begins (codes "start") (decimal h.cycle) ++
-    (also (codes "instructions") (array (map instruction_json rows)) ++ rest_text h progress)
+    (also (codes "instructions") (array (map instruction_json rows)) ++ (rest_text h progress ++ codes "}\n"))
 
 -- The number of a cycle, the instructions that are in flight at its end or left the hardware in it, in order of fetch, its steps,
--- the counts of the cycles so far, and the hardware after it.
-unfoldable pub cycle_line : ℕ → List Passage → List Step → Hardware → Progress → List ℕ
-cycle_line cycle rows steps h progress =
+-- the counts of the cycles so far, the hardware after it, and what it taught the predictor and asked of it, which is such after it.
+unfoldable pub cycle_line : ℕ → List Passage → List Step → Hardware → Progress → DescribedPredictor → List ℕ
+cycle_line cycle rows steps h progress predictor =
     begins (codes "cycle") (decimal cycle) ++
     (also (codes "instructions") (array (map instruction_json rows)) ++
-    (also (codes "steps") (array (map step_json steps)) ++ rest_text h progress))
+    (also (codes "steps") (array (map step_json steps)) ++
+    (rest_text h progress ++ (predictor_text predictor cycle steps h.front.entries ++ codes "}\n"))))

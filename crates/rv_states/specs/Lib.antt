@@ -4,6 +4,7 @@ pub mod Entries
 pub mod Memory
 pub mod Operands
 pub mod Page
+pub mod Predictor
 pub mod Sets
 pub mod Showing
 pub mod State

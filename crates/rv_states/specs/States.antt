@@ -1,13 +1,14 @@
 -- The states of a run, line by line.
 use Rattle.std.specs.Prelude.{◌≡◌, ℕ, ◌==◌, Bool, if◌then◌else◌, nat_lt, List, [], ◌∷◌, ◌++◌, length, Option}
-use Rattle.std.specs.List.{flat_map}
 use Rattle.rv_isa.specs.Arrivals.{lines_at}
 use Rattle.rv_isa.specs.declared.{lines.Arrival.Arrival, values.Values.Values}
 use Rattle.rv_arch.specs.declared.outcome.Stop.{Stop}
 use Rattle.rv_core.specs.Progress.{progress_of}
 use Rattle.rv_core.specs.declared.outcome.Progress.{Progress}
+use Rattle.rv_front.specs.declared.predictors.DescribedPredictor.{DescribedPredictor}
 use Rattle.rv_hardware.specs.Guided.{GuidedCycles, GuidedHardware, IsGuidedCycle}
 use Rattle.rv_hardware.specs.Hardware.{Hardware}
+use Rattle.rv_hardware.specs.Lessons.{lessons_of}
 use Rattle.rv_hardware.specs.Report.{Report}
 use Rattle.rv_hardware.specs.Run.{IsStop}
 use Rattle.rv_hardware.specs.declared.step.Step.{Step}
@@ -21,6 +22,7 @@ use Rattle.rv_json.specs.Listing.{listing_lines}
 use Rattle.rv_json.specs.Machine.{header_line}
 use Rattle.rv_json.specs.Markup.{HasNoMarkup}
 use Rattle.rv_states.specs.Memory.{memory_lines}
+use Rattle.rv_states.specs.Predictor.{after_lessons, predictor_lines, untaught_predictor}
 use Rattle.rv_states.specs.Sets.{set_lines}
 use Rattle.rv_json.specs.Stop.{stop_line}
 use Rattle.rv_states.specs.declared.form.Form.{Form}
@@ -29,9 +31,9 @@ use Rattle.rv_states.specs.declared.form.Form.{Form}
 unfoldable pub storage_text : Hardware → List ℕ
 storage_text h = memory_lines h h.values ++ set_lines h h.values.cache.sets
 
--- before the window's first cycle: memory, the cache, and the rest of the hardware
-unfoldable pub window_text : List Passage → Hardware → Progress → List ℕ
-window_text rows h progress = storage_text h ++ start_line rows h progress
+-- before the window's first cycle: memory, the cache, what the predictor knows, and the rest of the hardware
+unfoldable pub window_text : List Passage → Hardware → Progress → DescribedPredictor → List ℕ
+window_text rows h progress predictor = storage_text h ++ (predictor_lines predictor ++ start_line rows h progress)
 
 -- a cycle: its number, its steps, the instructions at its end, with those that left the hardware in it and without them, the hardware after
 -- it, and the counts of the cycles so far
@@ -44,31 +46,44 @@ pub record Moment : Type 0 where
   pub progress : Progress
 
 -- the line of a cycle, unless it is one of the first `from`
-abbrev pub shown_text : ℕ → ℕ → List Passage → List Step → Hardware → Progress → List ℕ
-shown_text from cycle rows steps after progress =
-    if nat_lt from progress.cycles then cycle_line cycle rows steps after progress else []
+abbrev pub shown_text : ℕ → ℕ → List Passage → List Step → Hardware → Progress → DescribedPredictor → List ℕ
+shown_text from cycle rows steps after progress predictor =
+    if nat_lt from progress.cycles then cycle_line cycle rows steps after progress predictor else []
 
 -- the lines before the window, after the last of the cycles before it
-abbrev pub begun_text : ℕ → List Passage → Hardware → Progress → List ℕ
-begun_text from rows h progress = if progress.cycles == from then window_text rows h progress else []
+abbrev pub begun_text : ℕ → List Passage → Hardware → Progress → DescribedPredictor → List ℕ
+begun_text from rows h progress predictor = if progress.cycles == from then window_text rows h progress predictor else []
 
--- what is shown of a cycle
-unfoldable pub moment_text : ℕ → Moment → List ℕ
-moment_text from moment =
-    shown_text from moment.cycle moment.rows moment.steps moment.after moment.progress ++
-    begun_text from moment.remaining moment.after moment.progress
+-- what is shown of a cycle, after which the predictor is such
+unfoldable pub moment_text : ℕ → Moment → DescribedPredictor → List ℕ
+moment_text from moment predictor =
+    shown_text from moment.cycle moment.rows moment.steps moment.after moment.progress predictor ++
+    begun_text from moment.remaining moment.after moment.progress predictor
+
+-- the predictor after a cycle
+abbrev pub after_moment : DescribedPredictor → Moment → DescribedPredictor
+after_moment predictor moment = after_lessons predictor (lessons_of moment.steps moment.after.pc)
+
+-- what is shown of cycles one after the other, before which the predictor is such
+abbrev pub moments_text : ℕ → DescribedPredictor → List Moment → List ℕ
+moments_text from predictor [] = []
+moments_text from predictor (moment ∷ moments) =
+    let after = after_moment predictor moment in moment_text from moment after ++ moments_text from after moments
 
 -- the machine and the program
 unfoldable pub opening_text : ℕ → Listed → Values → List ℕ
 opening_text from listing values = header_line from values ++ listing_lines listing values
 
 -- what is shown before the first cycle of a run: the machine and the program, and what stands before the window where it begins here
-unfoldable pub head_text : ℕ → Listed → List Passage → Hardware → List ℕ
-head_text from listing rows first = opening_text from listing first.values ++ begun_text from rows first (progress_of [])
+unfoldable pub head_text : ℕ → Listed → List Passage → Hardware → DescribedPredictor → List ℕ
+head_text from listing rows first predictor =
+    opening_text from listing first.values ++ begun_text from rows first (progress_of []) predictor
 
--- the lines of a run up to some cycle
+-- the lines of a run up to some cycle, which the machine's predictor begins untaught
 unfoldable pub lines_text : ℕ → Listed → Hardware → List Moment → List ℕ
-lines_text from listing first moments = head_text from listing (table_at first).rows first ++ flat_map (moment_text from) moments
+lines_text from listing first moments =
+    let predictor = untaught_predictor first.values in
+    head_text from listing (table_at first).rows first predictor ++ moments_text from predictor moments
 
 -- the lines of a run, whose last one says after how many cycles it ended and why
 unfoldable pub states_text : ℕ → Listed → Hardware → List Moment → ℕ → Stop → List ℕ

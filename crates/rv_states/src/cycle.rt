@@ -2,22 +2,23 @@ ghost use Rattle.rv_states.specs.Cycle.{cycle_line, rest_text, start_line};
 ghost use Rattle.rv_text.specs.Said.{Says};
 
 use crate::counts::write_counts;
+use crate::predictor::write_predictor;
 use crate::state::write_state;
 use rv_core::{Pipeline, Progress};
+use rv_front::DescribedPredictor;
 use rv_hardware::Step;
 use rv_json::{Instructions, Steps, write_array_member, write_begin};
 use rv_passage::Passage;
 use rv_text::Sink;
 use std::io::Write;
 
-// The counts so far, and the hardware, up to the end of a line.
+// The counts so far, and the hardware.
 #[tactic(auto, using(rv_text::proofs::Saying::says_both), unfolding(crate::specs::Cycle::rest_text))]
 fn write_rest<W: Write>(out: &mut Sink<'_, W>, pipeline: &Pipeline, progress: &Progress)
     ensures { Says W.contents out.old out.new (rest_text pipeline.now progress.now) }
 {
     write_counts(out, progress);
-    write_state(out, pipeline);
-    out.put(b"}\n")
+    write_state(out, pipeline)
 }
 
 /// Writes the line of the hardware before the window's first cycle: the number of the cycle, what is in flight, the hardware,
@@ -33,11 +34,13 @@ pub fn write_start<W: Write>(
 {
     write_begin(out, "start", pipeline.cycles_done());
     write_array_member(out, "instructions", &Instructions { rows });
-    write_rest(out, pipeline, progress)
+    write_rest(out, pipeline, progress);
+    out.put(b"}\n")
 }
 
 /// Writes the line of a cycle: its number, the instructions that are in flight at its end or left the hardware in it, in order
-/// of fetch, its steps, the counts of the cycles so far, and the hardware after it.
+/// of fetch, its steps, the counts of the cycles so far, the hardware after it, and what it taught the predictor, which is such
+/// after it, and what that answered of the words that the cycle fetched.
 #[tactic(auto, using(rv_text::proofs::Saying::says_both), unfolding(crate::specs::Cycle::cycle_line))]
 pub fn write_cycle<W: Write>(
     out: &mut Sink<'_, W>,
@@ -46,11 +49,14 @@ pub fn write_cycle<W: Write>(
     steps: &[Step],
     pipeline: &Pipeline,
     progress: &Progress,
+    predictor: &DescribedPredictor,
 )
-    ensures { Says W.contents out.old out.new (cycle_line cycle rows.now steps.now pipeline.now progress.now) }
+    ensures { Says W.contents out.old out.new (cycle_line cycle rows.now steps.now pipeline.now progress.now predictor.now) }
 {
     write_begin(out, "cycle", cycle);
     write_array_member(out, "instructions", &Instructions { rows });
     write_array_member(out, "steps", &Steps { steps });
-    write_rest(out, pipeline, progress)
+    write_rest(out, pipeline, progress);
+    write_predictor(out, predictor, cycle, steps, pipeline);
+    out.put(b"}\n")
 }

@@ -11,6 +11,7 @@ mod memory;
 mod moment;
 mod operands;
 mod page;
+mod predictor;
 mod running;
 mod sets;
 mod state;

@@ -9,9 +9,11 @@ use crate::cycle::{write_cycle, write_start};
 use crate::form::Form;
 use crate::memory::write_memory;
 use crate::page::{write_after, write_before};
+use crate::predictor::write_predictor_lines;
 use crate::sets::write_sets;
 use rv_arch::Stop;
 use rv_core::{Pipeline, Progress};
+use rv_front::DescribedPredictor;
 use rv_hardware::{StallCounts, Step};
 use rv_isa::Values;
 use rv_json::{write_header, write_listing, write_stop};
@@ -26,11 +28,13 @@ fn write_window<W: Write>(
     rows: &[Passage],
     pipeline: &Pipeline,
     progress: &Progress,
+    predictor: &DescribedPredictor,
 )
-    ensures { Says W.contents out.old out.new (window_text rows.now pipeline.now progress.now) }
+    ensures { Says W.contents out.old out.new (window_text rows.now pipeline.now progress.now predictor.now) }
 {
     write_memory(out, pipeline);
     write_sets(out, pipeline);
+    write_predictor_lines(out, predictor);
     write_start(out, rows, pipeline, progress)
 }
 
@@ -41,11 +45,12 @@ pub(crate) fn write_begun<W: Write>(
     rows: &[Passage],
     pipeline: &Pipeline,
     progress: &Progress,
+    predictor: &DescribedPredictor,
 )
-    ensures { Says W.contents out.old out.new (begun_text from rows.now pipeline.now progress.now) }
+    ensures { Says W.contents out.old out.new (begun_text from rows.now pipeline.now progress.now predictor.now) }
 {
     if progress.cycles == from {
-        write_window(out, rows, pipeline, progress)
+        write_window(out, rows, pipeline, progress, predictor)
     }
 }
 
@@ -58,11 +63,12 @@ pub(crate) fn write_shown<W: Write>(
     steps: &[Step],
     pipeline: &Pipeline,
     progress: &Progress,
+    predictor: &DescribedPredictor,
 )
-    ensures { Says W.contents out.old out.new (shown_text from cycle rows.now steps.now pipeline.now progress.now) }
+    ensures { Says W.contents out.old out.new (shown_text from cycle rows.now steps.now pipeline.now progress.now predictor.now) }
 {
     if from < progress.cycles {
-        write_cycle(out, cycle, rows, steps, pipeline, progress)
+        write_cycle(out, cycle, rows, steps, pipeline, progress, predictor)
     }
 }
 
@@ -104,12 +110,13 @@ pub(crate) fn write_head<W: Write>(
     listing: &Listing,
     rows: &[Passage],
     pipeline: &Pipeline,
+    predictor: &DescribedPredictor,
 )
-    ensures { Says W.contents out.old out.new (before_lines form ++ head_text from listing.now rows.now pipeline.now) }
+    ensures { Says W.contents out.old out.new (before_lines form ++ head_text from listing.now rows.now pipeline.now predictor.now) }
 {
     write_before(out, form);
     write_opening(out, from, listing, pipeline.values());
-    write_begun(out, from, rows, pipeline, &no_cycle())
+    write_begun(out, from, rows, pipeline, &no_cycle(), predictor)
 }
 
 /// Writes the last line, and what stands after the lines.

@@ -2,15 +2,17 @@ ghost use Rattle.std.specs.Prelude.{◌≡◌, ◌≤◌, ◌++◌, false, lengt
 ghost use Rattle.rv_hardware.specs.Guided.{guided};
 ghost use Rattle.rv_passage.specs.Table.{HasRoom, passages_of, table_at};
 ghost use Rattle.rv_states.specs.Page.{after_lines, before_lines};
+ghost use Rattle.rv_states.specs.Predictor.{untaught_predictor};
 ghost use Rattle.rv_states.specs.States.{WritesStates, head_text};
 ghost use Rattle.rv_json.specs.Stop.{stop_line};
 ghost use Rattle.rv_text.specs.Said.{Extends};
 
 use crate::form::Form;
 use crate::moment::{write_begun, write_end, write_head, write_shown};
+use crate::predictor::teach;
 use rv_arch::Stop;
 use rv_core::{Pipeline, Progress, Watcher, watch};
-use rv_front::Predictor;
+use rv_front::{DescribedPredictor, Predictor};
 use rv_hardware::Step;
 use rv_isa::Arrivals;
 use rv_passage::{Passage, Table};
@@ -26,12 +28,13 @@ pub(crate) struct Shown {
     pub(crate) has_failed: bool,
 }
 
-// The watcher that writes the states after the first `from` cycles: what became of the instructions that may still go on, and
-// whether a write failed.
+// The watcher that writes the states after the first `from` cycles: what became of the instructions that may still go on, what
+// the predictor knows, and whether a write failed.
 #[derive(Drop)]
 struct Shower {
     from: u64,
     table: Table,
+    predictor: DescribedPredictor,
     has_failed: bool,
 }
 
@@ -40,7 +43,7 @@ impl Watcher for Shower {
 
     type Refusal = Infallible;
 
-    ghost has_seen = { λ start shower seen before now. IsShowing start.from shower.from start.has_failed shower.has_failed shower.table seen before now };
+    ghost has_seen = { λ start shower seen before now. IsShowing start.from shower.from start.predictor shower.predictor start.has_failed shower.has_failed shower.table seen before now };
 
     ghost has_room = { λ _. Unit {0} };
 
@@ -62,6 +65,7 @@ impl Watcher for Shower {
         let pc = pipeline.observe().pc;
         self.table
             .follow(cycle, steps, buffer, pipeline.front(), pc);
+        teach(&mut self.predictor, steps, pc);
         let from = self.from;
         let mut out = Sink::after(output, self.has_failed);
         write_shown(
@@ -72,9 +76,17 @@ impl Watcher for Shower {
             steps,
             pipeline,
             progress,
+            &self.predictor,
         );
         self.table.drop_ended();
-        write_begun(&mut out, from, self.table.rows(), pipeline, progress);
+        write_begun(
+            &mut out,
+            from,
+            self.table.rows(),
+            pipeline,
+            progress,
+            &self.predictor,
+        );
         self.has_failed = out.has_failed();
     }
 }
@@ -87,11 +99,12 @@ fn begin<W: Write>(
     listing: &Listing,
     rows: &[Passage],
     pipeline: &Pipeline,
+    predictor: &DescribedPredictor,
 ) -> bool
-    ensures { Extends false result (W.contents writer.old) (W.contents writer.new) (before_lines form ++ head_text from listing.now rows.now pipeline.now) }
+    ensures { Extends false result (W.contents writer.old) (W.contents writer.new) (before_lines form ++ head_text from listing.now rows.now pipeline.now predictor.now) }
 {
     let mut out = Sink::new(writer);
-    write_head(&mut out, form, from, listing, rows, pipeline);
+    write_head(&mut out, form, from, listing, rows, pipeline, predictor);
     out.has_failed()
 }
 
@@ -105,8 +118,8 @@ fn end<W: Write>(writer: &mut W, has_failed: bool, form: Form, cycles: u64, stop
 }
 
 /// Runs a pipeline that a predictor guides up to so many cycles, and writes the states after the first `from` of them as far as no
-/// write fails. The table is that of the pipeline, and has room for two cycles; `steps` has room for the steps of a cycle. Asks for
-/// no memory.
+/// write fails. The table is that of the pipeline, and has room for two cycles; `untaught` is its predictor before any lesson;
+/// `steps` has room for the steps of a cycle. Asks for no memory.
 pub(crate) fn run_shown<W: Write>(
     pipeline: &mut Pipeline,
     predictor: &mut dyn Predictor,
@@ -116,6 +129,7 @@ pub(crate) fn run_shown<W: Write>(
     form: Form,
     listing: &Listing,
     table: Table,
+    untaught: DescribedPredictor,
     steps: Vec<Step>,
     writer: &mut W,
 ) -> Shown
@@ -123,14 +137,24 @@ pub(crate) fn run_shown<W: Write>(
     requires room { HasRoom table }
     requires rows { 576 ≤ vec_capacity table.rows }
     requires interrupts { 8 ≤ vec_capacity table.interrupts }
+    requires untaught { untaught ≡ untaught_predictor pipeline.old.values }
     requires few { length (passages_of table).rows ≤ 288 }
     requires steps { 8 ≤ vec_capacity steps }
     ensures { WritesStates arrivals.now from limit form listing.now (guided pipeline.old (known predictor.old)) (guided pipeline.new (known predictor.new)) result.stop result.has_failed (W.contents writer.old) (W.contents writer.new) }
 {
-    let has_failed = begin(writer, form, from, listing, table.rows(), pipeline);
+    let has_failed = begin(
+        writer,
+        form,
+        from,
+        listing,
+        table.rows(),
+        pipeline,
+        &untaught,
+    );
     let mut shower = Shower {
         from,
         table,
+        predictor: untaught,
         has_failed,
     };
     let ended = watch(

@@ -7,7 +7,7 @@ use crate::form::Form;
 use crate::running::run_shown;
 use rv_arch::Stop;
 use rv_core::Pipeline;
-use rv_front::Predictor;
+use rv_front::{DescribedPredictor, Predictor};
 use rv_isa::Arrivals;
 use rv_passage::Table;
 use rv_source::Listing;
@@ -17,8 +17,8 @@ use std::io::Write;
 
 /// Runs a pipeline that a predictor guides, each cycle with the lines of its number, up to a breakpoint, a stale word,
 /// exhaustion or `limit` cycles, and writes its states line by line as JSON: the machine and the program; after the first `from`
-/// cycles memory, the cache and the rest of the hardware; each further cycle as it comes, what happened in it and the hardware
-/// after it; and at last after how many cycles the run ended, and why. As a page it stands in a viewer for browsers. An
+/// cycles memory, the cache, what the machine's predictor knows of the run, and the rest of the hardware; each further cycle as it
+/// comes, what happened in it, the hardware after it, and what the predictor learned and answered; and at last after how many cycles the run ended, and why. As a page it stands in a viewer for browsers. An
 /// instruction's number counts from 0 in order of fetch. Asks for no memory once it has written. Answers why the run ended.
 ///
 /// # Errors
@@ -44,11 +44,15 @@ pub fn write_states<W: Write>(
     let Ok(table) = Table::begin(alloc, pipeline.reorder_buffer(), pipeline.front()) else {
         return Err(TextError::Memory);
     };
+    let described = pipeline.values().predictor;
+    let Ok(untaught) = DescribedPredictor::new(alloc, described.kind, described.entries) else {
+        return Err(TextError::Memory);
+    };
     let Ok(steps) = Vec::with_capacity(alloc, 8) else {
         return Err(TextError::Memory);
     };
     let shown = run_shown(
-        pipeline, predictor, arrivals, from, limit, form, listing, table, steps, writer,
+        pipeline, predictor, arrivals, from, limit, form, listing, table, untaught, steps, writer,
     );
     if shown.has_failed {
         Err(TextError::WriteFailed)

@@ -5,7 +5,7 @@ pub(crate) const BEFORE: &[u8] = br#"<!DOCTYPE html>
 <html lang="en">
 <head>
 <meta charset="utf-8">
-<meta http-equiv="Content-Security-Policy" content="default-src 'none'; script-src 'sha256-JF/EHaTngsZavdVEYg0KZibYSYkDjHUzy80nOZ42Hws='; style-src 'sha256-6DpHozWTwMXFQVWTyVhCCYn0obFqpfSbGKSSKi4M8OE='; img-src data:; frame-src 'self' file:; base-uri 'none'; form-action 'none'">
+<meta http-equiv="Content-Security-Policy" content="default-src 'none'; script-src 'sha256-CFjtanS9zoXW8LRhJB13xDV1h41IKf3d1YU0LINmxrM='; style-src 'sha256-61FFsou9ASWk0o890o/4HmhCJDIOL7BVLAxCBGEUGO4='; img-src data:; frame-src 'self' file:; base-uri 'none'; form-action 'none'">
 <meta name="viewport" content="width=device-width, initial-scale=1">
 <title>rv_sim: a run, cycle by cycle</title>
 <style>
@@ -50,14 +50,14 @@ main { flex: 1 1 auto; min-height: 0; display: flex; gap: 0.4rem; }
 .panel h2 { background: var(--title); padding: 0 0.4rem; white-space: nowrap; }
 h2[data-phase]::after { content: attr(data-phase); margin-left: 0.4rem; padding: 0 0.25rem; border-radius: 0.5rem; background: var(--edge); color: var(--text); font-size: 0.75rem; font-weight: normal; }
 .note { background: var(--title); color: var(--quiet); padding: 0 0.4rem; text-align: right; white-space: nowrap; overflow: hidden; text-overflow: ellipsis; font-size: 0.9rem; }
-#stations-note { font-size: 0.8rem; }
+#stations-note, #fetch-note, #predictor-note { font-size: 0.8rem; }
 #machine { color: var(--quiet); font-size: 0.85rem; line-height: 1.1rem; max-height: 2.2rem; overflow: auto; scrollbar-width: thin; }
 #switches, #keys { grid-column: 1 / 3; }
 #switches { display: flex; flex-wrap: wrap; gap: 0 1rem; }
 #stop, #quiz, #beside { background: var(--mark); font-size: 1.4rem; line-height: 1.8rem; padding: 0 0.4rem; }
 .unseen th { height: 0; line-height: 0; font-size: 0; padding: 0; }
 [data-panel="registers"], [data-panel="units"], [data-panel="bus"] { flex: none; }
-#stations, #fetch { font-size: 0.85rem; } #stations td { height: 1.1rem; line-height: 1.1rem; } #accesses { font-size: 0.8rem; } #accesses td { padding: 0 0.12rem; }
+#stations, #fetch, #asked, #tables { font-size: 0.85rem; } #stations td { height: 1.1rem; line-height: 1.1rem; } #accesses { font-size: 0.8rem; } #accesses td { padding: 0 0.12rem; }
 .missed, .differs { color: var(--fault); font-weight: bold; }
 .differs { outline: 2px dashed var(--fault); outline-offset: -2px; }
 .scroll, .list, #picture { grid-column: 1 / 3; overflow: auto; min-height: 0; scrollbar-width: thin; position: relative; contain: layout paint style; }
@@ -196,6 +196,9 @@ retired instructions; 3: to the other one. A click on an instruction follows it:
 <section class="panel grows" data-panel="source" aria-labelledby="h-source"><h2 id="h-source">Source</h2><span class="note" id="source-note"></span><div class="list" id="source" tabindex="0" role="region" aria-labelledby="h-source"><div></div></div></section>
 <section class="panel" data-panel="fetch" aria-labelledby="h-fetch"><h2 id="h-fetch" data-phase="7" title="phase 7 of 7 of a cycle: fetch">Fetch buffer</h2><span class="note" id="fetch-note"></span><div class="scroll ten" tabindex="0" role="region" aria-labelledby="h-fetch"><table aria-labelledby="h-fetch">
 <thead><tr><th scope="col">no.</th><th scope="col">pc</th><th scope="col">statement</th><th scope="col" title="the pc that was fetched next, where it is not the next word">then</th></tr></thead><tbody id="fetch"></tbody></table></div></section>
+<section class="panel" data-panel="predictor" aria-labelledby="h-predictor"><h2 id="h-predictor" data-phase="7" title="phase 7 of 7 of a cycle: fetch">Predictor</h2><span class="note" id="predictor-note"></span><div class="scroll ten" tabindex="0" role="region" aria-labelledby="h-predictor">
+<table aria-label="Words that the predictor was asked of"><thead><tr><th scope="col">no.</th><th scope="col">pc</th><th scope="col" title="the place in the predictor's tables">place</th><th scope="col" title="where the predictor says that the program goes on">answer</th></tr></thead><tbody id="asked"></tbody></table>
+<table aria-label="The predictor's tables"><thead><tr><th scope="col">place</th><th scope="col" colspan="2" title="2 or 3: a branch is predicted taken">counter</th><th scope="col" title="the last target that a JALR had">target</th><th scope="col" title="the branches and JALR of the program that have the place">of</th></tr></thead><tbody id="tables"></tbody></table></div></section>
 <section class="panel" data-panel="stores" aria-labelledby="h-stores"><h2 id="h-stores" data-phase="3" title="phase 3 of 7 of a cycle: drain">Store queue</h2><span class="note" id="stores-note"></span><div class="scroll ten" tabindex="0" role="region" aria-labelledby="h-stores"><table aria-labelledby="h-stores">
 <thead><tr><th scope="col">no.</th><th scope="col">state</th><th scope="col">address</th><th scope="col">bytes</th></tr></thead><tbody id="stores"></tbody></table></div></section>
 </div>
@@ -421,7 +424,9 @@ class Run {
     this.words = new Changes();  // memory as programs see it, by address
     this.stale = new Changes();  // places at which a store made a word stale
     this.cleaned = [];           // places at which FENCE.I retired
+    this.rewritten = [];         // places at which a store changed a word of the program
     this.sets = new Changes();   // the lines of each cache set
+    this.predicted = new Changes(); // what the predictor's tables hold at each place that is not as at first
     this.table = [];             // each instruction by its number
     this.accesses = [];          // the accesses of the cache, in order
     this.places = [];            // what happened in the cycle before each place, and where its line stands
@@ -453,6 +458,7 @@ class Run {
       this.words.put(value.memory, 0, value.word);
       if (value.stale) this.stale.put(value.memory, 0, true);
     } else if (value.set !== undefined) this.sets.put(value.set, 0, value.lines);
+    else if (value.place !== undefined) this.predicted.put(value.place, 0, value);
     else if (value.stop) this.stop = value;
   }
 
@@ -465,9 +471,11 @@ class Run {
       index, cycle, ended: value.ended, interrupts: (value.steps || []).filter((step) => step.step === "interrupt"),
       stall: value.stall, phases: this.phasesIn(value), stored: before ? storedIn(state, before.state) : [], fetchedBefore: this.table.length,
       changedSets: (value.sets || []).map((each) => each.set), head: state.reorder_buffer.length ? state.reorder_buffer[0].sequence : undefined,
+      learned: value.learned || [], asked: this.askedIn(value),
     };
     if (value.stall && value.stall !== "fetch") here.stalled = value.in_flight[state.reorder_buffer.length];
     this.places.push(here);
+    for (const each of here.learned) this.predicted.put(each.place, place, each);
     here.wrong = wronglyPredicted(here, value, before);
     if (here.wrong !== undefined) this.table[here.wrong].wrong = cycle;
     for (const store of here.stored) this.readStore(store, place);
@@ -476,6 +484,15 @@ class Run {
     if (here.access) this.accesses.push(here.access);
     if (value.sets) for (const each of value.sets) this.sets.put(each.set, place, each.lines);
     else replay(this, here, value, before, place);
+  }
+
+  // The words that a line's cycle fetched and the predictor was asked of, with what it answered: they are the youngest in flight.
+  askedIn(value) {
+    const words = value.state.fetch_buffer.map((each, k) => ({ ...each, number: value.in_flight[value.state.reorder_buffer.length + k] }));
+    return (value.asked || []).map((each) => {
+      const { word, number } = words.filter((other) => other.pc === each.pc && other.fetched === value.cycle).pop();
+      return { ...each, word, number };
+    });
   }
 
   // Which instructions did a phase in a line's cycle, in order of fetch.
@@ -542,6 +559,7 @@ class Run {
       const old = this.words.last(word) || 0;
       this.words.put(word, place, ((old & ~(255 << shift)) | (byte << shift)) >>> 0);
       this.stale.put(word, place, true);
+      if (this.statements.has(word)) this.rewritten.push(place);
     });
   }
 
@@ -751,6 +769,79 @@ function showAccesses(view) {
     return row({ "data-number": access.number, key: access.place, class: access.place === place ? "changed" : "" }, access.cycle, tag(access.number), access.what, hex(access.address),
       element("td", { class: isMiss(access) ? "missed" : "" }, access.outcome), access.cost, known ? ends[end] : "");
   }), 4, 7);
+}
+// The branch predictor: what it knows after a cycle, and what it answered of the words that the cycle fetched.
+
+// Branches and JALR alone are looked up in the tables, and change them.
+function usesTables(word) {
+  const code = word & 0x7f, form = (word >>> 12) & 7;
+  return (code === 0x63 && form !== 2 && form !== 3) || (code === 0x67 && form === 0);
+}
+
+// The place of a pc in the tables, where there are tables: instructions with one place share its counter and its target.
+function placeOf(run, pc) {
+  const { kind, entries } = run.machine.predictor;
+  return kind === "bimodal" ? (pc >>> 2) % entries : undefined;
+}
+
+// What a place of the tables holds: of one that is as at first the lines say nothing.
+function knownAt(run, at, place) {
+  const change = run.predicted.at(at, place);
+  return change ? change.value : { counter: 1 };
+}
+
+// The branches and JALR of the program by their places. They are looked up anew where a store changed a word of the program.
+function sharersOf(run, place) {
+  const changes = run.rewritten.filter((each) => each <= place).length;
+  if (run.sharers && run.sharers.changes === changes) return run.sharers.found;
+  const found = new Map();
+  for (const { address } of run.listing) {
+    if (!usesTables(run.wordAt(address, place))) continue;
+    const at = placeOf(run, address);
+    found.set(at, (found.get(at) || []).concat(address));
+  }
+  run.sharers = { changes, found };
+  return found;
+}
+
+// The place of the instruction that is followed, where the tables are looked up for it.
+function followedPlace(view) {
+  const { run, followed } = view, instruction = followed === undefined ? undefined : run.table[followed];
+  return instruction && usesTables(instruction.word) ? placeOf(run, instruction.pc) : undefined;
+}
+
+function showPredictor(view) {
+  const { kind, entries } = view.run.machine.predictor, followed = followedPlace(view);
+  note("predictor-note", kind + (kind === "bimodal" ? " " + entries : "") + (followed === undefined ? "" : "; #" + view.followed + ": place " + followed));
+  showAsked(view);
+  showTables(view, followed);
+}
+
+// The words that the cycle fetched: for each its place, and where the predictor says that the program goes on.
+function showAsked(view) {
+  const { run, place } = view;
+  fill("asked", run.places[place].asked.map((each) => {
+    const used = usesTables(each.word), answer = each.answer === ((each.pc + 4) >>> 0) ? "next" : "\u2192" + hex(each.answer);
+    return row({ "data-number": each.number }, tag(each.number), hex(each.pc), used && each.place !== undefined ? each.place : "",
+      wide(answer + (used || each.place === undefined ? "" : ", no table")));
+  }), 2, 4);
+}
+
+function showTables(view, followed) {
+  const { run, place } = view;
+  if (run.machine.predictor.kind !== "bimodal") { draw("tables"); return; }
+  const sharers = sharersOf(run, place), taught = new Set(run.places[place].learned.map((each) => each.place));
+  const asked = new Set(run.places[place].asked.filter((each) => usesTables(each.word)).map((each) => each.place));
+  const isKnown = (at) => knownAt(run, at, place).counter !== 1 || knownAt(run, at, place).target !== undefined;
+  const shown = [...new Set([...sharers.keys(), ...run.predicted.keys()])].filter((at) => sharers.has(at) || isKnown(at)).sort((a, b) => a - b);
+  fill("tables", shown.map((at) => {
+    const { counter, target } = knownAt(run, at, place), pcs = sharers.get(at) || [];
+    const title = "counter " + counter + ": a branch is predicted " + (counter >= 2 ? "taken" : "not taken") + (pcs.length > 1 ? "; shared by " + listed(pcs.map(hex)) : "") +
+      (taught.has(at) ? "; taught in this cycle" : "") + (asked.has(at) ? "; asked in this cycle" : "");
+    return element("tr", { key: at, class: words(taught.has(at) && "changed", at === followed && "followed", asked.has(at) && "touched"), title },
+      heading(at), element("td", {}, counter), element("td", {}, counter >= 2 ? "taken" : "not"), element("td", {}, target === undefined ? "-" : hex(target)),
+      wide(pcs.map(hex).join(" ")));
+  }), 2, 5);
 }
 // What is drawn. An element is described by a plain object, and the document is brought to the description: a step changes only what differs.
 // All text of a program goes into text nodes, never into markup.
@@ -1079,7 +1170,7 @@ function showCsrs(view) {
     return row({}, heading(name), element("td", { "data-fact": name, ...markChange(changed) }, hex(value)), wide(name === "mcause" && value !== 0 ? causeName(value) : ""));
   });
   note("csrs-note", ["software", "timer", "external"].filter((name) => line.state[name]).map((name) => name + " line high").join(", "));
-  fill("csrs", rows, 8, 3);
+  fill("csrs", rows, 6, 3);
 }
 
 function showMemory(view) {
@@ -1124,7 +1215,7 @@ function markFollowed(view, box) {
 
 // The panels are filled first, since how high they are says how much room the lists and the picture have.
 function showAll(view) {
-  const panels = [showFetch, showReorderBuffer, showTextbook, showStations, showUnits, showBus, showStores, showRegisters, showCsrs, showCache, showAccesses, showCounts];
+  const panels = [showFetch, showPredictor, showReorderBuffer, showTextbook, showStations, showUnits, showBus, showStores, showRegisters, showCsrs, showCache, showAccesses, showCounts];
   for (const show of panels) show(view);
   measure();
   scrollAll(view);
@@ -1744,6 +1835,7 @@ function say(text) { note("following", text); }
 
 function follow(number) {
   view.followed = run.table[number] ? number : undefined;
+  showPredictor(view);
   showFollowed();
   writeAddress();
 }

@@ -96,6 +96,7 @@ function say(text) { note("following", text); }
 
 function follow(number) {
   view.followed = run.table[number] ? number : undefined;
+  showPredictor(view);
   showFollowed();
   writeAddress();
 }

@@ -139,7 +139,7 @@ function showCsrs(view) {
     return row({}, heading(name), element("td", { "data-fact": name, ...markChange(changed) }, hex(value)), wide(name === "mcause" && value !== 0 ? causeName(value) : ""));
   });
   note("csrs-note", ["software", "timer", "external"].filter((name) => line.state[name]).map((name) => name + " line high").join(", "));
-  fill("csrs", rows, 8, 3);
+  fill("csrs", rows, 6, 3);
 }
 
 function showMemory(view) {
@@ -184,7 +184,7 @@ function markFollowed(view, box) {
 
 // The panels are filled first, since how high they are says how much room the lists and the picture have.
 function showAll(view) {
-  const panels = [showFetch, showReorderBuffer, showTextbook, showStations, showUnits, showBus, showStores, showRegisters, showCsrs, showCache, showAccesses, showCounts];
+  const panels = [showFetch, showPredictor, showReorderBuffer, showTextbook, showStations, showUnits, showBus, showStores, showRegisters, showCsrs, showCache, showAccesses, showCounts];
   for (const show of panels) show(view);
   measure();
   scrollAll(view);

@@ -38,7 +38,9 @@ class Run {
     this.words = new Changes();  // memory as programs see it, by address
     this.stale = new Changes();  // places at which a store made a word stale
     this.cleaned = [];           // places at which FENCE.I retired
+    this.rewritten = [];         // places at which a store changed a word of the program
     this.sets = new Changes();   // the lines of each cache set
+    this.predicted = new Changes(); // what the predictor's tables hold at each place that is not as at first
     this.table = [];             // each instruction by its number
     this.accesses = [];          // the accesses of the cache, in order
     this.places = [];            // what happened in the cycle before each place, and where its line stands
@@ -70,6 +72,7 @@ class Run {
       this.words.put(value.memory, 0, value.word);
       if (value.stale) this.stale.put(value.memory, 0, true);
     } else if (value.set !== undefined) this.sets.put(value.set, 0, value.lines);
+    else if (value.place !== undefined) this.predicted.put(value.place, 0, value);
     else if (value.stop) this.stop = value;
   }
 
@@ -82,9 +85,11 @@ class Run {
       index, cycle, ended: value.ended, interrupts: (value.steps || []).filter((step) => step.step === "interrupt"),
       stall: value.stall, phases: this.phasesIn(value), stored: before ? storedIn(state, before.state) : [], fetchedBefore: this.table.length,
       changedSets: (value.sets || []).map((each) => each.set), head: state.reorder_buffer.length ? state.reorder_buffer[0].sequence : undefined,
+      learned: value.learned || [], asked: this.askedIn(value),
     };
     if (value.stall && value.stall !== "fetch") here.stalled = value.in_flight[state.reorder_buffer.length];
     this.places.push(here);
+    for (const each of here.learned) this.predicted.put(each.place, place, each);
     here.wrong = wronglyPredicted(here, value, before);
     if (here.wrong !== undefined) this.table[here.wrong].wrong = cycle;
     for (const store of here.stored) this.readStore(store, place);
@@ -93,6 +98,15 @@ class Run {
     if (here.access) this.accesses.push(here.access);
     if (value.sets) for (const each of value.sets) this.sets.put(each.set, place, each.lines);
     else replay(this, here, value, before, place);
+  }
+
+  // The words that a line's cycle fetched and the predictor was asked of, with what it answered: they are the youngest in flight.
+  askedIn(value) {
+    const words = value.state.fetch_buffer.map((each, k) => ({ ...each, number: value.in_flight[value.state.reorder_buffer.length + k] }));
+    return (value.asked || []).map((each) => {
+      const { word, number } = words.filter((other) => other.pc === each.pc && other.fetched === value.cycle).pop();
+      return { ...each, word, number };
+    });
   }
 
   // Which instructions did a phase in a line's cycle, in order of fetch.
@@ -159,6 +173,7 @@ class Run {
       const old = this.words.last(word) || 0;
       this.words.put(word, place, ((old & ~(255 << shift)) | (byte << shift)) >>> 0);
       this.stale.put(word, place, true);
+      if (this.statements.has(word)) this.rewritten.push(place);
     });
   }
 

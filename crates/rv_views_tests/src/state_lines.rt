@@ -1,6 +1,6 @@
 use crate::machine::{described, narrow, pipeline};
 use rv_core::Progress;
-use rv_front::NotTaken;
+use rv_front::{DescribedPredictor, NotTaken};
 use rv_hardware::{Stall, StallCounts, Step};
 use rv_isa::{Cause, Issue, Lines, Reg};
 use rv_passage::{Ending, Passage, Producers};
@@ -29,7 +29,8 @@ const LINE: &[u8] = b"{\"cycle\":2,\"instructions\":[{\"number\":0},\
 \"fetch_buffer\":[{\"pc\":2147483656,\"word\":0,\"fetched\":2,\"predicted\":2147483660}],\
 \"next_fetch\":2147483660,\"halted\":false,\
 \"units\":{\"alu\":[{\"since\":2,\"cycles\":1}],\"mul\":[],\"div\":[],\"mem\":[]},\
-\"store_queue\":[],\"port_free\":0}}\n";
+\"store_queue\":[],\"port_free\":0},\
+\"asked\":[{\"pc\":2147483656,\"answer\":2147483660}]}\n";
 
 // An instruction of which nothing is known but its number, its address, its fetch and how it ended.
 fn passage(number: u64, pc: u32, fetched: u64, ending: Ending) -> Passage {
@@ -119,6 +120,7 @@ fn a_cycle_shows_its_instructions_and_the_hardware(rt: HostRuntime) {
     for _ in 0..3 {
         let _report = pipeline.cycle(&mut NotTaken, timer);
     }
+    let predictor = DescribedPredictor::NotTaken(NotTaken);
     let mut line = Vec::new(alloc);
     write_cycle(
         &mut Sink::new(&mut line),
@@ -127,6 +129,7 @@ fn a_cycle_shows_its_instructions_and_the_hardware(rt: HostRuntime) {
         &steps,
         &pipeline,
         &progress,
+        &predictor,
     );
     assert_eq!(&rt; line.as_slice(), LINE);
 }

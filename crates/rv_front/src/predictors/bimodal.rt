@@ -1,4 +1,5 @@
-ghost use Rattle.std.specs.Prelude.{◌≡◌, ◌<◌, length, IfOk, Some};
+ghost use Rattle.std.specs.Prelude.{◌≡◌, ◌<◌, length, slice_index, IfOk, Some, None};
+ghost use Rattle.std.specs.List.{slice_index_or};
 ghost use Rattle.rv_isa.specs.Description.{Within};
 ghost use Rattle.rv_front.specs.Flow.{flow_at};
 ghost use Rattle.rv_front.specs.Predictors.{bimodal, counted, learned, place_of};
@@ -42,8 +43,31 @@ impl Bimodal {
         })
     }
 
-    // The place of a pc in both tables.
-    fn place(&self, pc: u32) -> usize
+    /// How many places each table has.
+    pub fn places(&self) -> usize
+        ensures { result ≡ length self.now.counters }
+    {
+        self.counters.len()
+    }
+
+    /// The counter at a place, from 0 to 3.
+    pub fn counter(&self, place: usize) -> u8
+        requires { place < length self.now.counters }
+        ensures { result ≡ slice_index self.now.counters place }
+    {
+        self.counters[place]
+    }
+
+    /// The last target that a JALR of a place had, if there was one.
+    pub fn target(&self, place: usize) -> Option<u32>
+        requires { place < length self.now.counters }
+        ensures { result ≡ slice_index_or self.now.targets place None }
+    {
+        self.targets[place]
+    }
+
+    /// The place of a pc in both tables.
+    pub fn place(&self, pc: u32) -> usize
         ensures place { result ≡ place_of self.now pc }
         ensures counter { result < length self.now.counters }
         ensures target { result < length self.now.targets }

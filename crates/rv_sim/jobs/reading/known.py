@@ -4,6 +4,8 @@ import re
 import subprocess
 from functools import cached_property, lru_cache
 
+from reading.predictor import lessons
+
 MEMORY_WORDS = 32
 
 
@@ -128,6 +130,10 @@ class Facts:
         return int(report_of(self.trace)["cycles"])
 
     @cached_property
+    def lessons(self):
+        return lessons(self.trace)
+
+    @cached_property
     def lines(self):
         """The lines of the window's states: the machine, the statements by address, the line of each cycle, and why the run ended."""
         return Window(self.run(self.job.text(), "states", "--from", str(self.first), "--cycles", str(self.window)))
@@ -168,7 +174,8 @@ class Window:
 
     def __init__(self, text):
         self.machine, self.statements, self.listing, self.at, self.stop, self.accesses = None, {}, [], {}, None, []
-        for line in map(json.loads, text.splitlines()):
+        self.lines = [json.loads(line) for line in text.splitlines()]
+        for line in self.lines:
             if "machine" in line:
                 self.machine, self.first = line["machine"], line["first"]
             elif "text" in line:
@@ -280,4 +287,5 @@ class Window:
             found.add(f"port busy for {min(2, state['port_free'] - cycle)}")
         if self.mispredicted(cycle) is not None:
             found.add("wrong prediction")
+        found |= {f"learned with counter {each['counter']}" for each in line.get("learned", ())} | {"learned a target" for each in line.get("learned", ()) if "target" in each}
         return found

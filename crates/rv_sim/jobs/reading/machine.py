@@ -23,5 +23,5 @@ def compare_machine(facts, page, same):
     same("title", page["title"], f"{name}: width {machine['fetch_width']}, reorder buffer {machine['rob']}, {predictor['kind']}")
     same("name of the run", name, page["title"].split(":")[0])
     same("range", page["notes"]["range"], f"of {window.first} to {window.last}")
-    same("panels", page["titles"], ["Source", "Fetch buffer", "Store queue", "Pipeline", "Reorder buffer", "Stations", "Units and port", "Common data bus",
+    same("panels", page["titles"], ["Source", "Fetch buffer", "Predictor", "Store queue", "Pipeline", "Reorder buffer", "Stations", "Units and port", "Common data bus",
                                     "CSRs", "Counts", "Registers", "Cache", "Accesses", "Memory"])

@@ -1,4 +1,5 @@
-"""The panels' texts and marks beside log, report, states and the one-at-a-time machine."""
+"""The panels' texts and marks beside log, report, states, the one-at-a-time machine and a model of the predictor."""
+from reading.predictor import Model, uses_tables
 
 KINDS = ("alu", "mul", "div", "mem")
 STALLS = ("fetch", "serial", "rob", "station", "store")
@@ -31,7 +32,7 @@ class Panels:
 
     def compare(self):
         for check in (self.front, self.reorder_buffer, self.stations, self.units, self.bus, self.stores, self.registers, self.csrs, self.counts,
-                      self.reference, self.cache, self.accesses, self.memory, self.source):
+                      self.reference, self.cache, self.accesses, self.memory, self.source, self.predictor):
             check()
 
     def number(self, sequence):
@@ -214,6 +215,40 @@ class Panels:
         self.same("the access of this cycle", marked, [str(each["cycle"]) for each in known if each["cycle"] == self.cycle])
         missed = [row["cells"][4]["text"] for row in self.tables["accesses"] if "free" not in row["marks"] and "missed" in row["cells"][4]["marks"]]
         self.same("marked misses", missed, [row[4] for row in rows[::-1][:40] if row[4].startswith("miss")])
+
+    def predictor(self):
+        kind, entries = self.machine["predictor"]["kind"], self.machine["predictor"]["entries"]
+        model = Model(kind, entries)
+        for cycle, pc, word_there, following in self.facts.lessons:
+            if cycle <= self.cycle:
+                model.learn(pc, word_there, following)
+        self.same("predictor's note", self.notes["predictor-note"], kind + (f" {entries}" if model.has_tables() else ""))
+        known, rows = self.numbers[len(self.buffer):], []
+        for number, each in zip(known, self.state["fetch_buffer"]):
+            if each["fetched"] != self.cycle or "word" not in each:
+                continue
+            answer, uses = model.answer(each["pc"], each["word"]), model.has_tables() and uses_tables(each["word"])
+            place = str(model.place(each["pc"])) if uses else ""
+            said = "next" if answer == (each["pc"] + 4) % 2 ** 32 else "\u2192" + word(answer)
+            rows.append([f"#{number}", word(each["pc"]), place, said + ("" if uses or not model.has_tables() else ", no table")])
+        self.same("words that the predictor was asked of", texts(self.tables["asked"]), rows)
+        if not model.has_tables():
+            return self.same("tables of a predictor without any", self.tables["tables"], [])
+        _, words = self.facts.storage(self.cycle)
+        sharers = {}
+        for each in self.window.listing:
+            if uses_tables(int(words.get(each["address"], ("0", False))[0], 16)):
+                sharers.setdefault(model.place(each["address"]), []).append(word(each["address"]))
+        places = sorted({*sharers, *model.known()})
+        shown = [row for row in self.tables["tables"] if "free" not in row["marks"]]
+        held = [model.at(place) for place in places]
+        self.same("the predictor's tables", texts(shown), [
+            [str(each["place"]), str(each["counter"]), "taken" if each["counter"] >= 2 else "not", word(each["target"]) if "target" in each else "-",
+             " ".join(sharers.get(each["place"], []))] for each in held])
+        taught = {model.place(pc) for cycle, pc, word_there, _ in self.facts.lessons if cycle == self.cycle and uses_tables(word_there)}
+        marked = [int(row["cells"][0]["text"]) for row in shown if "changed" in row["marks"]]
+        self.same("places that were taught", marked, sorted(taught))
+        self.same("places that were asked", [int(row["cells"][0]["text"]) for row in shown if "touched" in row["marks"]], sorted({int(row[2]) for row in rows if row[2]}))
 
     def memory(self):
         _, words = self.facts.storage(self.cycle)

@@ -9,7 +9,7 @@ READ = r"""(() => {
   const rows = (id) => [...document.querySelectorAll(`#${id} > tr`)].map((row) => ({ cells: [...row.cells].map(cell), marks: marksOf(row),
     widths: [...row.querySelectorAll(".bar")].map((bar) => bar.style.width) }));
   const tables = {};
-  for (const id of ["fetch", "stores", "rob", "stations", "units", "bus", "csrs", "counts", "registers", "cache", "accesses", "status", "waiting", "results"]) tables[id] = rows(id);
+  for (const id of ["fetch", "stores", "rob", "stations", "units", "bus", "csrs", "counts", "registers", "cache", "accesses", "asked", "tables", "status", "waiting", "results"]) tables[id] = rows(id);
   const notes = {};
   for (const each of document.querySelectorAll(".note, #machine, #happened, #following, #range, #stop, #question, #verdict")) if (each.id) notes[each.id] = text(each);
   const list = (id) => [...document.querySelectorAll(`#${id} .row`)].map((row) => ({ ...box(row), marks: marksOf(row), stops: row.classList.contains("stops"),

@@ -1,11 +1,23 @@
-use Rattle.std.proofs.Common.{◌∙◌}
+use Rattle.std.proofs.Common.{◌∙◌, ap, arith}
+use Rattle.rv_isa.specs.declared.values.Values.{Values}
+use Rattle.rv_hardware.proofs.Always.Sound.{sound}
 use Rattle.rv_passage.specs.Passage.{in_buffers}
 use Rattle.rv_passage.specs.Table.{table_from}
 use Rattle.rv_passage.proofs.InFlight.{short_buffers}
+use Rattle.rv_states.specs.Predictor.{untaught_predictor}
 use Rattle.rv_states.proofs.states.write_states.Goals as goal
 
 pub begin-requires : goal.begin-requires
 begin-requires g c = short_buffers c.cycles_done.ensures.reached c.reorder_buffer.ensures c.front.ensures
+
+pub new-requires : goal.new-requires
+new-requires g c =
+    let legal = (sound c.cycles_done.ensures.reached).sizes.legal.predictor in
+    let entries = ap (λ (v : Values). v.predictor.entries) c.values.ensures in
+    (omega (arith, legal.0, entries), omega (arith, legal.1, entries))
+
+pub run_shown-shown-requires-clause-untaught : goal.run_shown-shown-requires-clause-untaught
+run_shown-shown-requires-clause-untaught g c = c.in-Ok-new.ensures ∙ ap untaught_predictor c.values.ensures
 
 pub run_shown-shown-requires-clause-begun : goal.run_shown-shown-requires-clause-begun
 run_shown-shown-requires-clause-begun g c =
