@@ -9,7 +9,10 @@ import tempfile
 import time
 
 NAMES = ("chromium", "chromium-browser", "google-chrome")
-KEYS = {"Enter": 13, "Tab": 9, "ArrowRight": 39, "ArrowLeft": 37, "ArrowUp": 38, "ArrowDown": 40, "Home": 36, "End": 35}
+KEYS = {"Enter": 13, "Tab": 9, "Escape": 27, " ": 32, "ArrowRight": 39, "ArrowLeft": 37, "ArrowUp": 38, "ArrowDown": 40, "PageUp": 33, "PageDown": 34,
+        "Home": 36, "End": 35}
+# what a page keeps of what is said of it: whether it is loaded, and the contexts of its own script and of its frames' scripts
+PAGE_EVENTS = ("Page.loadEventFired", "Runtime.executionContextCreated", "Runtime.executionContextsCleared")
 MODIFIERS = {"Alt": 1, "Ctrl": 2, "Shift": 8}
 
 
@@ -20,10 +23,10 @@ def find_browser():
 class Browser:
     """A Chromium without a window. Its network is off: a page that asks for anything has it in `reports`."""
 
-    def __init__(self, path=None):
+    def __init__(self, path=None, scrollbars=False):
         self.profile = tempfile.TemporaryDirectory()
         here, theirs = os.pipe(), os.pipe()
-        words = [path or find_browser(), "--headless", "--no-sandbox", "--disable-gpu", "--no-first-run", "--hide-scrollbars",
+        words = [path or find_browser(), "--headless", "--no-sandbox", "--disable-gpu", "--no-first-run", f"--hide-scrollbars={str(not scrollbars).lower()}",
                  "--disable-dev-shm-usage", "--disable-component-update", "--disable-background-networking",
                  f"--user-data-dir={self.profile.name}", "--remote-debugging-pipe", "about:blank"]
         shell = f'exec "$@" 3<&{here[0]} 4>&{theirs[1]}'
@@ -31,12 +34,15 @@ class Browser:
         os.close(here[0])
         os.close(theirs[1])
         self.to, self.out = here[1], theirs[0]
-        self.rest, self.count, self.answers, self.reports, self.frames = b"", 0, {}, [], []
+        self.rest, self.count, self.answers, self.reports, self.frames, self.pages = b"", 0, {}, [], [], {}
 
     def __enter__(self):
         return self
 
     def __exit__(self, *_):
+        self.close()
+
+    def close(self):
         try:
             self.send("Browser.close")
             self.process.wait(10)
@@ -66,6 +72,8 @@ class Browser:
         session = message.get("sessionId")
         if method == "Target.attachedToTarget":
             self.prepare(values["sessionId"], values["targetInfo"]["type"])
+        elif session in self.pages and method in PAGE_EVENTS:
+            self.pages[session].hear(method, values)
         elif method == "Runtime.exceptionThrown":
             details = values["exceptionDetails"]
             self.reports.append(details.get("exception", {}).get("description", details["text"]))
@@ -111,21 +119,47 @@ class Browser:
             raise RuntimeError(f"{method}: {answer['error']['message']}")
         return answer.get("result", {})
 
-    def open(self, address, width=1280, height=800, is_dark=False):
+    def blank(self):
+        """A page with nothing on it."""
         target = self.send("Target.createTarget", url="about:blank")["targetId"]
         session = self.send("Target.attachToTarget", targetId=target, flatten=True)["sessionId"]
+        page = self.pages[session] = Page(self, session, target)
         self.prepare(session, "page")
-        page = Page(self, session, target)
-        self.send("Emulation.setDeviceMetricsOverride", session, width=width, height=height, deviceScaleFactor=1, mobile=False)
-        self.send("Emulation.setEmulatedMedia", session, features=[{"name": "prefers-color-scheme", "value": "dark" if is_dark else "light"}])
-        self.send("Page.navigate", session, url=address)
+        return page
+
+    def open(self, address, width=1280, height=800, is_dark=False):
+        page = self.blank()
+        page.size(width, height, is_dark)
+        self.send("Page.navigate", page.session, url=address)
         page.wait("document.documentElement && document.URL !== 'about:blank' && document.readyState === 'complete'")
         return page
 
 
 class Page:
     def __init__(self, browser, session, target):
-        self.browser, self.session, self.target = browser, session, target
+        self.browser, self.session, self.target, self.is_loaded, self.contexts = browser, session, target, False, []
+
+    def hear(self, method, values):
+        if method == "Page.loadEventFired":
+            self.is_loaded = True
+        elif method == "Runtime.executionContextCreated":
+            self.contexts.append(values["context"]["id"])
+        else:
+            self.contexts = []
+
+    def size(self, width, height, is_dark=False):
+        self.browser.send("Emulation.setDeviceMetricsOverride", self.session, width=width, height=height, deviceScaleFactor=1, mobile=False)
+        self.browser.send("Emulation.setEmulatedMedia", self.session,
+                          features=[{"name": "prefers-color-scheme", "value": "dark" if is_dark else "light"}])
+
+    def go(self, address, seconds=60):
+        """Opens an address in the page, and answers when it is loaded."""
+        self.is_loaded, end = False, time.monotonic() + seconds
+        self.browser.send("Page.navigate", self.session, url=address)
+        while not self.is_loaded:
+            if time.monotonic() > end:
+                raise RuntimeError(f"{address} is not loaded within {seconds} s")
+            self.browser.receive(0.5)
 
     def ask(self, expression, seconds=60):
         """The value of a JavaScript expression."""
