@@ -5,7 +5,6 @@ pub mod Prediction
 pub mod Producers
 pub mod Result
 pub mod Table
-pub mod Follows
 pub mod Walk
 pub mod EndedRun
 pub mod Followed

@@ -1,1 +1,2 @@
+mod OnePicture
 pub mod UnderWay

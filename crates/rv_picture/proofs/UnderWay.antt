@@ -1,36 +1,28 @@
--- A run under way whose instructions are followed: one more cycle of it, and its end.
-use Rattle.std.proofs.Common.{◌≡◌, ◌∙◌, ℕ, ◌+◌, ◌≤◌, Bool, true, false, List, [], ◌∷◌, ◌++◌, length, Option, refl, sym, ap, subst, arith}
-use Rattle.std.specs.Prelude.{IfOk, OnErr, Result, Ok, Err}
+-- A run under way that is recorded: one more cycle of it, and its end.
+use Rattle.std.proofs.Common.{◌≡◌, ◌∙◌, ℕ, ◌+◌, ◌≤◌, ◌≢◌, true, false, List, [], ◌∷◌, ◌++◌, drop, length, take, Option, refl, sym, ap, subst, arith}
+use Rattle.std.proofs.Math.Seq.{drop-append_seam, take-append_seam}
+use Rattle.std.proofs.lemmas.Bool.{false≢true}
+use Rattle.std.proofs.lemmas.List.{drop_all, take-append-drop, take_all}
+use Rattle.std.specs.Prelude.{OnErr, Result, Ok, Err}
 use Rattle.rv_isa.specs.declared.lines.Arrival.{Arrival}
 use Rattle.rv_arch.specs.declared.outcome.Stop.{Stop}
+use Rattle.rv_arch.specs.declared.outcome.Stop.TheVariants as stop
 use Rattle.rv_core.specs.declared.outcome.Progress.{Progress}
 use Rattle.rv_core.specs.Watching.{IsShown, Watched, watched, with_shown}
 use Rattle.rv_core.proofs.RunReports.{progress_of-push}
-use Rattle.rv_core.proofs.Shown.{cycle_counts, cycles_shown, reports_of-push}
-use Rattle.rv_hardware.specs.Guided.{GuidedCycles, GuidedHardware, cycled, ended}
+use Rattle.rv_core.proofs.Shown.{cycle_counts, moments_counted, reports_of-push}
+use Rattle.rv_hardware.specs.Guided.{GuidedHardware}
 use Rattle.rv_hardware.specs.Hardware.{Hardware}
-use Rattle.rv_hardware.specs.History.{History, Moment, reports_of}
-use Rattle.rv_hardware.specs.Run.{IsStop}
+use Rattle.rv_hardware.specs.History.{History, Moment, reports_of, cycled, ended}
 use Rattle.rv_hardware.specs.Report.{Report}
 use Rattle.rv_hardware.specs.declared.report.Stall.{Stall}
 use Rattle.rv_hardware.specs.declared.step.Step.{Step}
-use Rattle.rv_hardware.proofs.AnyPrediction.{cycles_of}
-use Rattle.rv_hardware.proofs.Headline.Reached.{cycles_counted}
-use Rattle.rv_passage.specs.Follows.{Follows, begun, followed}
-use Rattle.rv_passage.specs.Passage.{in_flight}
-use Rattle.rv_passage.specs.Table.{CanCount, Passages, after_cycle, numbered_from, table_at}
-use Rattle.rv_passage.specs.declared.passage.Passage.{Passage}
-use Rattle.rv_picture.specs.Recording.{HasFollowed, HasRun, IsFollowed, IsShownIf, stalls_in, stopped_at}
-use Rattle.rv_drawing.specs.declared.window.Window.{Window}
-
-length-numbered_from : (number : ℕ) (ps : List Passage) → length (numbered_from number ps) ≡ length ps
-length-numbered_from number [] = refl
-length-numbered_from number (p ∷ ps) = omega (arith, length-numbered_from (number + 1) ps)
-
--- what comes of an Ok
-pub if_ok_by : {T E : Type 0} {P Q : T → Type 0} (r : Result T E) → ((x : T) → P x → Q x) → IfOk r P → IfOk r Q
-if_ok_by (Ok value) then fact = then value fact
-if_ok_by (Err error) then fact = tt
+use Rattle.rv_passage.specs.EndedRun.{IsEndedRun}
+use Rattle.rv_passage.specs.Table.{CanCount, Passages, after_cycle, table_at}
+use Rattle.rv_passage.specs.Walk.{all_kept, hardware_after}
+use Rattle.rv_passage.proofs.EndedRun.{History-append, History-split, history_end, length-reports_of, length-run, run_earlier, run_on}
+use Rattle.rv_passage.proofs.Followed.{can_count, followed_nothing, followed_on}
+use Rattle.rv_picture.specs.Recording.{HasRun, IsRecorded, IsRecording, Recorded, is_limit, recorded_from, stalls_in, stopped_at}
 
 -- what holds of an error
 pub on_err : {T E P : Type 0} (r : Result T E) → P → OnErr r P
@@ -41,67 +33,101 @@ pub on_err_by : {T E P Q : Type 0} (r : Result T E) → (P → Q) → OnErr r P 
 on_err_by (Ok value) then holds = tt
 on_err_by (Err error) then holds = then holds
 
--- cycles, and more after them
-cycles_on : {arrivals : List Arrival} {old middle new : GuidedHardware} {reports more : List Report} → GuidedCycles arrivals old reports middle → GuidedCycles arrivals middle more new → GuidedCycles arrivals old (reports ++ more) new
-cycles_on ended behind = behind
-cycles_on (cycled cycle rest) behind = cycled cycle (cycles_on rest behind)
-
 pub has_not_run : (arrivals : List Arrival) (h : GuidedHardware) → HasRun arrivals h h
 has_not_run arrivals h = ([], ended)
 
-pub has_run : {arrivals : List Arrival} {old new : GuidedHardware} {reports : List Report} → GuidedCycles arrivals old reports new → HasRun arrivals old new
-has_run {reports = reports} goes = (reports, goes)
+pub has_run : {arrivals : List Arrival} {old new : GuidedHardware} {moments : List Moment} → History arrivals old moments new → HasRun arrivals old new
+has_run {moments = moments} goes = (moments, goes)
 
 pub has_run_on : {arrivals : List Arrival} {old middle new : GuidedHardware} → HasRun arrivals old middle → HasRun arrivals middle new → HasRun arrivals old new
-has_run_on (reports, goes) (more, behind) = (reports ++ more, cycles_on goes behind)
+has_run_on (moments, goes) (more, behind) = (moments ++ more, History-append goes behind)
+
+pub is_by_limit : (reason : Stop) → is_limit reason ≡ true → reason ≡ stop.Limit
+is_by_limit stop.Limit is = refl
+is_by_limit stop.Breakpoint is = absurd (false≢true is)
+is_by_limit (stop.Stale pc) is = absurd (false≢true is)
+is_by_limit stop.Exhausted is = absurd (false≢true is)
+
+pub is_not_by_limit : (reason : Stop) → is_limit reason ≡ false → reason ≢ stop.Limit
+is_not_by_limit reason is same = false≢true (sym is ∙ ap is_limit same)
 
 -- no cycle yet
-pub followed_nothing : (arrivals : List Arrival) (h : GuidedHardware) (table : Passages) (stalls : List (Option Stall)) → table ≡ table_at h.hardware → length table.rows ≤ 288 → stalls ≡ []
-    → HasFollowed table stalls (watched arrivals h [] h)
-followed_nothing arrivals h table stalls is few none =
-    let rows : length (numbered_from 0 (in_flight h.hardware)) ≤ 288 = subst (λ (t : Passages). length t.rows ≤ 288) is few in
-    record {
-      follows = subst (λ (t : Passages). Follows arrivals h [] h t) (sym is) begun;
-      fetched = omega (arith, ap (λ (t : Passages). t.fetched) is, length-numbered_from 0 (in_flight h.hardware), rows);
-      retired = omega (arith, ap (λ (t : Passages). t.retired) is);
-      stalls_are = none;
-    }
+pub recording_nothing : (arrivals : List Arrival) (h : GuidedHardware) (table : Passages) (stalls : List (Option Stall)) → table ≡ table_at h.hardware → length table.rows ≤ 288 → stalls ≡ []
+    → IsRecording table stalls (watched arrivals h [] h)
+recording_nothing arrivals h table stalls is few none = record { followed = followed_nothing all_kept h.hardware table is few; stalls_are = none }
 
 stalls_in-push : (reports : List Report) (last : Report) → stalls_in (reports ++ last ∷ []) ≡ stalls_in reports ++ last.stall ∷ []
 stalls_in-push [] last = refl
 stalls_in-push (report ∷ reports) last = ap (λ l. report.stall ∷ l) (stalls_in-push reports last)
 
-module _ {seen : Watched} {cycle : ℕ} {steps : List Step} {after : Hardware} {progress : Progress} (shown : IsShown seen cycle steps after progress) {table : Passages} {stalls : List (Option Stall)} (so_far : HasFollowed table stalls seen) where
+module _ {seen : Watched} {cycle : ℕ} {steps : List Step} {after : Hardware} {progress : Progress} (shown : IsShown seen cycle steps after progress) {table : Passages} {stalls : List (Option Stall)} (so_far : IsRecording table stalls seen) where
   -- the counts of the table can go on
-  pub can_count : CanCount table
-  can_count = record { fetched = omega (arith, so_far.fetched, shown.number, shown.counted); retired = omega (arith, so_far.retired, shown.number, shown.counted) }
+  pub can_count_on : CanCount table
+  can_count_on = can_count so_far.followed (omega (arith, shown.number, shown.counted))
 
   -- one more cycle, whose steps the table takes
-  pub followed_on : (table' : Passages) → table' ≡ after_cycle cycle steps after table → table'.fetched ≤ table.fetched + 288 → table'.retired ≤ table.retired + 8
-      → (stalls' : List (Option Stall)) → stalls' ≡ stalls ++ progress.stall ∷ [] → HasFollowed table' stalls' (with_shown seen shown)
-  followed_on table' takes fetched retired stalls' pushed =
-      let takes_now = takes ∙ (λ i. after_cycle (shown.number i) (shown.steps_are i) after table) in
-      let one_more = cycle_counts shown.cycled in
+  pub recording_on : (table' : Passages) → table' ≡ after_cycle cycle steps after table → table'.fetched ≤ table.fetched + 288 → table'.retired ≤ table.retired + 8
+      → (stalls' : List (Option Stall)) → stalls' ≡ stalls ++ progress.stall ∷ [] → IsRecording table' stalls' (with_shown seen shown)
+  recording_on table' takes fetched retired stalls' pushed =
+      let last : Moment = record { report = shown.report; after = after } in
       let last_stall : progress.stall ≡ shown.report.stall =
       ap (λ (p : Progress). p.stall) (shown.progress_is ∙ progress_of-push (reports_of seen.moments) shown.report) in
       record {
-        follows = rw (takes_now, reports_of-push seen.moments (record { report = shown.report; after = after })) (followed so_far.follows shown.cycled);
-        fetched = omega (arith, so_far.fetched, fetched, one_more);
-        retired = omega (arith, so_far.retired, retired, one_more);
+        followed = followed_on shown.passes so_far.followed last shown.number shown.steps_are takes (cycle_counts shown.cycled) table' refl fetched retired;
         stalls_are =
             pushed ∙ (λ i. so_far.stalls_are i ++ last_stall i ∷ [])
-            ∙ sym (ap stalls_in (reports_of-push seen.moments (record { report = shown.report; after = after })) ∙ stalls_in-push (reports_of seen.moments) shown.report);
+            ∙ sym (ap stalls_in (reports_of-push seen.moments last) ∙ stalls_in-push (reports_of seen.moments) shown.report);
       }
 
--- the window of a run that ended
-pub followed_to_the_end : {arrivals : List Arrival} {limit : ℕ} {old new : GuidedHardware} {moments : List Moment} {table : Passages} {stalls : List (Option Stall)} {stop : Stop} (window : Window) → History arrivals old moments new
-    → IsStop limit (reports_of moments) new.hardware stop → HasFollowed table stalls (watched arrivals old moments new) → window.first ≡ old.hardware.cycle → window.cycles ≡ length (reports_of moments)
-    → window.stopped ≡ stopped_at stop table.rows → IsFollowed arrivals limit old new table window stalls stop
-followed_to_the_end {moments = moments} window passes stops so_far first cycles stopped =
-    record { reports = reports_of moments; cycles = cycles_shown passes; follows = so_far.follows; stops = stops; first_is = first; cycles_are = cycles; stopped_is = stopped; stalls_are = so_far.stalls_are }
+module _ {arrivals : List Arrival} {old new : GuidedHardware} {reason : Stop} where
+  -- the cycles of a run that ended
+  pub recorded_to_the_end : {limit : ℕ} {moments : List Moment} {table : Passages} {stalls : List (Option Stall)} (first cycles : ℕ) → IsEndedRun arrivals limit old moments new reason → IsRecording table stalls (watched arrivals old moments new)
+      → first ≡ old.hardware.cycle → cycles ≡ length (reports_of moments)
+      → IsRecorded arrivals 0 limit old new reason (record { table = table; window = record { first = first; cycles = cycles; stopped = stopped_at reason table.rows }; stalls = stalls })
+  recorded_to_the_end {limit = limit} {moments = moments} first cycles run so_far first_is cycles_are =
+      let so_many = cycles_are ∙ length-reports_of moments in
+      let table_is = so_far.followed.passages in
+      record {
+        moments = moments;
+        run = run;
+        kept_is = λ i. record {
+          table = table_is i;
+          window = record { first = first_is i; cycles = so_many i; stopped = stopped_at reason (table_is i).rows };
+          stalls = so_far.stalls_are i;
+        };
+      }
 
-module _ (arrivals : List Arrival) where
-  -- the cycles of a recording end with the run
-  pub shown_to_the_end : (shows : Bool) (limit : ℕ) (reason : Stop) (old new : GuidedHardware) (table : Passages) (window : Window) (stalls : List (Option Stall)) (stop : Stop) → IsShownIf shows arrivals limit reason old new table window stalls stop → window.first + window.cycles ≡ new.hardware.cycle
-  shown_to_the_end true limit reason old new table window stalls stop shown = omega (arith, shown.first_is, shown.cycles_are, cycles_counted (cycles_of shown.cycles))
-  shown_to_the_end false limit reason old new table window stalls stop shown = omega (arith, shown.first_is, shown.cycles_are, ap (λ (h : GuidedHardware). h.hardware.cycle) shown.none)
+  -- of a run after so many cycles
+  pub recorded_behind : {from limit : ℕ} {start : GuidedHardware} {before : List Moment} {kept : Recorded} → IsEndedRun arrivals from old before start stop.Limit → IsRecorded arrivals 0 limit start new reason kept
+      → IsRecorded arrivals from (from + limit) old new reason kept
+  recorded_behind {from = from} {start = start} {before = before} run rest =
+      let so_many : length before ≡ from = sym (length-reports_of before) ∙ run.stops.1 in
+      let first : hardware_after old.hardware (take from (before ++ rest.moments)) ≡ start.hardware =
+      ap (λ n. hardware_after old.hardware (take n (before ++ rest.moments))) (sym so_many) ∙ ap (hardware_after old.hardware) (take-append_seam before rest.moments) ∙ history_end run.passes in
+      let others : drop from (before ++ rest.moments) ≡ rest.moments = ap (λ n. drop n (before ++ rest.moments)) (sym so_many) ∙ drop-append_seam before rest.moments in
+      record {
+        moments = before ++ rest.moments;
+        run = run_on run rest.run;
+        kept_is = rest.kept_is ∙ sym (λ i. recorded_from (first i) (others i) reason);
+      }
+
+  -- of one that ended before them
+  pub recorded_nothing : {from : ℕ} {moments : List Moment} {kept : Recorded} (limit : ℕ) → reason ≢ stop.Limit → IsEndedRun arrivals from old moments new reason → kept ≡ recorded_from new.hardware [] reason
+      → IsRecorded arrivals from (from + limit) old new reason kept
+  recorded_nothing {from = from} {moments = moments} limit other run is =
+      let few : length moments ≤ from = omega (arith, length-reports_of moments, length-run from (reports_of moments) new.hardware reason run.stops) in
+      let first : hardware_after old.hardware (take from moments) ≡ new.hardware = ap (hardware_after old.hardware) (take_all from moments few) ∙ history_end run.passes in
+      record {
+        moments = moments;
+        run = run_earlier limit other run;
+        kept_is = is ∙ sym (λ i. recorded_from (first i) (drop_all from moments few i) reason);
+      }
+
+cycles_behind : {arrivals : List Arrival} {old new : GuidedHardware} {moments : List Moment} (from : ℕ) → History arrivals old moments new → (hardware_after old.hardware (take from moments)).cycle + length (drop from moments) ≡ new.hardware.cycle
+cycles_behind {arrivals} {old} {new} {moments} from passes =
+    let (middle, before, behind) = History-split (take from moments) (drop from moments) (subst (λ l. History arrivals old l new) (sym (take-append-drop from moments)) passes) in
+    omega (arith, ap (λ (h : Hardware). h.cycle) (history_end before), moments_counted behind, length-reports_of (drop from moments))
+
+-- the cycles of a recording end with the run
+pub window_end : {arrivals : List Arrival} {from limit : ℕ} {old new : GuidedHardware} {reason : Stop} {kept : Recorded} → IsRecorded arrivals from limit old new reason kept → kept.window.first + kept.window.cycles ≡ new.hardware.cycle
+window_end {from = from} is = omega (arith, cycles_behind from is.run.passes, ap (λ (r : Recorded). r.window.first) is.kept_is, ap (λ (r : Recorded). r.window.cycles) is.kept_is)

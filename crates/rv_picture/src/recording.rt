@@ -1,13 +1,12 @@
-ghost use Rattle.std.specs.Prelude.{◌≡◌, ◌≤◌, ◌<◌, ◌++◌, [], ◌∷◌, List, Option, IfOk, OnErr, length, vec_capacity};
-ghost use Rattle.rv_front.specs.declared.predictors.DescribedPredictor.{DescribedPredictor};
-ghost use Rattle.rv_hardware.specs.Guided.{GuidedCycles, guided};
-ghost use Rattle.rv_hardware.specs.Report.{Report};
-ghost use Rattle.rv_hardware.specs.Run.{IsStop};
+ghost use Rattle.std.specs.Prelude.{◌≡◌, ◌+◌, ◌≤◌, ◌<◌, ◌++◌, [], ◌∷◌, List, IfOk, OnErr, length, vec_capacity};
+ghost use Rattle.rv_hardware.specs.Guided.{guided};
+ghost use Rattle.rv_hardware.specs.History.{Moment};
 ghost use Rattle.std.specs.List.{find};
 ghost use Rattle.std.specs.Option.{option_copied};
+ghost use Rattle.rv_passage.specs.EndedRun.{IsEndedRun};
 ghost use Rattle.rv_passage.specs.Passage.{is_in_flight};
 ghost use Rattle.rv_passage.specs.Table.{passages_of, table_at};
-ghost use Rattle.rv_picture.specs.Recording.{HasRun, IsFollowed, IsOver, IsRecording, is_limit, stopped_at};
+ghost use Rattle.rv_picture.specs.Recording.{HasRun, IsRecorded, held_by, is_limit, recorded_from, stopped_at};
 
 use rv_arch::Stop;
 use rv_core::{Pipeline, Progress, Watcher, watch};
@@ -62,11 +61,11 @@ struct Follower {
 impl Watcher for Follower {
     ghost use Rattle.std.specs.Prelude.{◌<◌, length, vec_capacity};
     ghost use Rattle.rv_passage.specs.Table.{HasRoom, passages_of};
-    ghost use Rattle.rv_picture.specs.Recording.{HasFollowed};
+    ghost use Rattle.rv_picture.specs.Recording.{IsRecording};
 
     type Refusal = AllocError;
 
-    ghost has_seen = { λ _ follower seen _ _. HasFollowed (passages_of follower.table) follower.stalls.items seen };
+    ghost has_seen = { λ _ follower seen _ _. IsRecording (passages_of follower.table) follower.stalls.items seen };
 
     ghost has_room = { λ follower. HasRoom follower.table × (length follower.stalls.items < vec_capacity follower.stalls) };
 
@@ -110,7 +109,7 @@ fn run_on(
     steps: Vec<Step>,
 ) -> Stop
     requires { 8 ≤ vec_capacity steps }
-    ensures { (reports : List Report) × GuidedCycles arrivals.now (guided pipeline.old (known predictor.old)) reports (guided pipeline.new (known predictor.new)) × IsStop limit reports pipeline.new result }
+    ensures { (moments : List Moment) × IsEndedRun arrivals.now limit (guided pipeline.old (known predictor.old)) moments (guided pipeline.new (known predictor.new)) result }
 {
     let ended = watch(
         pipeline,
@@ -144,7 +143,7 @@ fn follow(
     arrivals: &Arrivals,
     limit: u64,
 ) -> Result<Recording, AllocError>
-    ensures followed { IfOk result (λ recording. IsFollowed arrivals.now limit (guided pipeline.old (known predictor.old)) (guided pipeline.new (known predictor.new)) (passages_of recording.table) recording.window recording.stalls.items recording.stop) }
+    ensures followed { IfOk result (λ recording. IsRecorded arrivals.now 0 limit (guided pipeline.old (known predictor.old)) (guided pipeline.new (known predictor.new)) recording.stop (held_by recording)) }
     ensures run { OnErr result (HasRun arrivals.now (guided pipeline.old (known predictor.old)) (guided pipeline.new (known predictor.new))) }
 {
     let first = pipeline.cycles_done();
@@ -214,7 +213,7 @@ fn is_limit(stop: Stop) -> bool
 
 // The recording of a run that ended before its window.
 fn nothing_shown(alloc: Global, pipeline: &Pipeline, stop: Stop) -> Result<Recording, AllocError>
-    ensures { IfOk result (λ recording. (predictor : Option DescribedPredictor) → IsOver stop (guided pipeline.now predictor) (guided pipeline.now predictor) (passages_of recording.table) recording.window recording.stalls.items recording.stop) }
+    ensures { IfOk result (λ recording. (held_by recording ≡ recorded_from pipeline.now [] stop) × (recording.stop ≡ stop)) }
 {
     let table = begin(alloc, pipeline)?;
     let first = pipeline.cycles_done();
@@ -234,7 +233,7 @@ pub(crate) fn record_window(
     from: u64,
     limit: u64,
 ) -> Result<Recording, AllocError>
-    ensures recording { IfOk result (λ recording. IsRecording arrivals.now from limit (guided pipeline.old (known predictor.old)) (guided pipeline.new (known predictor.new)) (passages_of recording.table) recording.window recording.stalls.items recording.stop) }
+    ensures recording { IfOk result (λ recording. IsRecorded arrivals.now from (from + limit) (guided pipeline.old (known predictor.old)) (guided pipeline.new (known predictor.new)) recording.stop (held_by recording)) }
     ensures run { OnErr result (HasRun arrivals.now (guided pipeline.old (known predictor.old)) (guided pipeline.new (known predictor.new))) }
 {
     let steps = Vec::with_capacity(alloc, 8)?;

@@ -2,7 +2,7 @@ ghost use Rattle.std.specs.Prelude.{◌≡◌, ◌+◌, ◌<◌, ◌^◌, Err};
 ghost use Rattle.rv_hardware.specs.Guided.{guided};
 ghost use Rattle.rv_passage.specs.Table.{passages_of};
 ghost use Rattle.rv_drawing.specs.Over.{over_of};
-ghost use Rattle.rv_picture.specs.Picture.{IsPicture, picture_of, with_rows};
+ghost use Rattle.rv_picture.specs.Picture.{HasOnePicture, IsPicture, picture_of, with_rows};
 ghost use Rattle.rv_picture.specs.Recording.{HasRun};
 ghost use Rattle.rv_text.specs.IsText.{IsText};
 ghost use Rattle.rv_text.specs.Written.{IsWritten};
@@ -37,6 +37,8 @@ pub fn write_picture<W: Write>(
     writer: &mut W,
 ) -> Result<RunEnd, TextError>
     ensures written { IsText (IsPicture arrivals.now view listing.now (guided pipeline.old (known predictor.old)) (guided pipeline.new (known predictor.new))) result (W.contents writer.old) (W.contents writer.new) }
+    // With a described predictor a picture is a function of what it is a picture of.
+    ensures one_picture { HasOnePicture arrivals.now view listing.now }
     ensures run { result ≡ Err TextError.Memory → HasRun arrivals.now (guided pipeline.old (known predictor.old)) (guided pipeline.new (known predictor.new)) }
 {
     let View { from, cycles, .. } = view;

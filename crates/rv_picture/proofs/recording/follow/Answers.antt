@@ -1,11 +1,11 @@
-use Rattle.std.proofs.Common.{None, ap, refl, sym, subst}
+use Rattle.std.proofs.Common.{None, ap, sym, subst}
 use Rattle.rv_core.specs.declared.outcome.Progress.{Progress}
-use Rattle.rv_core.proofs.Shown.{cycles_shown, stops_by}
+use Rattle.rv_core.proofs.Shown.{stops_by}
 use Rattle.rv_hardware.specs.Guided.{guided}
 use Rattle.rv_passage.specs.Table.{passages_of}
-use Rattle.rv_picture.specs.Recording.{IsFollowed, stopped_at}
+use Rattle.rv_picture.specs.Recording.{IsRecorded, held_by}
 use Rattle.rv_picture.specs.declared.recording.Recording.{Recording}
-use Rattle.rv_picture.proofs.UnderWay.{followed_nothing, followed_to_the_end, has_not_run, has_run, on_err}
+use Rattle.rv_picture.proofs.UnderWay.{has_not_run, has_run, on_err, recorded_to_the_end, recording_nothing}
 use Rattle.rv_picture.proofs.recording.follow.Goals as goal
 
 pub returns-in_err-begin-clause-run : goal.returns-in_err-begin-clause-run
@@ -15,18 +15,18 @@ pub returns-in_err-steps-clause-run : goal.returns-in_err-steps-clause-run
 returns-in_err-steps-clause-run g c = on_err _ (has_not_run c.args.arrivals.now (guided c.args.pipeline.now ((goal.Predictor-dyn g c.args.predictor.now).known c.args.predictor.now.1)))
 
 pub returns-in_err-stop-clause-run : goal.returns-in_err-stop-clause-run
-returns-in_err-stop-clause-run g c = on_err _ (has_run (cycles_shown c.watch-ended.ensures.passes))
+returns-in_err-stop-clause-run g c = on_err _ (has_run c.watch-ended.ensures.passes)
 
 pub watch-ended-requires-clause-ready : goal.watch-ended-requires-clause-ready
 watch-ended-requires-clause-ready g c =
-    (None, followed_nothing c.args.arrivals.now _ (passages_of c.in_ok-begin.field-0) c.new.result.items c.in_ok-begin.ensures.table c.in_ok-begin.ensures.few c.new.ensures.items)
+    (None, recording_nothing c.args.arrivals.now _ (passages_of c.in_ok-begin.field-0) c.new.result.items c.in_ok-begin.ensures.table c.in_ok-begin.ensures.few c.new.ensures.items)
 
 pub returns-clause-followed : goal.returns-clause-followed
 returns-clause-followed g c =
     let old = guided c.args.pipeline.now ((goal.Predictor-dyn g c.args.predictor.now).known c.args.predictor.now.1) in
     let new = guided c.watch-ended.new.pipeline ((goal.Predictor-dyn g (c.args.predictor.now.0, c.watch-ended.new.predictor)).known c.watch-ended.new.predictor) in
     let run = c.watch-ended.ensures in
-    let begun = followed_nothing c.args.arrivals.now old (passages_of c.in_ok-begin.field-0) c.new.result.items c.in_ok-begin.ensures.table c.in_ok-begin.ensures.few c.new.ensures.items in
-    subst (λ (r : Recording). IsFollowed c.args.arrivals.now c.args.limit old new (passages_of r.table) r.window r.stalls.items r.stop) (sym c.recorded.ensures)
-    (followed_to_the_end (record { first = c.cycles_done-first.result; cycles = c.watch-ended.result.progress.cycles; stopped = stopped_at c.in_ok-stop.stop (passages_of c.watch-ended.new.watcher.table).rows }) run.passes (stops_by run c.in_ok-stop.stop c.in_ok-stop.was) (run.seen None begun)
-    c.cycles_done-first.ensures.number (ap (λ (p : Progress). p.cycles) run.counted) refl)
+    let begun = recording_nothing c.args.arrivals.now old (passages_of c.in_ok-begin.field-0) c.new.result.items c.in_ok-begin.ensures.table c.in_ok-begin.ensures.few c.new.ensures.items in
+    subst (λ (r : Recording). IsRecorded c.args.arrivals.now 0 c.args.limit old new r.stop (held_by r)) (sym c.recorded.ensures)
+    (recorded_to_the_end c.cycles_done-first.result c.watch-ended.result.progress.cycles (record { passes = run.passes; stops = stops_by run c.in_ok-stop.stop c.in_ok-stop.was }) (run.seen None begun)
+    c.cycles_done-first.ensures.number (ap (λ (p : Progress). p.cycles) run.counted))
