@@ -1,6 +1,6 @@
 ghost use Rattle.std.specs.Prelude.{◌≡◌, Err};
 ghost use Rattle.rv_hardware.specs.Guided.{guided};
-ghost use Rattle.rv_log.specs.Log.{IsLog};
+ghost use Rattle.rv_log.specs.Log.{HasOneLog, IsLog};
 ghost use Rattle.rv_text.specs.IsText.{IsText};
 
 use crate::running::run_logged;
@@ -37,6 +37,8 @@ pub fn write_log<W: Write>(
     writer: &mut W,
 ) -> Result<Stop, TextError>
     ensures written { IsText (IsLog arrivals.now limit listing.now (guided pipeline.old (known predictor.old)) (guided pipeline.new (known predictor.new))) result (W.contents writer.old) (W.contents writer.new) }
+    // With a described predictor a log is a function of what it is a log of.
+    ensures one_log { HasOneLog arrivals.now limit listing.now }
     ensures not_run { result ≡ Err TextError.Memory → (pipeline.new ≡ pipeline.old) × (known predictor.new ≡ known predictor.old) }
 {
     // Of hardware that a reset and cycles lead to, the buffers are as long as described.
