@@ -4,3 +4,4 @@ pub mod Changes
 pub mod Profiles
 pub mod Rooms
 pub mod Followed
+pub mod InFlight

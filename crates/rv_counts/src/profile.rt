@@ -8,7 +8,7 @@ ghost use Rattle.rv_counts.specs.Passing.{has_left};
 use crate::counts::WordCounts;
 use crate::loads::LoadCosts;
 use rv_isa::Description;
-use rv_passage::Passage;
+use rv_passage::{Passage, up_to_youngest_left};
 use std::alloc::{AllocError, Global};
 use std::marker::Model;
 
@@ -187,7 +187,7 @@ impl Profile {
         ensures capacity { self.old.capacity ≤ self.new.capacity }
     {
         self.note_head(head);
-        self.add_left(rows);
+        self.add_left(up_to_youngest_left(rows));
     }
 
     /// Counts the passages that are in flight at the end of a run. The only error is out of memory, which changes no count.
