@@ -25,6 +25,6 @@ mod window;
 pub use room::room_name;
 pub use svg::write_picture_svg;
 pub use text::write_picture_text;
-pub use title::{put_correction, write_correction};
-pub use wait::{put_result, unit_name, write_result};
+pub use title::put_correction;
+pub use wait::{put_result, unit_name};
 pub use window::Window;

@@ -4,13 +4,12 @@ ghost use Rattle.rv_drawing.specs.Title.{correction_text, prediction_title, row_
 ghost use Rattle.rv_drawing.specs.Stopped.{is_stopped};
 ghost use Rattle.rv_text.specs.Line.{word_text};
 ghost use Rattle.rv_text.specs.Said.{Says};
-ghost use Rattle.rv_text.specs.Written.{IsWritten};
 
 use crate::window::Window;
 use itoa::Buffer;
 use rv_isa::Cause;
 use rv_passage::{Ending, Passage};
-use rv_text::{ReportError, Sink, hexadecimal};
+use rv_text::{Sink, hexadecimal};
 use std::io::Write;
 
 /// Writes what was predicted after a branch or a jump between two texts, and where the program went on, if not there.
@@ -38,22 +37,6 @@ pub fn put_correction<W: Write>(
         }
         None => out.put_all(&[before, predicted.as_slice(), after]),
     }
-}
-
-/// Writes the same to a writer.
-#[tactic(auto, using(rv_text::proofs::Saying::says_written))]
-pub fn write_correction<W: Write>(
-    writer: &mut W,
-    before: &[u8],
-    predicted: u32,
-    correction: Option<u32>,
-    after: &[u8],
-) -> Result<(), ReportError>
-    ensures { IsWritten result (W.contents writer.old) (W.contents writer.new) (before.now ++ (word_text predicted ++ (correction_text correction ++ after.now))) }
-{
-    let mut out = Sink::new(writer);
-    put_correction(&mut out, before, predicted, correction, after);
-    out.outcome()
 }
 
 #[tactic(auto, using(rv_text::proofs::Saying::saying), unfolding(crate::specs::Title::prediction_title, crate::specs::Title::predicted_title))]

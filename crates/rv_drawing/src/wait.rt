@@ -2,7 +2,6 @@ ghost use Rattle.std.specs.Prelude.{◌≡◌, ◌++◌, codes};
 ghost use Rattle.rv_isa.specs.Instruction.{kind_of_word};
 ghost use Rattle.rv_drawing.specs.Wait.{awaited, issue_wait, one_wait, operand_wait, producer_text, result_text, second_wait, tip_of, unit_text};
 ghost use Rattle.rv_text.specs.Said.{Says};
-ghost use Rattle.rv_text.specs.Written.{IsWritten};
 
 use crate::cell::{Cell, is_past};
 use crate::room::dispatch_wait;
@@ -11,7 +10,7 @@ use itoa::Buffer;
 use rv_hardware::Stall;
 use rv_isa::{Instr, Kind, Reg, kind};
 use rv_passage::{Passage, Producer, register_name};
-use rv_text::{ReportError, Sink, hexadecimal};
+use rv_text::{Sink, hexadecimal};
 use std::io::Write;
 
 fn kind_of(instruction: &Option<Instr>) -> Option<Kind>
@@ -40,16 +39,6 @@ pub fn put_result<W: Write>(out: &mut Sink<'_, W>, register: Reg, pc: u32)
     let name = register_name(register);
     let address = hexadecimal(pc);
     out.put_all(&[b"x", number, b"/", name, b" of ", address.as_slice()])
-}
-
-/// Writes the same to a writer.
-#[tactic(auto, using(rv_text::proofs::Saying::says_written))]
-pub fn write_result<W: Write>(writer: &mut W, register: Reg, pc: u32) -> Result<(), ReportError>
-    ensures { IsWritten result (W.contents writer.old) (W.contents writer.new) (result_text register pc) }
-{
-    let mut out = Sink::new(writer);
-    put_result(&mut out, register, pc);
-    out.outcome()
 }
 
 #[tactic(auto, using(rv_text::proofs::Saying::saying), unfolding(crate::specs::Wait::producer_text))]

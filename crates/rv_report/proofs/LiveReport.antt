@@ -1,9 +1,6 @@
 -- A run whose report is written as its cycles come: what was written so far, one cycle more, and the end.
 use Rattle.std.proofs.Common.{◌≡◌, ◌∙◌, ℕ, ◌+◌, ◌*◌, ◌^◌, ◌≤◌, Bool, true, false, List, [], ◌++◌, length, Option, count_by, sym, ap, refl, subst, arith}
-use Rattle.std.specs.Prelude.{IsErrAnd, Result, Ok, Err}
-use Rattle.std.specs.Result.{is_ok}
 use Rattle.std.specs.Io.KnownBytes.{Appends}
-use Rattle.std.proofs.lemmas.Bool.{true≢false}
 use Rattle.std.proofs.lemmas.Grind.{flat_map-append}
 use Rattle.std.proofs.lemmas.List.Sums.{count_by-le-length, sum_by-append}
 use Rattle.rv_isa.specs.declared.lines.Arrival.{Arrival}
@@ -18,20 +15,16 @@ use Rattle.rv_hardware.specs.History.{History, Moment, reports_of}
 use Rattle.rv_hardware.specs.Run.{IsStop, steps_of}
 use Rattle.rv_hardware.specs.Step.{is_interrupt, is_retirement, is_trap}
 use Rattle.rv_hardware.specs.declared.step.Step.{Step}
-use Rattle.rv_report.specs.LiveReport.{HasTraced, IsRunReport, IsTraced, Reports}
+use Rattle.rv_report.specs.LiveReport.{HasTraced, IsRunReport, IsTraced}
 use Rattle.rv_report.specs.Rows.{step_line, trace_lines}
 use Rattle.rv_report.specs.RunReport.{end_of, run_report, trace_of}
 use Rattle.rv_report.specs.Totals.{HasRoom, both_counts, counts_of, totals_with}
-use Rattle.rv_text.specs.Written.{AppendsBeginning, IsWritten}
+use Rattle.rv_text.specs.Said.{Extends, IsSaid}
+use Rattle.rv_text.specs.Written.{AppendsBeginning}
 use Rattle.rv_report.specs.declared.options.Options.{Options}
 use Rattle.rv_report.specs.declared.totals.StepCounts.{StepCounts}
 use Rattle.rv_report.specs.declared.totals.Totals.{Totals}
-use Rattle.rv_text.proofs.Writing.{Appends-both, Appends-nothing, Appends-same, beginning-both, beginning-longer, written_after}
-
--- more is written after a text that was written whole
-pub written_on : {T E T' E' : Type 0} (old : Result T E) (new : Result T' E') (a b c : Option (List ℕ)) (text more : List ℕ) → is_ok old ≡ true → IsWritten new b c more → IsWritten old a b text → IsWritten new a c (text ++ more)
-written_on (Ok done) new a b c text more ok next is = written_after new a b c text more is next
-written_on (Err error) new a b c text more ok next is = absurd (true≢false (sym ok))
+use Rattle.rv_text.proofs.Writing.{Appends-nothing, Appends-same}
 
 trace_of-none : (shown : Bool) → trace_of shown [] ≡ []
 unfolding trace_lines
@@ -53,52 +46,36 @@ counts_of-append xs ys = λ i. record {
   interrupts = count_by-append is_interrupt xs ys i;
 }
 
--- an error that `?` hands on, where a beginning was written
-pub reports_in_part : {E : Type 0} (IsReport : Stop → List ℕ → Type 0) (r : Result Stop E) (error : E) (old new : Option (List ℕ)) → IsErrAnd r (λ e. e ≡ error)
-    → (stop : Stop) × (text : List ℕ) × IsReport stop text × AppendsBeginning old new text → Reports IsReport r old new
-reports_in_part IsReport (Ok stop) error old new failed beginning = absurd failed
-reports_in_part IsReport (Err e) error old new failed beginning = beginning
-
--- the report of a run whose trace was written
-module _ {T E : Type 0} (arrivals : List Arrival) (options : Options) (old new : GuidedHardware) (totals : Totals) (written : Result T E) (before mid : Option (List ℕ)) (traced : IsTraced arrivals options old new totals written before mid) where
-  abbrev text : List ℕ
-  text = trace_of options.trace (steps_of traced.reports) ++ end_of totals new.hardware options
-
-  is_run_report : IsRunReport arrivals options old totals.stop text
-  unfolding run_report
-  is_run_report = record {
-    reports = traced.reports;
-    new = new;
-    cycles = traced.cycles;
-    stops = traced.stops;
-    text_is = ap (λ (t : Totals). trace_of options.trace (steps_of traced.reports) ++ end_of t new.hardware options) traced.totals_are;
-  }
-
-  trace_when : (ended : Result T E) → written ≡ ended → IsWritten ended before mid (trace_of options.trace (steps_of traced.reports))
-  trace_when ended is = subst (λ r. IsWritten r before mid (trace_of options.trace (steps_of traced.reports))) is traced.trace
-
-  -- the trace was written whole, and then the rest, or a beginning of it
-  module _ (done : T) (is : written ≡ Ok done) (after : Option (List ℕ)) where
-    pub written_whole : Appends mid after (end_of totals new.hardware options) → (text : List ℕ) × IsRunReport arrivals options old totals.stop text × Appends before after text
-    written_whole rest = (text, is_run_report, Appends-both before mid after _ _ (trace_when (Ok done) is) rest)
-
-    pub written_to_the_end : AppendsBeginning mid after (end_of totals new.hardware options) → (stop : Stop) × (text : List ℕ) × IsRunReport arrivals options old stop text × AppendsBeginning before after text
-    written_to_the_end rest = (totals.stop, text, is_run_report, beginning-both before mid after _ _ (trace_when (Ok done) is) rest)
-
-  -- a beginning of the trace was written
-  pub written_in_part : (error : E) → written ≡ Err error → (stop : Stop) × (text : List ℕ) × IsRunReport arrivals options old stop text × AppendsBeginning before mid text
-  written_in_part error is = (totals.stop, text, is_run_report, beginning-longer before mid _ _ (trace_when (Err error) is))
-
--- no step yet
-pub traced_nothing : {T E : Type 0} (is_shown : Bool) (counts : StepCounts) (written : Result T E) (done : T) (output : Option (List ℕ)) → counts ≡ counts_of [] → written ≡ Ok done → HasTraced is_shown is_shown counts written [] output output
-traced_nothing is_shown counts written done output none unwritten = record {
-  same = refl;
-  counted = none;
-  trace = subst (λ r. IsWritten r output output (trace_of is_shown [])) (sym unwritten) (Appends-same output output _ _ (sym (trace_of-none is_shown)) (Appends-nothing output));
+-- the trace of a run, and then the rest, is its report
+pub traced_report : {arrivals : List Arrival} {options : Options} {old new : GuidedHardware} {totals : Totals} {failed : Bool} {before mid : Option (List ℕ)}
+    → (traced : IsTraced arrivals options old new totals failed before mid)
+    → IsRunReport arrivals options old totals.stop (trace_of options.trace (steps_of traced.reports) ++ end_of totals new.hardware options)
+unfolding run_report
+traced_report {options = options} {new = new} traced = record {
+  reports = traced.reports;
+  new = new;
+  cycles = traced.cycles;
+  stops = traced.stops;
+  text_is = ap (λ (t : Totals). trace_of options.trace (steps_of traced.reports) ++ end_of t new.hardware options) traced.totals_are;
 }
 
-module _ {T E : Type 0} {seen : Watched} {cycle : ℕ} {steps : List Step} {after : Hardware} {progress : Progress} (shown : IsShown seen cycle steps after progress)
-    {is_shown is_shown' : Bool} {counts : StepCounts} {written : Result T E} {before mid : Option (List ℕ)} (traced : HasTraced is_shown is_shown' counts written seen.moments before mid) where
+-- what is said after a text that was said: a beginning of both where a write failed, and else both
+pub said_in_part : {was failed : Bool} (before : Option (List ℕ)) {mid now : Option (List ℕ)} (first : List ℕ) {text : List ℕ} → failed ≡ true → IsSaid was before mid first → Extends was failed mid now text → AppendsBeginning before now (first ++ text)
+said_in_part before first is said extended = rw is at (extended.extends before first said)
+
+pub said_to_the_end : {was failed : Bool} (before : Option (List ℕ)) {mid now : Option (List ℕ)} (first : List ℕ) {text : List ℕ} → failed ≡ false → IsSaid was before mid first → Extends was failed mid now text → Appends before now (first ++ text)
+said_to_the_end before first is said extended = rw is at (extended.extends before first said)
+
+-- no step yet
+pub traced_nothing : (is_shown : Bool) (counts : StepCounts) (output : Option (List ℕ)) → (counts.retired ≡ 0) × ((counts.traps ≡ 0) × (counts.interrupts ≡ 0)) → HasTraced is_shown is_shown counts false [] output output
+traced_nothing is_shown counts output none = record {
+  same = refl;
+  counted = λ i. record { retired = none.0 i; traps = none.1.0 i; interrupts = none.1.1 i };
+  trace = Appends-same output output _ _ (sym (trace_of-none is_shown)) (Appends-nothing output);
+}
+
+module _ {seen : Watched} {cycle : ℕ} {steps : List Step} {after : Hardware} {progress : Progress} (shown : IsShown seen cycle steps after progress)
+    {is_shown is_shown' : Bool} {counts : StepCounts} {failed : Bool} {before mid : Option (List ℕ)} (traced : HasTraced is_shown is_shown' counts failed seen.moments before mid) where
   -- the steps of one more cycle can be counted
   pub room_for_more : HasRoom counts (length steps)
   room_for_more =
@@ -111,25 +88,25 @@ module _ {T E : Type 0} {seen : Watched} {cycle : ℕ} {steps : List Step} {afte
       })
 
   -- one more cycle, whose steps are counted and written
-  pub traced_on : (is_shown'' : Bool) (counts' : StepCounts) (written' : Result T E) (now : Option (List ℕ)) → is_shown'' ≡ is_shown' → counts' ≡ both_counts counts (counts_of steps)
-      → IsWritten written' before now (trace_of is_shown (steps_of (reports_of seen.moments)) ++ trace_of is_shown' steps) → HasTraced is_shown is_shown'' counts' written' (with_shown seen shown).moments before now
-  traced_on is_shown'' counts' written' now same counted wrote =
+  pub traced_on : (is_shown'' : Bool) (counts' : StepCounts) (failed' : Bool) (now : Option (List ℕ)) → is_shown'' ≡ is_shown' → counts' ≡ both_counts counts (counts_of steps)
+      → IsSaid failed' before now (trace_of is_shown (steps_of (reports_of seen.moments)) ++ trace_of is_shown' steps) → HasTraced is_shown is_shown'' counts' failed' (with_shown seen shown).moments before now
+  traced_on is_shown'' counts' failed' now same counted wrote =
       let so_far = steps_of (reports_of seen.moments) in
       let all : steps_of (reports_of (with_shown seen shown).moments) ≡ so_far ++ steps = shown_steps-push seen.moments _ ∙ ap (λ l. so_far ++ l) (sym shown.steps_are) in
       record {
         same = same ∙ traced.same;
         counted = counted ∙ ap (λ c. both_counts c (counts_of steps)) traced.counted ∙ sym (ap counts_of all ∙ counts_of-append so_far steps);
-        trace = subst (IsWritten written' before now) (ap (λ b. trace_of is_shown so_far ++ trace_of b steps) traced.same ∙ sym (ap (trace_of is_shown) all ∙ trace_of-append is_shown so_far steps)) wrote;
+        trace = subst (IsSaid failed' before now) (ap (λ b. trace_of is_shown so_far ++ trace_of b steps) traced.same ∙ sym (ap (trace_of is_shown) all ∙ trace_of-append is_shown so_far steps)) wrote;
       }
 
 -- what a run came to whose cycles are traced
-pub traced_to_the_end : {T E : Type 0} {arrivals : List Arrival} {options : Options} {old new : GuidedHardware} {moments : List Moment} {progress : Progress} {is_shown is_shown' : Bool} {counts : StepCounts} {written : Result T E} {before after : Option (List ℕ)} {stop : Stop} {totals : Totals}
-    → History arrivals old moments new → progress ≡ progress_of (reports_of moments) → IsStop options.limit (reports_of moments) new.hardware stop → is_shown ≡ options.trace → HasTraced is_shown is_shown' counts written moments before after
-    → totals ≡ totals_with progress counts stop → IsTraced arrivals options old new totals written before after
-traced_to_the_end {moments = moments} {written = written} {before = before} {after = after} {stop = stop} passes counted stops shown traced is = rw is (record {
+pub traced_to_the_end : {arrivals : List Arrival} {options : Options} {old new : GuidedHardware} {moments : List Moment} {progress : Progress} {is_shown is_shown' : Bool} {counts : StepCounts} {failed : Bool} {before after : Option (List ℕ)} {stop : Stop} {totals : Totals}
+    → History arrivals old moments new → progress ≡ progress_of (reports_of moments) → IsStop options.limit (reports_of moments) new.hardware stop → is_shown ≡ options.trace → HasTraced is_shown is_shown' counts failed moments before after
+    → totals ≡ totals_with progress counts stop → IsTraced arrivals options old new totals failed before after
+traced_to_the_end {moments = moments} {failed = failed} {before = before} {after = after} {stop = stop} passes counted stops shown traced is = rw is (record {
   reports = reports_of moments;
   cycles = cycles_shown passes;
   stops = stops;
   totals_are = λ i. totals_with (counted i) (traced.counted i) stop;
-  trace = subst (λ b. IsWritten written before after (trace_of b (steps_of (reports_of moments)))) shown traced.trace;
+  trace = subst (λ b. IsSaid failed before after (trace_of b (steps_of (reports_of moments)))) shown traced.trace;
 })

@@ -10,22 +10,23 @@ use Rattle.rv_hardware.specs.Run.{IsStop, steps_of}
 use Rattle.rv_hardware.specs.Seen.{layout_of, seen}
 use Rattle.rv_report.specs.RunReport.{run_report, trace_of}
 use Rattle.rv_report.specs.Totals.{counts_of, totals_at}
-use Rattle.rv_text.specs.Written.{AppendsBeginning, IsWritten}
+use Rattle.rv_text.specs.Said.{IsSaid}
+use Rattle.rv_text.specs.Written.{AppendsBeginning}
 use Rattle.rv_report.specs.declared.{options.Options.Options, totals.StepCounts.StepCounts, totals.Totals.Totals}
 
--- the steps of the cycles so far are counted, and their lines, where they are shown as they were at first, are written
-pub record HasTraced {T E : Type 0} (is_shown is_shown' : Bool) (counts : StepCounts) (written : Result T E) (moments : List Moment) (before now : Option (List ℕ)) : Type 0 where
+-- the steps of the cycles so far are counted, and their lines, where they are shown as they were at first, are said
+pub record HasTraced (is_shown is_shown' : Bool) (counts : StepCounts) (failed : Bool) (moments : List Moment) (before now : Option (List ℕ)) : Type 0 where
   pub same : is_shown' ≡ is_shown
   pub counted : counts ≡ counts_of (steps_of (reports_of moments))
-  pub trace : IsWritten written before now (trace_of is_shown (steps_of (reports_of moments)))
+  pub trace : IsSaid failed before now (trace_of is_shown (steps_of (reports_of moments)))
 
 -- cycles that ended, with what they came to, and with their trace, where it is asked for, written
-pub record IsTraced {T E : Type 0} (arrivals : List Arrival) (options : Options) (old new : GuidedHardware) (totals : Totals) (written : Result T E) (before after : Option (List ℕ)) : Type 0 where
+pub record IsTraced (arrivals : List Arrival) (options : Options) (old new : GuidedHardware) (totals : Totals) (failed : Bool) (before after : Option (List ℕ)) : Type 0 where
   pub reports : List Report
   pub cycles : GuidedCycles arrivals old reports new
   pub stops : IsStop options.limit reports new.hardware totals.stop
   pub totals_are : totals ≡ totals_at reports totals.stop
-  pub trace : IsWritten written before after (trace_of options.trace (steps_of reports))
+  pub trace : IsSaid failed before after (trace_of options.trace (steps_of reports))
 
 -- A text is the report of a run that ended for a reason.
 pub record IsRunReport (arrivals : List Arrival) (options : Options) (old : GuidedHardware) (stop : Stop) (text : List ℕ) : Type 0 where

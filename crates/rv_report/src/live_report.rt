@@ -1,55 +1,26 @@
-ghost use Rattle.std.specs.Prelude.{◌≡◌, ◌≤◌, [], Ok, length, vec_capacity};
+ghost use Rattle.std.specs.Prelude.{◌≤◌, vec_capacity};
 ghost use Rattle.rv_hardware.specs.Guided.{guided};
 ghost use Rattle.rv_report.specs.LiveReport.{IsRunReport, IsTraced, Reports};
-ghost use Rattle.rv_report.specs.RunReport.{trace_of};
-ghost use Rattle.rv_report.specs.Totals.{HasRoom, both_counts, counts_of};
-ghost use Rattle.rv_text.specs.Written.{IsContinued};
 
 use crate::options::Options;
-use crate::run_report::{write_totals, write_trace};
+use crate::run_report::{say_totals, say_trace};
 use crate::totals::{StepCounts, Totals};
 use rv_arch::Stop;
 use rv_core::{Pipeline, Progress, Watcher, watch};
 use rv_front::Predictor;
 use rv_hardware::Step;
 use rv_isa::Arrivals;
-use rv_text::ReportError;
+use rv_text::{ReportError, Sink};
 use std::convert::Infallible;
 use std::io::Write;
 
-// The steps of a run so far: how many there were of each sort, and whether their lines, where they are shown, were written.
+// The steps of a run so far: how many there were of each sort, and whether a write of their lines, where they are shown,
+// failed.
 #[derive(Clone, Copy)]
 struct Trace {
     is_shown: bool,
     counts: StepCounts,
-    written: Result<(), ReportError>,
-}
-
-impl Trace {
-    fn new(is_shown: bool) -> Trace
-        ensures shown { result.is_shown ≡ is_shown }
-        ensures counts { result.counts ≡ counts_of [] }
-        ensures written { result.written ≡ Ok tt }
-    {
-        Trace {
-            is_shown,
-            counts: StepCounts::default(),
-            written: Ok(()),
-        }
-    }
-
-    // Counts more steps, and writes their lines where they are asked for, unless a write failed before.
-    fn add<W: Write>(&mut self, steps: &[Step], writer: &mut W)
-        requires room { HasRoom self.old.counts (length steps.now) }
-        ensures same { self.new.is_shown ≡ self.old.is_shown }
-        ensures counted { self.new.counts ≡ both_counts self.old.counts (counts_of steps.now) }
-        ensures written { IsContinued self.old.written self.new.written (W.contents writer.old) (W.contents writer.new) (trace_of self.old.is_shown steps.now) }
-    {
-        self.counts.count_all(steps);
-        if self.written.is_ok() {
-            self.written = write_trace(writer, self.is_shown, steps);
-        }
-    }
+    has_failed: bool,
 }
 
 impl Watcher for Trace {
@@ -57,7 +28,7 @@ impl Watcher for Trace {
 
     type Refusal = Infallible;
 
-    ghost has_seen = { λ start trace seen before now. HasTraced start.is_shown trace.is_shown trace.counts trace.written seen.moments before now };
+    ghost has_seen = { λ start trace seen before now. HasTraced start.is_shown trace.is_shown trace.counts trace.has_failed seen.moments before now };
 
     ghost has_room = { λ _. Unit {0} };
 
@@ -73,16 +44,19 @@ impl Watcher for Trace {
         _: &Progress,
         output: &mut W,
     ) {
-        self.add(steps, output);
+        self.counts.count_all(steps);
+        let mut out = Sink::after(output, self.has_failed);
+        say_trace(&mut out, self.is_shown, steps);
+        self.has_failed = out.has_failed();
     }
 }
 
-// A pipeline at the end of a run, what the run came to, and whether its trace was written.
+// A pipeline at the end of a run, what the run came to, and whether a write of its trace failed.
 #[derive(Drop)]
 struct Traced {
     pipeline: Pipeline,
     totals: Totals,
-    written: Result<(), ReportError>,
+    has_failed: bool,
 }
 
 /// Runs a pipeline that a predictor guides, each cycle with the lines of its number, up to a breakpoint, a stale word,
@@ -104,9 +78,13 @@ pub fn write_run<W: Write>(
     ensures { Reports (IsRunReport arrivals.now options.now (guided pipeline (known predictor.old))) result (W.contents writer.old) (W.contents writer.new) }
 {
     let run = run_traced(pipeline, predictor, arrivals, options, steps, writer);
-    run.written?;
-    write_totals(&run.totals, &run.pipeline, options, writer)?;
-    Ok(run.totals.stop)
+    let mut out = Sink::after(writer, run.has_failed);
+    say_totals(&run.totals, &run.pipeline, options, &mut out);
+    if out.has_failed() {
+        Err(ReportError::WriteFailed)
+    } else {
+        Ok(run.totals.stop)
+    }
 }
 
 // Runs a pipeline to the end, and writes the trace, where it is asked for, as far as no write fails.
@@ -119,10 +97,14 @@ fn run_traced<W: Write>(
     writer: &mut W,
 ) -> Traced
     requires room { 8 ≤ vec_capacity steps }
-    ensures { IsTraced arrivals.now options.now (guided pipeline (known predictor.old)) (guided result.pipeline (known predictor.new)) result.totals result.written (W.contents writer.old) (W.contents writer.new) }
+    ensures { IsTraced arrivals.now options.now (guided pipeline (known predictor.old)) (guided result.pipeline (known predictor.new)) result.totals result.has_failed (W.contents writer.old) (W.contents writer.new) }
 {
     let mut pipeline = pipeline;
-    let mut trace = Trace::new(options.trace);
+    let mut trace = Trace {
+        is_shown: options.trace,
+        counts: StepCounts::default(),
+        has_failed: false,
+    };
     let ended = watch(
         &mut pipeline,
         predictor,
@@ -136,7 +118,7 @@ fn run_traced<W: Write>(
         Ok(stop) => Traced {
             pipeline,
             totals: Totals::new(&ended.progress, trace.counts, stop),
-            written: trace.written,
+            has_failed: trace.has_failed,
         },
     }
 }

@@ -100,7 +100,7 @@ fn write_end<W: Write>(out: &mut Sink<'_, W>, totals: &Totals, pipeline: &Pipeli
 }
 
 // What the report of a run shows after the trace.
-fn say_totals<W: Write>(
+pub(crate) fn say_totals<W: Write>(
     totals: &Totals,
     pipeline: &Pipeline,
     options: &Options,
@@ -130,7 +130,7 @@ pub fn write_totals<W: Write>(
 }
 
 // The lines of some steps, where a trace is asked for.
-fn say_trace<W: Write>(out: &mut Sink<'_, W>, trace: bool, steps: &[Step])
+pub(crate) fn say_trace<W: Write>(out: &mut Sink<'_, W>, trace: bool, steps: &[Step])
     ensures { Says W.contents out.old out.new (trace_of trace steps.now) }
 {
     if trace {

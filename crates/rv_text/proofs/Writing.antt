@@ -1,13 +1,12 @@
 -- What a writer holds after several writes.
-use Rattle.std.proofs.Common.{◌≡◌, ℕ, zero, suc, ◌+◌, ◌<◌, List, [], ◌∷◌, ◌++◌, length, get_or, take, drop, Option, Some, None, sym, ap, ◌∙◌, append_assoc, append-nil, length-append, add-one, arith, ⊎_elim}
-use Rattle.std.specs.Prelude.{◌*◌, ◌%◌, ◌^◌, IsErrAnd, Result, Ok, Err}
+use Rattle.std.proofs.Common.{◌≡◌, ℕ, zero, suc, ◌+◌, ◌<◌, List, [], ◌∷◌, ◌++◌, length, get_or, take, Option, Some, None, sym, ap, ◌∙◌, append_assoc, append-nil, length-append, arith}
+use Rattle.std.specs.Prelude.{◌*◌, ◌%◌, ◌^◌}
 use Rattle.std.specs.List.{flat_map, range_with_len}
 use Rattle.std.proofs.Math.Seq.{take-append-add}
-use Rattle.std.proofs.lemmas.List.{take-append-le, take_more, take-append-drop}
+use Rattle.std.proofs.lemmas.List.{take-append-le, take_more}
 use Rattle.std.proofs.lemmas.Grind.{flat_map-append}
 use Rattle.std.specs.Io.KnownBytes.{Appends, Keeps}
-use Rattle.std.proofs.str.Laws.{order}
-use Rattle.rv_text.specs.Written.{AppendsBeginning, IsWritten}
+use Rattle.rv_text.specs.Written.{AppendsBeginning}
 
 pub Appends-nothing : (known : Option (List ℕ)) → Appends known known []
 Appends-nothing None = tt
@@ -47,35 +46,11 @@ beginning-both a b c xs ys first (n, within, appended) = (
 pub beginning-same : (a b : Option (List ℕ)) (xs ys : List ℕ) → xs ≡ ys → AppendsBeginning a b xs → AppendsBeginning a b ys
 beginning-same a b xs ys same beginning = rw same at beginning
 
--- an error that `?` hands on, where a beginning was written
-pub handed_on : {T E : Type 0} (r : Result T E) (error : E) (a b : Option (List ℕ)) (xs : List ℕ) → IsErrAnd r (λ e. e ≡ error) → AppendsBeginning a b xs → IsWritten r a b xs
-handed_on (Ok value) error a b xs failed beginning = absurd failed
-handed_on (Err e) error a b xs failed beginning = beginning
-
-pub written_same : {T E : Type 0} (r : Result T E) (a b : Option (List ℕ)) (xs ys : List ℕ) → xs ≡ ys → IsWritten r a b xs → IsWritten r a b ys
-written_same r a b xs ys same written = rw same at written
-
--- a text was written, and the next one by a call that answers so
-pub written_after : {T E : Type 0} (r : Result T E) (a b c : Option (List ℕ)) (xs ys : List ℕ) → Appends a b xs → IsWritten r b c ys → IsWritten r a c (xs ++ ys)
-written_after (Ok value) a b c xs ys first second = Appends-both a b c xs ys first second
-written_after (Err error) a b c xs ys first second = beginning-both a b c xs ys first second
-
--- texts that are written one after the other, at the place of one of them
+-- texts one after the other, up to the place of one of them
 module _ {X : Type 0} (text : X → List ℕ) (items : List X) (place : ℕ) (other : X) (here : place < length items) where
   pub flat_map-more : flat_map text (take (place + 1) items) ≡ flat_map text (take place items) ++ text (get_or items place other)
   flat_map-more =
       ap (flat_map text) (take_more items place other here) ∙ flat_map-append text (take place items) (get_or items place other ∷ []) ∙ ap (λ last. flat_map text (take place items) ++ last) (append-nil (text (get_or items place other)))
-
-  pub flat_map-split : (flat_map text (take place items) ++ text (get_or items place other)) ++ flat_map text (drop (place + 1) items) ≡ flat_map text items
-  flat_map-split =
-      ap (λ front. front ++ flat_map text (drop (place + 1) items)) (sym flat_map-more) ∙ sym (flat_map-append text (take (place + 1) items) (drop (place + 1) items)) ∙ ap (flat_map text) (take-append-drop (place + 1) items)
-
-  -- where one of them was not written whole
-  pub beginning-at : (a b c : Option (List ℕ)) → Appends a b (flat_map text (take place items)) → AppendsBeginning b c (text (get_or items place other)) → AppendsBeginning a c (flat_map text items)
-  beginning-at a b c front last = beginning-same a c _ _ flat_map-split (beginning-longer a c _ _ (beginning-both a b c _ _ front last))
-
-  pub Appends-at : (a b c : Option (List ℕ)) → Appends a b (flat_map text (take place items)) → Appends b c (text (get_or items place other)) → Appends a c (flat_map text (take (place + 1) items))
-  Appends-at a b c front last = Appends-same a c _ _ (sym flat_map-more) (Appends-both a b c _ _ front last)
 
 range-more : (first count : ℕ) → range_with_len first (suc count) ≡ range_with_len first count ++ (first + count) ∷ []
 range-more first zero = ap (λ n. n ∷ []) (omega arith)
@@ -92,28 +67,6 @@ unfolding texts_below
 texts_below-more text bound =
     ap (flat_map text) (range-more 0 bound) ∙ flat_map-append text (range_with_len 0 bound) ((0 + bound) ∷ []) ∙ ap (λ last. texts_below text bound ++ last) (append-nil (text (0 + bound)) ∙ ap text (omega arith))
 
-pub texts_below-split : (text : ℕ → List ℕ) (place bound : ℕ) → place < bound → (rest : List ℕ) × ((texts_below text place ++ text place) ++ rest ≡ texts_below text bound)
-texts_below-split text place zero below = absurd (omega arith)
-texts_below-split text place (suc bound) below =
-    ⊎_elim
-    (λ earlier. let split = texts_below-split text place bound earlier in (split.0 ++ text bound, sym (append_assoc _ split.0 (text bound)) ∙ ap (λ l. l ++ text bound) split.1 ∙ sym (texts_below-more text bound)))
-    (λ last. let same : place ≡ bound = omega arith in ([], append-nil _ ∙ ap (λ n. texts_below text n ++ text n) same ∙ sym (texts_below-more text bound)))
-    (order place bound)
-
--- the texts of numbers that are written one after the other, at one of them
-module _ (text : ℕ → List ℕ) (place bound : ℕ) (below : place < bound) where
-  pub beginning-below : (a b c : Option (List ℕ)) → Appends a b (texts_below text place) → AppendsBeginning b c (text place) → AppendsBeginning a c (texts_below text bound)
-  beginning-below a b c front last =
-      let split = texts_below-split text place bound below in
-      beginning-same a c _ _ split.1 (beginning-longer a c _ _ (beginning-both a b c _ _ front last))
-
-pub Appends-below : (text : ℕ → List ℕ) (place : ℕ) (a b c : Option (List ℕ)) → Appends a b (texts_below text place) → Appends b c (text place) → Appends a c (texts_below text (place + 1))
-Appends-below text place a b c front last =
-    Appends-same a c _ _ (sym (ap (texts_below text) (add-one place) ∙ texts_below-more text place)) (Appends-both a b c _ _ front last)
-
 -- the address of a word by its number, as it is computed
 pub place_of_word : (address number : ℕ) → (address + number * 4 % 2 ^ 32) % 2 ^ 32 ≡ (address + 4 * number) % 2 ^ 32
 place_of_word address number = omega arith
-
--- what is written by calls one after the other, and by loops
-pub ruleset writing = (handed_on, beginning-longer, beginning-both, written_after, Appends-nothing, Appends-at, beginning-at)

@@ -1,4 +1,4 @@
-use Rattle.std.specs.Prelude.{ℕ, ◌≤◌, List, ◌++◌, length, take, Option, Result, Ok, Err}
+use Rattle.std.specs.Prelude.{ℕ, ◌≤◌, List, length, take, Option, Result, Ok, Err}
 use Rattle.std.specs.Io.KnownBytes.{Appends}
 
 -- known bytes grow by a beginning of a text
@@ -9,8 +9,3 @@ AppendsBeginning old new text = (n : ℕ) × (n ≤ length text) × Appends old 
 abbrev pub IsWritten : {T E : Type 0} → Result T E → Option (List ℕ) → Option (List ℕ) → List ℕ → Type 0
 IsWritten (Ok done) old new text = Appends old new text
 IsWritten (Err error) old new text = AppendsBeginning old new text
-
--- what was written is continued by a text, if no write has failed in it
-abbrev pub IsContinued : {T E : Type 0} → Result T E → Result T E → Option (List ℕ) → Option (List ℕ) → List ℕ → Type 0
-IsContinued written result old new text =
-    (before : Option (List ℕ)) (first : List ℕ) → IsWritten written before old first → IsWritten result before new (first ++ text)

@@ -3,10 +3,8 @@ ghost use Rattle.std.specs.List.{flat_map};
 ghost use Rattle.rv_text.specs.Line.{line_of, ratio_text};
 ghost use Rattle.rv_text.specs.ReadField.{cell_text, field_line};
 ghost use Rattle.rv_text.specs.Said.{Says};
-ghost use Rattle.rv_text.specs.Written.{IsWritten};
 
 use crate::digits::{hexadecimal, thousandths, three_digits};
-use crate::output::ReportError;
 use crate::sink::Sink;
 use itoa::Buffer;
 use std::io::Write;
@@ -107,24 +105,4 @@ impl<'a, W: Write> Sink<'a, W> {
             self.put_cell(*value);
         }
     }
-}
-
-/// Writes lines as [`Sink::put_fields`] says them.
-#[tactic(auto, using(crate::proofs::Saying::says_written))]
-pub fn write_fields<W: Write>(writer: &mut W, fields: &[Field<'_>]) -> Result<(), ReportError>
-    ensures { IsWritten result (W.contents writer.old) (W.contents writer.new) (flat_map field_line fields.now) }
-{
-    let mut out = Sink::new(writer);
-    out.put_fields(fields);
-    out.outcome()
-}
-
-/// Writes cells as [`Sink::put_cells`] says them.
-#[tactic(auto, using(crate::proofs::Saying::says_written))]
-pub fn write_cells<W: Write>(writer: &mut W, values: &[Value]) -> Result<(), ReportError>
-    ensures { IsWritten result (W.contents writer.old) (W.contents writer.new) (flat_map cell_text values.now) }
-{
-    let mut out = Sink::new(writer);
-    out.put_cells(values);
-    out.outcome()
 }

@@ -9,7 +9,7 @@ mod plain;
 mod sink;
 
 pub use digits::{hexadecimal, three_digits};
-pub use fields::{Field, Value, write_cells, write_fields};
-pub use output::{ReportError, TextError, put, put_all};
-pub use plain::{front, write_plain, write_plain_byte};
+pub use fields::{Field, Value};
+pub use output::{ReportError, TextError, put};
+pub use plain::{front, write_plain};
 pub use sink::Sink;

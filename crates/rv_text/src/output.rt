@@ -1,4 +1,3 @@
-ghost use Rattle.std.specs.List.{flat_map};
 ghost use Rattle.rv_text.specs.Written.{IsWritten};
 
 use std::io::Write;
@@ -34,16 +33,6 @@ pub fn put<W: Write>(writer: &mut W, text: &[u8]) -> Result<(), ReportError>
             Ok(0) | Err(_) => return Err(ReportError::WriteFailed),
             Ok(count) => written += count,
         }
-    }
-    Ok(())
-}
-
-/// Writes texts one after the other, and asks for no memory.
-pub fn put_all<W: Write>(writer: &mut W, texts: &[&[u8]]) -> Result<(), ReportError>
-    ensures { IsWritten result (W.contents writer.old) (W.contents writer.new) (flat_map (λ t. t.now) texts.now) }
-{
-    for text in texts {
-        put(writer, text)?;
     }
     Ok(())
 }

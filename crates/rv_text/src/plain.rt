@@ -43,16 +43,6 @@ impl<'a, W: Write> Sink<'a, W> {
     }
 }
 
-/// Writes a byte as [`Sink::put_plain_byte`] says it.
-#[tactic(auto, using(crate::proofs::Saying::says_written))]
-pub fn write_plain_byte<W: Write>(writer: &mut W, byte: u8) -> Result<(), ReportError>
-    ensures { IsWritten result (W.contents writer.old) (W.contents writer.new) (plain_byte byte) }
-{
-    let mut out = Sink::new(writer);
-    out.put_plain_byte(byte);
-    out.outcome()
-}
-
 /// Writes a text as [`Sink::put_plain`] says it.
 #[tactic(auto, using(crate::proofs::Saying::says_written))]
 pub fn write_plain<W: Write>(writer: &mut W, text: &[u8]) -> Result<(), ReportError>

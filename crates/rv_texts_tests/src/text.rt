@@ -1,5 +1,5 @@
 use crate::checks::check_bytes;
-use rv_text::{Field, Value, write_cells, write_fields, write_plain};
+use rv_text::{Field, Sink, Value};
 use std::alloc::Global;
 use std::process::Abort;
 use std::test::Fail;
@@ -9,10 +9,9 @@ fn a_tab_is_shown_as_a_blank_and_other_control_bytes_as_question_marks(
     rt: HostRuntime,
 ) -> Result<(), Fail> {
     let mut shown = Vec::new(rt.alloc());
-    write_plain(
-        &mut shown,
-        b"addi\tx1, x0, 5 # \x1b[1m \xe2\x82\xac ~\x7f\r\x1f",
-    )?;
+    let mut out = Sink::new(&mut shown);
+    out.put_plain(b"addi\tx1, x0, 5 # \x1b[1m \xe2\x82\xac ~\x7f\r\x1f");
+    drop(out);
     check_bytes(&rt, shown.as_slice(), b"addi x1, x0, 5 # ?[1m ??? ~???");
     Ok(())
 }
@@ -33,7 +32,7 @@ const VALUES: [Value; 6] = [
 // Checks the cells of the values.
 fn check_cells(rt: &impl Abort, alloc: Global, expected: &[u8]) -> Result<(), Fail> {
     let mut cells = Vec::new(alloc);
-    write_cells(&mut cells, &VALUES)?;
+    Sink::new(&mut cells).put_cells(&VALUES);
     check_bytes(rt, cells.as_slice(), expected);
     Ok(())
 }
@@ -45,7 +44,7 @@ fn check_fields(rt: &impl Abort, alloc: Global, expected: &[u8]) -> Result<(), F
         name: "name",
         value,
     });
-    write_fields(&mut lines, &fields)?;
+    Sink::new(&mut lines).put_fields(&fields);
     check_bytes(rt, lines.as_slice(), expected);
     Ok(())
 }

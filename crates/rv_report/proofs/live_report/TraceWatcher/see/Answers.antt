@@ -1,10 +1,13 @@
+use Rattle.std.proofs.Common.{refl, rules}
+use Rattle.rv_text.proofs.Saying.{says_extends}
 use Rattle.rv_report.proofs.LiveReport.{room_for_more, traced_on}
 use Rattle.rv_report.proofs.live_report.TraceWatcher.see.Goals as goal
 
-pub add-requires : goal.add-requires
-add-requires g c =
+pub count_all-requires : goal.count_all-requires
+count_all-requires g c =
     let (start, seen, before, shown, traced) = c.requires.shown in record { room = room_for_more shown traced }
 
 pub returns : goal.returns
 returns g c start seen before shown traced =
-    traced_on shown traced c.add.new.self.is_shown c.add.new.self.counts c.add.new.self.written _ c.add.ensures.same c.add.ensures.counted (c.add.ensures.written _ _ traced.trace)
+    let more = says_extends c.after-out.ensures.failed c.after-out.ensures.known c.has_failed-self.ensures (search rules) c.say_trace.ensures in
+    traced_on shown traced _ c.count_all.new.self _ _ refl c.count_all.ensures (more.extends _ _ traced.trace)

@@ -1,6 +1,6 @@
 use Rattle.std.proofs.Common.{◌∙◌, ap, decimal}
 use Rattle.rv_job.specs.ImageText.{image_line}
-use Rattle.rv_job.proofs.image_text.write_image_line.Goals as goal
+use Rattle.rv_job.proofs.image_text.say_image_line.Goals as goal
 
 pub returns : goal.returns
 unfolding image_line
