@@ -5,3 +5,4 @@ pub mod Profiles
 pub mod Rooms
 pub mod Followed
 pub mod InFlight
+pub mod OneProfile

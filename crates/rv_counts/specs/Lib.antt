@@ -6,5 +6,5 @@ pub mod Order
 pub mod Profile
 pub mod Following
 pub mod Head
-pub mod Leaves
+pub mod Left
 pub mod Followed

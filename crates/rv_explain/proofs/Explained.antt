@@ -6,6 +6,9 @@ use Rattle.rv_isa.specs.declared.values.Values.{Values}
 use Rattle.rv_arch.specs.declared.outcome.Stop.{Stop}
 use Rattle.rv_core.specs.declared.outcome.Progress.{Progress}
 use Rattle.rv_hardware.specs.Guided.{GuidedHardware}
+use Rattle.rv_passage.specs.Table.{still_open}
+use Rattle.rv_passage.specs.Walk.{passages_after}
+use Rattle.rv_counts.specs.Left.{left_after}
 use Rattle.rv_source.specs.Listing.{Listed}
 use Rattle.rv_explain.specs.Explanation.{IsExplanation, IsTold, explanation}
 use Rattle.rv_sentences.specs.Head.{head_after}
@@ -13,17 +16,13 @@ use Rattle.rv_sentences.specs.Work.{word_in}
 use Rattle.rv_explain.specs.declared.tale.Tale.{Tale}
 use Rattle.rv_sentences.specs.declared.work.Class.TheVariants.{Branch, Mispredicted}
 use Rattle.rv_sentences.proofs.CountSums.{counted_within}
-use Rattle.rv_explain.proofs.Telling.{length-reports}
+use Rattle.rv_passage.proofs.EndedRun.{length-reports_of}
 
 pub explained : (arrivals : List Arrival) (limit : ℕ) (values : Values) (listing : Listed) (old new : GuidedHardware) (stop : Stop) (progress : Progress) (fetched : ℕ) (tale : Tale)
     → IsTold arrivals limit values old new stop progress fetched tale → IsExplanation arrivals limit values listing old new stop (explanation listing stop new.hardware progress fetched tale)
 explained arrivals limit values listing old new stop progress fetched tale told = record {
   moments = told.moments;
-  left = told.left;
-  table = told.table;
-  passes = told.passes;
-  leaves = told.leaves;
-  stops = told.stops;
+  run = told.run;
   text_is = λ i. explanation listing stop new.hardware (told.counted i) (told.fetched_are i) (told.kept i);
 }
 
@@ -32,17 +31,17 @@ pub heads_counted : (arrivals : List Arrival) (limit : ℕ) (values : Values) (o
     → IsTold arrivals limit values old new stop progress fetched tale → sum tale.heads.words ≤ progress.cycles
 heads_counted arrivals limit values old new stop progress fetched tale told =
     let heads = counted_within head_after values told.moments in
-    omega (arith, heads, ap (λ (t : Tale). sum t.heads.words) told.kept, ap (λ (p : Progress). p.cycles) told.counted, length-reports told.moments)
+    omega (arith, heads, ap (λ (t : Tale). sum t.heads.words) told.kept, ap (λ (p : Progress). p.cycles) told.counted, length-reports_of told.moments)
 
 -- no more branches and jumps retired, and were mispredicted, than words were fetched
 pub branches_counted : (arrivals : List Arrival) (limit : ℕ) (values : Values) (old new : GuidedHardware) (stop : Stop) (progress : Progress) (fetched : ℕ) (tale : Tale)
     → IsTold arrivals limit values old new stop progress fetched tale → sum tale.branches.words ≤ fetched
 branches_counted arrivals limit values old new stop progress fetched tale told =
-    let few = counted_within (word_in Branch) values told.left in
-    omega (arith, few, ap (λ (t : Tale). sum t.branches.words) told.kept, told.fetched_are, length-append told.table.rows told.left)
+    let few = counted_within (word_in Branch) values (left_after old.hardware told.moments) in
+    omega (arith, few, ap (λ (t : Tale). sum t.branches.words) told.kept, told.fetched_are, length-append (passages_after still_open old.hardware told.moments).rows (left_after old.hardware told.moments))
 
 pub mispredicted_counted : (arrivals : List Arrival) (limit : ℕ) (values : Values) (old new : GuidedHardware) (stop : Stop) (progress : Progress) (fetched : ℕ) (tale : Tale)
     → IsTold arrivals limit values old new stop progress fetched tale → sum tale.mispredicted.words ≤ fetched
 mispredicted_counted arrivals limit values old new stop progress fetched tale told =
-    let few = counted_within (word_in Mispredicted) values told.left in
-    omega (arith, few, ap (λ (t : Tale). sum t.mispredicted.words) told.kept, told.fetched_are, length-append told.table.rows told.left)
+    let few = counted_within (word_in Mispredicted) values (left_after old.hardware told.moments) in
+    omega (arith, few, ap (λ (t : Tale). sum t.mispredicted.words) told.kept, told.fetched_are, length-append (passages_after still_open old.hardware told.moments).rows (left_after old.hardware told.moments))

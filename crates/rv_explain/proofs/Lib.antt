@@ -1,3 +1,4 @@
 mod Explained
+mod OneExplanation
 mod Tales
 mod Telling

@@ -1,44 +1,38 @@
 -- What a run came to, in sentences.
-use Rattle.std.specs.Prelude.{◌≡◌, ℕ, List, ◌++◌, codes, length}
+use Rattle.std.specs.Prelude.{◌≡◌, ℕ, ◌+◌, ◌^◌, ◌≤◌, List, ◌++◌, codes, length, Some}
 use Rattle.rv_isa.specs.declared.{lines.Arrival.Arrival, values.Values.Values}
 use Rattle.rv_arch.specs.declared.outcome.Stop.{Stop}
 use Rattle.rv_core.specs.Progress.{progress_of}
 use Rattle.rv_core.specs.declared.outcome.Progress.{Progress}
-use Rattle.rv_hardware.specs.Guided.{GuidedHardware}
+use Rattle.rv_front.specs.declared.predictors.DescribedPredictor.{DescribedPredictor}
+use Rattle.rv_hardware.specs.Guided.{GuidedHardware, guided}
 use Rattle.rv_hardware.specs.Hardware.{Hardware}
-use Rattle.rv_hardware.specs.Run.{IsStop}
-use Rattle.rv_passage.specs.Table.{Passages}
-use Rattle.rv_passage.specs.declared.passage.Passage.{Passage}
-use Rattle.rv_counts.specs.Leaves.{Leaves}
+use Rattle.rv_passage.specs.EndedRun.{IsEndedRun}
+use Rattle.rv_counts.specs.Left.{passages_of_run}
 use Rattle.rv_source.specs.Listing.{Listed}
 use Rattle.rv_text.specs.Line.{line_of, ratio_text}
 use Rattle.rv_sentences.specs.Dispatch.{dispatches_text}
 use Rattle.rv_sentences.specs.Drain.{drain_text}
 use Rattle.rv_explain.specs.Ending.{ending_text}
 use Rattle.rv_sentences.specs.Exception.{exceptions_text}
-use Rattle.rv_hardware.specs.History.{History, Moment, reports_of}
+use Rattle.rv_hardware.specs.History.{Moment, reports_of}
 use Rattle.rv_sentences.specs.Hotspot.{hotspots_text}
 use Rattle.rv_sentences.specs.Interrupt.{interrupts_text}
 use Rattle.rv_sentences.specs.Load.{load_text}
 use Rattle.rv_sentences.specs.Stack.{count_text, stall_text}
-use Rattle.rv_explain.specs.Tale.{tale_of}
+use Rattle.rv_explain.specs.Tale.{tale_of_run}
 use Rattle.rv_sentences.specs.Wait.{waits_text}
 use Rattle.rv_sentences.specs.Work.{work_text}
 use Rattle.rv_sentences.specs.Worst.{worst_text}
 use Rattle.rv_explain.specs.declared.tale.Tale.{Tale}
 
--- cycles, with the hardware that each left, up to the end of a run, the instructions that left the hardware in them and those in
--- flight at the end, how many words that are, and what was kept of them
+-- a run that ended, how many words were fetched in it or before it, and what was kept of it
 pub record IsTold (arrivals : List Arrival) (limit : ℕ) (values : Values) (old new : GuidedHardware) (stop : Stop) (progress : Progress) (fetched : ℕ) (tale : Tale) : Type 0 where
   pub moments : List Moment
-  pub left : List Passage
-  pub table : Passages
-  pub passes : History arrivals old moments new
-  pub leaves : Leaves arrivals old (reports_of moments) left new table
-  pub stops : IsStop limit (reports_of moments) new.hardware stop
+  pub run : IsEndedRun arrivals limit old moments new stop
   pub counted : progress ≡ progress_of (reports_of moments)
-  pub fetched_are : fetched ≡ length (table.rows ++ left)
-  pub kept : tale ≡ tale_of values arrivals old.hardware moments left
+  pub fetched_are : fetched ≡ length (passages_of_run old.hardware moments)
+  pub kept : tale ≡ tale_of_run values arrivals old.hardware moments
 
 -- the cycles, and those to each instruction
 unfoldable pub cycle_text : Progress → ℕ → List ℕ
@@ -65,12 +59,21 @@ explanation listing stop h progress fetched tale =
     ending_text listing stop h tale.last_stores ++ (exceptions_text listing tale.exceptions.all tale.exceptions.kinds ++
     (interrupts_text listing tale.interrupts ++ cost_text listing progress fetched tale))
 
--- A text explains a run that ended for a reason, by the instructions that left the hardware in it and those in flight at its end.
+-- the sentences on cycles from some hardware on, that left the hardware so and ended for a reason: by the instructions that left the
+-- hardware in them and those in flight at their end
+abbrev pub explanation_of : Values → List Arrival → Listed → Hardware → List Moment → Hardware → Stop → List ℕ
+explanation_of values arrivals listing first moments after stop =
+    explanation listing stop after (progress_of (reports_of moments)) (length (passages_of_run first moments)) (tale_of_run values arrivals first moments)
+
+-- a text explains a run that ended for a reason
 pub record IsExplanation (arrivals : List Arrival) (limit : ℕ) (values : Values) (listing : Listed) (old new : GuidedHardware) (stop : Stop) (text : List ℕ) : Type 0 where
   pub moments : List Moment
-  pub left : List Passage
-  pub table : Passages
-  pub passes : History arrivals old moments new
-  pub leaves : Leaves arrivals old (reports_of moments) left new table
-  pub stops : IsStop limit (reports_of moments) new.hardware stop
-  pub text_is : text ≡ explanation listing stop new.hardware (progress_of (reports_of moments)) (length (table.rows ++ left)) (tale_of values arrivals old.hardware moments left)
+  pub run : IsEndedRun arrivals limit old moments new stop
+  pub text_is : text ≡ explanation_of values arrivals listing old.hardware moments new.hardware stop
+
+-- of hardware that a described predictor guides there is one explanation, whatever it leaves
+abbrev pub HasOneExplanation : List Arrival → ℕ → Values → Listed → Type 0
+HasOneExplanation arrivals limit values listing =
+    (h : Hardware) (predictor : DescribedPredictor) (new new' : GuidedHardware) (stop stop' : Stop) (text text' : List ℕ) → h.cycle + limit ≤ 2 ^ 40 →
+    IsExplanation arrivals limit values listing (guided h (Some predictor)) new stop text → IsExplanation arrivals limit values listing (guided h (Some predictor)) new' stop' text' →
+    (stop ≡ stop') × (text ≡ text')

@@ -10,6 +10,7 @@ use Rattle.rv_hardware.specs.Step.{is_retirement}
 use Rattle.rv_hardware.specs.declared.step.Step.{Step}
 use Rattle.rv_passage.specs.declared.{passage.Passage.Passage, table.Table.Table}
 use Rattle.rv_counts.specs.Followed.{IsFollowed}
+use Rattle.rv_counts.specs.Left.{left_after}
 use Rattle.rv_counts.specs.Load.{costs_of}
 use Rattle.rv_counts.specs.Passing.{has_left}
 use Rattle.rv_sentences.specs.Access.{both}
@@ -53,6 +54,10 @@ tale_of values arrivals h moments left = record {
   outcomes = notes_of values (outcomes_at (costs_of values) left);
 }
 
+-- what is kept of a run that began with such hardware
+abbrev pub tale_of_run : Values → List Arrival → Hardware → List Moment → Tale
+tale_of_run values arrivals h moments = tale_of values arrivals h moments (left_after h moments)
+
 -- what is kept with one more cycle: its steps, by the registers before them, the drain that began in it, the hardware that it
 -- left, and the passages at its end
 abbrev pub tale_after : List ℕ → List Step → Option ℕ → Hardware → List Passage → Tale → Tale
@@ -79,10 +84,9 @@ tale_after registers steps drain after rows tale = record {
 -- the drain under way and the passages after them
 pub record IsTelling (first tale : Tale) (registers : List ℕ) (end : Option ℕ) (table : Table) (seen : Watched) : Type 0 where
   pub values : Values
-  pub left : List Passage
-  pub followed : IsFollowed seen.arrivals seen.first (reports_of seen.moments) left seen.now table
-  pub untold : first ≡ tale_of values seen.arrivals seen.first.hardware [] []
-  pub told : (by : Values) → first ≡ tale_of by seen.arrivals seen.first.hardware [] [] → tale ≡ tale_of by seen.arrivals seen.first.hardware seen.moments left
+  pub followed : IsFollowed seen.first.hardware seen.moments seen.now.hardware table
+  pub untold : first ≡ tale_of_run values seen.arrivals seen.first.hardware []
+  pub told : (by : Values) → first ≡ tale_of_run by seen.arrivals seen.first.hardware [] → tale ≡ tale_of_run by seen.arrivals seen.first.hardware seen.moments
   pub bus_grows : (more : ℕ) → length (steps_of (reports_of seen.moments)) + more ≤ 2 ^ 44 → CanGrow tale.bus more
   pub units_grow : (more : ℕ) → length (steps_of (reports_of seen.moments)) + more ≤ 2 ^ 44 → CanGrow tale.units more
   pub registers_are : registers ≡ seen.now.hardware.registers

@@ -1,5 +1,5 @@
 ghost use Rattle.std.specs.Prelude.{◌≡◌, ◌≤◌, ◌<◌, ◌^◌, Err, List, [], length, sum, vec_capacity, IfOk};
-ghost use Rattle.rv_explain.specs.Explanation.{IsExplanation, cost_text, cycle_text, explanation, waited_text};
+ghost use Rattle.rv_explain.specs.Explanation.{HasOneExplanation, IsExplanation, cost_text, cycle_text, explanation, waited_text};
 ghost use Rattle.rv_hardware.specs.Guided.{guided};
 ghost use Rattle.rv_hardware.specs.Hardware.{Hardware};
 ghost use Rattle.rv_isa.specs.declared.lines.Arrival.{Arrival};
@@ -179,6 +179,8 @@ pub fn write_explanation<W: Write>(
     writer: &mut W,
 ) -> Result<Stop, TextError>
     ensures written { IsText (IsExplanation arrivals.now limit description.now listing.now (guided pipeline.old (known predictor.old)) (guided pipeline.new (known predictor.new))) result (W.contents writer.old) (W.contents writer.new) }
+    // With a described predictor the sentences are a function of what they explain.
+    ensures one_explanation { HasOneExplanation arrivals.now limit description.now listing.now }
     ensures not_run { result ≡ Err TextError.Memory → (pipeline.new ≡ pipeline.old) × (known predictor.new ≡ known predictor.old) }
 {
     let Ok(beginning) = begin(alloc, pipeline, description) else {

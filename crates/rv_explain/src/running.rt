@@ -1,5 +1,5 @@
 ghost use Rattle.std.specs.Prelude.{◌≡◌, ◌≤◌, [], length, vec_capacity, IfOk};
-ghost use Rattle.rv_counts.specs.Followed.{IsRoomy};
+ghost use Rattle.rv_passage.specs.Followed.{IsRoomy};
 ghost use Rattle.rv_explain.specs.Explanation.{IsTold};
 ghost use Rattle.rv_explain.specs.Tale.{tale_of};
 ghost use Rattle.rv_hardware.specs.Guided.{guided};

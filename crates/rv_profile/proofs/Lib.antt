@@ -1,1 +1,2 @@
+mod OneProfile
 mod Profiling

@@ -1,5 +1,5 @@
 ghost use Rattle.rv_hardware.specs.Guided.{guided};
-ghost use Rattle.rv_profile.specs.Run.{IsProfile};
+ghost use Rattle.rv_profile.specs.Run.{HasOneProfile, IsProfile};
 ghost use Rattle.rv_text.specs.IsText.{IsText};
 
 use crate::running::run_profiled;
@@ -37,7 +37,9 @@ pub fn write_profile<W: Write>(
     listing: &Listing,
     writer: &mut W,
 ) -> Result<Stop, TextError>
-    ensures { IsText (IsProfile arrivals.now limit description.now listing.now (guided pipeline.old (known predictor.old)) (guided pipeline.new (known predictor.new))) result (W.contents writer.old) (W.contents writer.new) }
+    ensures written { IsText (IsProfile arrivals.now limit description.now listing.now (guided pipeline.old (known predictor.old)) (guided pipeline.new (known predictor.new))) result (W.contents writer.old) (W.contents writer.new) }
+    // With a described predictor a profile is a function of what it is a profile of.
+    ensures one_profile { HasOneProfile arrivals.now limit description.now listing.now }
 {
     let Ok(counted) = run_profiled(alloc, pipeline, predictor, description, arrivals, limit) else {
         return Err(TextError::Memory);

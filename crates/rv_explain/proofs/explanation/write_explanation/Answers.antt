@@ -1,5 +1,6 @@
 use Rattle.std.proofs.Common.{arith}
 use Rattle.rv_explain.proofs.Explained.{branches_counted, explained, heads_counted, mispredicted_counted}
+use Rattle.rv_explain.proofs.OneExplanation.{one_explanation}
 use Rattle.rv_explain.proofs.explanation.write_explanation.Goals as goal
 
 pub run_told-told-requires-clause-untold : goal.run_told-told-requires-clause-untold
@@ -27,3 +28,13 @@ pub returns-in-Err-WriteFailed-clause-written : goal.returns-in-Err-WriteFailed-
 returns-in-Err-WriteFailed-clause-written g c =
     let told = c.run_told-told.result in
     (told.stop, _, explained _ c.args.limit c.args.description.now c.args.listing.now _ _ told.stop told.progress told.fetched told.tale c.run_told-told.ensures, c.in-Err-WriteFailed.ensures)
+
+-- whatever was written
+pub returns-in_default-clause-one_explanation : goal.returns-in_default-clause-one_explanation
+returns-in_default-clause-one_explanation g c = one_explanation c.args.arrivals.now c.args.limit c.args.description.now c.args.listing.now
+
+pub returns-in-Ok-written-clause-one_explanation : goal.returns-in-Ok-written-clause-one_explanation
+returns-in-Ok-written-clause-one_explanation g c = one_explanation c.args.arrivals.now c.args.limit c.args.description.now c.args.listing.now
+
+pub returns-in-Err-WriteFailed-clause-one_explanation : goal.returns-in-Err-WriteFailed-clause-one_explanation
+returns-in-Err-WriteFailed-clause-one_explanation g c = one_explanation c.args.arrivals.now c.args.limit c.args.description.now c.args.listing.now

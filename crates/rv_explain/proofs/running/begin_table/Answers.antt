@@ -2,7 +2,7 @@ use Rattle.std.proofs.Common.{◌∙◌}
 use Rattle.rv_passage.specs.Passage.{in_buffers}
 use Rattle.rv_passage.specs.Table.{table_from}
 use Rattle.rv_passage.proofs.InFlight.{short_buffers}
-use Rattle.rv_counts.proofs.Followed.{if_ok_by}
+use Rattle.rv_passage.proofs.Followed.{if_ok_by}
 use Rattle.rv_explain.proofs.running.begin_table.Goals as goal
 
 pub begin-requires : goal.begin-requires

@@ -21,4 +21,4 @@ returns g c =
     let run = c.watch-ended.ensures in
     let begun = telling_nothing c.args.description.now c.args.arrivals.now _ c.args.tale c.observe.result.regs c.drain_end-drain_end.result c.args.table
     c.requires.untold c.requires.table c.requires.room c.requires.few c.observe.ensures.registers c.drain_end-drain_end.ensures in
-    told_to_the_end (run.seen None begun) run.passes (stops_by run c.in-Ok.stop c.in-Ok.is) run.counted c.requires.untold c.rows.result.now c.rows.ensures
+    told_to_the_end (run.seen None begun) (record { passes = run.passes; stops = stops_by run c.in-Ok.stop c.in-Ok.is }) run.counted c.requires.untold c.rows.result.now c.rows.ensures

@@ -1,6 +1,6 @@
 use Rattle.std.proofs.Common.{None}
 use Rattle.rv_core.proofs.Shown.{stops_by}
-use Rattle.rv_counts.specs.Followed.{IsRoomy}
+use Rattle.rv_passage.specs.Followed.{IsRoomy}
 use Rattle.rv_profile.proofs.Profiling.{can_finish, counted_to_the_end, profiling_nothing}
 use Rattle.rv_profile.proofs.running.count_run.Goals as goal
 
@@ -23,4 +23,4 @@ returns g c values costs =
     let roomy : IsRoomy begun.table = record { room = c.requires.room; rows = c.requires.rows; interrupts = c.requires.interrupts } in
     let run = c.watch-ended.ensures in
     let profiling = run.seen None (profiling_nothing c.args.arrivals.now _ begun.profile begun.table c.requires.nothing c.requires.begun roomy c.requires.few) in
-    counted_to_the_end profiling values c.finish.new.self.words c.rows.result.now run.passes (stops_by run c.in_ok-stop.stop c.in_ok-stop.was) c.rows.ensures costs c.in_ok-finish.ensures.words
+    counted_to_the_end profiling values c.finish.new.self.words c.rows.result.now (record { passes = run.passes; stops = stops_by run c.in_ok-stop.stop c.in_ok-stop.was }) c.rows.ensures costs c.in_ok-finish.ensures.words

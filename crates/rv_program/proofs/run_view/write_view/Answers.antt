@@ -22,4 +22,4 @@ returns-in-Explanation g c =
 pub returns-in-Profile : goal.returns-in-Profile
 returns-in-Profile g c =
     rw c.in-Profile.is
-    (shown_whole (IsShown (Profile c.in-Profile.limit) c.args.listed.now _ _) c.write_profile.result _ _ c.write_profile.ensures c.whole_run-in-Profile.ensures (λ stop text is. (is, refl)))
+    (shown_whole (IsShown (Profile c.in-Profile.limit) c.args.listed.now _ _) c.write_profile.result _ _ c.write_profile.ensures.written c.whole_run-in-Profile.ensures (λ stop text is. (is, refl)))
