@@ -5,7 +5,7 @@ pub(crate) const BEFORE: &[u8] = br#"<!DOCTYPE html>
 <html lang="en">
 <head>
 <meta charset="utf-8">
-<meta http-equiv="Content-Security-Policy" content="default-src 'none'; script-src 'sha256-CFjtanS9zoXW8LRhJB13xDV1h41IKf3d1YU0LINmxrM='; style-src 'sha256-61FFsou9ASWk0o890o/4HmhCJDIOL7BVLAxCBGEUGO4='; img-src data:; frame-src 'self' file:; base-uri 'none'; form-action 'none'">
+<meta http-equiv="Content-Security-Policy" content="default-src 'none'; script-src 'sha256-jUeFsZB2ooXLHrDJvXJExYSLLwhE0NdBHdpMSe0uH/4='; style-src 'sha256-A729DTxwvY/VjaifYeRBqtbBOxtehZYuR/SxVCZhlEE='; img-src data:; frame-src 'self' file:; base-uri 'none'; form-action 'none'">
 <meta name="viewport" content="width=device-width, initial-scale=1">
 <title>rv_sim: a run, cycle by cycle</title>
 <style>
@@ -57,14 +57,17 @@ h2[data-phase]::after { content: attr(data-phase); margin-left: 0.4rem; padding:
 #stop, #quiz, #beside { background: var(--mark); font-size: 1.4rem; line-height: 1.8rem; padding: 0 0.4rem; }
 .unseen th { height: 0; line-height: 0; font-size: 0; padding: 0; }
 [data-panel="registers"], [data-panel="units"], [data-panel="bus"] { flex: none; }
-#stations, #fetch, #asked, #tables { font-size: 0.85rem; } #stations td { height: 1.1rem; line-height: 1.1rem; } #accesses { font-size: 0.8rem; } #accesses td { padding: 0 0.12rem; }
+#stations, #fetch, #asked, #tables, #stores { font-size: 0.85rem; } #stations td { height: 1.1rem; line-height: 1.1rem; } #accesses { font-size: 0.8rem; } #accesses td { padding: 0 0.12rem; }
 .missed, .differs { color: var(--fault); font-weight: bold; }
 .differs { outline: 2px dashed var(--fault); outline-offset: -2px; }
+tr.differs { color: inherit; font-weight: normal; outline-width: 1px; outline-offset: -1px; }
 .scroll, .list, #picture { grid-column: 1 / 3; overflow: auto; min-height: 0; scrollbar-width: thin; position: relative; contain: layout paint style; }
 table { border-collapse: collapse; width: 100%; table-layout: auto; }
 th, td { padding: 0 0.25rem; white-space: nowrap; text-align: left; font-weight: normal; height: 1.25rem; overflow: hidden; }
 th { color: var(--quiet); }
-thead th { position: sticky; top: 0; background: var(--panel); z-index: 1; }
+/* One for all heads of a table: each that keeps its place by itself costs a key some time. */
+thead { position: sticky; top: 0; z-index: 1; }
+thead th { background: var(--panel); }
 td.wide { width: 99%; max-width: 0; text-overflow: ellipsis; }
 #rob td:nth-child(2), #fetch td:first-child, #stores td:first-child { min-width: 2.8rem; }
 #rob td:nth-child(n + 6):nth-child(-n + 8) { min-width: 2.4rem; }
@@ -76,7 +79,8 @@ td.wide { width: 99%; max-width: 0; text-overflow: ellipsis; }
 .list .row { position: absolute; left: 0; right: 0; height: 1.25rem; white-space: pre; overflow: hidden; display: flex; gap: 0.4rem; padding: 0 0.25rem; }
 .list .text { white-space: nowrap; overflow: hidden; text-overflow: ellipsis; }
 #memory .row { gap: 0; justify-content: space-between; font-size: 0.9rem; }
-.list .line { width: 2.5rem; text-align: right; color: var(--quiet); flex: none; }
+#source .row { font-size: 0.88rem; gap: 0.3rem; }
+.list .line { width: 2.2rem; text-align: right; color: var(--quiet); flex: none; }
 .list .pc { color: var(--quiet); flex: none; }
 .stops .pc { color: var(--fault); font-weight: bold; }
 .list .tags { flex: none; min-width: 1.4rem; display: flex; gap: 0.1rem; }
@@ -829,7 +833,8 @@ function showAsked(view) {
 
 function showTables(view, followed) {
   const { run, place } = view;
-  if (run.machine.predictor.kind !== "bimodal") { draw("tables"); return; }
+  byId("tables").parentNode.hidden = run.machine.predictor.kind !== "bimodal";
+  if (byId("tables").parentNode.hidden) return;
   const sharers = sharersOf(run, place), taught = new Set(run.places[place].learned.map((each) => each.place));
   const asked = new Set(run.places[place].asked.filter((each) => usesTables(each.word)).map((each) => each.place));
   const isKnown = (at) => knownAt(run, at, place).counter !== 1 || knownAt(run, at, place).target !== undefined;
@@ -1080,7 +1085,8 @@ function showReorderBuffer(view) {
     const result = entry.fault ? causeName(entry.fault.cause) : target + (isJump(entry) ? "\u2192" + hex(entry.predicted) : "") || "-";
     const finish = isRunning(entry) ? "\u2192" + (entry.issued + entry.cost) : stamp(entry.broadcast);
     const title = "fetched in cycle " + entry.fetched + ", sequence number " + entry.sequence;
-    return row({ "data-number": number, title }, heading(ends), tag(number), hex(entry.pc), wide(run.statement(entry)),
+    const said = [hex(entry.pc), letter, entry.dispatched, stamp(entry.issued), finish, result].join(" ");
+    return row({ "data-number": number, "data-fact": "entry " + entry.sequence, "data-said": said, title }, heading(ends), tag(number), hex(entry.pc), wide(run.statement(entry)),
       element("td", { class: "cell " + cellClass(letter), title: letterWords[letter] }, letter), entry.dispatched, stamp(entry.issued), finish,
       element("td", { class: entry.fault ? "fault" : "", title: "predicted to go on at " + hex(entry.predicted) }, result));
   }), Math.min(size, 16), 9);
@@ -1651,11 +1657,14 @@ function save(asImage) {
 
 const framed = window.parent !== window && new URLSearchParams(location.hash.slice(1)).has("side");
 
+// What an element says that may differ: its text, or, of a row, what it says but for the instruction's number.
+function factOf(each) { return each.dataset.said === undefined ? each.textContent : each.dataset.said; }
+
 // What a frame tells the page around it: where it stands, and what it shows that may differ.
 function tell(asked) {
   if (!framed) return;
   const facts = {};
-  for (const each of document.querySelectorAll("[data-fact]")) facts[each.dataset.fact] = each.textContent;
+  for (const each of document.querySelectorAll("[data-fact]")) facts[each.dataset.fact] = factOf(each);
   window.parent.postMessage({
     rv_sim: "shown", asked: Boolean(asked), cycle: run.cycleOf(view.place), retired: run.places[view.place].retired, first: run.first, last: run.last, facts,
   }, "*");
@@ -1665,7 +1674,7 @@ function tell(asked) {
 function markDifferences(others) {
   for (const each of document.querySelectorAll("[data-fact]")) {
     const other = others[each.dataset.fact];
-    each.classList.toggle("differs", other === undefined ? each.textContent !== "00000000" : other !== each.textContent);
+    each.classList.toggle("differs", (other === undefined ? "00000000" : other) !== factOf(each));
   }
 }
 
@@ -1811,7 +1820,7 @@ function readAddress() {
 }
 
 // Beside another run there is room for a few panels.
-const framedWithout = "source,fetch,stores,stations,units,bus,csrs,cache,accesses,memory";
+const framedWithout = "source,fetch,predictor,stores,stations,units,bus,csrs,cache,accesses,memory";
 
 // After a change of what is shown.
 function settle() {

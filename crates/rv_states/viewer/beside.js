@@ -3,11 +3,14 @@
 
 const framed = window.parent !== window && new URLSearchParams(location.hash.slice(1)).has("side");
 
+// What an element says that may differ: its text, or, of a row, what it says but for the instruction's number.
+function factOf(each) { return each.dataset.said === undefined ? each.textContent : each.dataset.said; }
+
 // What a frame tells the page around it: where it stands, and what it shows that may differ.
 function tell(asked) {
   if (!framed) return;
   const facts = {};
-  for (const each of document.querySelectorAll("[data-fact]")) facts[each.dataset.fact] = each.textContent;
+  for (const each of document.querySelectorAll("[data-fact]")) facts[each.dataset.fact] = factOf(each);
   window.parent.postMessage({
     rv_sim: "shown", asked: Boolean(asked), cycle: run.cycleOf(view.place), retired: run.places[view.place].retired, first: run.first, last: run.last, facts,
   }, "*");
@@ -17,7 +20,7 @@ function tell(asked) {
 function markDifferences(others) {
   for (const each of document.querySelectorAll("[data-fact]")) {
     const other = others[each.dataset.fact];
-    each.classList.toggle("differs", other === undefined ? each.textContent !== "00000000" : other !== each.textContent);
+    each.classList.toggle("differs", (other === undefined ? "00000000" : other) !== factOf(each));
   }
 }
 

@@ -72,7 +72,7 @@ function readAddress() {
 }
 
 // Beside another run there is room for a few panels.
-const framedWithout = "source,fetch,stores,stations,units,bus,csrs,cache,accesses,memory";
+const framedWithout = "source,fetch,predictor,stores,stations,units,bus,csrs,cache,accesses,memory";
 
 // After a change of what is shown.
 function settle() {

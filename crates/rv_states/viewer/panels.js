@@ -49,7 +49,8 @@ function showReorderBuffer(view) {
     const result = entry.fault ? causeName(entry.fault.cause) : target + (isJump(entry) ? "\u2192" + hex(entry.predicted) : "") || "-";
     const finish = isRunning(entry) ? "\u2192" + (entry.issued + entry.cost) : stamp(entry.broadcast);
     const title = "fetched in cycle " + entry.fetched + ", sequence number " + entry.sequence;
-    return row({ "data-number": number, title }, heading(ends), tag(number), hex(entry.pc), wide(run.statement(entry)),
+    const said = [hex(entry.pc), letter, entry.dispatched, stamp(entry.issued), finish, result].join(" ");
+    return row({ "data-number": number, "data-fact": "entry " + entry.sequence, "data-said": said, title }, heading(ends), tag(number), hex(entry.pc), wide(run.statement(entry)),
       element("td", { class: "cell " + cellClass(letter), title: letterWords[letter] }, letter), entry.dispatched, stamp(entry.issued), finish,
       element("td", { class: entry.fault ? "fault" : "", title: "predicted to go on at " + hex(entry.predicted) }, result));
   }), Math.min(size, 16), 9);

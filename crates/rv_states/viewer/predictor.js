@@ -57,7 +57,8 @@ function showAsked(view) {
 
 function showTables(view, followed) {
   const { run, place } = view;
-  if (run.machine.predictor.kind !== "bimodal") { draw("tables"); return; }
+  byId("tables").parentNode.hidden = run.machine.predictor.kind !== "bimodal";
+  if (byId("tables").parentNode.hidden) return;
   const sharers = sharersOf(run, place), taught = new Set(run.places[place].learned.map((each) => each.place));
   const asked = new Set(run.places[place].asked.filter((each) => usesTables(each.word)).map((each) => each.place));
   const isKnown = (at) => knownAt(run, at, place).counter !== 1 || knownAt(run, at, place).target !== undefined;

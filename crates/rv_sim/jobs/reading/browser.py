@@ -42,9 +42,12 @@ class Browser:
             self.page.go(each)
 
     def tell_frames(self, expression):
-        """The values of an expression in the frames of the page, in the order in which they were loaded."""
-        self.tell("0")  # (what came of frames is heard with its answer)
-        answers = [self.call("Runtime.evaluate", expression=expression, returnByValue=True, contextId=each) for each in self.page.contexts[1:]]
+        """The values of an expression in the frames of the page, in the order in which they were loaded; none of a page that is left just now."""
+        try:
+            self.tell("0")  # (what came of frames is heard with its answer)
+            answers = [self.call("Runtime.evaluate", expression=expression, returnByValue=True, contextId=each) for each in self.page.contexts[1:]]
+        except RuntimeError:
+            return []
         return [each["result"].get("value") for each in answers]
 
     def press(self, *keys):

@@ -1,12 +1,12 @@
 """Two runs side by side: one cursor for both, by cycle or by retired instructions, and marks where they differ."""
 import time
 
-READ_FRAME = r"""({ name: location.pathname.split("/").pop(), cycle: Number(document.documentElement.dataset.cycle), facts: Object.fromEntries([...document.querySelectorAll("[data-fact]")].map((each) => [each.dataset.fact, each.textContent])),
+READ_FRAME = r"""({ name: location.pathname.split("/").pop(), cycle: Number(document.documentElement.dataset.cycle), facts: Object.fromEntries([...document.querySelectorAll("[data-fact]")].map((each) => [each.dataset.fact, each.tagName === "TR" ? [...each.cells].filter((cell, k) => ![0, 1, 3].includes(k)).map((cell) => cell.textContent).join(" ") : each.textContent])),
   differs: [...document.querySelectorAll(".differs")].map((each) => each.dataset.fact), panels: [...document.querySelectorAll("[data-panel]:not([hidden]) h2")].map((each) => each.textContent) })"""
 
 
 def marked_wrong(frames):
-    """What is marked and does not differ, or differs and is not marked: a register, a CSR, a count."""
+    """What is marked and does not differ, or differs and is not marked: a register, a CSR, a count, a row of the reorder buffer."""
     wrong = []
     for each, other in (frames, frames[::-1]) if len(frames) == 2 else ():
         known = {name for name, text in each["facts"].items() if other["facts"].get(name, "00000000") != text}
