@@ -1,3 +1,4 @@
 mod Markup
+mod OneText
 mod Showing
 mod Status

@@ -1,12 +1,13 @@
 -- No line of the states of a run has a byte that HTML gives a meaning.
 use Rattle.std.proofs.Common.{◌≡◌, ℕ, ◌+◌, List, [], ◌∷◌, Option, Some, None, refl}
-use Rattle.std.specs.Prelude.{◌++◌, ◌==◌, Bool, true, false, codes, get_or, if◌then◌else◌}
+use Rattle.std.specs.Prelude.{◌++◌, ◌==◌, Bool, true, false, codes, get_or, length, if◌then◌else◌}
 use Rattle.std.specs.FinSet as set
 use Rattle.std.specs.List.{flat_map, list_any}
 use Rattle.rv_isa.specs.declared.instructions.Instr.{Instr}
 use Rattle.rv_arch.specs.declared.outcome.Stop.{Stop}
 use Rattle.rv_cache.specs.declared.line.CacheLine.{CacheLine}
 use Rattle.rv_core.specs.Ties.{RegisterStatus, status_with}
+use Rattle.rv_core.specs.Progress.{progress_of}
 use Rattle.rv_core.specs.declared.outcome.Progress.{Progress}
 use Rattle.rv_memory.specs.Memory.{word_of}
 use Rattle.rv_front.specs.Flow.{flow_at}
@@ -15,10 +16,13 @@ use Rattle.rv_front.specs.Tables.{Tables}
 use Rattle.rv_front.specs.declared.{fetched.Fetched.Fetched, predictors.DescribedPredictor.DescribedPredictor}
 use Rattle.rv_front.specs.declared.predictors.DescribedPredictor.TheVariants.{NotTaken, BackwardTaken, Bimodal}
 use Rattle.rv_hardware.specs.Hardware.{Hardware}
+use Rattle.rv_hardware.specs.History.{Moment}
 use Rattle.rv_hardware.specs.Seen.{layout_of, seen}
 use Rattle.rv_hardware.specs.declared.{report.Stall.Stall, step.Step.Step}
 use Rattle.rv_hardware.specs.declared.report.Stall.TheVariants.{Fetch, Serial, Rob, Station, Store}
 use Rattle.rv_hardware.specs.declared.step.Step.TheVariants.{Retired, Trap, Interrupt}
+use Rattle.rv_passage.specs.Table.{still_open}
+use Rattle.rv_passage.specs.Walk.{FollowedCycle, walk}
 use Rattle.rv_passage.specs.declared.passage.Passage.{Passage}
 use Rattle.rv_rob.specs.declared.entry.{Entry.Entry, Stage.Stage}
 use Rattle.rv_rob.specs.declared.entry.Stage.TheVariants.{Waiting, Running, Finished}
@@ -39,7 +43,7 @@ use Rattle.rv_states.specs.Operands.{operand_text, operands_of, operands_text}
 use Rattle.rv_states.specs.Predictor.{asked_in, asked_of, asked_text, learned_text, place_if, place_in, place_line, place_lines, place_taught, predictor_lines, predictor_text, uses_tables, untaught_predictor}
 use Rattle.rv_states.specs.Sets.{lines_if, set_line, set_lines}
 use Rattle.rv_states.specs.State.{in_flight_text, parts_text, state_json}
-use Rattle.rv_states.specs.States.{Moment, after_moment, head_text, lines_text, moment_text, moments_text, opening_text, states_text, storage_text, window_text}
+use Rattle.rv_states.specs.States.{cycle_text, cycles_text, head_text, lines_text, opening_text, states_text, storage_text, taught_by, window_text}
 
 stall : (s : Option Stall) → HasNoMarkup (stall_text s)
 unfolding stall_text
@@ -164,16 +168,17 @@ window rows h p predictor =
     both (both (each (λ n. memory_line h (word_address h.values.ram_base n)) (λ n. memory h (word_address h.values.ram_base n)) _) (each (set_line h) (λ n. lines_of_set n (get_or h.cache.sets n [])) _))
     (both (places predictor) (start rows h p))
 
-moment : (from : ℕ) (m : Moment) (predictor : DescribedPredictor) → HasNoMarkup (moment_text from m predictor)
-unfolding moment_text
-moment from m predictor = both (chosen _ (cycle m.cycle m.rows m.steps m.after m.progress predictor)) (chosen _ (window m.remaining m.after m.progress predictor))
+shown : (from : ℕ) (c : FollowedCycle) (predictor : DescribedPredictor) → HasNoMarkup (cycle_text from c predictor)
+unfolding cycle_text
+shown from c predictor =
+    both (chosen _ (cycle c.number c.passages.rows c.report.steps c.after (progress_of c.reports) predictor)) (chosen _ (window (still_open c.passages).rows c.after (progress_of c.reports) predictor))
 
-moments_plain : (from : ℕ) (predictor : DescribedPredictor) (moments : List Moment) → HasNoMarkup (moments_text from predictor moments)
-moments_plain from predictor [] = plain refl
-moments_plain from predictor (m ∷ moments) = both (moment from m _) (moments_plain from (after_moment predictor m) moments)
+all_shown : (from : ℕ) (predictor : DescribedPredictor) (cycles : List FollowedCycle) → HasNoMarkup (cycles_text from predictor cycles)
+all_shown from predictor [] = plain refl
+all_shown from predictor (c ∷ cycles) = both (shown from c _) (all_shown from (taught_by predictor c) cycles)
 
 -- the lines of a run
-pub states_plain : (from : ℕ) (listing : Listed) (first : Hardware) (moments : List Moment) (cycles : ℕ) (stop : Stop) → HasNoMarkup (states_text from listing first moments cycles stop)
+pub states_plain : (from : ℕ) (listing : Listed) (first : Hardware) (moments : List Moment) (stop : Stop) → HasNoMarkup (states_text from listing first moments stop)
 unfolding opening_text head_text lines_text states_text
-states_plain from listing first moments cycles stop =
-    both (both (both (both (header_plain from _) (listing_plain listing _)) (chosen _ (window _ first _ _))) (moments_plain from (untaught_predictor first.values) moments)) (stop_plain cycles stop)
+states_plain from listing first moments stop =
+    both (both (both (both (header_plain from _) (listing_plain listing _)) (chosen _ (window _ first _ _))) (all_shown from (untaught_predictor first.values) (walk still_open first moments))) (stop_plain (length moments) stop)

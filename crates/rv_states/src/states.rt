@@ -1,6 +1,6 @@
 ghost use Rattle.std.specs.Prelude.{◌≡◌, Err};
 ghost use Rattle.rv_hardware.specs.Guided.{guided};
-ghost use Rattle.rv_states.specs.States.{IsStates};
+ghost use Rattle.rv_states.specs.States.{HasOneText, IsStates};
 ghost use Rattle.rv_text.specs.IsText.{IsText};
 
 use crate::form::Form;
@@ -37,6 +37,8 @@ pub fn write_states<W: Write>(
     writer: &mut W,
 ) -> Result<Stop, TextError>
     ensures written { IsText (IsStates arrivals.now from limit form listing.now (guided pipeline.old (known predictor.old)) (guided pipeline.new (known predictor.new))) result (W.contents writer.old) (W.contents writer.new) }
+    // With a described predictor the states are a function of what they are the states of.
+    ensures one_text { HasOneText arrivals.now from limit form listing.now }
     ensures not_run { result ≡ Err TextError.Memory → (pipeline.new ≡ pipeline.old) × (known predictor.new ≡ known predictor.old) }
 {
     // Of hardware that a reset and cycles lead to, the buffers are as long as described.

@@ -5,6 +5,7 @@ use Rattle.rv_passage.specs.Passage.{in_buffers}
 use Rattle.rv_passage.specs.Table.{table_from}
 use Rattle.rv_passage.proofs.InFlight.{short_buffers}
 use Rattle.rv_states.specs.Predictor.{untaught_predictor}
+use Rattle.rv_states.proofs.OneText.{one_text}
 use Rattle.rv_states.proofs.states.write_states.Goals as goal
 
 pub begin-requires : goal.begin-requires
@@ -29,3 +30,19 @@ returns-then-shown-clause-written g c =
 
 pub returns-else-shown-clause-written : goal.returns-else-shown-clause-written
 returns-else-shown-clause-written g c = let (text, states, wrote) = c.run_shown-shown.ensures in (text, states, rw c.if-shown.false at wrote)
+
+-- whatever was written
+pub returns-in_default-clause-one_text : goal.returns-in_default-clause-one_text
+returns-in_default-clause-one_text g c = one_text c.args.arrivals.now c.args.from c.args.limit c.args.form c.args.listing.now
+
+pub returns-in_default-new-clause-one_text : goal.returns-in_default-new-clause-one_text
+returns-in_default-new-clause-one_text g c = one_text c.args.arrivals.now c.args.from c.args.limit c.args.form c.args.listing.now
+
+pub returns-in_default-with_capacity-clause-one_text : goal.returns-in_default-with_capacity-clause-one_text
+returns-in_default-with_capacity-clause-one_text g c = one_text c.args.arrivals.now c.args.from c.args.limit c.args.form c.args.listing.now
+
+pub returns-then-shown-clause-one_text : goal.returns-then-shown-clause-one_text
+returns-then-shown-clause-one_text g c = one_text c.args.arrivals.now c.args.from c.args.limit c.args.form c.args.listing.now
+
+pub returns-else-shown-clause-one_text : goal.returns-else-shown-clause-one_text
+returns-else-shown-clause-one_text g c = one_text c.args.arrivals.now c.args.from c.args.limit c.args.form c.args.listing.now
