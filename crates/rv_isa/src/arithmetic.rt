@@ -7,7 +7,7 @@ use crate::operations::Kind;
 
 /// A register operation: RV32I (Unprivileged ISA 20191213, 2.4), M (7.1, 7.2) and Zba's shifted
 /// additions.
-#[derive(Clone, Copy, PartialEq, Eq)]
+#[derive(Clone, Copy)]
 pub enum AluOp {
     Add,
     Sub,

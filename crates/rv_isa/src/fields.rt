@@ -5,14 +5,14 @@ ghost use Rattle.rv_isa.specs.Word.{modulo_word};
 use std::marker::Model;
 
 /// An operand field that is extended by zeros: a number below `LIMIT`.
-#[derive(Clone, Copy, PartialEq, Eq)]
+#[derive(Clone, Copy)]
 pub struct Unsigned<const LIMIT: u32> {
     value: u32,
 }
 
 /// An operand field that is extended by its sign: a multiple of `STEP` from -`HALF` to less than
 /// `HALF`.
-#[derive(Clone, Copy, PartialEq, Eq)]
+#[derive(Clone, Copy)]
 pub struct Signed<const HALF: u32, const STEP: u32> {
     value: i32,
 }

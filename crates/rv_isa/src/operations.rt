@@ -3,7 +3,7 @@ ghost use Rattle.std.specs.Prelude.{◌≡◌, ◌↔◌, IsTrue};
 use crate::arithmetic::AluOp;
 
 /// A register and immediate operation other than a shift (Unprivileged ISA 20191213, 2.4).
-#[derive(Clone, Copy, PartialEq, Eq)]
+#[derive(Clone, Copy)]
 pub enum ImmediateOp {
     Addi,
     Slti,
@@ -14,7 +14,7 @@ pub enum ImmediateOp {
 }
 
 /// A shift by a constant (Unprivileged ISA 20191213, 2.4).
-#[derive(Clone, Copy, PartialEq, Eq)]
+#[derive(Clone, Copy)]
 pub enum ShiftOp {
     Slli,
     Srli,
@@ -22,7 +22,7 @@ pub enum ShiftOp {
 }
 
 /// The condition of a branch (Unprivileged ISA 20191213, 2.5).
-#[derive(Clone, Copy, PartialEq, Eq)]
+#[derive(Clone, Copy)]
 pub enum Condition {
     Equal,
     NotEqual,
@@ -33,7 +33,7 @@ pub enum Condition {
 }
 
 /// How many bytes a load or a store moves.
-#[derive(Clone, Copy, PartialEq, Eq)]
+#[derive(Clone, Copy)]
 pub enum Width {
     Byte,
     Half,
@@ -42,7 +42,7 @@ pub enum Width {
 
 /// A load's width, and whether its value is extended by its sign or by zeros (Unprivileged ISA
 /// 20191213, 2.6).
-#[derive(Clone, Copy, PartialEq, Eq)]
+#[derive(Clone, Copy)]
 pub enum LoadForm {
     Byte,
     Half,
@@ -52,7 +52,7 @@ pub enum LoadForm {
 }
 
 /// What a CSR instruction does with the CSR (Unprivileged ISA 20191213, 9.1).
-#[derive(Clone, Copy, PartialEq, Eq)]
+#[derive(Clone, Copy)]
 pub enum CsrOp {
     /// The source replaces the CSR's value.
     Write,

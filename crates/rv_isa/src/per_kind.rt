@@ -5,7 +5,7 @@ use crate::operations::Kind;
 use std::alloc::AllocError;
 
 /// What there is for each of the four kinds of unit.
-#[derive(Clone, Copy, PartialEq, Eq, Drop)]
+#[derive(Clone, Copy, Drop)]
 pub struct PerKind<T> {
     pub alu: T,
     pub mul: T,

@@ -3,7 +3,7 @@ ghost use Rattle.std.specs.Prelude.{◌≡◌, ℕ, ◌<◌, ◌↔◌, Some, Is
 use std::marker::Model;
 
 /// One of the integer registers x0 to x31 (Unprivileged ISA 20191213, 2.1).
-#[derive(Clone, Copy, PartialEq, Eq, PartialOrd, Ord)]
+#[derive(Clone, Copy, PartialEq, Eq)]
 pub struct Reg {
     value: u8,
 }

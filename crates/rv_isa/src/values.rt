@@ -55,7 +55,7 @@ impl PredictorKind {
 }
 
 /// The execution units and reservation stations of one kind.
-#[derive(Clone, Copy, PartialEq, Eq)]
+#[derive(Clone, Copy)]
 pub struct KindValues {
     /// The number of reservation stations, 1 to 64.
     pub stations: u32,
@@ -68,7 +68,7 @@ pub struct KindValues {
 }
 
 /// The data cache.
-#[derive(Clone, Copy, PartialEq, Eq)]
+#[derive(Clone, Copy)]
 pub struct CacheValues {
     /// The number of sets, a power of two from 1 to 256.
     pub sets: u32,
@@ -93,7 +93,7 @@ pub struct PredictorValues {
 }
 
 /// What a report dumps of memory.
-#[derive(Clone, Copy, PartialEq, Eq)]
+#[derive(Clone, Copy)]
 pub struct ReportValues {
     /// The address of the first word, a multiple of 4.
     pub dump_address: u32,
@@ -103,7 +103,7 @@ pub struct ReportValues {
 
 /// What a machine description says, a field for each of its keys. The values may be out of range:
 /// a [`Description`](crate::Description) holds values that are legal.
-#[derive(Clone, Copy, PartialEq, Eq)]
+#[derive(Clone, Copy)]
 pub struct Values {
     /// The address of RAM, a multiple of 4096 up to 0xff000000.
     pub ram_base: u32,

@@ -1,4 +1,4 @@
-use super::{is_read, values};
+use super::{is_read, is_read_as, values};
 use rv_isa::{
     CacheValues, KindValues, PerKind, PredictorKind, PredictorValues, Recovery, ReportValues,
     Values,
@@ -154,6 +154,6 @@ fn a_text_of_ten_million_bytes(rt: HostRuntime) -> Result<(), Fail> {
         rob: 7,
         ..Values::standard()
     };
-    assert!(rt; found == Some(expected));
+    assert!(rt; is_read_as(found, &expected));
     Ok(())
 }
