@@ -1,4 +1,4 @@
--- What a trap or a wrong prediction leaves behind it: executions that hold units, and words that were fetched.
+-- What a trap or a wrong prediction leaves after it: executions that hold units, and words that were fetched.
 use Rattle.rv_hardware.proofs.Words.{◌≡◌, [], ◌∷◌, false, Some, None, refl, Early, Trap}
 use Rattle.rv_isa.specs.Csr as csr
 use Rattle.rv_isa.specs.declared.causes.Cause.TheVariants.{InstructionAddressMisaligned, IllegalInstruction, LoadAddressMisaligned}
