@@ -11,6 +11,17 @@ recovery_named name =
     if bytes_eq name (codes "commit") then Some Commit else
     if bytes_eq name (codes "early") then Some Early else None
 
+-- the name of a way to mend wrong predictions
+abbrev pub recovery_name : Recovery → List ℕ
+recovery_name Commit = codes "commit"
+recovery_name Early = codes "early"
+
+-- the name of a predictor
+abbrev pub predictor_name : PredictorKind → List ℕ
+predictor_name NotTaken = codes "not_taken"
+predictor_name BackwardTaken = codes "backward_taken"
+predictor_name Bimodal = codes "bimodal"
+
 -- the predictors, by their names
 abbrev pub predictor_named : List ℕ → Option PredictorKind
 predictor_named name =

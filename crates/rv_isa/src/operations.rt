@@ -74,6 +74,20 @@ pub enum Kind {
 impl Kind {
     /// The four kinds, in the order in which they issue.
     pub const ALL: [Kind; 4] = [Kind::Alu, Kind::Mul, Kind::Div, Kind::Mem];
+
+    ghost use Rattle.rv_isa.specs.Key.{kind_name};
+
+    /// The name of the table that a description has for this kind.
+    pub fn name(self) -> &'static str
+        ensures { result.now ≡ kind_name self }
+    {
+        match self {
+            Kind::Alu => "alu",
+            Kind::Mul => "mul",
+            Kind::Div => "div",
+            Kind::Mem => "mem",
+        }
+    }
 }
 
 impl Width {
@@ -92,7 +106,7 @@ impl Width {
 }
 
 impl LoadForm {
-    ghost use Rattle.rv_isa.specs.Operation.{width_of, is_sign_extended};
+    ghost use Rattle.rv_isa.specs.Operation.{width_of};
 
     /// How many bytes are read.
     pub fn width(self) -> Width
@@ -103,13 +117,6 @@ impl LoadForm {
             LoadForm::Half | LoadForm::HalfUnsigned => Width::Half,
             LoadForm::Word => Width::Word,
         }
-    }
-
-    /// Whether the value is extended by its sign.
-    pub fn is_sign_extended(self) -> bool
-        ensures { result ≡ is_sign_extended self }
-    {
-        matches!(self, LoadForm::Byte | LoadForm::Half)
     }
 }
 

@@ -12,7 +12,8 @@ pub enum Recovery {
 
 impl Recovery {
     ghost use Rattle.std.specs.Prelude.{◌≡◌};
-    ghost use Rattle.rv_isa.specs.Choice.{recovery_named};
+    ghost use Rattle.std.specs.Prelude.{Some};
+    ghost use Rattle.rv_isa.specs.Choice.{recovery_name, recovery_named};
 
     /// The way to mend wrong predictions that a description names so, or `None` where there is none.
     pub fn named(name: &str) -> Option<Self>
@@ -22,6 +23,17 @@ impl Recovery {
             "commit" => Some(Recovery::Commit),
             "early" => Some(Recovery::Early),
             _ => None,
+        }
+    }
+
+    /// The name that a description gives this way to mend wrong predictions.
+    pub fn name(self) -> &'static str
+        ensures name { result.now ≡ recovery_name self }
+        ensures named { recovery_named result.now ≡ Some self }
+    {
+        match self {
+            Recovery::Commit => "commit",
+            Recovery::Early => "early",
         }
     }
 }
@@ -39,7 +51,8 @@ pub enum PredictorKind {
 
 impl PredictorKind {
     ghost use Rattle.std.specs.Prelude.{◌≡◌};
-    ghost use Rattle.rv_isa.specs.Choice.{predictor_named};
+    ghost use Rattle.std.specs.Prelude.{Some};
+    ghost use Rattle.rv_isa.specs.Choice.{predictor_name, predictor_named};
 
     /// The predictor that a description names so, or `None` where there is none.
     pub fn named(name: &str) -> Option<Self>
@@ -50,6 +63,18 @@ impl PredictorKind {
             "backward_taken" => Some(PredictorKind::BackwardTaken),
             "bimodal" => Some(PredictorKind::Bimodal),
             _ => None,
+        }
+    }
+
+    /// The name that a description gives this predictor.
+    pub fn name(self) -> &'static str
+        ensures name { result.now ≡ predictor_name self }
+        ensures named { predictor_named result.now ≡ Some self }
+    {
+        match self {
+            PredictorKind::NotTaken => "not_taken",
+            PredictorKind::BackwardTaken => "backward_taken",
+            PredictorKind::Bimodal => "bimodal",
         }
     }
 }

@@ -30,7 +30,8 @@ use Rattle.rv_json.specs.Fetched.{fetched_json, next_fetch_text}
 use Rattle.rv_json.specs.Instruction.{details_text, ended_text, ending_text, instruction_json, passage_text, retired_text, squashed_text, trapped_text}
 use Rattle.rv_json.specs.Json.{array}
 use Rattle.rv_json.specs.Listing.{line_if, line_text, listing_lines, place_text}
-use Rattle.rv_json.specs.Machine.{buffers_text, cache_json, format_text, header_line, kind_json, kinds_text, machine_json, numbers_text, predictor_json, predictor_name, recovery_text, sizes_text, widths_text}
+use Rattle.rv_isa.specs.Choice.{predictor_name}
+use Rattle.rv_json.specs.Machine.{buffers_text, cache_json, format_text, header_line, kind_json, kinds_text, machine_json, numbers_text, predictor_json, recovery_text, sizes_text, widths_text}
 use Rattle.rv_json.specs.Markup.{HasNoMarkup}
 use Rattle.rv_json.specs.Observed.{lines_text as levels_text, observed_text}
 use Rattle.rv_json.specs.Operand.{known_text, operand_json}

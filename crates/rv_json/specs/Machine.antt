@@ -1,20 +1,8 @@
 -- The machine's values, as JSON.
 use Rattle.std.specs.Prelude.{ℕ, List, ◌++◌, codes, decimal}
-use Rattle.rv_isa.specs.declared.values.{CacheValues.CacheValues, KindValues.KindValues, PredictorKind.PredictorKind, PredictorValues.PredictorValues, Recovery.Recovery, Values.Values}
-use Rattle.rv_isa.specs.declared.values.PredictorKind.TheVariants.{NotTaken, BackwardTaken, Bimodal}
-use Rattle.rv_isa.specs.declared.values.Recovery.TheVariants.{Commit, Early}
+use Rattle.rv_isa.specs.declared.values.{CacheValues.CacheValues, KindValues.KindValues, PredictorValues.PredictorValues, Recovery.Recovery, Values.Values}
+use Rattle.rv_isa.specs.Choice.{predictor_name, recovery_name}
 use Rattle.rv_json.specs.Json.{Json, also, begins, key, quoted, truth}
-
--- the name of a way to mend wrong predictions
-abbrev pub recovery_name : Recovery → List ℕ
-recovery_name Commit = codes "commit"
-recovery_name Early = codes "early"
-
--- the branch predictor
-abbrev pub predictor_name : PredictorKind → List ℕ
-predictor_name NotTaken = codes "not_taken"
-predictor_name BackwardTaken = codes "backward_taken"
-predictor_name Bimodal = codes "bimodal"
 
 -- where RAM lies
 unfoldable pub sizes_text : Values → List ℕ

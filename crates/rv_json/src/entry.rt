@@ -1,7 +1,6 @@
 ghost use Rattle.std.specs.Prelude.{◌≡◌};
 ghost use Rattle.rv_hardware.specs.InFlight.{broadcast_of};
 ghost use Rattle.rv_isa.specs.Instruction.{kind_of_word, target_of_word};
-ghost use Rattle.rv_isa.specs.Key.{kind_name};
 ghost use Rattle.rv_json.specs.Entry.{cause_of, cost_of, entry_text, fault_of, fault_value_of, finished_in, head_text, issued_in, kind_text, next_pc_of, stage_text, value_of};
 ghost use Rattle.rv_text.specs.Said.{Says};
 
@@ -10,18 +9,6 @@ use rv_isa::{Fault, Kind, Message, kind, target};
 use rv_rob::{Entry, Stage};
 use rv_text::Sink;
 use std::io::Write;
-
-/// The name of a kind of unit.
-pub(crate) fn kind_name(kind: Kind) -> &'static str
-    ensures { result.now ≡ kind_name kind }
-{
-    match kind {
-        Kind::Alu => "alu",
-        Kind::Mul => "mul",
-        Kind::Div => "div",
-        Kind::Mem => "mem",
-    }
-}
 
 /// What was broadcast of a result, or was known at dispatch.
 pub fn broadcast(stage: &Stage) -> Option<Message>
@@ -81,7 +68,7 @@ fn write_kind<W: Write>(out: &mut Sink<'_, W>, entry: &Entry)
         None => None,
     };
     match kind {
-        Some(kind) => write_name(out, "kind", kind_name(kind)),
+        Some(kind) => write_name(out, "kind", kind.name()),
         None => {}
     }
 }

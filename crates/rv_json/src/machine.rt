@@ -1,35 +1,15 @@
 ghost use Rattle.std.specs.Prelude.{◌≡◌, codes};
 ghost use Rattle.rv_isa.specs.Key.{kind_name};
 ghost use Rattle.rv_json.specs.Json.{also};
-ghost use Rattle.rv_json.specs.Machine.{buffers_text, cache_json, header_line, kind_json, kinds_text, machine_json, numbers_text, predictor_json, predictor_name, recovery_name, recovery_text, sizes_text, widths_text};
+ghost use Rattle.rv_json.specs.Machine.{buffers_text, cache_json, header_line, kind_json, kinds_text, machine_json, numbers_text, predictor_json, recovery_text, sizes_text, widths_text};
 ghost use Rattle.rv_text.specs.Said.{Says};
 
-use crate::entry::kind_name;
 use crate::json::{
     Member, Value, write_front, write_key, write_members, write_name, write_object_member,
 };
-use rv_isa::{CacheValues, Kind, KindValues, PredictorKind, PredictorValues, Recovery, Values};
+use rv_isa::{CacheValues, Kind, KindValues, PredictorValues, Recovery, Values};
 use rv_text::Sink;
 use std::io::Write;
-
-fn recovery_name(recovery: Recovery) -> &'static str
-    ensures { result.now ≡ recovery_name recovery }
-{
-    match recovery {
-        Recovery::Commit => "commit",
-        Recovery::Early => "early",
-    }
-}
-
-fn predictor_name(kind: PredictorKind) -> &'static str
-    ensures { result.now ≡ predictor_name kind }
-{
-    match kind {
-        PredictorKind::NotTaken => "not_taken",
-        PredictorKind::BackwardTaken => "backward_taken",
-        PredictorKind::Bimodal => "bimodal",
-    }
-}
 
 #[tactic(auto, unfolding(crate::specs::Machine::sizes_text))]
 fn write_sizes<W: Write>(out: &mut Sink<'_, W>, values: &Values)
@@ -80,7 +60,7 @@ fn write_buffers<W: Write>(out: &mut Sink<'_, W>, values: &Values)
 fn write_recovery<W: Write>(out: &mut Sink<'_, W>, recovery: Recovery)
     ensures { Says W.contents out.old out.new (recovery_text recovery) }
 {
-    write_name(out, "recovery", recovery_name(recovery))
+    write_name(out, "recovery", recovery.name())
 }
 
 #[tactic(auto, using(rv_text::proofs::Saying::says_both), unfolding(crate::specs::Machine::numbers_text))]
@@ -99,7 +79,7 @@ fn write_kind<W: Write>(out: &mut Sink<'_, W>, kind: Kind, values: KindValues)
 {
     write_object_member(
         out,
-        kind_name(kind),
+        kind.name(),
         "stations",
         u64::from(values.stations),
         &[
@@ -153,7 +133,7 @@ fn write_predictor<W: Write>(out: &mut Sink<'_, W>, values: PredictorValues)
         u64::from(values.entries),
         &[Member {
             name: "kind",
-            value: Value::Name(predictor_name(values.kind)),
+            value: Value::Name(values.kind.name()),
         }],
     )
 }

@@ -3,9 +3,9 @@ use Rattle.std.specs.Prelude.{ℕ, Bool, List, ◌++◌, codes, decimal, if◌th
 use Rattle.rv_isa.specs.declared.{bounds.Bounds.Bounds, keys.Key.Key}
 use Rattle.rv_isa.specs.declared.bounds.Bounds.TheVariants.{Whole, Pages, Powers, Words, Front}
 use Rattle.rv_isa.specs.declared.keys.Key.TheVariants.{Number, Recovery, Pipelined, PredictorKind}
-use Rattle.rv_isa.specs.declared.values.{PredictorKind.PredictorKind as Prediction, Recovery.Recovery as Mending}
 use Rattle.rv_isa.specs.declared.values.PredictorKind.TheVariants.{NotTaken, BackwardTaken, Bimodal}
 use Rattle.rv_isa.specs.declared.values.Recovery.TheVariants.{Commit, Early}
+use Rattle.rv_isa.specs.Choice.{predictor_name, recovery_name}
 use Rattle.rv_isa.specs.Key.{number_of, row_of, text_of}
 use Rattle.rv_isa.specs.PerKind.{at_kind}
 use Rattle.rv_isa.specs.Standard.{standard_values}
@@ -22,28 +22,17 @@ bounds_text (Powers low high) = range_text (codes "a power of two") low high
 bounds_text Words = codes "a multiple of 4 from 0 to 4294967292"
 bounds_text Front = codes "a multiple of 4096 from 0 to ram_size"
 
--- the word of a way to mend wrong predictions
-unfoldable pub recovery_word : Mending → List ℕ
-recovery_word Commit = codes "commit"
-recovery_word Early = codes "early"
-
--- the word of a predictor
-unfoldable pub predictor_word : Prediction → List ℕ
-predictor_word NotTaken = codes "not_taken"
-predictor_word BackwardTaken = codes "backward_taken"
-predictor_word Bimodal = codes "bimodal"
-
 -- a word in quotes
 abbrev pub quoted : List ℕ → List ℕ
 quoted word = codes "\"" ++ (word ++ codes "\"")
 
 -- the words of the ways to mend wrong predictions
 abbrev pub recoveries : List ℕ
-recoveries = quoted (recovery_word Commit) ++ (codes " or " ++ quoted (recovery_word Early))
+recoveries = quoted (recovery_name Commit) ++ (codes " or " ++ quoted (recovery_name Early))
 
 -- the words of the predictors
 abbrev pub predictors : List ℕ
-predictors = quoted (predictor_word NotTaken) ++ (codes ", " ++ (quoted (predictor_word BackwardTaken) ++ (codes " or " ++ quoted (predictor_word Bimodal))))
+predictors = quoted (predictor_name NotTaken) ++ (codes ", " ++ (quoted (predictor_name BackwardTaken) ++ (codes " or " ++ quoted (predictor_name Bimodal))))
 
 -- the word of a truth value
 unfoldable pub truth_word : Bool → List ℕ
@@ -59,9 +48,9 @@ key_range PredictorKind = predictors
 -- the value of a key that is missing
 unfoldable pub key_default : Key → List ℕ
 key_default (Number key) = decimal (number_of standard_values key)
-key_default Recovery = quoted (recovery_word standard_values.recovery)
+key_default Recovery = quoted (recovery_name standard_values.recovery)
 key_default (Pipelined kind) = truth_word (at_kind kind standard_values.kinds).pipelined
-key_default PredictorKind = quoted (predictor_word standard_values.predictor.kind)
+key_default PredictorKind = quoted (predictor_name standard_values.predictor.kind)
 
 -- the line on the values that a key takes
 unfoldable pub values_line : Key → List ℕ

@@ -1,11 +1,10 @@
-ghost use Rattle.std.specs.Prelude.{◌≡◌, ◌++◌, OnOk, Some};
-ghost use Rattle.rv_isa.specs.Choice.{predictor_named, recovery_named};
-ghost use Rattle.rv_refusal.specs.KeyRange.{bounds_text, key_default, key_range, predictor_word, quoted, range_text, recovery_word, truth_word, values_line};
+ghost use Rattle.std.specs.Prelude.{◌≡◌, ◌++◌, OnOk};
+ghost use Rattle.rv_refusal.specs.KeyRange.{bounds_text, key_default, key_range, quoted, range_text, truth_word, values_line};
 
 use crate::key_names::text_of;
 use crate::text::{add_all, add_number, add_text};
 use itoa::Buffer;
-use rv_isa::{Bounds, Key, PredictorKind, Recovery, Values};
+use rv_isa::{Bounds, Key, Values};
 use std::alloc::AllocError;
 
 // Appends a range of numbers after a word.
@@ -33,31 +32,6 @@ fn add_bounds(out: &mut Vec<u8>, bounds: Bounds) -> Result<(), AllocError>
     }
 }
 
-// The word of a way to mend wrong predictions.
-#[tactic(auto, unfolding(crate::specs::KeyRange::recovery_word))]
-fn recovery_word(recovery: Recovery) -> &'static [u8]
-    ensures word { result.now ≡ recovery_word recovery }
-    ensures named { recovery_named result.now ≡ Some recovery }
-{
-    match recovery {
-        Recovery::Commit => b"commit",
-        Recovery::Early => b"early",
-    }
-}
-
-// The word of a predictor.
-#[tactic(auto, unfolding(crate::specs::KeyRange::predictor_word))]
-fn predictor_word(predictor: PredictorKind) -> &'static [u8]
-    ensures word { result.now ≡ predictor_word predictor }
-    ensures named { predictor_named result.now ≡ Some predictor }
-{
-    match predictor {
-        PredictorKind::NotTaken => b"not_taken",
-        PredictorKind::BackwardTaken => b"backward_taken",
-        PredictorKind::Bimodal => b"bimodal",
-    }
-}
-
 #[tactic(auto, unfolding(crate::specs::KeyRange::truth_word))]
 fn truth_word(value: bool) -> &'static [u8]
     ensures { result.now ≡ truth_word value }
@@ -73,7 +47,7 @@ fn add_quoted(out: &mut Vec<u8>, word: &[u8]) -> Result<(), AllocError>
 }
 
 // Appends the values that a key takes.
-#[tactic(auto, unfolding(crate::specs::KeyRange::key_range, crate::specs::KeyRange::recovery_word, crate::specs::KeyRange::predictor_word))]
+#[tactic(auto, unfolding(crate::specs::KeyRange::key_range))]
 fn add_key_range(out: &mut Vec<u8>, key: Key) -> Result<(), AllocError>
     ensures { OnOk result (out.new.items ≡ out.old.items ++ key_range key) }
 {
@@ -93,9 +67,9 @@ fn add_key_default(out: &mut Vec<u8>, key: Key) -> Result<(), AllocError>
     let standard = Values::standard();
     match key {
         Key::Number(key) => add_number(out, standard.number(key) as usize),
-        Key::Recovery => add_quoted(out, recovery_word(standard.recovery)),
+        Key::Recovery => add_quoted(out, standard.recovery.name().as_bytes()),
         Key::Pipelined(kind) => { add_text(out, truth_word(standard.kinds.get(kind).pipelined)) }
-        Key::PredictorKind => add_quoted(out, predictor_word(standard.predictor.kind)),
+        Key::PredictorKind => add_quoted(out, standard.predictor.kind.name().as_bytes()),
     }
 }
 

@@ -11,17 +11,6 @@ pub enum Operand {
     Tag(u64),
 }
 
-impl Operand {
-    ghost use Rattle.rv_stations.specs.Waiting.{has_value};
-
-    /// Whether the value is there.
-    pub fn has_value(self) -> bool
-        ensures { result ≡ has_value self }
-    {
-        matches!(self, Operand::Value(_))
-    }
-}
-
 /// An instruction that waits in a reservation station.
 #[derive(Clone, Copy)]
 pub struct Waiting {
