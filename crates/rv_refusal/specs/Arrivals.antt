@@ -10,8 +10,9 @@ use Rattle.rv_job.specs.Parts.{Parts}
 use Rattle.rv_refusal.specs.Caret.{caret_below}
 use Rattle.rv_refusal.specs.EntryLine.{EntryLine, anywhere, entry_on, field_on, first_sought, in_entry, unknown_on}
 use Rattle.rv_refusal.specs.Lines.{line_feeds}
-use Rattle.rv_refusal.specs.Near.{names_line, nearest}
+use Rattle.rv_refusal.specs.Near.{hint_line}
 use Rattle.rv_refusal.specs.Place.{line_place, shown_line}
+use Rattle.rv_refusal.specs.TomlFault.{no_toml}
 
 -- the entry that a line stands in, if one has begun
 unfoldable pub in_entry_text : ℕ → List ℕ
@@ -62,10 +63,10 @@ arrival_names = codes "arrival" ∷ codes "cycle" ∷ codes "line" ∷ codes "le
 unfoldable pub arrival_expected : List ℕ
 arrival_expected = codes "expected: entries [[arrival]], each with cycle, line and level\n"
 
--- a line with an unknown name, what was expected there, and the known names that are nearest to it
+-- a line with an unknown name, what was expected there, and the known names that it may stand for
 unfoldable pub unknown_line : ℕ → EntryLine → List ℕ
 unknown_line before found =
-    entry_line_text before found ++ (arrival_expected ++ names_line (nearest found.name arrival_names))
+    entry_line_text before found ++ (arrival_expected ++ hint_line found.name arrival_names)
 
 -- the first line of a list of arrivals with a name that is not known
 unfoldable pub unknown_lines : ℕ → List ℕ → List ℕ
@@ -74,7 +75,7 @@ unknown_lines before part =
 
 -- why arrivals are refused that so many lines of the job stand before
 unfoldable pub part_lines : ℕ → List ℕ → ArrivalsError → List ℕ
-part_lines before part NotToml = codes "expected: a TOML document, as in '[[arrival]]'\n"
+part_lines before part NotToml = no_toml (codes "arrivals") before (codes "'[[arrival]]'") part
 part_lines before part UnknownKey = unknown_lines before part
 part_lines before part Memory = []
 part_lines before part error = entry_lines before part error

@@ -10,8 +10,9 @@ use Rattle.rv_refusal.specs.Caret.{caret_below}
 use Rattle.rv_refusal.specs.KeyLine.{KeyLine, first_named, is_none_of}
 use Rattle.rv_refusal.specs.KeyNames.{key_names}
 use Rattle.rv_refusal.specs.KeyRange.{values_line}
-use Rattle.rv_refusal.specs.Near.{names_line, nearest}
+use Rattle.rv_refusal.specs.Near.{hint_line}
 use Rattle.rv_refusal.specs.Place.{line_place, shown_line}
+use Rattle.rv_refusal.specs.TomlFault.{no_toml}
 
 -- a line at fault of a description, with which a job begins, and a caret below its name
 unfoldable pub key_line_text : KeyLine → List ℕ
@@ -36,9 +37,9 @@ value_lines part key = option_map_or key_line_text (line_of_key key part) [] ++ 
 unfoldable pub known_expected : List ℕ
 known_expected = codes "expected: a key or a table of a description\n"
 
--- a line with an unknown name, what was expected there, and the known names that are nearest to it
+-- a line with an unknown name, what was expected there, and the known names that it may stand for
 unfoldable pub unknown_line : List (List ℕ) → KeyLine → List ℕ
-unknown_line known found = key_line_text found ++ (known_expected ++ names_line (nearest found.name known))
+unknown_line known found = key_line_text found ++ (known_expected ++ hint_line found.name known)
 
 -- the first line of a description with a name that is none of these
 unfoldable pub unknown_among : List (List ℕ) → List ℕ → List ℕ
@@ -51,6 +52,6 @@ unknown_lines part = unknown_among key_names part
 
 -- why a description is refused
 unfoldable pub description_lines : List ℕ → DescriptionError → List ℕ
-description_lines part NotToml = codes "expected: a TOML document, as in 'rob = 8'\n"
+description_lines part NotToml = no_toml (codes "description") 0 (codes "'rob = 8'") part
 description_lines part UnknownKey = unknown_lines part
 description_lines part error = option_map_or (value_lines part) (key_at (place_of error)) []

@@ -19,5 +19,6 @@ pub mod Range
 pub mod Refusal
 pub mod Separator
 pub mod Statement
+pub mod TomlFault
 pub mod Unfit
 pub mod Usage

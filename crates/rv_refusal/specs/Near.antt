@@ -1,10 +1,12 @@
 -- The known names that are near an unknown one.
-use Rattle.std.specs.Prelude.{ℕ, ◌+◌, ◌==◌, List, [], ◌∷◌, ◌++◌, Bool, ◌&&◌, length, nat_eq, nat_le, nat_lt, codes, take, option_and_then}
-use Rattle.std.specs.{List.filter, List.flat_map, Option.option_map_or}
+use Rattle.std.specs.Prelude.{ℕ, ◌+◌, ◌==◌, List, [], ◌∷◌, ◌++◌, Bool, true, false, ◌&&◌, length, nat_eq, nat_le, nat_lt, codes, map, take, option_and_then, if◌then◌else◌}
+use Rattle.std.specs.{List.filter, List.flat_map, List.list_any, Option.option_map_or, Str.bytes_eq}
+use Rattle.core.specs.Char.{to_ascii_lowercase}
 use Rattle.strsim.specs.Edits.{levenshtein_row}
 use Rattle.rv_asm.specs.Layout.{body_of}
 use Rattle.rv_asm.specs.Token.{tokens_of}
 use Rattle.rv_asm.specs.declared.fault.AsmFault.{AsmFault}
+use Rattle.rv_asm.specs.declared.fault.AsmFault.TheVariants.{UnknownSymbol}
 use Rattle.rv_refusal.specs.Names.{known_names, unknown_name}
 
 -- how many insertions, deletions and substitutions of a byte lead from one name to another at least: their Levenshtein distance
@@ -29,7 +31,27 @@ unfoldable pub names_line : List (List ℕ) → List ℕ
 names_line [] = []
 names_line (first ∷ others) = codes "nearest: " ++ (first ++ (other_names others ++ codes "\n"))
 
--- the line on the known names that are nearest to the unknown one of a line at fault, where its fault is one of a name
+-- a name with small letters in place of capital ones
+abbrev pub in_small_letters : List ℕ → List ℕ
+in_small_letters name = map to_ascii_lowercase name
+
+-- the line on an unknown name: that it is known in small letters, or else the known names that are nearest to it
+unfoldable pub hint_line : List ℕ → List (List ℕ) → List ℕ
+hint_line name known =
+    if list_any (bytes_eq (in_small_letters name)) known
+    then codes "names are written in small letters: " ++ (in_small_letters name ++ codes "\n")
+    else names_line (nearest name known)
+
+-- the name is a symbol's, which may have capital letters
+abbrev pub is_of_symbol : AsmFault → Bool
+is_of_symbol UnknownSymbol = true
+is_of_symbol _ = false
+
+-- the line on an unknown name of assembly
+abbrev pub known_line : AsmFault → List ℕ → List (List ℕ) → List ℕ
+known_line fault name known = if is_of_symbol fault then names_line (nearest name known) else hint_line name known
+
+-- that on the unknown name of a line at fault, where its fault is one of a name
 unfoldable pub nearest_line : AsmFault → List ℕ → List ℕ → List ℕ
 nearest_line fault line assembly =
-    option_map_or (λ name. names_line (nearest name (known_names fault assembly))) (option_and_then (λ tokens. unknown_name fault (body_of tokens)) (tokens_of line)) []
+    option_map_or (λ name. known_line fault name (known_names fault assembly)) (option_and_then (λ tokens. unknown_name fault (body_of tokens)) (tokens_of line)) []

@@ -7,9 +7,10 @@ ghost use Rattle.rv_refusal.specs.EntryLine.{entry_line};
 use crate::caret::add_marked_line;
 use crate::entry_line::{EntryLine, Sought, first_sought};
 use crate::lines::line_feeds;
-use crate::near::add_nearest;
+use crate::near::add_hint;
 use crate::place::add_line_place;
 use crate::text::{add_all, add_number, add_text};
+use crate::toml_fault::add_no_toml;
 use itoa::Buffer;
 use rv_describe::{ArrivalsError, Field, field_at_fault};
 use rv_job::Parts;
@@ -151,7 +152,7 @@ fn arrival_names() -> &'static [&'static [u8]]
     &NAMES
 }
 
-// Appends a line with an unknown name, what was expected there, and the known names that are nearest to it.
+// Appends a line with an unknown name, what was expected there, and the known names that it may stand for.
 #[tactic(auto, unfolding(crate::specs::Arrivals::unknown_line))]
 fn add_unknown_line(
     alloc: Global,
@@ -163,7 +164,7 @@ fn add_unknown_line(
 {
     add_entry_line(out, before, found)?;
     add_text(out, arrival_expected())?;
-    add_nearest(alloc, out, found.name, arrival_names())
+    add_hint(alloc, out, found.name, arrival_names())
 }
 
 // Appends the first line of a list of arrivals with a name that is not known.
@@ -195,7 +196,7 @@ fn add_part(
 {
     match error {
         ArrivalsError::NotToml => {
-            add_text(out, b"expected: a TOML document, as in '[[arrival]]'\n")
+            add_no_toml(alloc, out, b"arrivals", before, b"'[[arrival]]'", part)
         }
         ArrivalsError::UnknownKey => add_unknown_lines(alloc, out, before, part),
         ArrivalsError::Memory => Ok(()),

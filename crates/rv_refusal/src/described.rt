@@ -8,9 +8,10 @@ use crate::caret::add_marked_line;
 use crate::key_line::{KeyLine, Wanted, first_named, full_name};
 use crate::key_names::{key_names, text_of};
 use crate::key_range::add_values_line;
-use crate::near::add_nearest;
+use crate::near::add_hint;
 use crate::place::add_line_place;
 use crate::text::add_text;
+use crate::toml_fault::add_no_toml;
 use rv_describe::DescriptionError;
 use rv_isa::{Key, all_keys};
 use std::alloc::{AllocError, Global};
@@ -95,7 +96,7 @@ fn known_expected() -> &'static [u8]
     b"expected: a key or a table of a description\n"
 }
 
-// Appends a line with an unknown name, what was expected there, and the known names that are nearest to it.
+// Appends a line with an unknown name, what was expected there, and the known names that it may stand for.
 #[tactic(auto, unfolding(crate::specs::Described::unknown_line))]
 fn add_unknown_line(
     alloc: Global,
@@ -109,7 +110,7 @@ fn add_unknown_line(
     add_key_line(out, found)?;
     add_text(out, known_expected())?;
     let name = full_name(alloc, found)?;
-    add_nearest(alloc, out, name.as_slice(), known)
+    add_hint(alloc, out, name.as_slice(), known)
 }
 
 // Appends the first line of a description with a name that is none of these.
@@ -149,7 +150,7 @@ pub(crate) fn add_description(
 {
     match error {
         DescriptionError::NotToml => {
-            add_text(out, b"expected: a TOML document, as in 'rob = 8'\n")
+            add_no_toml(alloc, out, b"description", 0, b"'rob = 8'", part)
         }
         DescriptionError::UnknownKey => add_unknown_lines(alloc, out, part),
         DescriptionError::WrongKind { .. }

@@ -27,6 +27,7 @@ mod separator;
 mod statement;
 mod symbols;
 mod text;
+mod toml_fault;
 mod unfit;
 mod unknown;
 mod usage;

@@ -1,7 +1,8 @@
 ghost use Rattle.std.specs.Prelude.{◌≡◌, ◌++◌, IfOk, OnOk, map};
 ghost use Rattle.std.specs.List.{filter};
-ghost use Rattle.rv_refusal.specs.Near.{is_near, names_line, nearest, other_names};
+ghost use Rattle.rv_refusal.specs.Near.{hint_line, is_near, names_line, nearest, other_names};
 
+use crate::key_line::is_among;
 use crate::names::add_name;
 use crate::text::{add_all, add_text};
 use std::alloc::{AllocError, Global};
@@ -86,4 +87,28 @@ pub(crate) fn add_nearest(
 {
     let names = nearest(alloc, name, known)?;
     add_names_line(out, names.as_slice())
+}
+
+/// Appends the line on an unknown name: that it is known in small letters, or else the known names that are nearest to it.
+#[tactic(auto, unfolding(crate::specs::Near::hint_line))]
+pub(crate) fn add_hint(
+    alloc: Global,
+    out: &mut Vec<u8>,
+    name: &[u8],
+    known: &[&[u8]],
+) -> Result<(), AllocError>
+    ensures { OnOk result (out.new.items ≡ out.old.items ++ hint_line name.now (map (λ other. other.now) known.now)) }
+{
+    let small = name.to_ascii_lowercase(alloc)?;
+    if is_among(small.as_slice(), known) {
+        return add_all(
+            out,
+            &[
+                b"names are written in small letters: ",
+                small.as_slice(),
+                b"\n",
+            ],
+        );
+    }
+    add_nearest(alloc, out, name, known)
 }

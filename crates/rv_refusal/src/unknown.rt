@@ -3,12 +3,12 @@ ghost use Rattle.rv_asm.specs.Layout.{body_of};
 ghost use Rattle.rv_asm.specs.Read.{tokens_in};
 ghost use Rattle.rv_asm.specs.Token.{tokens_of};
 ghost use Rattle.rv_refusal.specs.Names.{known_names, names_csr, unknown_name};
-ghost use Rattle.rv_refusal.specs.Near.{names_line, nearest, nearest_line};
+ghost use Rattle.rv_refusal.specs.Near.{is_of_symbol, known_line, nearest_line};
 ghost use Rattle.rv_refusal.specs.Statement.{first_name};
 
 use crate::culprit::operand_of_fault;
 use crate::names::{add_mnemonics, csrs, registers};
-use crate::near::add_nearest;
+use crate::near::{add_hint, add_nearest};
 use crate::statement::{after_labels, first_name};
 use crate::symbols::add_symbols;
 use rv_asm::{AsmFault, Form, Operation, Token, form_named, tokenize};
@@ -79,7 +79,13 @@ fn add_known_names<'a>(
     }
 }
 
-// Appends the line on the names that are nearest to one and may stand where a fault of an assembly is reported.
+fn is_of_symbol(fault: AsmFault) -> bool
+    ensures { result ≡ is_of_symbol fault }
+{
+    matches!(fault, AsmFault::UnknownSymbol)
+}
+
+// Appends the line on an unknown name by those that may stand where a fault of an assembly is reported.
 fn add_known(
     alloc: Global,
     out: &mut Vec<u8>,
@@ -87,14 +93,18 @@ fn add_known(
     name: &[u8],
     assembly: &[u8],
 ) -> Result<(), AllocError>
-    ensures { OnOk result (out.new.items ≡ out.old.items ++ names_line (nearest name.now (known_names fault assembly.now))) }
+    ensures { OnOk result (out.new.items ≡ out.old.items ++ known_line fault name.now (known_names fault assembly.now)) }
 {
     let mut known = Vec::new(alloc);
     add_known_names(alloc, &mut known, fault, assembly)?;
-    add_nearest(alloc, out, name, known.as_slice())
+    if is_of_symbol(fault) {
+        add_nearest(alloc, out, name, known.as_slice())
+    } else {
+        add_hint(alloc, out, name, known.as_slice())
+    }
 }
 
-/// Appends the line on the known names that are nearest to the unknown one of a line at fault, where its fault is one of a name.
+/// Appends the line on the unknown name of a line at fault, where its fault is one of a name.
 #[tactic(auto, unfolding(crate::specs::Near::nearest_line))]
 pub(crate) fn add_nearest_line(
     alloc: Global,

@@ -15,6 +15,61 @@ pub(crate) struct Refused {
     pub(crate) why: &'static [u8],
 }
 
+// Names that are known in small letters; a symbol may have capital ones.
+const CAPITALS: [Refused; 5] = [
+    Refused {
+        job: b"nop\nADDI x1, x0, 5",
+        why: b"\
+line 2 of the job, line 2 of its assembly: UnknownMnemonic
+    ADDI x1, x0, 5
+    ^
+expected: a statement that begins with an instruction or a directive
+names are written in small letters: addi
+",
+    },
+    Refused {
+        job: b".Word 5",
+        why: b"\
+line 1 of the job, line 1 of its assembly: UnknownMnemonic
+    .Word 5
+    ^
+expected: a statement that begins with an instruction or a directive
+names are written in small letters: .word
+",
+    },
+    Refused {
+        job: b"add x1, A0, a1",
+        why: b"\
+line 1 of the job, line 1 of its assembly: BadRegister
+    add x1, A0, a1
+            ^
+expected: a register, x0 to x31, or its name in the calling convention
+names are written in small letters: a0
+",
+    },
+    Refused {
+        job: b"csrr x1, MTVEC",
+        why: b"\
+line 1 of the job, line 1 of its assembly: BadOperands
+    csrr x1, MTVEC
+             ^
+expected: csrr REGISTER, CSR
+names are written in small letters: mtvec
+",
+    },
+    Refused {
+        job: b"again: j AGAIN\nj Again\nADD",
+        why: b"\
+line 1 of the job, line 1 of its assembly: UnknownSymbol
+    again: j AGAIN
+             ^
+expected: a symbol that a label or .equ defines
+line 2 of the job, line 2 of its assembly: UnknownSymbol
+line 3 of the job, line 3 of its assembly: UnknownMnemonic
+",
+    },
+];
+
 const REFUSED: [Refused; 17] = [
     Refused {
         job: b"rob = 8\n%%\nnop\n\tslli x1, x1, 32 # \xc3\xa4\n",
@@ -358,4 +413,9 @@ fn a_refusal_says_what_was_expected(rt: HostRuntime) -> Result<(), Fail> {
     check_ends(&rt, rt.alloc(), &RANGES)?;
     check_ends(&rt, rt.alloc(), &SHAPES)?;
     check_ends(&rt, rt.alloc(), &OTHERS)
+}
+
+#[test]
+fn a_refusal_says_that_a_name_is_known_in_small_letters(rt: HostRuntime) -> Result<(), Fail> {
+    check_whole(&rt, rt.alloc(), &CAPITALS)
 }

@@ -117,7 +117,12 @@ expected: cycle is a number from 0 to 1000000, no less than that of the entry be
     },
     Refused {
         job: b"%%\n[[arrival]]\ncycle 5\n%%\nebreak\n",
-        why: b"expected: a TOML document, as in '[[arrival]]'\n",
+        why: b"\
+line 3 of the job, line 2 of its arrivals
+    cycle 5
+    ^
+expected: TOML, as in '[[arrival]]': a value for each key, strings and brackets closed
+",
     },
 ];
 

@@ -141,8 +141,81 @@ nearest: cache.sets, cache.hit
         why: b"expected: keys and tables of a description\n",
     },
     Refused {
+        job: b"ROB = 8\n%%\n",
+        why: b"\
+line 1 of the job, line 1 of its description
+    ROB = 8
+    ^
+expected: a key or a table of a description
+names are written in small letters: rob
+",
+    },
+];
+
+// Texts that are no TOML.
+const NO_TOML: [Refused; 7] = [
+    Refused {
         job: b"rob 8\n%%\n",
-        why: b"expected: a TOML document, as in 'rob = 8'\n",
+        why: b"\
+line 1 of the job, line 1 of its description
+    rob 8
+    ^
+expected: TOML, as in 'rob = 8': a value for each key, strings and brackets closed
+",
+    },
+    Refused {
+        job: b"# a machine\nmemory = { base = 0 }\n  rob =\nforward = 1\n%%\n",
+        why: b"\
+line 3 of the job, line 3 of its description
+      rob =
+      ^
+expected: TOML, as in 'rob = 8': a value for each key, strings and brackets closed
+",
+    },
+    Refused {
+        job: b"rob = 8\n\nrob = 16\n%%\n",
+        why: b"\
+line 3 of the job, line 3 of its description
+    rob = 16
+    ^
+expected: a key or a table that does not stand above
+",
+    },
+    Refused {
+        job: b"[cache]\nsets = 4\n[memory]\n[cache]\nhit = 2\n%%\n",
+        why: b"\
+line 4 of the job, line 4 of its description
+    [cache]
+    ^
+expected: a key or a table that does not stand above
+",
+    },
+    Refused {
+        job: b"rob = 8\npredictor.kind = \"bimodal\nforward = 1\n%%\n",
+        why: b"\
+line 2 of the job, line 2 of its description
+    predictor.kind = \"bimodal
+    ^
+expected: TOML, as in 'rob = 8': a value for each key, strings and brackets closed
+",
+    },
+    Refused {
+        job: b"units = {\n  alu = 2\n}\nlatency = [\n1,\n2\n%%\n",
+        why: b"\
+line 4 of the job, line 4 of its description
+    latency = [
+    ^
+expected: TOML, as in 'rob = 8': a value for each key, strings and brackets closed
+",
+    },
+    Refused {
+        job: b"rob = 8\n# \xff\n%%\n",
+        why: b"\
+line 2 of the job, line 2 of its description
+    # ?
+    ^
+expected: TOML, as in 'rob = 8': a value for each key, strings and brackets closed
+",
     },
 ];
 
@@ -177,4 +250,9 @@ fn a_refusal_shows_the_line_of_an_unknown_name(rt: HostRuntime) -> Result<(), Fa
 #[test]
 fn a_refusal_shows_both_sizes_of_an_image(rt: HostRuntime) -> Result<(), Fail> {
     check_whole(&rt, rt.alloc(), &IMAGES)
+}
+
+#[test]
+fn a_refusal_shows_the_line_with_which_a_description_is_no_toml(rt: HostRuntime) -> Result<(), Fail> {
+    check_whole(&rt, rt.alloc(), &NO_TOML)
 }
