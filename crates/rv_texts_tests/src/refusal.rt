@@ -53,19 +53,17 @@ names are written in small letters: a0
 line 1 of the job, line 1 of its assembly: BadOperands
     csrr x1, MTVEC
              ^
-expected: csrr REGISTER, CSR
+expected: csrr rd, csr, as in 'csrr x5, mscratch'
 names are written in small letters: mtvec
 ",
     },
     Refused {
-        job: b"again: j AGAIN\nj Again\nADD",
+        job: b"again: j AGAIN",
         why: b"\
 line 1 of the job, line 1 of its assembly: UnknownSymbol
     again: j AGAIN
              ^
 expected: a symbol that a label or .equ defines
-line 2 of the job, line 2 of its assembly: UnknownSymbol
-line 3 of the job, line 3 of its assembly: UnknownMnemonic
 ",
     },
 ];

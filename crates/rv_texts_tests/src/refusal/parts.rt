@@ -253,6 +253,8 @@ fn a_refusal_shows_both_sizes_of_an_image(rt: HostRuntime) -> Result<(), Fail> {
 }
 
 #[test]
-fn a_refusal_shows_the_line_with_which_a_description_is_no_toml(rt: HostRuntime) -> Result<(), Fail> {
+fn a_refusal_shows_the_line_with_which_a_description_is_no_toml(
+    rt: HostRuntime,
+) -> Result<(), Fail> {
     check_whole(&rt, rt.alloc(), &NO_TOML)
 }
