@@ -1,4 +1,4 @@
 mod Explained
-mod OneExplanation
+pub mod OneExplanation
 mod Tales
 mod Telling

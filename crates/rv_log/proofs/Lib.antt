@@ -1,2 +1,2 @@
 mod Logging
-mod OneLog
+pub mod OneLog

@@ -1,2 +1,2 @@
-mod OnePicture
+pub mod OnePicture
 pub mod UnderWay

@@ -1,2 +1,2 @@
-mod OneProfile
+pub mod OneProfile
 mod Profiling

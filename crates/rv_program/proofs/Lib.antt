@@ -6,4 +6,6 @@ mod PassedOn
 mod Referred
 mod Simulated
 pub mod OneReport
+pub mod OneTable
+pub mod OneView
 pub mod Viewed

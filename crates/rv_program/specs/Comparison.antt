@@ -20,3 +20,7 @@ pub record IsComparisonTable (comparison : Comparison) (limit : ℕ) (text : Lis
   pub runs : List ComparedRun
   pub done : AreRuns limit comparison.jobs.items runs
   pub text_is : text ≡ table_of (map (λ name. name.items) comparison.names.items) runs
+
+-- at most one text is one
+abbrev pub IsAtMostOneText : (List ℕ → Type 0) → Type 0
+IsAtMostOneText Is = (text text' : List ℕ) → Is text → Is text' → text ≡ text'

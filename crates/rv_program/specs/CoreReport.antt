@@ -48,6 +48,6 @@ pub record IsSimulation (job : Job) (predictor : Option DescribedPredictor) (opt
   pub promises : IsSimulationReport job options stop text
   pub timing : IsCoreReport job predictor options stop text
 
--- at most one text is one, and its run ended for one reason
-abbrev pub IsAtMostOne : (Stop → List ℕ → Type 0) → Type 0
-IsAtMostOne Is = (stop stop' : Stop) (text text' : List ℕ) → Is stop text → Is stop' text' → (stop ≡ stop') × (text ≡ text')
+-- at most one text is one, and its run ended in one way
+abbrev pub IsAtMostOne : {T : Type 0} → (T → List ℕ → Type 0) → Type 0
+IsAtMostOne {T} Is = (ended ended' : T) (text text' : List ℕ) → Is ended text → Is ended' text' → (ended ≡ ended') × (text ≡ text')

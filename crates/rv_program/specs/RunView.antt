@@ -1,5 +1,5 @@
 -- What is shown of a job's run.
-use Rattle.std.specs.Prelude.{◌≡◌, ℕ, List, Option, None, Result, Ok, Err}
+use Rattle.std.specs.Prelude.{◌≡◌, ℕ, ◌+◌, List, Option, None, Result, Ok, Err}
 use Rattle.rv_arch.specs.declared.outcome.Stop.{Stop}
 use Rattle.rv_explain.specs.Explanation.{IsExplanation}
 use Rattle.rv_front.specs.declared.predictors.DescribedPredictor.{DescribedPredictor}
@@ -32,6 +32,14 @@ IsShown (Explanation limit) listed old new ended text =
     IsExplanation listed.job.arrivals limit listed.job.description listed.listing old new ended.stop text × (ended.over ≡ None)
 IsShown (Profile limit) listed old new ended text =
     IsProfile listed.job.arrivals limit listed.job.description listed.listing old new ended.stop text × (ended.over ≡ None)
+
+-- the most cycles of a view's run
+abbrev pub limit_of : RunView → ℕ
+limit_of (Picture view) = view.from + view.cycles
+limit_of (Log limit) = limit
+limit_of (States stretch) = stretch.limit
+limit_of (Explanation limit) = limit
+limit_of (Profile limit) = limit
 
 -- A text is what a view shows of the run of the described hardware that a predictor guides, from reset with the job's image; and that is
 -- how the run ended.

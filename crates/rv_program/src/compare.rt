@@ -1,6 +1,6 @@
-ghost use Rattle.std.specs.Prelude.{◌≡◌, IfOk, IfErr};
+ghost use Rattle.std.specs.Prelude.{◌≡◌, ◌^◌, ◌≤◌, IfOk, IfErr};
 ghost use Rattle.rv_program.specs.Answer.{IsAnswer};
-ghost use Rattle.rv_program.specs.Comparison.{AreRuns, IsComparisonTable, IsRun};
+ghost use Rattle.rv_program.specs.Comparison.{AreRuns, IsAtMostOneText, IsComparisonTable, IsRun};
 ghost use Rattle.rv_program.specs.CoreReport.{untaught_of};
 
 use crate::boxed_predictor::{BoxedPredictor, boxed};
@@ -83,7 +83,9 @@ pub fn compare<W: Write>(
     limit: u64,
     writer: &mut W,
 ) -> Result<(), SimError>
-    ensures { IsAnswer (λ _ text. IsComparisonTable comparison.now limit text) result (W.contents writer.old) (W.contents writer.new) }
+    ensures table { IsAnswer (λ _ text. IsComparisonTable comparison.now limit text) result (W.contents writer.old) (W.contents writer.new) }
+    // The table is a function of the comparison: each machine has the predictor that it describes.
+    ensures one_table { limit ≤ 2 ^ 40 → IsAtMostOneText (IsComparisonTable comparison.now limit) }
 {
     let jobs = comparison.jobs.as_slice();
     let Ok(runs) = run_each(alloc, jobs, limit) else {

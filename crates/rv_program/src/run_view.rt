@@ -1,9 +1,11 @@
 //! What is shown of a run.
-ghost use Rattle.std.specs.Prelude.{◌≡◌};
+ghost use Rattle.std.specs.Prelude.{◌≡◌, ◌^◌, ◌≤◌, Some};
+ghost use Rattle.rv_front.specs.declared.predictors.DescribedPredictor.{DescribedPredictor};
 ghost use Rattle.rv_hardware.specs.Guided.{guided};
 ghost use Rattle.rv_text.specs.IsText.{IsText};
 ghost use Rattle.rv_program.specs.Answer.{IsAnswer};
-ghost use Rattle.rv_program.specs.RunView.{IsShown, IsViewOf, whole_run};
+ghost use Rattle.rv_program.specs.CoreReport.{IsAtMostOne};
+ghost use Rattle.rv_program.specs.RunView.{IsShown, IsViewOf, limit_of, whole_run};
 
 use crate::answer::answer;
 use crate::boxed_predictor::BoxedPredictor;
@@ -124,7 +126,9 @@ pub fn show<W: Write>(
     view: &RunView,
     writer: &mut W,
 ) -> Result<RunEnd, SimError>
-    ensures { IsAnswer (IsViewOf listed.now (known predictor.predictor) view.now) result (W.contents writer.old) (W.contents writer.new) }
+    ensures view { IsAnswer (IsViewOf listed.now (known predictor.predictor) view.now) result (W.contents writer.old) (W.contents writer.new) }
+    // With a described predictor a view is a function of the job.
+    ensures one_view { (p : DescribedPredictor) → limit_of view.now ≤ 2 ^ 40 → IsAtMostOne (IsViewOf listed.now (Some p) view.now) }
 {
     let mut predictor = predictor;
     // The image of a job fits, so that memory alone can be wanting.

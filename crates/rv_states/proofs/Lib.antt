@@ -1,4 +1,4 @@
 mod Markup
-mod OneText
+pub mod OneText
 mod Showing
 mod Status

@@ -30,11 +30,11 @@ returns-in-Reference g c =
 pub returns-in-Show : goal.returns-in-Show
 returns-in-Show g c =
     rw c.in-Show.is
-    (Ends-after (Show c.in-Show.listed c.in-Show.view) _ (IsViewOf c.in-Show.listed _ c.in-Show.view) (λ end. ended_by end.stop end.over) c.show.result _ _ tt (λ end text is. (end, is, refl)) c.show.ensures c.ended_view.ensures)
+    (Ends-after (Show c.in-Show.listed c.in-Show.view) _ (IsViewOf c.in-Show.listed _ c.in-Show.view) (λ end. ended_by end.stop end.over) c.show.result _ _ tt (λ end text is. (end, is, refl)) c.show.ensures.view c.ended_view.ensures)
 
 pub returns-in-Compare : goal.returns-in-Compare
 returns-in-Compare g c =
     rw c.in-Compare.is
     (Ends-after (Compare c.in-Compare.comparison c.in-Compare.limit)
     ((goal.Predictor-dyn g (c.args.predictor.predictor.vtable, c.args.predictor.predictor.value)).known c.args.predictor.predictor.value)
-    (λ _ text. IsComparisonTable c.in-Compare.comparison c.in-Compare.limit text) (λ _. done) c.compare.result _ _ tt (λ _ text is. (is, refl)) c.compare.ensures c.ended_table.ensures)
+    (λ _ text. IsComparisonTable c.in-Compare.comparison c.in-Compare.limit text) (λ _. done) c.compare.result _ _ tt (λ _ text is. (is, refl)) c.compare.ensures.table c.ended_table.ensures)
