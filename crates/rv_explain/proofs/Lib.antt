@@ -1,4 +1,5 @@
 mod Explained
+mod InFlight
 pub mod OneExplanation
 mod Tales
 mod Telling

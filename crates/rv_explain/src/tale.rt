@@ -11,7 +11,7 @@ use rv_core::Pipeline;
 use rv_counts::LoadCosts;
 use rv_hardware::Step;
 use rv_isa::{Description, PerKind};
-use rv_passage::Passage;
+use rv_passage::{Passage, up_to_youngest_left};
 use rv_sentences::{
     Accesses, Class, Dispatches, Exceptions, Interrupts, Outcomes, WordNotes, Work, add_drain,
     add_loads, add_unit_waits, add_waits, count_left, count_one, count_words, interruption_in,
@@ -100,6 +100,8 @@ impl Tale {
         ensures bus_grows { (more : ℕ) → CanGrow self.old.bus (more + length steps.now) → CanGrow self.new.bus more }
         ensures units_grow { (more : ℕ) → CanGrow self.old.units (more + length steps.now) → CanGrow self.new.units more }
     {
+        // Those in flight after them add nothing.
+        let rows = up_to_youngest_left(rows);
         self.retired += count_retired(steps) as u64;
         self.exceptions.note(exception_in(steps, pipeline));
         self.interrupts.note(interruption_in(steps));

@@ -2,13 +2,28 @@ use Rattle.std.proofs.Common.{◌∙◌, ◌+◌, ap}
 use Rattle.rv_sentences.specs.Interrupt.{interrupts_after}
 use Rattle.rv_sentences.specs.Kinds.{kept_after}
 use Rattle.rv_sentences.specs.WordCount.{with_one}
+use Rattle.rv_counts.proofs.InFlight.{left_same}
+use Rattle.rv_sentences.specs.Access.{both}
+use Rattle.rv_sentences.specs.Outcome.{with_passages}
+use Rattle.rv_sentences.specs.Work.{both_work, word_in, work_of}
+use Rattle.rv_sentences.specs.declared.work.Class.TheVariants.{Branch, Mispredicted}
+use Rattle.rv_sentences.proofs.OutcomesGrow.{can_take_fewer}
+use Rattle.rv_explain.proofs.InFlight.{loads_same, no_branch, no_mispredicted, noted_same}
 use Rattle.rv_explain.proofs.tale.Tale.add.Goals as goal
+
+pub count_left-requires : goal.count_left-requires
+count_left-requires c =
+    record { room = can_take_fewer c.args.self.now.outcomes _ _ c.up_to_youngest_left-rows.ensures.few c.requires.room.outcomes }
 
 pub returns-clause-kept : goal.returns-clause-kept
 returns-clause-kept c =
     let before = c.args.self.now in
     let exceptions = c.note.ensures ∙ ap (λ exception. kept_after exception before.exceptions) c.exception_in.ensures in
     let interrupts = c.note-2.ensures ∙ ap (λ interruption. interrupts_after interruption before.interrupts) c.interruption_in.ensures in
+    let rows = c.args.rows.now in
+    let kept = c.up_to_youngest_left-rows.result.now in
+    let up = c.up_to_youngest_left-rows.ensures.kept in
+    let left = left_same rows kept up in
     let heads = c.count_one.ensures ∙ ap (λ word. with_one word before.heads) c.head_word.ensures in
     λ i. record {
       retired = before.retired + c.count_retired.ensures i;
@@ -18,13 +33,13 @@ returns-clause-kept c =
       bus = c.add_waits.ensures.added i;
       units = c.add_unit_waits.ensures.added i;
       came = c.add_unit_waits.ensures.arrivals i;
-      work = c.add-2.ensures i;
+      work = (c.add-2.ensures ∙ ap (λ l. both_work before.work (work_of l)) left) i;
       costs = before.costs;
-      loads = c.add_loads.ensures i;
+      loads = (c.add_loads.ensures ∙ ap (both before.loads) (loads_same before.costs rows kept up)) i;
       drains = c.add_drain.ensures i;
       last_stores = c.note_stores.ensures i;
       heads = heads i;
-      branches = c.count_words.ensures i;
-      mispredicted = c.count_words-2.ensures i;
-      outcomes = c.count_left.ensures i;
+      branches = (c.count_words.ensures ∙ noted_same (word_in Branch) no_branch rows kept before.branches up) i;
+      mispredicted = (c.count_words-2.ensures ∙ noted_same (word_in Mispredicted) no_mispredicted rows kept before.mispredicted up) i;
+      outcomes = (c.count_left.ensures ∙ ap (λ l. with_passages before.costs l before.outcomes) left) i;
     }
