@@ -1,7 +1,7 @@
 -- The known names that are near an unknown one.
 use Rattle.std.specs.Prelude.{ℕ, ◌+◌, ◌==◌, List, [], ◌∷◌, ◌++◌, Bool, true, false, ◌&&◌, length, nat_eq, nat_le, nat_lt, codes, map, take, option_and_then, if◌then◌else◌}
 use Rattle.std.specs.{List.filter, List.flat_map, List.list_any, Option.option_map_or, Str.bytes_eq}
-use Rattle.core.specs.Char.{to_ascii_lowercase}
+use Rattle.std.specs.Char.{to_ascii_lowercase}
 use Rattle.strsim.specs.Edits.{levenshtein_row}
 use Rattle.rv_asm.specs.Layout.{body_of}
 use Rattle.rv_asm.specs.Token.{tokens_of}
