@@ -24,6 +24,7 @@ MOST_MACHINES = 64
 # Columns of tables that are texts, and those that the program prints as eight hexadecimal digits.
 TEXTS = {"statement", "name", "stop", "kind"}
 HEXADECIMAL = {"address", "pc", "word", "value", "cause"}
+MOST_SHOWN = 4
 
 
 class Failed(Exception):
@@ -97,9 +98,9 @@ def frame(rows, hexadecimal=False, columns=None):
     import pandas
     table = pandas.DataFrame(rows, columns=columns)
     for name in table.columns:
-        if hexadecimal and name in HEXADECIMAL:
+        if hexadecimal and is_word(name):
             table[name] = table[name].map(lambda it: pandas.NA if pandas.isna(it) else f"{int(it):08x}").astype("string")
-        elif name == "cpi" or name.endswith("_mean"):
+        elif name in ("cpi", "ipc") or name.endswith("_mean"):
             table[name] = table[name].astype("Float64")
         else:
             table[name] = table[name].astype("string" if name in TEXTS else "Int64")
@@ -187,14 +188,15 @@ def states(assembly, description=None, *, arrivals=None, first=None, cycles=None
     return [json.loads(it) for it in call(["states", *words], job(assembly, description, arrivals)).splitlines()]
 
 
-def compare(assembly, descriptions, *, limit=None):
-    """The rows of `compare`, as dictionaries: one for each description, of which there may be any number."""
-    rows = []
+def compare(assembly, descriptions, *, limit=None, show=()):
+    """The rows of `compare`, as dictionaries: one for each description, of which there may be any number. `show` has up to four registers
+    (a0 or x10) and addresses of words, whose values at the end stand in columns of their names."""
+    rows, words = [], [*limit_words(limit), *(it for name in show for it in ("--show", name))]
     for i in range(0, len(descriptions), MOST_MACHINES):
         block = descriptions[i:i + MOST_MACHINES]
         text = "".join(f"{toml(it)}\n%%\n" for it in block) + assembly
         try:
-            rows += numbers(read_table(call(["compare", *limit_words(limit)], text)))
+            rows += numbers(read_table(call(["compare", *words], text)))
         except Failed as fault:
             which = re.match(r"error: .*description (\d+)", fault.line)
             if not which:
@@ -210,12 +212,17 @@ def numbers(rows):
     return [{name: number(name, text) for name, text in row.items()} for row in rows]
 
 
+def is_word(name):
+    """Whether a column has words in hexadecimal digits."""
+    return name in HEXADECIMAL or name in ABI or name.startswith("0x")
+
+
 def number(name, text):
     if name in TEXTS:
         return text
-    if text in ("", "-"):
+    if not text.strip("-"):
         return None
-    return int(text, 16) if name in HEXADECIMAL else float(text) if "." in text else int(text)
+    return int(text, 16) if is_word(name) else float(text) if "." in text else int(text)
 
 
 def read_table(text):

@@ -60,7 +60,7 @@ impl Reference {
     ghost use Rattle.rv_arch.specs.Reset.{reset};
 
     /// A machine at reset: RAM of `size` bytes from `base` on, whose first `rom_bytes` bytes no
-    /// store may write, with an image at its front, and the pc at `start`. The only error is want
+    /// store may write, with an image at its front, and the pc at `start`. The only error is out
     /// of memory.
     pub fn new(
         alloc: Global,

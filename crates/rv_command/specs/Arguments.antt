@@ -1,7 +1,7 @@
 -- The program's arguments, as `clap` is given them: `rv_sim COMMAND [OPTION..]`.
 use Rattle.std.specs.Prelude.{◌≡◌, ℕ, List, [], ◌∷◌, Some, true, false, codes}
 use Rattle.clap.specs.Words.{App, Rule, Text, app_of, new_app, new_rule, with_rule, with_subcommand}
-use Rattle.clap.specs.declared.builder.ArgAction.TheVariants.{Set, SetTrue}
+use Rattle.clap.specs.declared.builder.ArgAction.TheVariants.{Append, Set, SetTrue}
 use Rattle.clap.specs.declared.builder.command.Command.{Command as Parser, TheViews.out-Command as fields_of}
 use Rattle.clap.specs.declared.builder.value_parser.ValueParser.TheVariants.{Unsigned}
 
@@ -53,15 +53,23 @@ cycles_rule = number_rule (codes "cycles") 1 most_cycles_shown (codes "60")
 abbrev pub told_cycles_rule : Rule
 told_cycles_rule = number_rule (codes "cycles") 1 most_cycles_told (codes "200")
 
+-- `--show WHAT`: a register or a word that a table shows; it may be given more than once
+abbrev pub show_rule : Rule
+show_rule = record (new_rule (codes "show")) { long = Some (codes "show"); action = Some Append; value_names = 1 }
+
 -- ---- the commands
 
 -- `rv_sim NAME [--limit N]`
 abbrev pub limited_arguments : Text → App
 limited_arguments name = with_rule (new_app name) limit_rule
 
--- `rv_sim run [--trace] [--limit N]`
-abbrev pub run_arguments : App
-run_arguments = with_rule (with_rule (new_app (codes "run")) (flag_rule (codes "trace"))) limit_rule
+-- `rv_sim NAME [--FLAG] [--limit N]`
+abbrev pub flagged_arguments : Text → Text → App
+flagged_arguments name flag = with_rule (with_rule (new_app name) (flag_rule flag)) limit_rule
+
+-- `rv_sim compare [--limit N] [--show WHAT]..`
+abbrev pub compare_arguments : App
+compare_arguments = with_rule (limited_arguments (codes "compare")) show_rule
 
 -- `rv_sim check`
 abbrev pub check_arguments : App
@@ -106,16 +114,16 @@ with_commands program (command ∷ rest) = with_commands (with_subcommand progra
 -- the program with its commands
 abbrev pub program_arguments : App
 program_arguments = with_commands bare_arguments (
-    run_arguments ∷
+    flagged_arguments (codes "run") (codes "trace") ∷
     limited_arguments (codes "reference") ∷
     check_arguments ∷
     picture_arguments ∷
     limited_arguments (codes "log") ∷
     told_arguments (codes "states") ∷
     told_arguments (codes "page") ∷
-    limited_arguments (codes "explain") ∷
+    flagged_arguments (codes "explain") (codes "figures") ∷
     limited_arguments (codes "profile") ∷
-    limited_arguments (codes "compare") ∷
+    compare_arguments ∷
     []
     )
 

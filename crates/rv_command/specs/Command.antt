@@ -8,6 +8,7 @@ use Rattle.clap.specs.Kinds.{or_else}
 use Rattle.clap.specs.Words.{Kinds, Row, Text, fault_of, one_of, subcommand_of}
 use Rattle.clap.specs.declared.error.kind.ErrorKind.TheVariants.{ValueValidation}
 use Rattle.rv_command.specs.Arguments.{last_cycle, most_cycles_shown, most_cycles_told, most_steps, program_arguments}
+use Rattle.rv_command.specs.Shown.{columns_in}
 use Rattle.rv_command.specs.declared.command.Command.{Command}
 use Rattle.rv_command.specs.declared.command.Command.TheVariants.{Run, Reference, Check, Picture, Log, States, Page, Explain, Profile, Compare}
 
@@ -32,9 +33,9 @@ HasLegalNumbers (Picture text retired from cycles) = IsLegalWindow from cycles
 HasLegalNumbers (Log limit) = IsLegalLimit limit
 HasLegalNumbers (States from limit) = IsLegalStretch from limit
 HasLegalNumbers (Page from limit) = IsLegalStretch from limit
-HasLegalNumbers (Explain limit) = IsLegalLimit limit
+HasLegalNumbers (Explain figures limit) = IsLegalLimit limit
 HasLegalNumbers (Profile limit) = IsLegalLimit limit
-HasLegalNumbers (Compare limit) = IsLegalLimit limit
+HasLegalNumbers (Compare shown limit) = IsLegalLimit limit
 
 -- ---- what the matches of a command hold
 
@@ -83,6 +84,14 @@ page_in rows = option_map (λ (stretch : ℕ × ℕ). Page stretch.0 stretch.1) 
 abbrev pub run_in : List Row → Option Command
 run_in rows = option_map (Run (flag_in (codes "trace") rows)) (limit_in rows)
 
+-- what the matches of `explain` ask for
+abbrev pub explain_in : List Row → Option Command
+explain_in rows = option_map (Explain (flag_in (codes "figures") rows)) (limit_in rows)
+
+-- what the matches of `compare` ask for
+abbrev pub compare_in : List Row → Option Command
+compare_in rows = option_and_then (λ shown. option_map (Compare shown) (limit_in rows)) (columns_in rows)
+
 -- what the matches of `picture` ask for
 abbrev pub picture_in : List Row → Option Command
 picture_in rows =
@@ -96,9 +105,7 @@ abbrev pub limited_named : Text → List Row → Option Command
 limited_named name rows =
     if bytes_eq name (codes "reference") then option_map Reference (limit_in rows)
     else (if bytes_eq name (codes "log") then option_map Log (limit_in rows)
-    else (if bytes_eq name (codes "explain") then option_map Explain (limit_in rows)
-    else (if bytes_eq name (codes "profile") then option_map Profile (limit_in rows)
-    else (if bytes_eq name (codes "compare") then option_map Compare (limit_in rows) else None))))
+    else (if bytes_eq name (codes "profile") then option_map Profile (limit_in rows) else None))
 
 -- the command of a subcommand with its matches
 abbrev pub command_named : Text × List Row → Option Command
@@ -110,9 +117,9 @@ command_named given =
     else (if bytes_eq given.0 (codes "log") then option_map Log (limit_in given.1)
     else (if bytes_eq given.0 (codes "states") then states_in given.1
     else (if bytes_eq given.0 (codes "page") then page_in given.1
-    else (if bytes_eq given.0 (codes "explain") then option_map Explain (limit_in given.1)
+    else (if bytes_eq given.0 (codes "explain") then explain_in given.1
     else (if bytes_eq given.0 (codes "profile") then option_map Profile (limit_in given.1)
-    else (if bytes_eq given.0 (codes "compare") then option_map Compare (limit_in given.1) else None)))))))))
+    else (if bytes_eq given.0 (codes "compare") then compare_in given.1 else None)))))))))
 
 -- the command that the words ask for, where they fit the program's arguments
 abbrev pub command_of : List Text → Option Command

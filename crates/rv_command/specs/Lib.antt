@@ -1,2 +1,3 @@
 pub mod Arguments
 pub mod Command
+pub mod Shown

@@ -1,17 +1,20 @@
 //! The arguments of the program, as `clap` is given them.
 ghost use Rattle.std.specs.Prelude.{◌≡◌, false, IfOk};
 ghost use Rattle.clap.specs.Words.{App, Rule, new_app, rule_of, with_rule, with_subcommand};
-ghost use Rattle.rv_command.specs.Arguments.{IsParserOf, check_arguments, cycles_rule, flag_rule, from_rule, limit_rule};
-ghost use Rattle.rv_command.specs.Arguments.{limited_arguments, number_rule, picture_arguments, program_arguments, run_arguments};
+ghost use Rattle.rv_command.specs.Arguments.{IsParserOf, check_arguments, compare_arguments, cycles_rule, flag_rule, flagged_arguments, from_rule, limit_rule};
+ghost use Rattle.rv_command.specs.Arguments.{limited_arguments, number_rule, picture_arguments, program_arguments, show_rule};
 ghost use Rattle.rv_command.specs.Arguments.{bare_arguments, bare_picture_arguments, told_arguments, told_from_arguments};
 
 use crate::command::{LAST_CYCLE, MOST_CYCLES_SHOWN, MOST_CYCLES_TOLD, MOST_STEPS};
-use crate::help::{self, CommandHelp, LimitedHelp};
+use crate::help::{self, CommandHelp, FlaggedHelp, LimitedHelp};
 use clap::builder::ValueParser;
 use clap::{Arg, ArgAction, Command};
 use std::alloc::{AllocError, Global};
 
-const VERSION: &str = "0.1.0";
+// The version, and what stays while its first two numbers do: CHANGELOG.md has it in full.
+const VERSION: &str = "0.1.0
+What stays while it is 0.1: lines of reports and faults, exit statuses, keys, commands and options, columns of
+tables by their names, members of states by theirs (format rv_sim states 1), calls of the libraries";
 
 fn flag_argument<'a>(alloc: Global, name: &'a str, help: &'a str) -> Arg<'a>
     ensures rule { rule_of result ≡ flag_rule name.entry.now }
@@ -76,21 +79,20 @@ fn with_argument<'a>(
     }
 }
 
-fn run_command<'a>(alloc: Global) -> Result<Command<'a>, AllocError>
-    ensures arguments { IfOk result (IsParserOf run_arguments) }
+// A command that takes a flag and a limit.
+fn flagged_command<'a>(
+    alloc: Global,
+    name: &'a str,
+    flag: &'a str,
+    help: &'static FlaggedHelp,
+) -> Result<Command<'a>, AllocError>
+    ensures arguments { IfOk result (IsParserOf (flagged_arguments name.entry.now flag.entry.now)) }
 {
-    let traced = with_argument(
-        Ok(described(alloc, "run", &help::RUN)),
-        flag_argument(
-            alloc,
-            "trace",
-            "Begins the report with a line for each step",
-        ),
+    let flagged = with_argument(
+        Ok(described(alloc, name, &help.texts)),
+        flag_argument(alloc, flag, help.flag),
     );
-    with_argument(
-        traced,
-        limit_argument(alloc, "The most cycles, 1 to 1000000"),
-    )
+    with_argument(flagged, limit_argument(alloc, help.limit))
 }
 
 // A command that takes a limit and nothing else.
@@ -122,6 +124,27 @@ fn from_argument<'a>(alloc: Global) -> Arg<'a>
         LAST_CYCLE,
         "0",
         "The first cycle, 0 to 999999",
+    )
+}
+
+// The option of what a table shows.
+fn show_argument<'a>(alloc: Global) -> Arg<'a>
+    ensures rule { rule_of result ≡ show_rule }
+    ensures local { result.global ≡ false }
+{
+    Arg::new(alloc, "show")
+        .long("show")
+        .value_name("WHAT")
+        .help("Shows a register or the word at an address at each run's end, four at most")
+        .action(ArgAction::Append)
+}
+
+fn compare_command<'a>(alloc: Global) -> Result<Command<'a>, AllocError>
+    ensures arguments { IfOk result (IsParserOf compare_arguments) }
+{
+    with_argument(
+        limited_command(alloc, "compare", &help::COMPARE),
+        show_argument(alloc),
     )
 }
 
@@ -229,7 +252,10 @@ fn with_command<'a>(
 pub(crate) fn parser<'a>(alloc: Global) -> Result<Command<'a>, AllocError>
     ensures arguments { IfOk result (IsParserOf program_arguments) }
 {
-    let program = with_command(program(alloc), run_command(alloc));
+    let program = with_command(
+        program(alloc),
+        flagged_command(alloc, "run", "trace", &help::RUN),
+    );
     let program = with_command(
         program,
         limited_command(alloc, "reference", &help::REFERENCE),
@@ -239,7 +265,10 @@ pub(crate) fn parser<'a>(alloc: Global) -> Result<Command<'a>, AllocError>
     let program = with_command(program, limited_command(alloc, "log", &help::LOG));
     let program = with_command(program, told_command(alloc, "states", &help::STATES));
     let program = with_command(program, told_command(alloc, "page", &help::PAGE));
-    let program = with_command(program, limited_command(alloc, "explain", &help::EXPLAIN));
+    let program = with_command(
+        program,
+        flagged_command(alloc, "explain", "figures", &help::EXPLAIN),
+    );
     let program = with_command(program, limited_command(alloc, "profile", &help::PROFILE));
-    with_command(program, limited_command(alloc, "compare", &help::COMPARE))
+    with_command(program, compare_command(alloc))
 }

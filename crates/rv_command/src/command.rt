@@ -2,9 +2,10 @@ ghost use Rattle.std.specs.Prelude.{◌≡◌, ◌≤◌, ◌⊎◌, ◌∷◌, 
 ghost use Rattle.clap.specs.Words.{FailsBy, HasKind, app_of, fault_of, found_of, kind_of, rows_of, subcommand_rows_of};
 ghost use Rattle.rv_command.specs.Arguments.{program_arguments};
 ghost use Rattle.rv_command.specs.Command.{HasLegalNumbers, IsLegalLimit, IsLegalStretch, command_named, command_of, flag_in, limit_in, limited_named, number_in};
-ghost use Rattle.rv_command.specs.Command.{page_in, picture_in, refused_kinds, run_in, states_in, stretch_in};
+ghost use Rattle.rv_command.specs.Command.{compare_in, explain_in, page_in, picture_in, refused_kinds, run_in, states_in, stretch_in};
 
 use crate::arguments::parser;
+use crate::shown::{ShownColumns, columns_given};
 use clap::error::ErrorKind;
 use clap::{ArgMatches, Command as Parser, Error};
 use std::alloc::Global;
@@ -20,6 +21,9 @@ pub const MOST_CYCLES_SHOWN: u64 = 1_000;
 
 /// The most cycles of which the states may be written.
 pub const MOST_CYCLES_TOLD: u64 = 10_000;
+
+const WHAT_IS_SHOWN: &str =
+    "WHAT is a register, as a0 or x10, or the address of a word, as 0x80001000; --show may be given four times";
 
 /// What the program is asked to do.
 #[derive(Clone, Copy, PartialEq, Eq)]
@@ -60,8 +64,10 @@ pub enum Command {
         from: u64,
         limit: u64,
     },
-    /// Say in sentences how a run of a job on the core went, of at most so many cycles.
+    /// Say in sentences how a run of a job on the core went, of at most so many cycles. Where the program crashed, its figures come
+    /// only where `figures` says so.
     Explain {
+        figures: bool,
         limit: u64,
     },
     /// Say of each line of a job's program, in a table, what its instructions cost in a run on the core, of at most so
@@ -69,8 +75,10 @@ pub enum Command {
     Profile {
         limit: u64,
     },
-    /// Compare machines by the totals of one program's run on each, of at most so many cycles.
+    /// Compare machines by the totals of one program's run on each, of at most so many cycles, with registers and words of
+    /// memory at their ends.
     Compare {
+        shown: ShownColumns,
         limit: u64,
     },
 }
@@ -107,6 +115,24 @@ fn run_given(given: &ArgMatches) -> Option<Command>
     let limit = limit_given(given)?;
     let trace = flag_given(given, "trace");
     Some(Command::Run { trace, limit })
+}
+
+fn explain_given(given: &ArgMatches) -> Option<Command>
+    ensures explain { result ≡ explain_in (rows_of (found_of given.now)) }
+    ensures legal { IfSome result HasLegalNumbers }
+{
+    let limit = limit_given(given)?;
+    let figures = flag_given(given, "figures");
+    Some(Command::Explain { figures, limit })
+}
+
+fn compare_given(given: &ArgMatches) -> Option<Command>
+    ensures compare { result ≡ compare_in (rows_of (found_of given.now)) }
+    ensures legal { IfSome result HasLegalNumbers }
+{
+    let shown = columns_given(given)?;
+    let limit = limit_given(given)?;
+    Some(Command::Compare { shown, limit })
 }
 
 fn picture_given(given: &ArgMatches) -> Option<Command>
@@ -160,9 +186,7 @@ fn limited_given(name: &str, given: &ArgMatches) -> Option<Command>
     match name {
         "reference" => Some(Command::Reference { limit }),
         "log" => Some(Command::Log { limit }),
-        "explain" => Some(Command::Explain { limit }),
         "profile" => Some(Command::Profile { limit }),
-        "compare" => Some(Command::Compare { limit }),
         _ => None,
     }
 }
@@ -178,15 +202,17 @@ fn command_given(matches: &ArgMatches) -> Option<Command>
         "picture" => picture_given(given),
         "states" => states_given(given),
         "page" => page_given(given),
+        "explain" => explain_given(given),
+        "compare" => compare_given(given),
         _ => limited_given(name, given),
     }
 }
 
-// The error of words that name no command with numbers in their ranges.
+// The error of words that name no command with numbers in their ranges, or nothing that a table can show.
 fn refusal(parser: &mut Parser<'_>) -> Error
     ensures kind { HasKind (ErrorKind.ValueValidation ∷ []) result }
 {
-    match parser.error(ErrorKind::ValueValidation, "N is no number in its range") {
+    match parser.error(ErrorKind::ValueValidation, WHAT_IS_SHOWN) {
         Ok(error) => error,
         Err(error) => Error::from(error),
     }

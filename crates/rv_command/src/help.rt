@@ -7,6 +7,13 @@ pub(crate) struct CommandHelp {
     pub(crate) ending: &'static str,
 }
 
+/// What help says of a command that takes a flag and a limit, and of both.
+pub(crate) struct FlaggedHelp {
+    pub(crate) texts: CommandHelp,
+    pub(crate) flag: &'static str,
+    pub(crate) limit: &'static str,
+}
+
 /// What help says of a command that takes a limit and nothing else, and of the limit.
 pub(crate) struct LimitedHelp {
     pub(crate) texts: CommandHelp,
@@ -46,9 +53,13 @@ Example:
   printf 'addi x1,x0,5\\nebreak\\n' | rv_sim run --trace",
 };
 
-pub(crate) static RUN: CommandHelp = CommandHelp {
-    about: "Runs the text on standard input on the core, cycle by cycle",
-    ending: ending_of_run!("rv_sim run --trace < FILE"),
+pub(crate) static RUN: FlaggedHelp = FlaggedHelp {
+    texts: CommandHelp {
+        about: "Runs the text on standard input on the core, cycle by cycle",
+        ending: ending_of_run!("rv_sim run --trace < FILE"),
+    },
+    flag: "Begins the report with a line for each step",
+    limit: CYCLES,
 };
 
 pub(crate) static REFERENCE: LimitedHelp = LimitedHelp {
@@ -134,11 +145,12 @@ opens from disk: the states of those cycles and a viewer of them",
     ),
 };
 
-pub(crate) static EXPLAIN: LimitedHelp = LimitedHelp {
+pub(crate) static EXPLAIN: FlaggedHelp = FlaggedHelp {
     texts: CommandHelp {
         about: "Says in sentences how a run of the text on standard input went",
         ending: ending_of_run!("rv_sim explain < FILE"),
     },
+    flag: "After a crash says too where the cycles went",
     limit: CYCLES,
 };
 
@@ -155,13 +167,14 @@ pub(crate) static COMPARE: LimitedHelp = LimitedHelp {
         about: "Runs one program on several machines, and compares their totals",
         ending: "Reads from standard input up to 64 descriptions of machines in TOML, a line %% after each, and a program,
 as in:
-  rv_sim compare < FILE
+  rv_sim compare --show a0 < FILE
 
 Writes a line for each machine, in their order, its cells with a tab between two: its number, the
-counts of its run, and why the run ended. No machine of a comparison has interrupt arrivals.
+counts of its run, its name, why the run ended, and more counts. No machine of a comparison has
+interrupt arrivals.
 
 Exit status:
-  0  the table was written; its last column says how each run ended
+  0  the table was written; its column stop says how each run ended
   1  a description or the program was refused
   2  wrong usage
   4  standard input or output failed

@@ -5,5 +5,7 @@
 mod arguments;
 mod command;
 mod help;
+mod shown;
 
 pub use command::{Command, parse_words};
+pub use shown::{Shown, ShownColumns};

@@ -1,5 +1,5 @@
 -- What was shown of a run that is watched is what it reported, at each cycle and at its end.
-use Rattle.rv_core.proofs.Words.{◌≡◌, ℕ, ◌+◌, ◌^◌, ◌<◌, ◌≤◌, List, [], ◌∷◌, ◌++◌, length, Some, None, Option, sym, refl, ap, ◌∙◌, subst, arith, length-append, lines_at, Arrival, Lines, Stop, Hardware, Report, IsStop, NoneStops, Reachable, steps_of, Err, Ok, Result, DescribedPredictor, GuidedCycles, GuidedHardware, IsGuidedCycle, guided_cycled, guided_ended, guided, History, Moment, cycled, ended, reports_of, Step, IsBounded, IsNextCycle, progress_after, progress_of, IsCommitStop, HaveFewSteps, IsEnd, IsShown, IsWatchedRun, Sight, Watched, watched, Progress}
+use Rattle.rv_core.proofs.Words.{◌≡◌, ℕ, ◌+◌, ◌^◌, ◌<◌, ◌≤◌, List, [], ◌∷◌, ◌++◌, length, Some, None, Option, sym, refl, ap, ◌∙◌, subst, arith, length-append, lines_at, Arrival, Lines, Stop, Hardware, Report, IsStop, NoneStops, Reachable, steps_of, Err, Ok, Result, Guide, GuidedCycles, GuidedHardware, IsGuidedCycle, guided_cycled, guided_ended, guided, History, Moment, cycled, ended, reports_of, Step, IsBounded, IsNextCycle, progress_after, progress_of, IsCommitStop, HaveFewSteps, IsEnd, IsShown, IsWatchedRun, Sight, Watched, watched, Progress}
 use Rattle.rv_hardware.proofs.AnyPrediction.{cycles_of}
 use Rattle.rv_hardware.proofs.Headline.Reached.{cycles_counted}
 use Rattle.rv_core.proofs.RunReports.{NoneStops-push, progress-bounded, progress_of-push, steps_of-push}
@@ -31,7 +31,7 @@ few_steps-push moments last few more =
 
 -- a history goes on by one more cycle
 pub History-push : {arrivals : List Arrival} {old now : GuidedHardware} {moments : List Moment} (last : Moment)
-    {predictor : Option DescribedPredictor} → History arrivals old moments now
+    {predictor : Guide} → History arrivals old moments now
     → IsGuidedCycle (lines_at arrivals now.hardware.cycle) now last.report (guided last.after predictor) →
     History arrivals old (moments ++ last ∷ []) (guided last.after predictor)
 History-push last ended cycle = cycled cycle ended
@@ -134,7 +134,7 @@ module _ {T : Type 0} (has_seen : Sight T) (arrivals : List Arrival) (old : Guid
         }
 
     -- one more cycle, which is shown
-    module _ {after : Hardware} {predictor : Option DescribedPredictor} {cleared list steps : List Step} {progress' : Progress}
+    module _ {after : Hardware} {predictor : Guide} {cleared list steps : List Step} {progress' : Progress}
         {stop : Option Stop} {cycle : ℕ}
         (next : IsNextCycle arrivals now (guided after predictor) cleared list progress progress' stop) (none : cleared ≡ [])
         (listed : steps ≡ list)

@@ -40,9 +40,8 @@ pub use Rattle.rv_units.specs.declared.bus.PendingResult.{PendingResult}
 pub use Rattle.rv_rename.specs.Renaming.{CanCheckpoint, CanDefine, Checkpoint, Renaming, checkpoint_without_oldest, cleared, empty, producers_at, restored, retired, without_checkpoint, without_oldest, youngest}
 pub use Rattle.rv_rename.specs.declared.producer.Producer.{Producer}
 pub use Rattle.rv_rob.specs.ReorderBuffer.{cut_from, entry_of, next_number}
+pub use Rattle.rv_front.specs.Guide.{AreTaught, Guide, after_lesson}
 pub use Rattle.rv_front.specs.Lesson.{Lesson}
-pub use Rattle.rv_front.specs.Predictors.{AreTaught, after_lesson}
-pub use Rattle.rv_front.specs.declared.predictors.DescribedPredictor.{DescribedPredictor}
 pub use Rattle.rv_hardware.specs.Broadcast.{broadcast_entry}
 pub use Rattle.rv_hardware.specs.Guided.{GuidedCycles, GuidedHardware, IsGuidedCycle, cycled as guided_cycled, ended as guided_ended, guided}
 pub use Rattle.rv_hardware.specs.History.{History, Moment, cycled, ended, reports_of}

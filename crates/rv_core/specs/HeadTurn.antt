@@ -5,9 +5,8 @@ use Rattle.rv_isa.specs.declared.instructions.Instr.{Instr}
 use Rattle.rv_isa.specs.declared.instructions.Instr.TheVariants as instr
 use Rattle.rv_arch.specs.declared.outcome.Stop.{Stop}
 use Rattle.rv_arch.specs.declared.outcome.Stop.TheVariants as stop
+use Rattle.rv_front.specs.Guide.{AreTaught, Guide}
 use Rattle.rv_front.specs.Lesson.{Lesson}
-use Rattle.rv_front.specs.Predictors.{AreTaught}
-use Rattle.rv_front.specs.declared.predictors.DescribedPredictor.{DescribedPredictor}
 use Rattle.rv_rob.specs.declared.entry.Entry.{Entry}
 use Rattle.rv_hardware.specs.Commit.{Committing, commit_turn}
 use Rattle.rv_hardware.specs.Hardware.{Hardware}
@@ -57,7 +56,7 @@ abbrev pub IsHead : Hardware → Entry → Type 0
 IsHead h e = (younger : List Entry) × (h.rob.entries ≡ e ∷ younger)
 
 -- a turn of the commit phase: the step that it took, if it took one, is appended, and taught to the predictor
-pub record IsTurn (old new : Hardware) (before after : List Step) (taught learned : Option DescribedPredictor)
+pub record IsTurn (old new : Hardware) (before after : List Step) (taught learned : Guide)
     (turn : HeadTurn) : Type 0 where
   pub told : Option Step
   pub left : (steps : List Step) → commit_turn set.contains (committing old steps) ≡ turn_left new steps told turn

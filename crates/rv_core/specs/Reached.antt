@@ -1,4 +1,4 @@
--- What holds of a core between its calls.
+-- What holds of a pipeline between its calls.
 use Rattle.std.specs.Prelude.{◌≡◌, ℕ, ◌*◌, ◌≤◌}
 use Rattle.rv_isa.specs.declared.lines.Lines.{Lines}
 use Rattle.rv_hardware.specs.Cycle.{with_lines}

@@ -1,4 +1,4 @@
--- What a run of a core reports, and what it reports where there is no memory for the steps of a further cycle.
+-- What a run reports, and what it reports where there is no memory for the steps of a further cycle.
 use Rattle.std.specs.Prelude.{◌≡◌, ℕ, ◌<◌, List, length, Result, MatchResult}
 use Rattle.rv_isa.specs.declared.lines.Arrival.{Arrival}
 use Rattle.rv_hardware.specs.Guided.{GuidedCycles, GuidedHardware}

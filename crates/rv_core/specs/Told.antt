@@ -34,12 +34,12 @@ abbrev pub AppendsCycle : Lines → GuidedHardware → GuidedHardware → List S
 AppendsCycle lines old new before after end =
     (steps : List Step) × (after ≡ before ++ steps) × (length steps ≤ 8) × IsGuidedCycle lines old (report_with steps end) new
 
--- what a cycle of a core reports
+-- what a cycle of a pipeline reports
 abbrev pub report_of_cycle : CycleReport → Report
 report_of_cycle report =
     record { steps = report.steps.items; dispatched = report.dispatched; stall = report.stall; stop = report.stop }
 
--- the report of a core that has done all the cycles that it counts
+-- the report of a pipeline that has done all the cycles that it counts
 abbrev pub exhausted_report : Report
 exhausted_report = record { steps = []; dispatched = 0; stall = None; stop = Some Exhausted }
 

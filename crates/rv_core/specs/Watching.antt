@@ -6,7 +6,7 @@ use Rattle.std.specs.Prelude.{◌≡◌, ℕ, ◌*◌, ◌^◌, ◌<◌, ◌≤�
 use Rattle.rv_isa.specs.Arrivals.{lines_at}
 use Rattle.rv_isa.specs.declared.lines.Arrival.{Arrival}
 use Rattle.rv_arch.specs.declared.outcome.Stop.{Stop}
-use Rattle.rv_front.specs.declared.predictors.DescribedPredictor.{DescribedPredictor}
+use Rattle.rv_front.specs.Guide.{Guide}
 use Rattle.rv_hardware.specs.Guided.{GuidedHardware, IsGuidedCycle, guided}
 use Rattle.rv_hardware.specs.Hardware.{Hardware}
 use Rattle.rv_hardware.specs.History.{History, Moment, reports_of}
@@ -34,7 +34,7 @@ HaveFewSteps moments = length (steps_of (reports_of moments)) ≤ 8 * length (re
 -- the next cycle is shown: its number, its steps, the hardware that it left, and the counts of the cycles so far with it
 pub record IsShown (seen : Watched) (cycle : ℕ) (steps : List Step) (after : Hardware) (progress : Progress) : Type 0 where
   pub report : Report
-  pub predictor : Option DescribedPredictor
+  pub predictor : Guide
   pub passes : History seen.arrivals seen.first seen.moments seen.now
   pub few_before : HaveFewSteps seen.moments
   pub reached : Reachable seen.now.hardware

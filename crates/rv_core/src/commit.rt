@@ -4,7 +4,7 @@ ghost use Rattle.std.specs.FinSet as set;
 ghost use Rattle.rv_isa.specs.Cause.{code_of};
 ghost use Rattle.rv_isa.specs.Instruction.{is_serialising, target_of_word};
 ghost use Rattle.rv_arch.specs.Due.{due};
-ghost use Rattle.rv_front.specs.Predictors.{AreTaught};
+ghost use Rattle.rv_front.specs.Guide.{AreTaught};
 ghost use Rattle.rv_memory.specs.Memory.{word_of};
 ghost use Rattle.rv_memory.specs.Stale.{is_covered};
 ghost use Rattle.rv_rename.specs.Renaming.{without_checkpoint};

@@ -1,6 +1,5 @@
-ghost use Rattle.std.specs.Prelude.{◌≡◌, ◌+◌, ◌^◌, ◌<◌, ◌≤◌, [], vec_len, vec_capacity, List, Option, IfOk};
+ghost use Rattle.std.specs.Prelude.{◌≡◌, ◌+◌, ◌^◌, ◌<◌, ◌≤◌, [], vec_len, vec_capacity, List, IfOk};
 ghost use Rattle.rv_isa.specs.declared.lines.Arrival.{Arrival};
-ghost use Rattle.rv_front.specs.declared.predictors.DescribedPredictor.{DescribedPredictor};
 ghost use Rattle.rv_hardware.specs.Guided.{GuidedHardware, guided};
 ghost use Rattle.rv_hardware.specs.Headline.{IsTrueStop};
 ghost use Rattle.rv_hardware.specs.Seen.{layout_of, seen};
@@ -11,7 +10,6 @@ ghost use Rattle.rv_hardware.specs.Report.{counted};
 
 use crate::collector::Collector;
 use crate::errors::OutOfMemory;
-use crate::machine::Core;
 use crate::outcome::{CycleEnd, Outcome, Progress};
 use crate::pipeline::Pipeline;
 use crate::watching::watch;
@@ -22,38 +20,14 @@ use rv_isa::Arrivals;
 use std::alloc::Global;
 use std::io;
 
-/// Does cycles of a core, each with the lines of its number, up to a breakpoint, a stale word, exhaustion or `limit` cycles,
-/// in this order where they come together; the limit comes before exhaustion.
+/// Does cycles of a pipeline that a predictor guides, each with the lines of its number, up to a breakpoint, a stale word,
+/// exhaustion or `limit` cycles, in this order where they come together; the limit comes before exhaustion.
 ///
 /// # Errors
 ///
-/// `OutOfMemory` where there is no memory for the steps of a further cycle. It carries what was done, and the core stands
-/// at the end of its last whole cycle.
+/// `OutOfMemory` where there is no memory for the steps of a further cycle. It carries what was done, and the pipeline
+/// stands at the end of its last whole cycle.
 pub fn run(
-    alloc: Global,
-    core: &mut Core,
-    arrivals: &Arrivals,
-    limit: u64,
-) -> Result<Outcome, OutOfMemory>
-    ensures cycles { (before after : Option DescribedPredictor) × IsDone arrivals.now limit (guided core.old before) (guided core.new after) result }
-    ensures promised { KeepsItsPromise arrivals.now core.old core.new result }
-    ensures stopped { IfOk result (λ outcome. IsTrueStop (layout_of core.old.values) arrivals.now limit core.old.cycle core.new.cycle outcome.steps.items (seen core.new) outcome.stop) }
-{
-    run_pipeline(
-        alloc,
-        &mut core.pipeline,
-        &mut *core.predictor,
-        arrivals,
-        limit,
-    )
-}
-
-/// Does cycles of a pipeline that a predictor guides, as `run` does those of a core.
-///
-/// # Errors
-///
-/// `OutOfMemory` as `run`.
-pub fn run_pipeline(
     alloc: Global,
     pipeline: &mut Pipeline,
     predictor: &mut dyn Predictor,

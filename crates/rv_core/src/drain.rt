@@ -1,6 +1,7 @@
 ghost use Rattle.std.specs.Prelude.{◌≡◌};
 ghost use Rattle.rv_stores.specs.Queue.{oldest_to_drain};
-ghost use Rattle.rv_hardware.specs.Drain.{drain, drain_end, end_drain, start_drain};
+ghost use Rattle.rv_hardware.specs.Drain.{drain, end_drain, start_drain};
+ghost use Rattle.rv_hardware.specs.Draining.{drain_end};
 
 use crate::parts::Parts;
 

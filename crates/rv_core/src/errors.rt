@@ -5,10 +5,10 @@ use std::alloc::AllocError;
 use std::error::Error;
 use std::fmt;
 
-/// Why no core was made.
+/// Why no pipeline was made.
 #[derive(Clone, Copy, Debug, PartialEq, Eq)]
 pub enum NewError {
-    /// Want of memory.
+    /// Out of memory.
     Memory,
     /// The image's base is not that of RAM, its bytes do not fit into RAM, or its start is no multiple of 4.
     ImageDoesNotFit,

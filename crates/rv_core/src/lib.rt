@@ -14,7 +14,6 @@ mod execute;
 mod head;
 mod issue;
 mod load;
-mod machine;
 mod outcome;
 mod parts;
 mod pipeline;
@@ -23,9 +22,8 @@ mod serialising;
 mod watcher;
 mod watching;
 
-pub use cycles::{run, run_pipeline};
+pub use cycles::run;
 pub use errors::{NewError, OutOfMemory};
-pub use machine::Core;
 pub use outcome::{CycleReport, Outcome, Progress};
 pub use pipeline::Pipeline;
 pub use watcher::Watcher;

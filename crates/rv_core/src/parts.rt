@@ -1,7 +1,7 @@
 ghost use Rattle.std.specs.Prelude.{◌≡◌, ◌+◌, ◌*◌, ◌^◌, ◌≤◌, ◌<◌, filter, length, vec_len, vec_capacity, nat_le, ◌⊎◌, Ok, Err, IfOk, IfErr};
 ghost use Rattle.rv_isa.specs.PerKind.{for_each};
 ghost use Rattle.rv_front.specs.FetchBuffer.{FetchesInto};
-ghost use Rattle.rv_front.specs.Predictors.{answers_of};
+ghost use Rattle.rv_front.specs.Guide.{answers_of};
 ghost use Rattle.rv_rob.specs.ReorderBuffer.{cut_from};
 ghost use Rattle.rv_rename.specs.Renaming.{cleared};
 ghost use Rattle.rv_stations.specs.Pool.{squashed as squashed_pool};

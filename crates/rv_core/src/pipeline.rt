@@ -2,7 +2,7 @@ ghost use Rattle.std.specs.Prelude.{◌≡◌, ◌+◌, ◌^◌, ◌<◌, ◌≤
 ghost use Rattle.std.specs.FinSet as set;
 ghost use Rattle.rv_isa.specs.Description.{IsLegal};
 ghost use Rattle.rv_memory.specs.Memory.{byte_seen, is_in_ram, word_of};
-ghost use Rattle.rv_hardware.specs.Drain.{drain_end};
+ghost use Rattle.rv_hardware.specs.Draining.{drain_end};
 ghost use Rattle.rv_hardware.specs.Guided.{IsGuidedCycle, guided};
 ghost use Rattle.rv_hardware.specs.Headline.{IsTrueCycle};
 ghost use Rattle.rv_hardware.specs.Run.{Reachable};
@@ -28,10 +28,11 @@ use rv_units::Units;
 use std::alloc::Global;
 use std::marker::Model;
 
-/// The most cycles that a core counts.
+/// The most cycles that a pipeline counts.
 const LAST_CYCLE: u64 = 1 << 40;
 
-/// The pipeline with its memory: all of a core but its branch predictor, which each cycle is lent.
+/// The core with its memory, but for the branch predictor that guides it. Each cycle is lent that, and says what it was asked
+/// and taught; nothing is asked of it but that its calls return.
 #[derive(Drop)]
 pub struct Pipeline {
     // In a box, so that each owner drops it by one call.

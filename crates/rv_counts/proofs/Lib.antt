@@ -3,6 +3,6 @@ mod Places
 pub mod Changes
 pub mod Profiles
 pub mod Rooms
-pub mod Followed
+pub mod Left
 pub mod InFlight
 pub mod OneProfile

@@ -7,4 +7,3 @@ pub mod Profile
 pub mod Following
 pub mod Head
 pub mod Left
-pub mod Followed

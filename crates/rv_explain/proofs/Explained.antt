@@ -13,17 +13,17 @@ use Rattle.rv_source.specs.Listing.{Listed}
 use Rattle.rv_explain.specs.Explanation.{IsExplanation, IsTold, explanation}
 use Rattle.rv_sentences.specs.Head.{head_after}
 use Rattle.rv_sentences.specs.Work.{word_in}
-use Rattle.rv_explain.specs.declared.tale.Tale.{Tale}
+use Rattle.rv_explain.specs.declared.{figures.Figures.Figures, tale.Tale.Tale}
 use Rattle.rv_sentences.specs.declared.work.Class.TheVariants.{Branch, Mispredicted}
 use Rattle.rv_sentences.proofs.CountSums.{counted_within}
 use Rattle.rv_passage.proofs.EndedRun.{length-reports_of}
 
-pub explained : (arrivals : List Arrival) (limit : ℕ) (values : Values) (listing : Listed) (old new : GuidedHardware) (stop : Stop) (progress : Progress) (fetched : ℕ) (tale : Tale)
-    → IsTold arrivals limit values old new stop progress fetched tale → IsExplanation arrivals limit values listing old new stop (explanation listing stop new.hardware progress fetched tale)
-explained arrivals limit values listing old new stop progress fetched tale told = record {
+pub explained : (arrivals : List Arrival) (limit : ℕ) (figures : Figures) (values : Values) (listing : Listed) (old new : GuidedHardware) (stop : Stop) (progress : Progress) (fetched : ℕ) (tale : Tale)
+    → IsTold arrivals limit values old new stop progress fetched tale → IsExplanation arrivals limit figures values listing old new stop (explanation figures listing stop new.hardware progress fetched tale)
+explained arrivals limit figures values listing old new stop progress fetched tale told = record {
   moments = told.moments;
   run = told.run;
-  text_is = λ i. explanation listing stop new.hardware (told.counted i) (told.fetched_are i) (told.kept i);
+  text_is = λ i. explanation figures listing stop new.hardware (told.counted i) (told.fetched_are i) (told.kept i);
 }
 
 -- no more cycles left the words of RAM at the head than there were

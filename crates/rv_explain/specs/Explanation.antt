@@ -1,9 +1,10 @@
 -- What a run came to, in sentences.
-use Rattle.std.specs.Prelude.{◌≡◌, ℕ, ◌+◌, ◌^◌, ◌≤◌, List, ◌++◌, codes, length, Some}
+use Rattle.std.specs.Prelude.{◌≡◌, ℕ, ◌+◌, ◌^◌, ◌≤◌, List, ◌++◌, codes, length, Option, Some, None}
 use Rattle.rv_isa.specs.declared.{lines.Arrival.Arrival, values.Values.Values}
 use Rattle.rv_arch.specs.declared.outcome.Stop.{Stop}
 use Rattle.rv_core.specs.Progress.{progress_of}
 use Rattle.rv_core.specs.declared.outcome.Progress.{Progress}
+use Rattle.rv_front.specs.Predictors.{guide_of}
 use Rattle.rv_front.specs.declared.predictors.DescribedPredictor.{DescribedPredictor}
 use Rattle.rv_hardware.specs.Guided.{GuidedHardware, guided}
 use Rattle.rv_hardware.specs.Hardware.{Hardware}
@@ -13,6 +14,7 @@ use Rattle.rv_source.specs.Listing.{Listed}
 use Rattle.rv_text.specs.Line.{line_of, ratio_text}
 use Rattle.rv_sentences.specs.Dispatch.{dispatches_text}
 use Rattle.rv_sentences.specs.Drain.{drain_text}
+use Rattle.rv_explain.specs.Crash.{crash_text, first_passed_text, lone_crash}
 use Rattle.rv_explain.specs.Ending.{ending_text}
 use Rattle.rv_sentences.specs.Exception.{exceptions_text}
 use Rattle.rv_hardware.specs.History.{Moment, reports_of}
@@ -24,7 +26,8 @@ use Rattle.rv_explain.specs.Tale.{tale_of_run}
 use Rattle.rv_sentences.specs.Wait.{waits_text}
 use Rattle.rv_sentences.specs.Work.{work_text}
 use Rattle.rv_sentences.specs.Worst.{worst_text}
-use Rattle.rv_explain.specs.declared.tale.Tale.{Tale}
+use Rattle.rv_explain.specs.declared.{figures.Figures.Figures, tale.Tale.Tale}
+use Rattle.rv_sentences.specs.declared.exception.Exception.{Exception}
 
 -- a run that ended, how many words were fetched in it or before it, and what was kept of it
 pub record IsTold (arrivals : List Arrival) (limit : ℕ) (values : Values) (old new : GuidedHardware) (stop : Stop) (progress : Progress) (fetched : ℕ) (tale : Tale) : Type 0 where
@@ -53,27 +56,38 @@ cost_text listing progress fetched tale =
     (work_text fetched tale.work ++ (worst_text listing tale.branches tale.mispredicted ++ (waited_text tale ++
     hotspots_text listing progress.cycles tale.heads tale.outcomes))))
 
--- the sentences, by how many words were fetched among others
-unfoldable pub explanation : Listed → Stop → Hardware → Progress → ℕ → Tale → List ℕ
-explanation listing stop h progress fetched tale =
-    ending_text listing stop h tale.last_stores ++ (exceptions_text listing tale.exceptions.all tale.exceptions.kinds ++
-    (interrupts_text listing tale.interrupts ++ cost_text listing progress fetched tale))
+-- how a run ended, its exceptions and interrupts, and where its cycles went, by how many words were fetched among others
+unfoldable pub whole_text : Listed → Stop → Hardware → Progress → ℕ → Tale → List ℕ
+whole_text listing stop h progress fetched tale =
+    ending_text listing stop h tale.last_stores ++ (first_passed_text listing tale.exceptions.all ++
+    (exceptions_text listing tale.exceptions.all tale.exceptions.kinds ++ (interrupts_text listing tale.interrupts ++
+    cost_text listing progress fetched tale)))
+
+-- the sentences on a run, or on the crash that stands alone
+unfoldable pub told_text : Option Exception → Listed → Stop → Hardware → Progress → ℕ → Tale → List ℕ
+told_text None listing stop h progress fetched tale = whole_text listing stop h progress fetched tale
+told_text (Some crash) listing stop h progress fetched tale = crash_text listing crash tale.interrupts
+
+-- after a crash its sentences stand alone, unless the figures are asked for
+abbrev pub explanation : Figures → Listed → Stop → Hardware → Progress → ℕ → Tale → List ℕ
+explanation figures listing stop h progress fetched tale =
+    told_text (lone_crash figures stop tale.exceptions.all) listing stop h progress fetched tale
 
 -- the sentences on cycles from some hardware on, that left the hardware so and ended for a reason: by the instructions that left the
 -- hardware in them and those in flight at their end
-abbrev pub explanation_of : Values → List Arrival → Listed → Hardware → List Moment → Hardware → Stop → List ℕ
-explanation_of values arrivals listing first moments after stop =
-    explanation listing stop after (progress_of (reports_of moments)) (length (passages_of_run first moments)) (tale_of_run values arrivals first moments)
+abbrev pub explanation_of : Figures → Values → List Arrival → Listed → Hardware → List Moment → Hardware → Stop → List ℕ
+explanation_of figures values arrivals listing first moments after stop =
+    explanation figures listing stop after (progress_of (reports_of moments)) (length (passages_of_run first moments)) (tale_of_run values arrivals first moments)
 
 -- a text explains a run that ended for a reason
-pub record IsExplanation (arrivals : List Arrival) (limit : ℕ) (values : Values) (listing : Listed) (old new : GuidedHardware) (stop : Stop) (text : List ℕ) : Type 0 where
+pub record IsExplanation (arrivals : List Arrival) (limit : ℕ) (figures : Figures) (values : Values) (listing : Listed) (old new : GuidedHardware) (stop : Stop) (text : List ℕ) : Type 0 where
   pub moments : List Moment
   pub run : IsEndedRun arrivals limit old moments new stop
-  pub text_is : text ≡ explanation_of values arrivals listing old.hardware moments new.hardware stop
+  pub text_is : text ≡ explanation_of figures values arrivals listing old.hardware moments new.hardware stop
 
 -- of hardware that a described predictor guides there is one explanation, whatever it leaves
-abbrev pub HasOneExplanation : List Arrival → ℕ → Values → Listed → Type 0
-HasOneExplanation arrivals limit values listing =
+abbrev pub HasOneExplanation : List Arrival → ℕ → Figures → Values → Listed → Type 0
+HasOneExplanation arrivals limit figures values listing =
     (h : Hardware) (predictor : DescribedPredictor) (new new' : GuidedHardware) (stop stop' : Stop) (text text' : List ℕ) → h.cycle + limit ≤ 2 ^ 40 →
-    IsExplanation arrivals limit values listing (guided h (Some predictor)) new stop text → IsExplanation arrivals limit values listing (guided h (Some predictor)) new' stop' text' →
+    IsExplanation arrivals limit figures values listing (guided h (guide_of predictor)) new stop text → IsExplanation arrivals limit figures values listing (guided h (guide_of predictor)) new' stop' text' →
     (stop ≡ stop') × (text ≡ text')

@@ -1,15 +1,14 @@
 -- What is kept of a run, cycle by cycle.
-use Rattle.std.specs.Prelude.{◌≡◌, ℕ, ◌+◌, ◌^◌, ◌<◌, ◌≤◌, List, [], count_by, filter, length, sum, Option}
+use Rattle.std.specs.Prelude.{◌≡◌, ℕ, ◌+◌, ◌*◌, ◌^◌, ◌<◌, ◌≤◌, List, [], count_by, filter, length, sum, Option}
 use Rattle.std.specs.Option.{option_to_list}
 use Rattle.rv_isa.specs.declared.{lines.Arrival.Arrival, values.Values.Values}
 use Rattle.rv_core.specs.Watching.{Watched}
-use Rattle.rv_hardware.specs.Drain.{drain_end}
+use Rattle.rv_hardware.specs.Draining.{drain_end}
 use Rattle.rv_hardware.specs.Hardware.{Hardware}
 use Rattle.rv_hardware.specs.Run.{steps_of}
 use Rattle.rv_hardware.specs.Step.{is_retirement}
 use Rattle.rv_hardware.specs.declared.step.Step.{Step}
-use Rattle.rv_passage.specs.declared.{passage.Passage.Passage, table.Table.Table}
-use Rattle.rv_counts.specs.Followed.{IsFollowed}
+use Rattle.rv_passage.specs.declared.passage.Passage.{Passage}
 use Rattle.rv_counts.specs.Left.{left_after}
 use Rattle.rv_counts.specs.Load.{costs_of}
 use Rattle.rv_counts.specs.Passing.{has_left}
@@ -80,11 +79,11 @@ tale_after registers steps drain after rows tale = record {
   outcomes = with_passages tale.costs (filter has_left rows) tale.outcomes;
 }
 
--- what is kept of the cycles that were seen, of those values by which nothing was kept at first; with the registers, the end of
--- the drain under way and the passages after them
-pub record IsTelling (first tale : Tale) (registers : List ℕ) (end : Option ℕ) (table : Table) (seen : Watched) : Type 0 where
+-- what is kept of the cycles that were seen, of those values by which nothing was kept at first; with the registers and the end of
+-- the drain under way after them
+pub record IsTelling (first tale : Tale) (registers : List ℕ) (end : Option ℕ) (seen : Watched) : Type 0 where
   pub values : Values
-  pub followed : IsFollowed seen.first.hardware seen.moments seen.now.hardware table
+  pub some_left : length (left_after seen.first.hardware seen.moments) ≤ 576 * seen.now.hardware.cycle
   pub untold : first ≡ tale_of_run values seen.arrivals seen.first.hardware []
   pub told : (by : Values) → first ≡ tale_of_run by seen.arrivals seen.first.hardware [] → tale ≡ tale_of_run by seen.arrivals seen.first.hardware seen.moments
   pub bus_grows : (more : ℕ) → length (steps_of (reports_of seen.moments)) + more ≤ 2 ^ 44 → CanGrow tale.bus more

@@ -1,58 +1,52 @@
-ghost use Rattle.std.specs.Prelude.{◌≡◌, ◌≤◌, ◌<◌, ◌^◌, Err, List, [], length, sum, vec_capacity, IfOk};
-ghost use Rattle.rv_explain.specs.Explanation.{HasOneExplanation, IsExplanation, cost_text, cycle_text, explanation, waited_text};
+ghost use Rattle.std.specs.Prelude.{◌≡◌, ◌≤◌, ◌<◌, ◌^◌, Err, List, [], sum, IfOk};
+ghost use Rattle.rv_explain.specs.Explanation.{HasOneExplanation, IsExplanation, cost_text, cycle_text, explanation, told_text, waited_text, whole_text};
 ghost use Rattle.rv_hardware.specs.Guided.{guided};
 ghost use Rattle.rv_hardware.specs.Hardware.{Hardware};
 ghost use Rattle.rv_isa.specs.declared.lines.Arrival.{Arrival};
-ghost use Rattle.rv_passage.specs.Table.{HasRoom, passages_of, table_at};
 ghost use Rattle.rv_explain.specs.Tale.{tale_of};
+ghost use Rattle.rv_view.specs.Following.{FollowsFrom};
 ghost use Rattle.rv_text.specs.IsText.{IsText};
 ghost use Rattle.rv_text.specs.Said.{Says};
 ghost use Rattle.rv_text.specs.Written.{IsWritten};
 
+use crate::crash::{lone_crash, write_crash, write_first_passed};
 use crate::ending::write_ending;
-use crate::running::{begin_table, run_told};
+use crate::figures::Figures;
+use crate::running::run_told;
 use crate::tale::Tale;
 use rv_arch::Stop;
 use rv_core::{Pipeline, Progress};
 use rv_front::Predictor;
-use rv_hardware::Step;
 use rv_isa::{Arrivals, Description};
-use rv_passage::Table;
 use rv_sentences::{
-    write_counts, write_dispatches, write_drains, write_exceptions, write_hotspots,
+    Exception, write_counts, write_dispatches, write_drains, write_exceptions, write_hotspots,
     write_interrupts, write_loads, write_stalls, write_waits, write_work, write_worst,
 };
 use rv_source::Listing;
 use rv_text::{Field, ReportError, Sink, TextError, Value};
+use rv_view::Following;
 use std::alloc::{AllocError, Global};
 use std::io::Write;
 
 // What a run of the core begins with.
 #[derive(Drop)]
 struct Beginning {
-    steps: Vec<Step>,
-    table: Table,
+    following: Following,
     tale: Tale,
 }
 
-// Room for the steps of a cycle, a table of what is in flight, and a tale of no cycle.
+// What it takes to follow it, and a tale of no cycle.
 fn begin(
     alloc: Global,
     pipeline: &Pipeline,
     description: &Description,
 ) -> Result<Beginning, AllocError>
-    ensures steps { IfOk result (λ beginning. 8 ≤ vec_capacity beginning.steps) }
-    ensures table { IfOk result (λ beginning. passages_of beginning.table ≡ table_at pipeline.now) }
-    ensures room { IfOk result (λ beginning. HasRoom beginning.table) }
-    ensures rows { IfOk result (λ beginning. 576 ≤ vec_capacity beginning.table.rows) }
-    ensures interrupts { IfOk result (λ beginning. 8 ≤ vec_capacity beginning.table.interrupts) }
-    ensures few { IfOk result (λ beginning. length (passages_of beginning.table).rows ≤ 288) }
+    ensures follows { IfOk result (λ beginning. FollowsFrom pipeline.now beginning.following) }
     ensures untold { IfOk result (λ beginning. (arrivals : List Arrival) (h : Hardware) → beginning.tale ≡ tale_of description.now arrivals h [] []) }
 {
-    let steps = Vec::with_capacity(alloc, 8)?;
-    let table = begin_table(alloc, pipeline)?;
+    let following = Following::begin(alloc, pipeline)?;
     let tale = Tale::new(alloc, description)?;
-    Ok(Beginning { steps, table, tale })
+    Ok(Beginning { following, tale })
 }
 
 // The cycles, and those to each instruction.
@@ -111,8 +105,8 @@ fn write_costs<W: Write>(
     );
 }
 
-// The sentences on a run that ended.
-fn write_sentences<W: Write>(
+// The sentences on a run that ended, with its figures.
+fn write_whole<W: Write>(
     out: &mut Sink<'_, W>,
     listing: &Listing,
     stop: Stop,
@@ -124,18 +118,43 @@ fn write_sentences<W: Write>(
     requires heads { sum tale.old.heads.words ≤ progress.now.cycles }
     requires branches { sum tale.old.branches.words < 2 ^ 64 }
     requires mispredicted { sum tale.old.mispredicted.words < 2 ^ 64 }
-    ensures { Says W.contents out.old out.new (explanation listing.now stop pipeline.now progress.now fetched tale.old) }
+    ensures { Says W.contents out.old out.new (whole_text listing.now stop pipeline.now progress.now fetched tale.old) }
 {
     write_ending(out, listing, stop, pipeline, &tale.last_stores);
+    write_first_passed(out, listing, tale.exceptions.all());
     write_exceptions(out, listing, &tale.exceptions);
     write_interrupts(out, listing, &tale.interrupts);
     write_costs(out, listing, progress, fetched, tale);
+}
+
+// The sentences on a run that ended, or on a crash that stands alone.
+#[tactic(auto, unfolding(crate::specs::Explanation::told_text))]
+fn write_sentences<W: Write>(
+    out: &mut Sink<'_, W>,
+    crash: Option<Exception>,
+    listing: &Listing,
+    stop: Stop,
+    pipeline: &Pipeline,
+    progress: &Progress,
+    fetched: u64,
+    tale: &mut Tale,
+)
+    requires heads { sum tale.old.heads.words ≤ progress.now.cycles }
+    requires branches { sum tale.old.branches.words < 2 ^ 64 }
+    requires mispredicted { sum tale.old.mispredicted.words < 2 ^ 64 }
+    ensures { Says W.contents out.old out.new (told_text crash listing.now stop pipeline.now progress.now fetched tale.old) }
+{
+    match crash {
+        Some(crash) => write_crash(out, listing, &crash, &tale.interrupts),
+        None => write_whole(out, listing, stop, pipeline, progress, fetched, tale),
+    }
 }
 
 // Writes the sentences on a run that ended.
 #[tactic(auto, using(rv_text::proofs::Saying::says_written))]
 fn write_told<W: Write>(
     writer: &mut W,
+    figures: Figures,
     listing: &Listing,
     stop: Stop,
     pipeline: &Pipeline,
@@ -146,10 +165,13 @@ fn write_told<W: Write>(
     requires heads { sum tale.old.heads.words ≤ progress.now.cycles }
     requires branches { sum tale.old.branches.words < 2 ^ 64 }
     requires mispredicted { sum tale.old.mispredicted.words < 2 ^ 64 }
-    ensures { IsWritten result (W.contents writer.old) (W.contents writer.new) (explanation listing.now stop pipeline.now progress.now fetched tale.old) }
+    ensures { IsWritten result (W.contents writer.old) (W.contents writer.new) (explanation figures listing.now stop pipeline.now progress.now fetched tale.old) }
 {
+    let crash = lone_crash(figures, stop, tale.exceptions.all());
     let mut out = Sink::new(writer);
-    write_sentences(&mut out, listing, stop, pipeline, progress, fetched, tale);
+    write_sentences(
+        &mut out, crash, listing, stop, pipeline, progress, fetched, tale,
+    );
     out.outcome()
 }
 
@@ -159,7 +181,8 @@ fn write_told<W: Write>(
 /// only what did not retire; how many words were fetched and how many of them squashed; how many branches and jumps
 /// retired, and how many of them were mispredicted, with the three lines that most of those come from; what results
 /// waited for the bus, and instructions for a unit; what its loads and the drains of its stores cost; and the five
-/// lines that most cycles left at the head of the reorder buffer, with their loads. The description says where RAM
+/// lines that most cycles left at the head of the reorder buffer, with their loads. Where the program crashed, its first
+/// exception and the interrupts alone are told, unless the figures are asked for. The description says where RAM
 /// lies, whose words are counted, and what loads and drains cost. The listing is that of the program, whose lines are
 /// shown.
 /// Answers why the run ended.
@@ -175,12 +198,13 @@ pub fn write_explanation<W: Write>(
     description: &Description,
     arrivals: &Arrivals,
     limit: u64,
+    figures: Figures,
     listing: &Listing,
     writer: &mut W,
 ) -> Result<Stop, TextError>
-    ensures written { IsText (IsExplanation arrivals.now limit description.now listing.now (guided pipeline.old (known predictor.old)) (guided pipeline.new (known predictor.new))) result (W.contents writer.old) (W.contents writer.new) }
+    ensures written { IsText (IsExplanation arrivals.now limit figures description.now listing.now (guided pipeline.old (known predictor.old)) (guided pipeline.new (known predictor.new))) result (W.contents writer.old) (W.contents writer.new) }
     // With a described predictor the sentences are a function of what they explain.
-    ensures one_explanation { HasOneExplanation arrivals.now limit description.now listing.now }
+    ensures one_explanation { HasOneExplanation arrivals.now limit figures description.now listing.now }
     ensures not_run { result ≡ Err TextError.Memory → (pipeline.new ≡ pipeline.old) × (known predictor.new ≡ known predictor.old) }
 {
     let Ok(beginning) = begin(alloc, pipeline, description) else {
@@ -192,13 +216,13 @@ pub fn write_explanation<W: Write>(
         description,
         arrivals,
         limit,
-        beginning.steps,
-        beginning.table,
+        beginning.following,
         beginning.tale,
     );
     let mut tale = told.tale;
     let written = write_told(
         writer,
+        figures,
         listing,
         told.stop,
         pipeline,

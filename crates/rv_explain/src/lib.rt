@@ -1,14 +1,17 @@
-//! What a run of the core came to, in plain sentences: how it ended and why, its exceptions and interrupts, where its cycles went, what
+//! What a run of the core came to, in plain sentences: by which exception it crashed, or how it ended and why, its exceptions and interrupts, where its cycles went, what
 //! became of the fetched words and of the predictions, the lines with the most wrong ones, what its loads and the drains of its stores
 //! cost, and the lines that stood longest at the head of the reorder buffer. The text is a function of the run and of the listing of its
 //! program.
 #![tactic(auto)]
 
+mod crash;
 mod ending;
 mod explanation;
+mod figures;
 mod head;
 mod running;
 mod tale;
 mod traps;
 
 pub use explanation::write_explanation;
+pub use figures::Figures;

@@ -7,7 +7,8 @@ use Rattle.rv_memory.specs.Memory.{Memory}
 use Rattle.rv_front.specs.declared.fetched.Fetched.{Fetched}
 use Rattle.rv_front.specs.declared.fetched.FetchStop.{FetchStop}
 use Rattle.rv_front.specs.declared.fetched.FetchStop.TheVariants.{Width, Room, Prediction, Halted}
-use Rattle.rv_front.specs.FetchBuffer.{Answers, FetchBuffer, Fetches, FetchesInto, FetchesOne, IsFetchedAt, IsLinked, is_halted, stop_after, stop_for}
+use Rattle.rv_front.specs.FetchBuffer.{Answers, FetchBuffer, Fetches, FetchesInto, IsFetchedAt, IsLinked, is_halted, stop_after, stop_for}
+use Rattle.rv_front.specs.OneWord.{FetchesOne}
 
 -- a front by its fields
 front_is : (f : FetchBuffer) (es : List Fetched) (capacity width : ℕ) (halted : Bool) → f.entries ≡ es → f.capacity ≡ capacity → f.width ≡ width → f.halted ≡ halted → f ≡ record { entries = es; capacity = capacity; width = width; next_pc = f.next_pc; halted = halted }

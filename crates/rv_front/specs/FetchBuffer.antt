@@ -1,5 +1,5 @@
 -- The front as a list of fetched words, and what a cycle's fetch adds to it.
-use Rattle.std.specs.Prelude.{◌≡◌, ℕ, zero, suc, ◌-◌, ◌*◌, ◌/◌, ◌^◌, ◌<◌, Bool, true, false, ◌==◌, nat_lt, is_none, List, [], ◌∷◌, ◌++◌, length, Option, Some, None, MatchBool, MatchOption, option_and_then}
+use Rattle.std.specs.Prelude.{◌≡◌, ℕ, zero, suc, ◌-◌, ◌*◌, ◌/◌, ◌^◌, ◌<◌, Bool, true, false, ◌==◌, List, [], ◌∷◌, ◌++◌, length, Option, Some, None, MatchBool, MatchOption, option_and_then}
 use Rattle.rv_isa.specs.Word.{pc_plus_4}
 use Rattle.rv_decode.specs.Decodes.{instruction_of}
 use Rattle.rv_memory.specs.Memory.{Memory, fetched_word}
@@ -98,13 +98,3 @@ FetchesInto answers ram cycle old new stop =
     ((added : List Fetched) ×
     Fetches answers ram cycle old.width (old.capacity - length old.entries) old.next_pc added new.next_pc stop ×
     (new ≡ record old { entries = old.entries ++ added; next_pc = new.next_pc; halted = is_halted stop }))
-
--- the fetch of one word where there is room, and why the fetch ends with it or, where there is none, without it
-abbrev pub FetchesOne : Answers → Memory → ℕ → FetchBuffer → FetchBuffer → Option FetchStop → Type 0
-FetchesOne answers ram cycle old new stop =
-    MatchBool (nat_lt (length old.entries) old.capacity)
-    ((e : Fetched) ×
-    IsFetchedAt answers ram cycle old.next_pc e ×
-    (stop ≡ stop_after e) ×
-    (new ≡ record old { entries = old.entries ++ e ∷ []; next_pc = e.predicted; halted = is_none e.word }))
-    ((new ≡ old) × (stop ≡ Some Room))

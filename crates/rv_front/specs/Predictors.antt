@@ -1,10 +1,11 @@
 -- What the three described predictors answer, and what the bimodal one learns.
-use Rattle.std.specs.Prelude.{◌≡◌, ℕ, ◌+◌, ◌-◌, ◌/◌, ◌%◌, min, Bool, true, false, not, ◌==◌, nat_le, List, length, slice_index, slice_set, Option, Some, None, unwrap_or, if◌then◌else◌}
-use Rattle.std.specs.List.{fold, slice_index_or}
+use Rattle.std.specs.Prelude.{ℕ, ◌+◌, ◌-◌, ◌/◌, ◌%◌, min, Bool, true, false, not, ◌==◌, nat_le, length, slice_index, slice_set, Option, Some, None, unwrap_or, if◌then◌else◌}
+use Rattle.std.specs.List.{slice_index_or}
 use Rattle.rv_isa.specs.Word.{pc_plus_4}
 use Rattle.rv_isa.specs.declared.values.PredictorKind.{PredictorKind}
 use Rattle.rv_isa.specs.declared.values.PredictorKind.TheVariants as kind
 use Rattle.rv_front.specs.Flow.{flow_at}
+use Rattle.rv_front.specs.Guide.{Guide, guide_by}
 use Rattle.rv_front.specs.Lesson.{Lesson}
 use Rattle.rv_front.specs.Tables.{Tables, untaught}
 use Rattle.rv_front.specs.declared.flow.Flow.{Flow}
@@ -77,16 +78,6 @@ abbrev pub taught : DescribedPredictor → Lesson → DescribedPredictor
 taught (Bimodal tables) lesson = Bimodal (with_lesson tables lesson)
 taught plain lesson = plain
 
--- What a predictor may answer for the word at a pc: what the described one that it is answers, or, where it is none, anything.
-abbrev pub answers_of : Option DescribedPredictor → ℕ → ℕ → ℕ → Type 0
-answers_of None pc word next = Unit {0}
-answers_of (Some predictor) pc word next = next ≡ answer predictor pc (flow_at pc word)
-
--- the described predictor that one is after a lesson, where it is one
-abbrev pub after_lesson : Option DescribedPredictor → Lesson → Option DescribedPredictor
-after_lesson None lesson = None
-after_lesson (Some predictor) lesson = Some (taught predictor lesson)
-
--- these lessons, the first one first, lead from what the predictor was to what it is
-abbrev pub AreTaught : Option DescribedPredictor → List Lesson → Option DescribedPredictor → Type 0
-AreTaught old lessons new = new ≡ fold after_lesson old lessons
+-- what a described predictor answers, now and after lessons
+abbrev pub guide_of : DescribedPredictor → Guide
+guide_of predictor = guide_by (λ (p : DescribedPredictor) pc word. answer p pc (flow_at pc word)) taught predictor

@@ -1,7 +1,8 @@
 ghost use Rattle.std.specs.Prelude.{◌≡◌, ◌<◌, ◌≤◌, [], ◌∷◌, ◌++◌, length, drop, slice_get, Some, option_copied, IfOk, false};
 ghost use Rattle.circular_buffer.specs.Buffer.{buffer};
-ghost use Rattle.rv_front.specs.FetchBuffer.{FetchesInto, FetchesOne, IsChain, IsFetchedAt, head_pc};
-ghost use Rattle.rv_front.specs.Predictors.{answers_of};
+ghost use Rattle.rv_front.specs.FetchBuffer.{FetchesInto, IsChain, IsFetchedAt, head_pc};
+ghost use Rattle.rv_front.specs.Guide.{answers_of};
+ghost use Rattle.rv_front.specs.OneWord.{FetchesOne};
 
 use crate::decoded::DecodedWords;
 use crate::fetched::{FetchStop, Fetched};

@@ -1,13 +1,12 @@
-ghost use Rattle.std.specs.Prelude.{ℕ, Option, [], ◌∷◌};
-ghost use Rattle.rv_front.specs.Predictors.{AreTaught, answers_of};
-ghost use Rattle.rv_front.specs.declared.predictors.DescribedPredictor.{DescribedPredictor as DescribedPredictorOf};
+ghost use Rattle.std.specs.Prelude.{[], ◌∷◌};
+ghost use Rattle.rv_front.specs.Guide.{AreTaught, Guide, answers_of};
 
 /// What guesses where the program goes on after each fetched word.
 ///
 /// Nothing is asked of the answers: whoever uses a predictor is right for every one.
 pub trait Predictor: Drop {
-    // The described predictor that it is, with what it has learned, or `None` where it is another one.
-    ghost known: { Self → Option DescribedPredictorOf };
+    // What it answers, now and after lessons: by its state (`guide_by`), or `unknown`.
+    ghost known: { Self → Guide };
 
     /// Guesses the pc of the instruction after the one whose word was fetched at `pc`.
     fn predict(&self, pc: u32, word: u32) -> u32

@@ -70,11 +70,11 @@ impl DescribedPredictor {
 }
 
 impl Predictor for DescribedPredictor {
-    ghost use Rattle.std.specs.Prelude.{◌≡◌, Some};
+    ghost use Rattle.std.specs.Prelude.{◌≡◌};
     ghost use Rattle.rv_front.specs.Flow.{flow_at};
-    ghost use Rattle.rv_front.specs.Predictors.{answer, taught};
+    ghost use Rattle.rv_front.specs.Predictors.{answer, guide_of, taught};
 
-    ghost known = { λ predictor. Some predictor };
+    ghost known = { guide_of };
 
     fn predict(&self, pc: u32, word: u32) -> u32
         ensures { result ≡ answer self.now pc (flow_at pc word) }

@@ -4,7 +4,8 @@ use Rattle.std.specs.List.{fold}
 use Rattle.rv_arch.specs.declared.outcome.Stop.TheVariants as stop
 use Rattle.rv_front.specs.FetchBuffer.{EndsFor, FetchBuffer, Fetches, FetchesInto, IsFetchedAt, IsGuess, is_halted, stop_after}
 use Rattle.rv_front.specs.Lesson.{Lesson}
-use Rattle.rv_front.specs.Predictors.{after_lesson, answers_of, taught}
+use Rattle.rv_front.specs.Guide.{after_lesson, answers_of}
+use Rattle.rv_front.specs.Predictors.{guide_of, taught}
 use Rattle.rv_front.specs.declared.predictors.DescribedPredictor.{DescribedPredictor}
 use Rattle.rv_hardware.specs.Cycle.{execute, report_of}
 use Rattle.rv_hardware.specs.Guided.{GuidedCycles, GuidedHardware, IsGuidedCycle, cycled, ended}
@@ -16,10 +17,10 @@ ends_for_one : (width room : ℕ) (why why' : FetchStop) → EndsFor width room 
 ends_for_one width room why why' is is' = grind arith
 
 module _ (predictor : DescribedPredictor) (ram : Memory) (cycle : ℕ) where
-  guessed_once : (pc : ℕ) (word : Option ℕ) (next next' : ℕ) → IsGuess (answers_of (Some predictor)) pc word next → IsGuess (answers_of (Some predictor)) pc word next' → next ≡ next'
+  guessed_once : (pc : ℕ) (word : Option ℕ) (next next' : ℕ) → IsGuess (answers_of (guide_of predictor)) pc word next → IsGuess (answers_of (guide_of predictor)) pc word next' → next ≡ next'
   guessed_once pc word next next' is is' = grind arith
 
-  fetched_once : (pc : ℕ) (e e' : Fetched) → IsFetchedAt (answers_of (Some predictor)) ram cycle pc e → IsFetchedAt (answers_of (Some predictor)) ram cycle pc e' → e ≡ e'
+  fetched_once : (pc : ℕ) (e e' : Fetched) → IsFetchedAt (answers_of (guide_of predictor)) ram cycle pc e → IsFetchedAt (answers_of (guide_of predictor)) ram cycle pc e' → e ≡ e'
   fetched_once pc e e' given at' = grind (arith, guessed_once)
 
   -- the same words, the same pc after them, and the same reason
@@ -30,10 +31,10 @@ module _ (predictor : DescribedPredictor) (ram : Memory) (cycle : ℕ) where
 
   abbrev Rest : ℕ → ℕ → Fetched → List Fetched → ℕ → FetchStop → Option FetchStop → Type 0
   Rest width room e es next why o =
-      MatchOption o (Fetches (answers_of (Some predictor)) ram cycle width room e.predicted es next why) (λ reason. (es ≡ []) × (next ≡ e.predicted) × (why ≡ reason))
+      MatchOption o (Fetches (answers_of (guide_of predictor)) ram cycle width room e.predicted es next why) (λ reason. (es ≡ []) × (next ≡ e.predicted) × (why ≡ reason))
 
   rest_once : (width room : ℕ) (e : Fetched) (es es' : List Fetched) (next next' : ℕ) (why why' : FetchStop) (o : Option FetchStop)
-      → (Fetches (answers_of (Some predictor)) ram cycle width room e.predicted es next why → Fetches (answers_of (Some predictor)) ram cycle width room e.predicted es' next' why' → AreSame es es' next next' why why')
+      → (Fetches (answers_of (guide_of predictor)) ram cycle width room e.predicted es next why → Fetches (answers_of (guide_of predictor)) ram cycle width room e.predicted es' next' why' → AreSame es es' next next' why why')
       → Rest width room e es next why o → Rest width room e es' next' why' o → AreSame es es' next next' why why'
   rest_once width room e es es' next next' why why' o further is is' = grind arith
 
@@ -41,7 +42,7 @@ module _ (predictor : DescribedPredictor) (ram : Memory) (cycle : ℕ) where
   same_more e e' es es' next next' why why' first same = record { words = λ i. first i ∷ same.words i; after = same.after; reasons = same.reasons }
 
   fetches_once : (width room pc : ℕ) (es es' : List Fetched) (next next' : ℕ) (why why' : FetchStop)
-      → Fetches (answers_of (Some predictor)) ram cycle width room pc es next why → Fetches (answers_of (Some predictor)) ram cycle width room pc es' next' why' → AreSame es es' next next' why why'
+      → Fetches (answers_of (guide_of predictor)) ram cycle width room pc es next why → Fetches (answers_of (guide_of predictor)) ram cycle width room pc es' next' why' → AreSame es es' next next' why why'
   fetches_once (suc width) (suc room) pc (e ∷ es) (e' ∷ es') next next' why why' is is' =
       let first : e ≡ e' = fetched_once pc e e' is.0 is'.0 in
       same_more e e' es es' next next' why why' first
@@ -55,19 +56,19 @@ module _ (predictor : DescribedPredictor) (ram : Memory) (cycle : ℕ) where
       record { words = refl; after = is.1 ∙ sym is'.1; reasons = ends_for_one width room why why' is.0 is'.0 }
 
   into_once : (halted : Bool) (old new new' : FetchBuffer) (why why' : FetchStop)
-      → MatchBool halted ((new ≡ old) × (why ≡ Halted)) ((added : List Fetched) × Fetches (answers_of (Some predictor)) ram cycle old.width (old.capacity - length old.entries) old.next_pc added new.next_pc why × (new ≡ record old { entries = old.entries ++ added; next_pc = new.next_pc; halted = is_halted why }))
-      → MatchBool halted ((new' ≡ old) × (why' ≡ Halted)) ((added : List Fetched) × Fetches (answers_of (Some predictor)) ram cycle old.width (old.capacity - length old.entries) old.next_pc added new'.next_pc why' × (new' ≡ record old { entries = old.entries ++ added; next_pc = new'.next_pc; halted = is_halted why' }))
+      → MatchBool halted ((new ≡ old) × (why ≡ Halted)) ((added : List Fetched) × Fetches (answers_of (guide_of predictor)) ram cycle old.width (old.capacity - length old.entries) old.next_pc added new.next_pc why × (new ≡ record old { entries = old.entries ++ added; next_pc = new.next_pc; halted = is_halted why }))
+      → MatchBool halted ((new' ≡ old) × (why' ≡ Halted)) ((added : List Fetched) × Fetches (answers_of (guide_of predictor)) ram cycle old.width (old.capacity - length old.entries) old.next_pc added new'.next_pc why' × (new' ≡ record old { entries = old.entries ++ added; next_pc = new'.next_pc; halted = is_halted why' }))
       → new ≡ new'
   into_once true old new new' why why' is is' = is.0 ∙ sym is'.0
   into_once false old new new' why why' (added, fetches, news) (added', fetches', news') = grind (arith, fetches_once)
 
-  fetch_once : (old new new' : FetchBuffer) (why why' : FetchStop) → FetchesInto (answers_of (Some predictor)) ram cycle old new why → FetchesInto (answers_of (Some predictor)) ram cycle old new' why' → new ≡ new'
+  fetch_once : (old new new' : FetchBuffer) (why why' : FetchStop) → FetchesInto (answers_of (guide_of predictor)) ram cycle old new why → FetchesInto (answers_of (guide_of predictor)) ram cycle old new' why' → new ≡ new'
   fetch_once old new new' why why' is is' = into_once old.halted old new new' why why' is is'
 
 -- ---- a cycle
 
 -- a described predictor that was taught is a described predictor
-still_described : (predictor : DescribedPredictor) (lessons : List Lesson) → fold after_lesson (Some predictor) lessons ≡ Some (fold taught predictor lessons)
+pub still_described : (predictor : DescribedPredictor) (lessons : List Lesson) → fold after_lesson (guide_of predictor) lessons ≡ guide_of (fold taught predictor lessons)
 still_described predictor [] = refl
 still_described predictor (lesson ∷ lessons) = still_described (taught predictor lesson) lessons
 
@@ -88,11 +89,11 @@ module _ {lines : Lines} {old new new' : GuidedHardware} {report report' : Repor
   taught_once : new.predictor ≡ new'.predictor
   taught_once = cycle.learns ∙ (λ i. fold after_lesson old.predictor (lessons_of (reported_once i).steps (here i))) ∙ sym cycle'.learns
 
-  module _ (predictor : DescribedPredictor) (is : new.predictor ≡ Some predictor) where
+  module _ (predictor : DescribedPredictor) (is : new.predictor ≡ guide_of predictor) where
     fetched_alike : new.hardware.front ≡ new'.hardware.front
     fetched_alike =
         fetch_once predictor cycle'.cycle.dispatching.hardware.cache.backing old.hardware.cycle cycle'.cycle.dispatching.hardware.front new.hardware.front new'.hardware.front cycle.cycle.fetch_stop cycle'.cycle.fetch_stop
-        (subst (λ (d : Dispatching). FetchesInto (answers_of (Some predictor)) d.hardware.cache.backing old.hardware.cycle d.hardware.front new.hardware.front cycle.cycle.fetch_stop) executed
+        (subst (λ (d : Dispatching). FetchesInto (answers_of (guide_of predictor)) d.hardware.cache.backing old.hardware.cycle d.hardware.front new.hardware.front cycle.cycle.fetch_stop) executed
         (subst (λ p. FetchesInto (answers_of p) cycle.cycle.dispatching.hardware.cache.backing old.hardware.cycle cycle.cycle.dispatching.hardware.front new.hardware.front cycle.cycle.fetch_stop) is cycle.cycle.fetches))
         (subst (λ p. FetchesInto (answers_of p) cycle'.cycle.dispatching.hardware.cache.backing old.hardware.cycle cycle'.cycle.dispatching.hardware.front new'.hardware.front cycle'.cycle.fetch_stop) (sym taught_once ∙ is) cycle'.cycle.fetches)
 
@@ -103,7 +104,7 @@ module _ {lines : Lines} {old new new' : GuidedHardware} {report report' : Repor
     left_once = λ i. record { hardware = hardware_once i; predictor = taught_once i }
 
 -- a cycle leaves the one hardware and the one predictor, which is described
-pub cycle_once : {lines : Lines} {old new new' : GuidedHardware} {report report' : Report} (predictor : DescribedPredictor) → old.predictor ≡ Some predictor → IsGuidedCycle lines old report new → IsGuidedCycle lines old report' new' → new ≡ new'
+pub cycle_once : {lines : Lines} {old new new' : GuidedHardware} {report report' : Report} (predictor : DescribedPredictor) → old.predictor ≡ guide_of predictor → IsGuidedCycle lines old report new → IsGuidedCycle lines old report' new' → new ≡ new'
 cycle_once {lines} {old} {new} {new'} {report} predictor is cycle cycle' =
     left_once cycle cycle' (fold taught predictor (lessons_of report.steps new.hardware.pc))
     (cycle.learns ∙ ap (λ p. fold after_lesson p (lessons_of report.steps new.hardware.pc)) is ∙ still_described predictor (lessons_of report.steps new.hardware.pc))
@@ -152,7 +153,7 @@ pub record IsOneRun (reports reports' : List Report) (new new' : GuidedHardware)
 stops_or_not : {reason : Stop} (report report' : Report) → report ≡ report' → report.stop ≡ Some reason → report'.stop ≡ None → ⊥
 stops_or_not report report' same stops none = true≢false (ap is_some (sym stops ∙ ap (λ (r : Report). r.stop) same ∙ none))
 
-one_run : {arrivals : List Arrival} {old new new' : GuidedHardware} {reports reports' : List Report} {reason reason' : Stop} {left : ℕ} (predictor : DescribedPredictor) → old.predictor ≡ Some predictor → old.hardware.cycle + left ≤ 2 ^ 40
+one_run : {arrivals : List Arrival} {old new new' : GuidedHardware} {reports reports' : List Report} {reason reason' : Stop} {left : ℕ} (predictor : DescribedPredictor) → old.predictor ≡ guide_of predictor → old.hardware.cycle + left ≤ 2 ^ 40
     → GuidedCycles arrivals old reports new → GuidedCycles arrivals old reports' new' → Ending new.hardware reason left reports → Ending new'.hardware reason' left reports' → IsOneRun reports reports' new new' reason reason'
 one_run predictor is within ended ended (at_limit why) (at_limit why') = record { reports_are = refl; ends = refl; reasons = why ∙ sym why' }
 one_run predictor is within ended ended (at_exhaustion why full) (at_exhaustion why' full') = record { reports_are = refl; ends = refl; reasons = why ∙ sym why' }
@@ -178,6 +179,7 @@ one_run {arrivals} {new' = new'} {reports' = reports'} predictor is within (cycl
 
 -- two runs of at most `limit` cycles from the same hardware with the same described predictor are one
 pub run_once : (arrivals : List Arrival) (limit : ℕ) (old : Hardware) (predictor : DescribedPredictor) (reports reports' : List Report) (new new' : GuidedHardware) (reason reason' : Stop) → old.cycle + limit ≤ 2 ^ 40
-    → GuidedCycles arrivals (record { hardware = old; predictor = Some predictor }) reports new → IsStop limit reports new.hardware reason
-    → GuidedCycles arrivals (record { hardware = old; predictor = Some predictor }) reports' new' → IsStop limit reports' new'.hardware reason' → IsOneRun reports reports' new new' reason reason'
-run_once arrivals limit old predictor reports reports' new new' reason reason' within cycles stops cycles' stops' = grind (arith, one_run, ending_of)
+    → GuidedCycles arrivals (record { hardware = old; predictor = guide_of predictor }) reports new → IsStop limit reports new.hardware reason
+    → GuidedCycles arrivals (record { hardware = old; predictor = guide_of predictor }) reports' new' → IsStop limit reports' new'.hardware reason' → IsOneRun reports reports' new new' reason reason'
+run_once arrivals limit old predictor reports reports' new new' reason reason' within cycles stops cycles' stops' =
+    one_run predictor refl within cycles cycles' (ending_of limit reports new.hardware reason stops) (ending_of limit reports' new'.hardware reason' stops')

@@ -1,21 +1,20 @@
 -- The hardware with the predictor that guides its fetch: what a cycle asks of it and teaches it.
-use Rattle.std.specs.Prelude.{List, [], ◌∷◌, Option}
+use Rattle.std.specs.Prelude.{List, [], ◌∷◌}
 use Rattle.rv_isa.specs.Arrivals.{lines_at}
 use Rattle.rv_isa.specs.declared.{lines.Arrival.Arrival, lines.Lines.Lines}
-use Rattle.rv_front.specs.Predictors.{AreTaught, answers_of}
-use Rattle.rv_front.specs.declared.predictors.DescribedPredictor.{DescribedPredictor}
+use Rattle.rv_front.specs.Guide.{AreTaught, Guide, answers_of}
 use Rattle.rv_hardware.specs.Cycle.{IsCycle}
 use Rattle.rv_hardware.specs.Hardware.{Hardware}
 use Rattle.rv_hardware.specs.Lessons.{lessons_of}
 use Rattle.rv_hardware.specs.Report.{Report}
 
--- the hardware, and the described predictor that guides it, or `None` where it is guided by another one
+-- the hardware, and what is known of the predictor that guides it
 pub record GuidedHardware : Type 0 where
   pub hardware : Hardware
-  pub predictor : Option DescribedPredictor
+  pub predictor : Guide
 
 -- this hardware with this predictor
-abbrev pub guided : Hardware → Option DescribedPredictor → GuidedHardware
+abbrev pub guided : Hardware → Guide → GuidedHardware
 guided hardware predictor = record { hardware = hardware; predictor = predictor }
 
 -- one cycle: the predictor is taught what retires in it, in order, and the fetch phase goes by what it answers then

@@ -13,6 +13,7 @@ pub mod Issue
 pub mod Broadcast
 pub mod Dispatch
 pub mod Cycle
+pub mod Draining
 pub mod Reset
 pub mod Run
 pub mod Lessons

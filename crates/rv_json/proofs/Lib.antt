@@ -1,3 +1,6 @@
 pub mod Arrays
+pub mod Grammar
 pub mod Markup
+mod Numerals
 pub mod Parts
+pub mod WellFormed

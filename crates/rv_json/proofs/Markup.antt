@@ -1,11 +1,13 @@
 -- No text of JSON has a byte that HTML gives a meaning.
 use Rattle.std.proofs.Common.{◌≡◌, ◌∙◌, ℕ, zero, suc, ◌+◌, ◌/◌, ◌%◌, ◌<◌, ◌==◌, ◌||◌, ◌&&◌, nat_le, Bool, true, false, if◌then◌else◌, List, [], ◌∷◌, ◌++◌, Option, Some, None, refl, ap, arith}
-use Rattle.std.specs.Prelude.{codes, decimal, map}
+use Rattle.std.specs.Prelude.{codes, map}
+use Rattle.std.specs.Int.Digits.{AllBelowBase, digits_of}
 use Rattle.std.specs.List.{flat_map, list_any}
-use Rattle.std.specs.Fmt.{digit_glyph, digits, digits_onto}
+use Rattle.std.proofs.lemmas.Bool.{or_from}
+use Rattle.std.proofs.lemmas.Int.Digits.{all_below_base_digits_of}
 use Rattle.std.proofs.lemmas.List.Folds.{list_any-append}
 use Rattle.rv_text.specs.Plain.{plain_byte}
-use Rattle.rv_json.specs.Json.{Json, also, also_some, array, begins, comma_at, json_byte, key, opens, quoted, string, truth, values_from}
+use Rattle.rv_json.specs.Json.{Json, also, also_some, array, begins, comma_at, json_byte, key, numeral, opens, quoted, string, truth, values_from}
 use Rattle.rv_json.specs.Markup.{HasNoMarkup, is_markup}
 
 -- a text that is computed
@@ -41,18 +43,17 @@ pub otherwise : (hidden : Bool) {text : List ℕ} → HasNoMarkup text → HasNo
 otherwise true none = plain refl
 otherwise false none = none
 
-digit : (d : ℕ) → d < 10 → is_markup (digit_glyph false d) ≡ false
+digit : (d : ℕ) → d < 10 → is_markup (48 + d) ≡ false
 digit d below = grind arith
 
-digits_of : (k n : ℕ) (after : List ℕ) → HasNoMarkup after → HasNoMarkup (digits_onto k 10 false n after)
-digits_of zero n after none = none
-digits_of (suc k) n after none =
-    let one : HasNoMarkup (digit_glyph false (n % 10) ∷ after) = plain (ap (λ b. b || list_any is_markup after) (digit (n % 10) (omega arith)) ∙ none.none) in
-    either (n / 10 == 0) one (digits_of k (n / 10) (digit_glyph false (n % 10) ∷ after) one)
+digits : (ds : List ℕ) → AllBelowBase 10 ds → list_any is_markup (map (λ digit. 48 + digit) ds) ≡ false
+digits [] below = refl
+digits (d ∷ ds) below = or_from _ _ (digit d below.0) (digits ds below.1)
 
-pub number : (n : ℕ) → HasNoMarkup (decimal n)
-unfolding digits
-number n = digits_of 64 n [] (plain refl)
+pub number : (n : ℕ) → HasNoMarkup (numeral n)
+unfolding numeral
+number zero = plain refl
+number (suc n) = plain (digits (digits_of 10 (suc n)) (all_below_base_digits_of 10 (suc n) (omega arith)))
 
 -- JSON's parts
 pub truth_of : (value : Bool) → HasNoMarkup (truth value)
@@ -72,7 +73,7 @@ pub member : (name : List ℕ) {value : List ℕ} → list_any is_markup name �
 unfolding also
 member name none value = both (named name none) value
 
-pub counted : (name : List ℕ) → list_any is_markup name ≡ false → (n : ℕ) → HasNoMarkup (also name (decimal n))
+pub counted : (name : List ℕ) → list_any is_markup name ≡ false → (n : ℕ) → HasNoMarkup (also name (numeral n))
 counted name none n = member name none (number n)
 
 pub counted_some : (name : List ℕ) → list_any is_markup name ≡ false → (n : Option ℕ) → HasNoMarkup (also_some name n)

@@ -1,6 +1,6 @@
 -- No JSON of a part has a byte that HTML gives a meaning.
 use Rattle.std.proofs.Common.{ℕ, List, Option, Some, None, refl}
-use Rattle.std.specs.Prelude.{Bool, codes, decimal, map, option_map}
+use Rattle.std.specs.Prelude.{Bool, codes, map, option_map}
 use Rattle.rv_isa.specs.declared.{broadcast.StoreAccess.StoreAccess, issues.Issue.Issue, lines.Lines.Lines, operations.Kind.Kind, per_kind.PerKind.PerKind}
 use Rattle.rv_isa.specs.declared.operations.Kind.TheVariants as kind
 use Rattle.rv_isa.specs.declared.values.{CacheValues.CacheValues, KindValues.KindValues, PredictorKind.PredictorKind, PredictorValues.PredictorValues, Recovery.Recovery, Values.Values}
@@ -28,7 +28,7 @@ use Rattle.rv_units.specs.Pool.{Pool}
 use Rattle.rv_json.specs.Entry.{cause_of, cost_of, entry_text, fault_value_of, finished_in, head_text, issued_in, kind_text, next_pc_of, stage_text, value_of}
 use Rattle.rv_json.specs.Fetched.{fetched_json, next_fetch_text}
 use Rattle.rv_json.specs.Instruction.{details_text, ended_text, ending_text, instruction_json, passage_text, retired_text, squashed_text, trapped_text}
-use Rattle.rv_json.specs.Json.{array}
+use Rattle.rv_json.specs.Json.{array, numeral}
 use Rattle.rv_json.specs.Listing.{line_if, line_text, listing_lines, place_text}
 use Rattle.rv_isa.specs.Choice.{predictor_name}
 use Rattle.rv_json.specs.Machine.{buffers_text, cache_json, format_text, header_line, kind_json, kinds_text, machine_json, numbers_text, predictor_json, recovery_text, sizes_text, widths_text}
@@ -215,7 +215,7 @@ units_plain units =
 -- the store queue
 access_plain : (access : StoreAccess) → HasNoMarkup (access_text access)
 unfolding access_text
-access_plain access = both (counted _ refl _) (member _ refl (array_of _ (each_plain decimal number _)))
+access_plain access = both (counted _ refl _) (member _ refl (array_of _ (each_plain numeral number _)))
 
 phase_plain : (phase : StorePhase) → HasNoMarkup (phase_name phase)
 phase_plain Speculative = plain refl
@@ -250,7 +250,7 @@ csrs_plain kept lines =
 pub observed_plain : (pc : ℕ) (registers : List ℕ) (kept : Kept) (lines : Lines) → HasNoMarkup (observed_text pc registers kept lines)
 unfolding observed_text
 observed_plain pc registers kept lines =
-    both (beginning _ refl (number _)) (both (member _ refl (array_of _ (each_plain decimal number registers))) (both (member _ refl (csrs_plain kept lines)) (levels_plain lines)))
+    both (beginning _ refl (number _)) (both (member _ refl (array_of _ (each_plain numeral number registers))) (both (member _ refl (csrs_plain kept lines)) (levels_plain lines)))
 
 -- the end
 stop_named : (stop : Stop) → HasNoMarkup (stop_name stop)

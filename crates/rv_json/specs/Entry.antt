@@ -1,5 +1,5 @@
 -- An instruction in the reorder buffer, but for what it reads, as JSON.
-use Rattle.std.specs.Prelude.{ℕ, List, [], ◌++◌, codes, decimal, Option, Some, None, option_map, option_and_then}
+use Rattle.std.specs.Prelude.{ℕ, List, [], ◌++◌, codes, Option, Some, None, option_map, option_and_then}
 use Rattle.rv_isa.specs.Cause.{code_of}
 use Rattle.rv_isa.specs.Instruction.{kind_of_word, target_of_word}
 use Rattle.rv_isa.specs.Key.{kind_name}
@@ -8,17 +8,17 @@ use Rattle.rv_hardware.specs.InFlight.{broadcast_of}
 use Rattle.rv_rob.specs.Entry.{issue_of}
 use Rattle.rv_rob.specs.declared.entry.{Entry.Entry, Stage.Stage}
 use Rattle.rv_rob.specs.declared.entry.Stage.TheVariants.{Waiting, Running, Finished}
-use Rattle.rv_json.specs.Json.{also, also_some, begins, quoted}
+use Rattle.rv_json.specs.Json.{also, also_some, begins, numeral, quoted}
 
 -- its sequence number, what was fetched and predicted, and the register that it writes
 unfoldable pub head_text : ℕ → Entry → List ℕ
 head_text number e =
-    begins (codes "sequence") (decimal number) ++
-    (also (codes "pc") (decimal e.pc) ++
+    begins (codes "sequence") (numeral number) ++
+    (also (codes "pc") (numeral e.pc) ++
     (also_some (codes "word") e.word ++
-    (also (codes "fetched") (decimal e.fetched) ++
-    (also (codes "dispatched") (decimal e.dispatched) ++
-    (also (codes "predicted") (decimal e.predicted_next) ++
+    (also (codes "fetched") (numeral e.fetched) ++
+    (also (codes "dispatched") (numeral e.dispatched) ++
+    (also (codes "predicted") (numeral e.predicted_next) ++
     also_some (codes "target") (target_of_word e.instruction))))))
 
 -- the kind of unit that it uses

@@ -1,11 +1,11 @@
 -- An instruction in flight, or one that left the hardware, as JSON.
-use Rattle.std.specs.Prelude.{ℕ, if◌then◌else◌, List, [], ◌++◌, codes, decimal, Option, Some, None, option_map}
+use Rattle.std.specs.Prelude.{ℕ, if◌then◌else◌, List, [], ◌++◌, codes, Option, Some, None, option_map}
 use Rattle.rv_isa.specs.Cause.{code_of}
 use Rattle.rv_isa.specs.declared.{causes.Cause.Cause, issues.Issue.Issue}
 use Rattle.rv_passage.specs.Passage.{is_in_flight}
 use Rattle.rv_passage.specs.declared.passage.{Ending.Ending, Passage.Passage}
 use Rattle.rv_passage.specs.declared.passage.Ending.TheVariants.{InFlight, Retired, Trapped, Squashed}
-use Rattle.rv_json.specs.Json.{Json, also, also_some, begins, quoted}
+use Rattle.rv_json.specs.Json.{Json, also, also_some, begins, numeral, quoted}
 
 -- the cost of its execution
 abbrev pub cost_of : Passage → Option ℕ
@@ -14,9 +14,9 @@ cost_of p = option_map (λ (issue : Issue). issue.cost) p.issue
 -- what it was, and when it passed through the hardware
 unfoldable pub passage_text : Passage → List ℕ
 passage_text p =
-    also (codes "pc") (decimal p.pc) ++
+    also (codes "pc") (numeral p.pc) ++
     (also_some (codes "word") p.word ++
-    (also (codes "fetched") (decimal p.fetched) ++
+    (also (codes "fetched") (numeral p.fetched) ++
     (also_some (codes "dispatched") p.dispatched ++
     (also_some (codes "issued") (option_map (λ (issue : Issue). issue.cycle) p.issue) ++
     (also_some (codes "cost") (cost_of p) ++
@@ -27,11 +27,11 @@ unfoldable pub retired_text : Option (ℕ × ℕ) → List ℕ
 retired_text None = also (codes "end") (quoted (codes "retired"))
 retired_text (Some written) =
     also (codes "end") (quoted (codes "retired")) ++
-    (also (codes "register") (decimal written.0) ++ also (codes "value") (decimal written.1))
+    (also (codes "register") (numeral written.0) ++ also (codes "value") (numeral written.1))
 
 -- it trapped
 unfoldable pub trapped_text : Cause → List ℕ
-trapped_text cause = also (codes "end") (quoted (codes "trapped")) ++ also (codes "cause") (decimal (code_of cause))
+trapped_text cause = also (codes "end") (quoted (codes "trapped")) ++ also (codes "cause") (numeral (code_of cause))
 
 -- it was squashed
 unfoldable pub squashed_text : List ℕ
@@ -54,4 +54,4 @@ details_text p = if is_in_flight p then [] else ended_text p
 
 -- an instruction by its number
 unfoldable pub instruction_json : Passage → Json
-instruction_json p = begins (codes "number") (decimal p.number) ++ (details_text p ++ codes "}")
+instruction_json p = begins (codes "number") (numeral p.number) ++ (details_text p ++ codes "}")

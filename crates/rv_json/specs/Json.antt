@@ -1,11 +1,17 @@
 -- JSON (RFC 8259) in ASCII, which the lines are made of.
-use Rattle.std.specs.Prelude.{ℕ, zero, suc, ◌+◌, ◌==◌, Bool, true, false, if◌then◌else◌, List, [], ◌∷◌, ◌++◌, codes, decimal, Option, Some, None}
+use Rattle.std.specs.Prelude.{ℕ, zero, suc, ◌+◌, ◌==◌, Bool, true, false, if◌then◌else◌, List, [], ◌∷◌, ◌++◌, codes, map, Option, Some, None}
+use Rattle.std.specs.Int.Digits.{digits_of}
 use Rattle.std.specs.List.{flat_map}
 use Rattle.rv_text.specs.Plain.{plain_byte}
 
 -- a JSON value, by its text
 abbrev pub Json : Type 0
 Json = List ℕ
+
+-- a whole number in decimal digits, the highest first, with no zero before them
+unfoldable pub numeral : ℕ → Json
+numeral zero = codes "0"
+numeral (suc n) = map (λ digit. 48 + digit) (digits_of 10 (suc n))
 
 -- a truth value
 unfoldable pub truth : Bool → Json
@@ -49,7 +55,7 @@ also name value = key name ++ value
 -- a further member that is a number, where there is one
 abbrev pub also_some : List ℕ → Option ℕ → List ℕ
 also_some name None = []
-also_some name (Some number) = also name (decimal number)
+also_some name (Some number) = also name (numeral number)
 
 -- a comma before each value of an array but the first
 unfoldable pub comma_at : ℕ → List ℕ

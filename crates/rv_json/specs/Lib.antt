@@ -1,5 +1,6 @@
 pub mod Entry
 pub mod Fetched
+pub mod Grammar
 pub mod Instruction
 pub mod Json
 pub mod Listing

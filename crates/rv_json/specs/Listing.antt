@@ -1,14 +1,14 @@
 -- The line of a word of the program.
-use Rattle.std.specs.Prelude.{ℕ, ◌/◌, List, [], ◌++◌, codes, decimal, Option, Some, None}
+use Rattle.std.specs.Prelude.{ℕ, ◌/◌, List, [], ◌++◌, codes, Option, Some, None}
 use Rattle.std.specs.List.{flat_map, range_with_len}
 use Rattle.rv_isa.specs.declared.values.Values.{Values}
 use Rattle.rv_source.specs.Listing.{Line, Listed, line_at}
-use Rattle.rv_json.specs.Json.{also, begins, key, string}
+use Rattle.rv_json.specs.Json.{also, begins, key, numeral, string}
 use Rattle.rv_json.specs.Place.{word_address}
 
 -- an address, and the number of the source line that its word comes from
 unfoldable pub place_text : ℕ → ℕ → List ℕ
-place_text address number = begins (codes "address") (decimal address) ++ also (codes "line") (decimal number)
+place_text address number = begins (codes "address") (numeral address) ++ also (codes "line") (numeral number)
 
 -- that, and the statement there
 unfoldable pub line_text : ℕ → Line → List ℕ

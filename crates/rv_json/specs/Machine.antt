@@ -1,30 +1,30 @@
 -- The machine's values, as JSON.
-use Rattle.std.specs.Prelude.{ℕ, List, ◌++◌, codes, decimal}
+use Rattle.std.specs.Prelude.{ℕ, List, ◌++◌, codes}
 use Rattle.rv_isa.specs.declared.values.{CacheValues.CacheValues, KindValues.KindValues, PredictorValues.PredictorValues, Recovery.Recovery, Values.Values}
 use Rattle.rv_isa.specs.Choice.{predictor_name, recovery_name}
-use Rattle.rv_json.specs.Json.{Json, also, begins, key, quoted, truth}
+use Rattle.rv_json.specs.Json.{Json, also, begins, key, numeral, quoted, truth}
 
 -- where RAM lies
 unfoldable pub sizes_text : Values → List ℕ
 sizes_text values =
-    begins (codes "ram_base") (decimal values.ram_base) ++
-    (also (codes "ram_size") (decimal values.ram_size) ++ also (codes "rom_bytes") (decimal values.rom_bytes))
+    begins (codes "ram_base") (numeral values.ram_base) ++
+    (also (codes "ram_size") (numeral values.ram_size) ++ also (codes "rom_bytes") (numeral values.rom_bytes))
 
 -- how much a cycle does
 unfoldable pub widths_text : Values → List ℕ
 widths_text values =
-    also (codes "fetch_width") (decimal values.fetch_width) ++
-    (also (codes "dispatch_width") (decimal values.dispatch_width) ++
-    (also (codes "commit_width") (decimal values.commit_width) ++
-    also (codes "bus_width") (decimal values.bus_width)))
+    also (codes "fetch_width") (numeral values.fetch_width) ++
+    (also (codes "dispatch_width") (numeral values.dispatch_width) ++
+    (also (codes "commit_width") (numeral values.commit_width) ++
+    also (codes "bus_width") (numeral values.bus_width)))
 
 -- what the buffers hold, and the cost of a load whose bytes are forwarded
 unfoldable pub buffers_text : Values → List ℕ
 buffers_text values =
-    also (codes "fetch_buffer") (decimal values.fetch_buffer) ++
-    (also (codes "rob") (decimal values.rob) ++
-    (also (codes "store_queue") (decimal values.store_queue) ++
-    also (codes "forward") (decimal values.forward)))
+    also (codes "fetch_buffer") (numeral values.fetch_buffer) ++
+    (also (codes "rob") (numeral values.rob) ++
+    (also (codes "store_queue") (numeral values.store_queue) ++
+    also (codes "forward") (numeral values.forward)))
 
 -- when wrong predictions are mended
 unfoldable pub recovery_text : Recovery → List ℕ
@@ -38,9 +38,9 @@ numbers_text values =
 -- the stations and units of a kind
 unfoldable pub kind_json : KindValues → Json
 kind_json kind =
-    begins (codes "stations") (decimal kind.stations) ++
-    ((also (codes "units") (decimal kind.units) ++
-    (also (codes "latency") (decimal kind.latency) ++
+    begins (codes "stations") (numeral kind.stations) ++
+    ((also (codes "units") (numeral kind.units) ++
+    (also (codes "latency") (numeral kind.latency) ++
     also (codes "pipelined") (truth kind.pipelined))) ++
     codes "}")
 
@@ -55,18 +55,18 @@ kinds_text values =
 -- the data cache
 unfoldable pub cache_json : CacheValues → Json
 cache_json cache =
-    begins (codes "sets") (decimal cache.sets) ++
-    ((also (codes "ways") (decimal cache.ways) ++
-    (also (codes "line") (decimal cache.line) ++
-    (also (codes "hit") (decimal cache.hit) ++
-    (also (codes "miss") (decimal cache.miss) ++
-    also (codes "write_back") (decimal cache.write_back))))) ++
+    begins (codes "sets") (numeral cache.sets) ++
+    ((also (codes "ways") (numeral cache.ways) ++
+    (also (codes "line") (numeral cache.line) ++
+    (also (codes "hit") (numeral cache.hit) ++
+    (also (codes "miss") (numeral cache.miss) ++
+    also (codes "write_back") (numeral cache.write_back))))) ++
     codes "}")
 
 -- the branch predictor
 unfoldable pub predictor_json : PredictorValues → Json
 predictor_json predictor =
-    begins (codes "entries") (decimal predictor.entries) ++
+    begins (codes "entries") (numeral predictor.entries) ++
     (also (codes "kind") (quoted (predictor_name predictor.kind)) ++ codes "}")
 
 -- the machine
@@ -80,7 +80,7 @@ machine_json values =
 
 -- the number of the window's first cycle, and the format
 unfoldable pub format_text : ℕ → List ℕ
-format_text first = begins (codes "first") (decimal first) ++ also (codes "format") (quoted (codes "rv_sim states 1"))
+format_text first = begins (codes "first") (numeral first) ++ also (codes "format") (quoted (codes "rv_sim states 1"))
 
 -- the first line: that, and the machine
 unfoldable pub header_line : ℕ → Values → List ℕ

@@ -1,8 +1,8 @@
 -- What retired instructions left, as JSON.
-use Rattle.std.specs.Prelude.{ℕ, List, ◌++◌, codes, decimal, map}
+use Rattle.std.specs.Prelude.{ℕ, List, ◌++◌, codes, map}
 use Rattle.rv_isa.specs.declared.lines.Lines.{Lines}
 use Rattle.rv_arch.specs.Csr.{Kept}
-use Rattle.rv_json.specs.Json.{also, array, begins, truth}
+use Rattle.rv_json.specs.Json.{also, array, begins, numeral, truth}
 use Rattle.rv_json.specs.Registers.{csrs_json}
 
 -- the levels of the interrupt lines in the last cycle
@@ -15,7 +15,7 @@ lines_text lines =
 -- what retired instructions left
 unfoldable pub observed_text : ℕ → List ℕ → Kept → Lines → List ℕ
 observed_text pc registers csrs lines =
-    begins (codes "pc") (decimal pc) ++
-    (also (codes "registers") (array (map decimal registers)) ++
+    begins (codes "pc") (numeral pc) ++
+    (also (codes "registers") (array (map numeral registers)) ++
     (also (codes "csrs") (csrs_json csrs lines) ++
     lines_text lines))

@@ -1,10 +1,10 @@
 -- A store of the queue as JSON.
-use Rattle.std.specs.Prelude.{ℕ, List, [], ◌++◌, codes, decimal, map}
+use Rattle.std.specs.Prelude.{ℕ, List, [], ◌++◌, codes, map}
 use Rattle.rv_isa.specs.declared.broadcast.StoreAccess.{StoreAccess}
 use Rattle.rv_stores.specs.declared.store.{Store.Store, StorePhase.StorePhase, StoreState.StoreState}
 use Rattle.rv_stores.specs.declared.store.StorePhase.TheVariants.{Speculative, Committed, Draining}
 use Rattle.rv_stores.specs.declared.store.StoreState.TheVariants.{Waiting, Faulted, Filled}
-use Rattle.rv_json.specs.Json.{Json, also, array, begins, quoted}
+use Rattle.rv_json.specs.Json.{Json, also, array, begins, numeral, quoted}
 
 -- how far a store has come whose broadcast has been
 abbrev pub phase_name : StorePhase → List ℕ
@@ -21,7 +21,7 @@ state_name (Filled access phase) = phase_name phase
 -- what it writes
 unfoldable pub access_text : StoreAccess → List ℕ
 access_text access =
-    also (codes "address") (decimal access.address) ++ also (codes "bytes") (array (map decimal access.bytes))
+    also (codes "address") (numeral access.address) ++ also (codes "bytes") (array (map numeral access.bytes))
 
 -- what it writes, where that is known
 abbrev pub filling_text : StoreState → List ℕ
@@ -31,7 +31,7 @@ filling_text (Filled access phase) = access_text access
 
 -- the sequence number of a store, and how far it has come
 unfoldable pub head_text : Store → List ℕ
-head_text store = begins (codes "sequence") (decimal store.seq) ++ also (codes "state") (quoted (state_name store.state))
+head_text store = begins (codes "sequence") (numeral store.seq) ++ also (codes "state") (quoted (state_name store.state))
 
 -- a store
 unfoldable pub store_json : Store → Json

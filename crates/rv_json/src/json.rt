@@ -1,6 +1,6 @@
-ghost use Rattle.std.specs.Prelude.{◌≡◌, ◌++◌, codes, decimal};
+ghost use Rattle.std.specs.Prelude.{◌≡◌, ◌++◌, codes};
 ghost use Rattle.std.specs.List.{flat_map};
-ghost use Rattle.rv_json.specs.Json.{also, begins, json_byte, key, quoted, string, truth};
+ghost use Rattle.rv_json.specs.Json.{also, begins, json_byte, key, numeral, quoted, string, truth};
 ghost use Rattle.rv_json.specs.Member.{member_text};
 ghost use Rattle.rv_json.specs.declared.json.Value.TheVariants.{Maybe, Number};
 ghost use Rattle.rv_text.specs.Said.{Says};
@@ -79,12 +79,26 @@ pub fn write_key<W: Write>(out: &mut Sink<'_, W>, name: &str)
     out.put_all(&[b",\"", name.as_bytes(), b"\":"])
 }
 
+// The digits of a number.
+#[tactic(auto, using(crate::proofs::Numerals::decimal_is))]
+fn digits(buffer: &mut Buffer, number: u64) -> &[u8]
+    ensures { result.now ≡ numeral number }
+{
+    buffer.format(number).as_bytes()
+}
+
+/// Writes the digits of a number.
+pub(crate) fn write_digits<W: Write>(out: &mut Sink<'_, W>, number: u64)
+    ensures { Says W.contents out.old out.new (numeral number) }
+{
+    out.put(digits(&mut Buffer::new(), number))
+}
+
 /// Writes a further member that is a number.
 pub fn write_number<W: Write>(out: &mut Sink<'_, W>, name: &str, number: u64)
-    ensures { Says W.contents out.old out.new (also name.now (decimal number)) }
+    ensures { Says W.contents out.old out.new (also name.now (numeral number)) }
 {
-    let mut buffer = Buffer::new();
-    write_text(out, name, buffer.format(number).as_bytes())
+    write_text(out, name, digits(&mut Buffer::new(), number))
 }
 
 // Writes a further member that has this text.
@@ -142,10 +156,10 @@ pub(crate) fn write_members<W: Write>(out: &mut Sink<'_, W>, members: &[Member])
 /// Writes the brace and the first member of an object.
 #[tactic(auto, unfolding(crate::specs::Json::begins, crate::specs::Json::opens))]
 pub fn write_begin<W: Write>(out: &mut Sink<'_, W>, name: &str, number: u64)
-    ensures { Says W.contents out.old out.new (begins name.now (decimal number)) }
+    ensures { Says W.contents out.old out.new (begins name.now (numeral number)) }
 {
     let mut buffer = Buffer::new();
-    let digits = buffer.format(number).as_bytes();
+    let digits = digits(&mut buffer, number);
     out.put_all(&[b"{\"", name.as_bytes(), b"\":", digits])
 }
 
@@ -157,7 +171,7 @@ pub(crate) fn write_front<W: Write>(
     number: u64,
     members: &[Member],
 )
-    ensures { Says W.contents out.old out.new (begins name.now (decimal number) ++ flat_map member_text members.now) }
+    ensures { Says W.contents out.old out.new (begins name.now (numeral number) ++ flat_map member_text members.now) }
 {
     write_begin(out, name, number);
     write_members(out, members)
@@ -171,7 +185,7 @@ pub(crate) fn write_object<W: Write>(
     number: u64,
     members: &[Member],
 )
-    ensures { Says W.contents out.old out.new (begins name.now (decimal number) ++ (flat_map member_text members.now ++ codes "}")) }
+    ensures { Says W.contents out.old out.new (begins name.now (numeral number) ++ (flat_map member_text members.now ++ codes "}")) }
 {
     write_begin(out, name, number);
     write_members(out, members);
@@ -187,7 +201,7 @@ pub fn write_object_member<W: Write>(
     number: u64,
     members: &[Member],
 )
-    ensures { Says W.contents out.old out.new (also object.now (begins name.now (decimal number) ++ (flat_map member_text members.now ++ codes "}"))) }
+    ensures { Says W.contents out.old out.new (also object.now (begins name.now (numeral number) ++ (flat_map member_text members.now ++ codes "}"))) }
 {
     write_key(out, object);
     write_object(out, name, number, members)

@@ -4,8 +4,7 @@ ghost use Rattle.rv_json.specs.Queue.{access_text, filling_text, state_name, sto
 ghost use Rattle.rv_text.specs.Said.{Says};
 
 use crate::array::{Values, write_array_member};
-use crate::json::{Member, Value, write_front, write_number};
-use itoa::Buffer;
+use crate::json::{Member, Value, write_digits, write_front, write_number};
 use rv_isa::StoreAccess;
 use rv_stores::{Store, StorePhase, StoreQueue, StoreState};
 use rv_text::Sink;
@@ -18,17 +17,17 @@ struct Bytes<'a> {
 }
 
 impl Values for Bytes<'_> {
-    ghost use Rattle.std.specs.Prelude.{decimal, map};
+    ghost use Rattle.std.specs.Prelude.{map};
+    ghost use Rattle.rv_json.specs.Json.{numeral};
 
-    ghost values = { λ b. map decimal b.bytes.now };
+    ghost values = { λ b. map numeral b.bytes.now };
 
     fn count(&self) -> usize {
         self.bytes.len()
     }
 
     fn write_value<W: Write>(&self, out: &mut Sink<'_, W>, place: usize) {
-        let mut buffer = Buffer::new();
-        out.put(buffer.format(self.bytes[place]).as_bytes())
+        write_digits(out, u64::from(self.bytes[place]))
     }
 }
 

@@ -6,8 +6,7 @@ ghost use Rattle.rv_json.specs.declared.json.Value.TheVariants.{Number};
 ghost use Rattle.rv_text.specs.Said.{Says};
 
 use crate::array::Values;
-use crate::json::{Member, write_front, write_key, write_members};
-use itoa::Buffer;
+use crate::json::{Member, write_digits, write_front, write_key, write_members};
 use rv_arch::Observed;
 use rv_isa::Csr;
 use rv_text::Sink;
@@ -20,17 +19,17 @@ pub(crate) struct Words<'a> {
 }
 
 impl Values for Words<'_> {
-    ghost use Rattle.std.specs.Prelude.{decimal, map};
+    ghost use Rattle.std.specs.Prelude.{map};
+    ghost use Rattle.rv_json.specs.Json.{numeral};
 
-    ghost values = { λ w. map decimal w.words.now };
+    ghost values = { λ w. map numeral w.words.now };
 
     fn count(&self) -> usize {
         self.words.len()
     }
 
     fn write_value<W: Write>(&self, out: &mut Sink<'_, W>, place: usize) {
-        let mut buffer = Buffer::new();
-        out.put(buffer.format(self.words[place]).as_bytes())
+        write_digits(out, u64::from(self.words[place]))
     }
 }
 

@@ -1,2 +1,4 @@
+mod Behind
 mod Logging
 pub mod OneLog
+mod Printing

@@ -1,8 +1,9 @@
 -- The log of a run in Konata's format, version 0004.
-use Rattle.std.specs.Prelude.{◌≡◌, ℕ, ◌+◌, ◌^◌, ◌≤◌, List, [], ◌∷◌, ◌++◌, codes, decimal, Option, Some, None, Bool}
+use Rattle.std.specs.Prelude.{◌≡◌, ℕ, ◌+◌, ◌^◌, ◌≤◌, List, [], ◌∷◌, ◌++◌, codes, decimal, Option, None, Bool}
 use Rattle.std.specs.List.{flat_map}
 use Rattle.rv_isa.specs.declared.lines.Arrival.{Arrival}
 use Rattle.rv_arch.specs.declared.outcome.Stop.{Stop}
+use Rattle.rv_front.specs.Predictors.{guide_of}
 use Rattle.rv_front.specs.declared.predictors.DescribedPredictor.{DescribedPredictor}
 use Rattle.rv_hardware.specs.Guided.{GuidedHardware, guided}
 use Rattle.rv_hardware.specs.Hardware.{Hardware}
@@ -55,7 +56,7 @@ pub record IsLog (arrivals : List Arrival) (limit : ℕ) (listing : Listed) (old
 abbrev pub HasOneLog : List Arrival → ℕ → Listed → Type 0
 HasOneLog arrivals limit listing =
     (h : Hardware) (predictor : DescribedPredictor) (new new' : GuidedHardware) (stop stop' : Stop) (text text' : List ℕ) → h.cycle + limit ≤ 2 ^ 40 →
-    IsLog arrivals limit listing (guided h (Some predictor)) new stop text → IsLog arrivals limit listing (guided h (Some predictor)) new' stop' text' →
+    IsLog arrivals limit listing (guided h (guide_of predictor)) new stop text → IsLog arrivals limit listing (guided h (guide_of predictor)) new' stop' text' →
     (stop ≡ stop') × (text ≡ text')
 
 -- the log of a run that ended for a reason is written, or a beginning of it where a write failed

@@ -67,6 +67,15 @@ awaited_text awaited.Unknown = codes "for operands, a unit or the head"
 awaited_text awaited.Bus = codes "for the bus"
 awaited_text awaited.Head = codes "for the head"
 
+-- the name of what it waits for, which is a result, a unit or the head
+unfoldable pub awaited_name : Awaited → List ℕ
+awaited_name awaited.Dispatch = []
+awaited_name (awaited.Operand producer) = result_text producer.register producer.pc
+awaited_name (awaited.Unit kind) = unit_text kind
+awaited_name awaited.Unknown = []
+awaited_name awaited.Bus = []
+awaited_name awaited.Head = []
+
 -- a wait after some words
 unfoldable pub wait_text : List ℕ → Wait → List ℕ
 wait_text before w = (before ++ (decimal (cycles_of w) ++ codes " ")) ++ awaited_text w.awaited

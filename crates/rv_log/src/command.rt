@@ -1,32 +1,24 @@
 ghost use Rattle.rv_log.specs.Command.{introduction_text, appearance_text, stage_line, retirement_line, flush_line};
 ghost use Rattle.rv_text.specs.Said.{Says};
 
+use crate::numbered::write_numbered;
 use crate::stage::Stage;
 use crate::statement::write_statement;
-use itoa::Buffer;
 use rv_passage::Passage;
 use rv_source::Listing;
 use rv_text::{Sink, hexadecimal};
 use std::io::Write;
 
-#[tactic(auto, unfolding(crate::specs::Command::introduction_text))]
+#[tactic(auto, using(crate::proofs::Behind::numbering), unfolding(crate::specs::Command::introduction_text))]
 fn write_introduction<W: Write>(out: &mut Sink<'_, W>, number: u64, pc: u32)
     ensures { Says W.contents out.old out.new (introduction_text number pc) }
 {
-    let mut buffer = Buffer::new();
-    let id = buffer.format(number).as_bytes();
+    write_numbered(out, b"I\t", number, b"\t");
+    write_numbered(out, b"", number, b"\t0\nL\t");
+    write_numbered(out, b"", number, b"\t0\t");
     let address = hexadecimal(pc);
-    out.put_all(&[
-        b"I\t",
-        id,
-        b"\t",
-        id,
-        b"\t0\nL\t",
-        id,
-        b"\t0\t",
-        address.as_slice(),
-        b": ",
-    ])
+    out.put(address.as_slice());
+    out.put(b": ")
 }
 
 /// Writes that an instruction appears, and its label: its address and its statement.
@@ -44,29 +36,23 @@ pub(crate) fn write_appearance<W: Write>(out: &mut Sink<'_, W>, listing: &Listin
 pub(crate) fn write_stage<W: Write>(out: &mut Sink<'_, W>, number: u64, stage: Stage)
     ensures { Says W.contents out.old out.new (stage_line number stage) }
 {
-    let mut buffer = Buffer::new();
-    let id = buffer.format(number).as_bytes();
-    out.put_all(&[b"S\t", id, b"\t0\t", stage.letter(), b"\n"])
+    write_numbered(out, b"S\t", number, stage.behind_number())
 }
 
 /// Writes that an instruction retires, so many before it.
-#[tactic(auto, unfolding(crate::specs::Command::retirement_line))]
+#[tactic(auto, using(crate::proofs::Behind::numbering), unfolding(crate::specs::Command::retirement_line))]
 pub(crate) fn write_retirement<W: Write>(out: &mut Sink<'_, W>, number: u64, order: u64)
     ensures { Says W.contents out.old out.new (retirement_line number order) }
 {
-    let mut buffer = Buffer::new();
-    let id = buffer.format(number).as_bytes();
-    let mut order_buffer = Buffer::new();
-    let order = order_buffer.format(order).as_bytes();
-    out.put_all(&[b"R\t", id, b"\t", order, b"\t0\n"])
+    write_numbered(out, b"R\t", number, b"\t");
+    write_numbered(out, b"", order, b"\t0\n")
 }
 
 /// Writes that an instruction is flushed.
-#[tactic(auto, unfolding(crate::specs::Command::flush_line))]
+#[tactic(auto, using(crate::proofs::Behind::numbering), unfolding(crate::specs::Command::flush_line))]
 pub(crate) fn write_flush<W: Write>(out: &mut Sink<'_, W>, number: u64)
     ensures { Says W.contents out.old out.new (flush_line number) }
 {
-    let mut buffer = Buffer::new();
-    let id = buffer.format(number).as_bytes();
-    out.put_all(&[b"R\t", id, b"\t", id, b"\t1\n"])
+    write_numbered(out, b"R\t", number, b"\t");
+    write_numbered(out, b"", number, b"\t1\n")
 }

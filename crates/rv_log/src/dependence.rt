@@ -2,24 +2,23 @@ ghost use Rattle.rv_log.specs.Dependence.{dependence_at, dependence_line, depend
 ghost use Rattle.rv_text.specs.Said.{Says};
 
 use crate::event::{is_at, write_events};
-use itoa::Buffer;
+use crate::numbered::write_numbered;
 use rv_passage::{Passage, Producer};
 use rv_source::Listing;
 use rv_text::Sink;
 use std::io::Write;
 
-#[tactic(auto, unfolding(crate::specs::Dependence::dependence_line))]
+#[tactic(auto, using(crate::proofs::Behind::numbering), unfolding(crate::specs::Dependence::dependence_line))]
+#[inline(never)]
 fn write_dependence<W: Write>(out: &mut Sink<'_, W>, number: u64, producer: u64)
     ensures { Says W.contents out.old out.new (dependence_line number producer) }
 {
-    let mut buffer = Buffer::new();
-    let id = buffer.format(number).as_bytes();
-    let mut producer_buffer = Buffer::new();
-    let producer = producer_buffer.format(producer).as_bytes();
-    out.put_all(&[b"W\t", id, b"\t", producer, b"\t0\n"])
+    write_numbered(out, b"W\t", number, b"\t");
+    write_numbered(out, b"", producer, b"\t0\n")
 }
 
 #[tactic(auto, using(rv_text::proofs::Saying::saying), unfolding(crate::specs::Dependence::woken_at))]
+#[inline(always)]
 fn write_woken<W: Write>(out: &mut Sink<'_, W>, cycle: u64, number: u64, producer: &Producer)
     ensures { Says W.contents out.old out.new (woken_at cycle number producer.now) }
 {
@@ -29,6 +28,7 @@ fn write_woken<W: Write>(out: &mut Sink<'_, W>, cycle: u64, number: u64, produce
 }
 
 #[tactic(auto, using(rv_text::proofs::Saying::saying), unfolding(crate::specs::Dependence::dependence_at))]
+#[inline(always)]
 fn write_dependence_at<W: Write>(
     out: &mut Sink<'_, W>,
     cycle: u64,

@@ -2,32 +2,24 @@ ghost use Rattle.std.specs.Prelude.{◌≡◌, ◌++◌, codes, decimal};
 ghost use Rattle.rv_log.specs.Details.{written_text, cause_text, ending_text, cost_text, details_line, predicted_text, prediction_text};
 ghost use Rattle.rv_text.specs.Said.{Says};
 
+use crate::numbered::write_numbered;
 use crate::waited::write_waited;
-use itoa::Buffer;
 use rv_drawing::put_correction;
 use rv_isa::{Cause, Issue, Reg};
 use rv_passage::{Ending, Passage, register_name};
 use rv_text::{Sink, hexadecimal};
 use std::io::Write;
 
-#[tactic(auto, unfolding(crate::specs::Details::written_text))]
+#[tactic(auto, using(crate::proofs::Behind::numbering), unfolding(crate::specs::Details::written_text))]
 fn write_retired<W: Write>(out: &mut Sink<'_, W>, written: Option<(Reg, u32)>)
     ensures { Says W.contents out.old out.new (written_text written) }
 {
     match written {
         Some((register, word)) => {
-            let mut buffer = Buffer::new();
-            let number = buffer.format(register.number()).as_bytes();
-            let name = register_name(register);
-            let value = hexadecimal(word);
-            out.put_all(&[
-                b"retired, x",
-                number,
-                b" (",
-                name,
-                b") = ",
-                value.as_slice(),
-            ])
+            write_numbered(out, b"retired, x", u64::from(register.number()), b" (");
+            out.put(register_name(register));
+            out.put(b") = ");
+            out.put(hexadecimal(word).as_slice())
         }
         None => out.put(b"retired"),
     }
@@ -36,9 +28,7 @@ fn write_retired<W: Write>(out: &mut Sink<'_, W>, written: Option<(Reg, u32)>)
 fn write_cause<W: Write>(out: &mut Sink<'_, W>, cause: Cause)
     ensures { Says W.contents out.old out.new (cause_text cause) }
 {
-    let mut buffer = Buffer::new();
-    let number = buffer.format(cause.code()).as_bytes();
-    out.put_all(&[b"trapped, cause ", number])
+    write_numbered(out, b"trapped, cause ", u64::from(cause.code()), b"")
 }
 
 #[tactic(auto, using(rv_text::proofs::Saying::saying), unfolding(crate::specs::Details::ending_text))]
@@ -58,9 +48,7 @@ fn write_cost<W: Write>(out: &mut Sink<'_, W>, issue: Option<Issue>)
     ensures { Says W.contents out.old out.new (cost_text issue) }
 {
     if let Some(issue) = issue {
-        let mut buffer = Buffer::new();
-        let cost = buffer.format(issue.cost).as_bytes();
-        out.put_all(&[b", cost ", cost])
+        write_numbered(out, b", cost ", u64::from(issue.cost), b"")
     }
 }
 
@@ -84,9 +72,7 @@ fn write_prediction<W: Write>(out: &mut Sink<'_, W>, row: &Passage)
 fn write_begin<W: Write>(out: &mut Sink<'_, W>, number: u64)
     ensures { Says W.contents out.old out.new (codes "L\t" ++ (decimal number ++ codes "\t1\t")) }
 {
-    let mut buffer = Buffer::new();
-    let id = buffer.format(number).as_bytes();
-    out.put_all(&[b"L\t", id, b"\t1\t"])
+    write_numbered(out, b"L\t", number, b"\t1\t")
 }
 
 /// Writes the label of the pane of details of an instruction that left the hardware, in a log from a cycle on.

@@ -7,6 +7,7 @@ mod cycle;
 mod dependence;
 mod details;
 mod event;
+mod numbered;
 mod room;
 mod running;
 mod stage;

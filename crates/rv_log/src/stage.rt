@@ -1,4 +1,4 @@
-ghost use Rattle.std.specs.Prelude.{◌≡◌};
+ghost use Rattle.std.specs.Prelude.{◌≡◌, ◌++◌, codes};
 ghost use Rattle.rv_log.specs.Command.{letter_of};
 
 /// A stage of an instruction's way through the hardware.
@@ -15,18 +15,18 @@ pub(crate) enum Stage {
 }
 
 impl Stage {
-    /// The letter of a stage.
+    /// What stands behind the number in the line of a stage that begins: the lane, which is 0, and the letter of the stage.
     #[tactic(auto, unfolding(crate::specs::Command::letter_of))]
-    pub(crate) fn letter(self) -> &'static [u8]
-        ensures { result.now ≡ letter_of self }
+    pub(crate) fn behind_number(self) -> &'static [u8]
+        ensures { result.now ≡ codes "\t0\t" ++ (letter_of self ++ codes "\n") }
     {
         match self {
-            Stage::Fetch => b"F",
-            Stage::Dispatch => b"D",
-            Stage::Execution => b"X",
-            Stage::BusWait => b"W",
-            Stage::Broadcast => b"B",
-            Stage::Retirement => b"C",
+            Stage::Fetch => b"\t0\tF\n",
+            Stage::Dispatch => b"\t0\tD\n",
+            Stage::Execution => b"\t0\tX\n",
+            Stage::BusWait => b"\t0\tW\n",
+            Stage::Broadcast => b"\t0\tB\n",
+            Stage::Retirement => b"\t0\tC\n",
         }
     }
 }

@@ -1,59 +1,60 @@
-ghost use Rattle.std.specs.Prelude.{◌++◌, codes, decimal};
-ghost use Rattle.rv_log.specs.Waited.{awaited_text, cycles_of, wait_text, waited_text, waited_until, waits_of, waits_text};
-ghost use Rattle.rv_drawing.specs.Wait.{result_text, unit_text};
+ghost use Rattle.std.specs.Prelude.{◌≡◌, ◌++◌, codes, decimal};
+ghost use Rattle.rv_log.specs.Waited.{awaited_name, awaited_text, wait_text, waited_text, waited_until, waits_of, waits_text};
 ghost use Rattle.rv_text.specs.Said.{Says};
 
+use crate::numbered::write_numbered;
 use crate::wait::{Awaited, Wait, waits_of};
 use itoa::Buffer;
 use rv_drawing::{put_result, unit_name};
-use rv_isa::Kind;
-use rv_passage::{Passage, Producer};
+use rv_passage::Passage;
 use rv_text::Sink;
 use std::io::Write;
 
-#[tactic(auto, using(rv_text::proofs::Saying::saying))]
-fn write_operand<W: Write>(out: &mut Sink<'_, W>, producer: &Producer)
-    ensures { Says W.contents out.old out.new (codes "for " ++ result_text producer.now.register producer.now.pc) }
-{
-    out.put(b"for ");
-    put_result(out, producer.register, producer.pc)
-}
-
-fn write_unit<W: Write>(out: &mut Sink<'_, W>, kind: Option<Kind>)
-    ensures { Says W.contents out.old out.new (codes "for " ++ unit_text kind) }
-{
-    out.put_all(&[b"for ", unit_name(kind)])
-}
-
-// Writes what an instruction waits for.
-#[tactic(auto, unfolding(crate::specs::Waited::awaited_text))]
-fn write_awaited<W: Write>(out: &mut Sink<'_, W>, awaited: Awaited)
-    ensures { Says W.contents out.old out.new (awaited_text awaited) }
+// The words behind the number of the cycles of a wait; the name of what is awaited comes after them.
+#[tactic(auto, unfolding(crate::specs::Waited::awaited_text, crate::specs::Waited::awaited_name))]
+fn awaited_words(awaited: Awaited) -> &'static [u8]
+    ensures { codes " " ++ awaited_text awaited ≡ result.now ++ awaited_name awaited }
 {
     match awaited {
-        Awaited::Dispatch => out.put(b"to dispatch"),
-        Awaited::Operand(producer) => write_operand(out, &producer),
-        Awaited::Unit(kind) => write_unit(out, kind),
-        Awaited::Unknown => out.put(b"for operands, a unit or the head"),
-        Awaited::Bus => out.put(b"for the bus"),
-        Awaited::Head => out.put(b"for the head"),
+        Awaited::Dispatch => b" to dispatch",
+        Awaited::Operand(_) | Awaited::Unit(_) => b" for ",
+        Awaited::Unknown => b" for operands, a unit or the head",
+        Awaited::Bus => b" for the bus",
+        Awaited::Head => b" for the head",
     }
 }
 
-fn write_cycles<W: Write>(out: &mut Sink<'_, W>, before: &[u8], wait: &Wait)
-    ensures { Says W.contents out.old out.new (before.now ++ (decimal (cycles_of wait.now) ++ codes " ")) }
+// Writes the name of the result or the unit that is awaited.
+#[tactic(auto, using(rv_text::proofs::Saying::saying), unfolding(crate::specs::Waited::awaited_name))]
+fn write_awaited_name<W: Write>(out: &mut Sink<'_, W>, awaited: Awaited)
+    ensures { Says W.contents out.old out.new (awaited_name awaited) }
 {
-    let mut buffer = Buffer::new();
-    let cycles = buffer.format(wait.cycles()).as_bytes();
-    out.put_all(&[before, cycles, b" "])
+    match awaited {
+        Awaited::Operand(producer) => put_result(out, producer.register, producer.pc),
+        Awaited::Unit(kind) => out.put(unit_name(kind)),
+        Awaited::Dispatch | Awaited::Unknown | Awaited::Bus | Awaited::Head => {}
+    }
 }
 
-#[tactic(auto, using(rv_text::proofs::Saying::saying), unfolding(crate::specs::Waited::wait_text))]
+// Writes a number of cycles between two texts.
+fn write_cycles<W: Write>(out: &mut Sink<'_, W>, before: &[u8], cycles: u128, after: &[u8])
+    ensures { Says W.contents out.old out.new (before.now ++ (decimal cycles ++ after.now)) }
+{
+    match u64::try_from(cycles) {
+        Ok(cycles) => write_numbered(out, before, cycles, after),
+        Err(_) => {
+            let mut buffer = Buffer::new();
+            let cycles = buffer.format(cycles).as_bytes();
+            out.put_all(&[before, cycles, after])
+        }
+    }
+}
+
 fn write_wait<W: Write>(out: &mut Sink<'_, W>, before: &[u8], wait: &Wait)
     ensures { Says W.contents out.old out.new (wait_text before.now wait.now) }
 {
-    write_cycles(out, before, wait);
-    write_awaited(out, wait.awaited)
+    write_cycles(out, before, wait.cycles(), awaited_words(wait.awaited));
+    write_awaited_name(out, wait.awaited)
 }
 
 // Writes waits one after another, the first of them after some words, and none of no cycles.

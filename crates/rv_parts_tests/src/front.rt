@@ -1,4 +1,4 @@
-ghost use Rattle.std.specs.Prelude.{None};
+ghost use Rattle.rv_front.specs.Guide.{guide_by};
 
 use crate::checks::{check_equal, check_equal_at, check_true};
 use crate::words::{bytes_of, code_of};
@@ -192,13 +192,15 @@ fn fetch_follows_the_predictions_until_the_buffer_is_full(rt: HostRuntime) {
 
 // A predictor whose answer is always the same.
 #[derive(Drop)]
-struct Always(u32);
+struct Always {
+    next: u32,
+}
 
 impl Predictor for Always {
-    ghost known = { λ _. None };
+    ghost known = { λ always. guide_by (λ next _ _. next) (λ next _. next) always.next };
 
     fn predict(&self, _pc: u32, _word: u32) -> u32 {
-        self.0
+        self.next
     }
 
     fn learn(&mut self, _pc: u32, _word: u32, _next: u32) {}
@@ -208,7 +210,7 @@ impl Predictor for Always {
 fn a_prediction_outside_ram_halts_the_fetch_until_a_redirect(rt: HostRuntime) {
     let ram = ram_with(&rt, rt.alloc(), &[NOP, NOP]);
     let mut front = new_front(&rt, rt.alloc());
-    let predictor = Always(0xffff_ffff);
+    let predictor = Always { next: 0xffff_ffff };
     check_equal(&rt, front.fetch(0, &ram, &predictor), FetchStop::Prediction);
     check_equal(&rt, front.fetch(1, &ram, &predictor), FetchStop::Halted);
     check_equal(&rt, front.fetch(2, &ram, &predictor), FetchStop::Halted);

@@ -1,6 +1,7 @@
 -- The picture of a window of a run.
-use Rattle.std.specs.Prelude.{◌≡◌, ℕ, ◌+◌, ◌^◌, ◌≤◌, List, Option, Some}
+use Rattle.std.specs.Prelude.{◌≡◌, ℕ, ◌+◌, ◌^◌, ◌≤◌, List, Option}
 use Rattle.rv_isa.specs.declared.lines.Arrival.{Arrival}
+use Rattle.rv_front.specs.Predictors.{guide_of}
 use Rattle.rv_front.specs.declared.predictors.DescribedPredictor.{DescribedPredictor}
 use Rattle.rv_hardware.specs.Guided.{GuidedHardware, guided}
 use Rattle.rv_hardware.specs.Hardware.{Hardware}
@@ -43,5 +44,5 @@ pub record IsPicture (arrivals : List Arrival) (view : View) (listing : Listed) 
 abbrev pub HasOnePicture : List Arrival → View → Listed → Type 0
 HasOnePicture arrivals view listing =
     (h : Hardware) (predictor : DescribedPredictor) (new new' : GuidedHardware) (end end' : RunEnd) (text text' : List ℕ) → h.cycle + (view.from + view.cycles) ≤ 2 ^ 40 →
-    IsPicture arrivals view listing (guided h (Some predictor)) new end text → IsPicture arrivals view listing (guided h (Some predictor)) new' end' text' →
+    IsPicture arrivals view listing (guided h (guide_of predictor)) new end text → IsPicture arrivals view listing (guided h (guide_of predictor)) new' end' text' →
     (end ≡ end') × (text ≡ text')

@@ -2,18 +2,15 @@
 use Rattle.std.specs.Prelude.{◌≡◌, ◌*◌}
 use Rattle.rv_cache.specs.WriteBack.{Each}
 use Rattle.rv_core.specs.Watching.{Watched}
-use Rattle.rv_passage.specs.declared.table.Table.{Table}
 use Rattle.rv_counts.specs.Counts.{IsWithin}
-use Rattle.rv_counts.specs.Followed.{IsFollowed}
 use Rattle.rv_counts.specs.Following.{Profiled}
 use Rattle.rv_counts.specs.Head.{heads_of}
 use Rattle.rv_counts.specs.Left.{left_after}
 use Rattle.rv_counts.specs.Profile.{IsProfileOf}
 use Rattle.rv_counts.specs.declared.loads.LoadCosts.{LoadCosts}
 
--- the counts of the passages that left the hardware in the cycles so far, and of the heads, with what is in flight
-pub record IsProfiling (costs : LoadCosts) (profile : Profiled) (table : Table) (seen : Watched) : Type 0 where
+-- the counts of the passages that left the hardware in the cycles so far, and of the heads
+pub record IsProfiling (costs : LoadCosts) (profile : Profiled) (seen : Watched) : Type 0 where
   pub costs_are : profile.costs ≡ costs
-  pub followed : IsFollowed seen.first.hardware seen.moments seen.now.hardware table
   pub counted : IsProfileOf costs (left_after seen.first.hardware seen.moments) (heads_of seen.moments) profile.words
   pub within : Each (IsWithin (577 * seen.now.hardware.cycle)) profile.words

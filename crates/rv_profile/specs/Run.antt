@@ -1,7 +1,8 @@
 -- The profile of a run.
-use Rattle.std.specs.Prelude.{◌≡◌, ℕ, ◌+◌, ◌^◌, ◌≤◌, List, Some}
+use Rattle.std.specs.Prelude.{◌≡◌, ℕ, ◌+◌, ◌^◌, ◌≤◌, List}
 use Rattle.rv_isa.specs.declared.{lines.Arrival.Arrival, values.Values.Values}
 use Rattle.rv_arch.specs.declared.outcome.Stop.{Stop}
+use Rattle.rv_front.specs.Predictors.{guide_of}
 use Rattle.rv_front.specs.declared.predictors.DescribedPredictor.{DescribedPredictor}
 use Rattle.rv_hardware.specs.Guided.{GuidedHardware, guided}
 use Rattle.rv_hardware.specs.Hardware.{Hardware}
@@ -32,5 +33,5 @@ pub record IsProfile (arrivals : List Arrival) (limit : ℕ) (values : Values) (
 abbrev pub HasOneProfile : List Arrival → ℕ → Values → Listed → Type 0
 HasOneProfile arrivals limit values listing =
     (h : Hardware) (predictor : DescribedPredictor) (new new' : GuidedHardware) (stop stop' : Stop) (text text' : List ℕ) → h.cycle + limit ≤ 2 ^ 40 →
-    IsProfile arrivals limit values listing (guided h (Some predictor)) new stop text → IsProfile arrivals limit values listing (guided h (Some predictor)) new' stop' text' →
+    IsProfile arrivals limit values listing (guided h (guide_of predictor)) new stop text → IsProfile arrivals limit values listing (guided h (guide_of predictor)) new' stop' text' →
     (stop ≡ stop') × (text ≡ text')

@@ -1,5 +1,6 @@
 -- A job with a described predictor has one report.
-use Rattle.std.proofs.Common.{◌∙◌, ◌^◌, ◌≤◌, Some, sym, arith}
+use Rattle.std.proofs.Common.{◌∙◌, ◌^◌, ◌≤◌, sym, arith}
+use Rattle.rv_front.specs.Predictors.{guide_of}
 use Rattle.rv_front.specs.declared.predictors.DescribedPredictor.{DescribedPredictor}
 use Rattle.rv_hardware.proofs.Determined.{run_once}
 use Rattle.rv_report.specs.declared.options.Options.{Options}
@@ -7,7 +8,7 @@ use Rattle.rv_program.specs.CoreReport.{IsAtMostOne, IsSimulation, hardware_of, 
 use Rattle.rv_job.specs.declared.job.Job.{Job}
 
 -- the cycles of two reports of a job are the same cycles
-pub one_report_of : (job : Job) (predictor : DescribedPredictor) (options : Options) → options.limit ≤ 2 ^ 40 → IsAtMostOne (IsSimulation job (Some predictor) options)
+pub one_report_of : (job : Job) (predictor : DescribedPredictor) (options : Options) → options.limit ≤ 2 ^ 40 → IsAtMostOne (IsSimulation job (guide_of predictor) options)
 one_report_of job predictor options within stop stop' text text' is is' =
     let timing = is.timing in
     let timing' = is'.timing in

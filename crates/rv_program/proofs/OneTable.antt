@@ -1,51 +1,56 @@
 -- A comparison has one table: its machines' predictors are described, and so each of them has one run.
-use Rattle.std.proofs.Common.{◌≡◌, ◌∙◌, ℕ, ◌+◌, ◌^◌, ◌≤◌, List, [], ◌∷◌, ◌++◌, map, Some, refl, sym, ap, arith}
-use Rattle.rv_front.specs.Predictors.{described}
+use Rattle.std.proofs.Common.{◌≡◌, ◌∙◌, ℕ, ◌+◌, ◌^◌, ◌≤◌, List, [], ◌∷◌, ◌++◌, map, refl, sym, ap, arith}
+use Rattle.rv_front.specs.Predictors.{described, guide_of}
 use Rattle.rv_front.specs.declared.predictors.DescribedPredictor.{DescribedPredictor}
-use Rattle.rv_hardware.specs.Guided.{GuidedHardware, guided}
+use Rattle.rv_hardware.specs.Guided.{guided}
 use Rattle.rv_hardware.specs.Hardware.{Hardware}
-use Rattle.rv_hardware.specs.History.{Moment, reports_of}
+use Rattle.rv_hardware.specs.History.{reports_of}
 use Rattle.rv_isa.specs.declared.lines.Arrival.{Arrival}
 use Rattle.rv_job.specs.declared.{comparison.Comparison.Comparison, job.Job.Job}
 use Rattle.rv_passage.specs.EndedRun.{IsEndedRun}
 use Rattle.rv_passage.proofs.OneRun.{one_run}
 use Rattle.rv_report.specs.Comparison.{RunsTo, table_of}
+use Rattle.rv_report.specs.Events.{events_in}
+use Rattle.rv_report.specs.Shown.{words_of}
 use Rattle.rv_report.specs.Tally.{losses_of}
+use Rattle.rv_report.specs.declared.shown.TableOptions.{TableOptions}
 use Rattle.rv_report.specs.Totals.{totals_at}
-use Rattle.rv_report.specs.declared.{losses.ComparedRun.ComparedRun, losses.Losses.Losses, totals.Totals.Totals}
+use Rattle.rv_report.specs.declared.{losses.ComparedRun.ComparedRun}
 use Rattle.rv_program.specs.Comparison.{AreRuns, IsAtMostOneText, IsComparisonTable, IsRun, another, nothing}
 use Rattle.rv_program.specs.CoreReport.{hardware_of}
 
 -- a run of hardware with a described predictor comes to one thing
-came_to_once : {arrivals : List Arrival} {limit : ℕ} {h : Hardware} {predictor : DescribedPredictor} (run run' : ComparedRun) → h.cycle + limit ≤ 2 ^ 40
-    → RunsTo arrivals limit (guided h (Some predictor)) run → RunsTo arrivals limit (guided h (Some predictor)) run' → run ≡ run'
-came_to_once {arrivals} {limit} {h} {predictor} run run' within is is' =
-    let ended : IsEndedRun arrivals limit (guided h (Some predictor)) is.moments is.new run.totals.stop = record { passes = is.cycles; stops = is.stops } in
-    let ended' : IsEndedRun arrivals limit (guided h (Some predictor)) is'.moments is'.new run'.totals.stop = record { passes = is'.cycles; stops = is'.stops } in
+came_to_once : {arrivals : List Arrival} {options : TableOptions} {h : Hardware} {predictor : DescribedPredictor} (run run' : ComparedRun) → h.cycle + options.limit ≤ 2 ^ 40
+    → RunsTo arrivals options (guided h (guide_of predictor)) run → RunsTo arrivals options (guided h (guide_of predictor)) run' → run ≡ run'
+came_to_once {arrivals} {options} {h} {predictor} run run' within is is' =
+    let ended : IsEndedRun arrivals options.limit (guided h (guide_of predictor)) is.moments is.new run.totals.stop = record { passes = is.cycles; stops = is.stops } in
+    let ended' : IsEndedRun arrivals options.limit (guided h (guide_of predictor)) is'.moments is'.new run'.totals.stop = record { passes = is'.cycles; stops = is'.stops } in
     let same = one_run within ended ended' in
     let totals : run.totals ≡ run'.totals = is.totals_are ∙ (λ i. totals_at (reports_of (same.moments_are i)) (same.reasons i)) ∙ sym is'.totals_are in
     let losses : run.losses ≡ run'.losses = is.losses_are ∙ (λ i. losses_of h (same.moments_are i) (same.ends i).hardware) ∙ sym is'.losses_are in
-    λ i. record { totals = totals i; losses = losses i }
+    let events : run.events ≡ run'.events = is.events_are ∙ (λ i. events_in h.values h (same.moments_are i)) ∙ sym is'.events_are in
+    let words : run.words ≡ run'.words = is.words_are ∙ (λ i. words_of options.shown (same.ends i).hardware) ∙ sym is'.words_are in
+    λ i. record { totals = totals i; losses = losses i; events = events i; words = words i }
 
-module _ (limit : ℕ) where
+module _ (options : TableOptions) where
   -- each job's run came to what stands at its place
   abbrev EachRun : List Job → List ComparedRun → Type 0
   EachRun [] [] = Unit {0}
-  EachRun (job ∷ jobs) (run ∷ runs) = IsRun limit job run × EachRun jobs runs
+  EachRun (job ∷ jobs) (run ∷ runs) = IsRun options job run × EachRun jobs runs
   EachRun [] (run ∷ runs) = ⊥
   EachRun (job ∷ jobs) [] = ⊥
 
-  EachRun-push : (jobs : List Job) (runs : List ComparedRun) (job : Job) (run : ComparedRun) → EachRun jobs runs → IsRun limit job run → EachRun (jobs ++ job ∷ []) (runs ++ run ∷ [])
+  EachRun-push : (jobs : List Job) (runs : List ComparedRun) (job : Job) (run : ComparedRun) → EachRun jobs runs → IsRun options job run → EachRun (jobs ++ job ∷ []) (runs ++ run ∷ [])
   EachRun-push [] [] job run each last = (last, tt)
   EachRun-push (first ∷ jobs) (its ∷ runs) job run each last = (each.0, EachRun-push jobs runs job run each.1 last)
   EachRun-push [] (its ∷ runs) job run each last = absurd each
   EachRun-push (first ∷ jobs) [] job run each last = absurd each
 
-  each_run : {jobs : List Job} {runs : List ComparedRun} → AreRuns limit jobs runs → EachRun jobs runs
+  each_run : {jobs : List Job} {runs : List ComparedRun} → AreRuns options jobs runs → EachRun jobs runs
   each_run nothing = tt
   each_run (another {jobs = jobs} {runs = runs} {run = run} job before last) = EachRun-push jobs runs job run (each_run before) last
 
-  runs_once : limit ≤ 2 ^ 40 → (jobs : List Job) (runs runs' : List ComparedRun) → EachRun jobs runs → EachRun jobs runs' → runs ≡ runs'
+  runs_once : options.limit ≤ 2 ^ 40 → (jobs : List Job) (runs runs' : List ComparedRun) → EachRun jobs runs → EachRun jobs runs' → runs ≡ runs'
   runs_once within [] [] [] each each' = refl
   runs_once within [] (run ∷ runs) runs' each each' = absurd each
   runs_once within [] [] (run' ∷ runs') each each' = absurd each'
@@ -56,7 +61,7 @@ module _ (limit : ℕ) where
       let rest = runs_once within jobs runs runs' each.1 each'.1 in
       λ i. first i ∷ rest i
 
-pub one_table_of : (comparison : Comparison) (limit : ℕ) → limit ≤ 2 ^ 40 → IsAtMostOneText (IsComparisonTable comparison limit)
-one_table_of comparison limit within text text' is is' =
-    let runs = runs_once limit within comparison.jobs.items is.runs is'.runs (each_run limit is.done) (each_run limit is'.done) in
-    is.text_is ∙ ap (table_of (map (λ name. name.items) comparison.names.items)) runs ∙ sym is'.text_is
+pub one_table_of : (comparison : Comparison) (options : TableOptions) → options.limit ≤ 2 ^ 40 → IsAtMostOneText (IsComparisonTable comparison options)
+one_table_of comparison options within text text' is is' =
+    let runs = runs_once options within comparison.jobs.items is.runs is'.runs (each_run options is.done) (each_run options is'.done) in
+    is.text_is ∙ ap (table_of options.shown (map (λ name. name.items) comparison.names.items)) runs ∙ sym is'.text_is

@@ -2,11 +2,11 @@
 use Rattle.std.proofs.Common.{◌≡◌, ℕ, List, [], ◌++◌, length, take, drop, Option, Some, None, sym, ap, ◌∙◌, subst, refl, arith, append-nil, append_assoc}
 use Rattle.std.specs.Prelude.{Result, Ok, Err}
 use Rattle.std.specs.Io.Buffered.{writer_buffer, writer_contents, writer_inner}
-use Rattle.std.specs.Io.KnownBytes.{Keeps, append_known}
+use Rattle.std.specs.Io.KnownBytes.{Appends, Keeps, append_known}
 use Rattle.std.specs.declared.io.buffered.BufWriter.{BufWriter}
 use Rattle.std.proofs.Math.Seq.{take-length}
 use Rattle.std.proofs.lemmas.List.{take-append-drop}
-use Rattle.rv_front.specs.declared.predictors.DescribedPredictor.{DescribedPredictor}
+use Rattle.rv_front.specs.Guide.{Guide}
 use Rattle.rv_job.specs.declared.errors.SimError.{SimError}
 use Rattle.rv_job.specs.declared.errors.SimError.TheVariants.{Memory, WriteFailed}
 use Rattle.rv_text.proofs.Writing.{Appends-kept, Appends-same}
@@ -35,6 +35,11 @@ before_buffer contents buffer output is =
     beginning : (known : Option (List ℕ)) → HoldsBeginning (append_known known (writer_buffer buffer)) known []
     beginning None = tt
     beginning (Some bytes) = (writer_buffer buffer, sym (append-nil _))
+
+-- a text that was appended and kept then is a beginning of itself
+pub beginning-kept : (old held new : Option (List ℕ)) (text : List ℕ) → Appends old held text → Keeps held new → AppendsBeginning old new text
+beginning-kept old held new text appended kept =
+    (length text, omega arith, Appends-same old new text (take (length text) text) (sym (take-length text)) (Appends-kept old held new text appended kept))
 
 -- what is kept is a beginning of itself
 pub whole_left : (held new : Option (List ℕ)) → Keeps held new → HoldsBeginning held new []
@@ -76,7 +81,7 @@ kept_on ended (Err WriteFailed) held between new kept left = kept_left held betw
 kept_on ended (Err _) held between new kept never = absurd never
 
 -- a task that ended into a buffer, which was passed on
-pub ended_passed_on : (task : Task) (predictor : Option DescribedPredictor) (old held new : Option (List ℕ)) (ended outcome : Result Ended SimError)
+pub ended_passed_on : (task : Task) (predictor : Guide) (old held new : Option (List ℕ)) (ended outcome : Result Ended SimError)
     → Ends task predictor old held ended → PassesOn ended outcome held new → EndsPassedOn task predictor old new outcome
 ended_passed_on task predictor old held new (Ok ended) (Ok _) (text, shows, appended) (same, kept) =
     subst (λ s. EndsPassedOn task predictor old new (Ok s)) (sym same) (text, shows, Appends-kept old held new text appended kept)

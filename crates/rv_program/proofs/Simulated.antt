@@ -1,10 +1,10 @@
 -- What cycles from reset came to is what the report of a simulation says.
-use Rattle.std.proofs.Common.{◌≡◌, ℕ, List, Option, length, refl, sym, subst, ap, ◌∙◌, arith}
+use Rattle.std.proofs.Common.{◌≡◌, ℕ, List, length, refl, sym, subst, ap, ◌∙◌, arith}
 use Rattle.rv_isa.specs.Arrivals.{lines_at}
 use Rattle.rv_isa.specs.Description.{IsLegal}
 use Rattle.rv_isa.specs.declared.{lines.Arrival.Arrival, lines.Lines.Lines, values.Values.Values}
 use Rattle.rv_arch.specs.declared.outcome.Stop.{Stop}
-use Rattle.rv_front.specs.declared.predictors.DescribedPredictor.{DescribedPredictor}
+use Rattle.rv_front.specs.Guide.{Guide}
 use Rattle.rv_hardware.specs.Guided.{GuidedCycles, GuidedHardware, guided}
 use Rattle.rv_hardware.specs.Hardware.{Hardware}
 use Rattle.rv_hardware.specs.Headline.{IsTrueStop}
@@ -30,7 +30,7 @@ use Rattle.rv_program.specs.SimulationReport.{IsSimulationReport, lines_after, s
 use Rattle.rv_job.specs.declared.job.Job.{Job}
 use Rattle.rv_program.proofs.LinesAfter.{lines_are}
 
-module _ (job : Job) (predictor : Option DescribedPredictor) (options : Options) (stop : Stop) (reports : List Report) (end : GuidedHardware)
+module _ (job : Job) (predictor : Guide) (options : Options) (stop : Stop) (reports : List Report) (end : GuidedHardware)
     (legal : IsLegal job.description) (loadable : IsLoadable job.description job.image.base job.image.bytes job.image.start)
     (guided_cycles : GuidedCycles job.arrivals (core_of job predictor) reports end) (stopped : IsStop options.limit reports end.hardware stop) where
   abbrev new : Hardware
@@ -70,7 +70,7 @@ values_kept {arrivals} sound (cycled {old = old} {middle = middle} {report = rep
     values_kept goes.sound rest ∙ goes.values_are
 
 -- the report of a run of the core
-pub run_simulated : (job : Job) (predictor : Option DescribedPredictor) (options asked : Options) (values : Values) (old : Hardware) (stop : Stop) (text : List ℕ)
+pub run_simulated : (job : Job) (predictor : Guide) (options asked : Options) (values : Values) (old : Hardware) (stop : Stop) (text : List ℕ)
     → values ≡ job.description → IsLegal values → IsLoadable job.description job.image.base job.image.bytes job.image.start → old ≡ hardware_of job
     → asked ≡ shown values.report options → IsRunReport job.arrivals asked (guided old predictor) stop text → IsSimulation job predictor options stop text
 run_simulated job predictor options asked values old stop text values_are values_legal loadable old_is asked_is run =

@@ -2,7 +2,7 @@
 use Rattle.std.proofs.Common.{◌≡◌, ℕ, List, None, Option, subst, sym}
 use Rattle.std.specs.Prelude.{Err, Ok, Result}
 use Rattle.rv_arch.specs.declared.outcome.Stop.{Stop}
-use Rattle.rv_front.specs.declared.predictors.DescribedPredictor.{DescribedPredictor}
+use Rattle.rv_front.specs.Guide.{Guide}
 use Rattle.rv_hardware.specs.Guided.{GuidedHardware, guided}
 use Rattle.rv_hardware.specs.Hardware.{Hardware}
 use Rattle.rv_job.specs.declared.listed_job.ListedJob.{ListedJob}
@@ -15,7 +15,7 @@ use Rattle.rv_program.specs.RunView.{IsShown, IsViewOf, whole_run}
 use Rattle.rv_program.specs.declared.run_view.RunView.{RunView}
 
 -- what was written of the run that begins where a job's does
-pub view_of : (listed : ListedJob) {predictor : Option DescribedPredictor} {h : Hardware} (end : GuidedHardware) (view : RunView) {ended : RunEnd} {text : List ℕ}
+pub view_of : (listed : ListedJob) {predictor : Guide} {h : Hardware} (end : GuidedHardware) (view : RunView) {ended : RunEnd} {text : List ℕ}
     → h ≡ hardware_of listed.job → IsShown view listed (guided h predictor) end ended text → IsViewOf listed predictor view ended text
 view_of listed {predictor} end view {ended} {text} made shows =
     record { end = end; shows = subst (λ x. IsShown view listed (guided x predictor) end ended text) made shows }

@@ -3,23 +3,24 @@ use Rattle.std.specs.Prelude.{◌≡◌, ℕ, List, [], ◌∷◌, ◌++◌, map
 use Rattle.rv_job.specs.declared.{comparison.Comparison.Comparison, job.Job.Job}
 use Rattle.rv_report.specs.Comparison.{RunsTo, table_of}
 use Rattle.rv_report.specs.declared.losses.ComparedRun.{ComparedRun}
+use Rattle.rv_report.specs.declared.shown.TableOptions.{TableOptions}
 use Rattle.rv_program.specs.CoreReport.{core_of, untaught_of}
 
 -- a run of the hardware that a job describes, with the predictor that it describes, from reset with its image, came to this
-abbrev pub IsRun : ℕ → Job → ComparedRun → Type 0
-IsRun limit job run = RunsTo job.arrivals limit (core_of job (untaught_of job.description.predictor)) run
+abbrev pub IsRun : TableOptions → Job → ComparedRun → Type 0
+IsRun options job run = RunsTo job.arrivals options (core_of job (untaught_of job.description.predictor)) run
 
 -- runs of some jobs came to this, in the jobs' order
-pub data AreRuns (limit : ℕ) : List Job → List ComparedRun → Type 0 where
-  nothing : AreRuns limit [] []
-  another : {jobs : List Job} {runs : List ComparedRun} {run : ComparedRun} (job : Job) → AreRuns limit jobs runs →
-      IsRun limit job run → AreRuns limit (jobs ++ job ∷ []) (runs ++ run ∷ [])
+pub data AreRuns (options : TableOptions) : List Job → List ComparedRun → Type 0 where
+  nothing : AreRuns options [] []
+  another : {jobs : List Job} {runs : List ComparedRun} {run : ComparedRun} (job : Job) → AreRuns options jobs runs →
+      IsRun options job run → AreRuns options (jobs ++ job ∷ []) (runs ++ run ∷ [])
 
 -- a text is the table of runs of a comparison's jobs, with the names of their machines
-pub record IsComparisonTable (comparison : Comparison) (limit : ℕ) (text : List ℕ) : Type 0 where
+pub record IsComparisonTable (comparison : Comparison) (options : TableOptions) (text : List ℕ) : Type 0 where
   pub runs : List ComparedRun
-  pub done : AreRuns limit comparison.jobs.items runs
-  pub text_is : text ≡ table_of (map (λ name. name.items) comparison.names.items) runs
+  pub done : AreRuns options comparison.jobs.items runs
+  pub text_is : text ≡ table_of options.shown (map (λ name. name.items) comparison.names.items) runs
 
 -- at most one text is one
 abbrev pub IsAtMostOneText : (List ℕ → Type 0) → Type 0

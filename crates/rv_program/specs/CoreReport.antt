@@ -1,9 +1,9 @@
 -- What the report of a simulation says in the words of the hardware's definition, which has every cycle of it.
-use Rattle.std.specs.Prelude.{◌≡◌, ℕ, List, Option, Some}
+use Rattle.std.specs.Prelude.{◌≡◌, ℕ, List}
 use Rattle.rv_arch.specs.declared.outcome.Stop.{Stop}
 use Rattle.rv_isa.specs.declared.values.PredictorValues.{PredictorValues}
-use Rattle.rv_front.specs.Predictors.{described}
-use Rattle.rv_front.specs.declared.predictors.DescribedPredictor.{DescribedPredictor}
+use Rattle.rv_front.specs.Guide.{Guide}
+use Rattle.rv_front.specs.Predictors.{described, guide_of}
 use Rattle.rv_hardware.specs.Guided.{GuidedCycles, GuidedHardware, guided}
 use Rattle.rv_hardware.specs.Hardware.{Hardware}
 use Rattle.rv_hardware.specs.Report.{Report}
@@ -22,12 +22,12 @@ abbrev pub hardware_of : Job → Hardware
 hardware_of job = reset_hardware job.description job.image.bytes job.image.start
 
 -- the hardware at reset with the image of a job, guided by a predictor
-abbrev pub core_of : Job → Option DescribedPredictor → GuidedHardware
+abbrev pub core_of : Job → Guide → GuidedHardware
 core_of job predictor = guided (hardware_of job) predictor
 
 -- the predictor that a description names, which was taught nothing
-abbrev pub untaught_of : PredictorValues → Option DescribedPredictor
-untaught_of values = Some (described values.kind values.entries)
+abbrev pub untaught_of : PredictorValues → Guide
+untaught_of values = guide_of (described values.kind values.entries)
 
 -- the report of some cycles of a job, that left the hardware so
 abbrev pub text_of : Job → Options → Stop → List Report → Hardware → List ℕ
@@ -36,7 +36,7 @@ text_of job options stop reports new =
 
 -- A text is the report of cycles of the described hardware that a predictor guides, from reset with the job's image, that ended for a
 -- reason.
-pub record IsCoreReport (job : Job) (predictor : Option DescribedPredictor) (options : Options) (stop : Stop) (text : List ℕ) : Type 0 where
+pub record IsCoreReport (job : Job) (predictor : Guide) (options : Options) (stop : Stop) (text : List ℕ) : Type 0 where
   pub reports : List Report
   pub end : GuidedHardware
   pub cycles : GuidedCycles job.arrivals (core_of job predictor) reports end
@@ -44,7 +44,7 @@ pub record IsCoreReport (job : Job) (predictor : Option DescribedPredictor) (opt
   pub text_is : text ≡ text_of job options stop reports end.hardware
 
 -- a text is the report of a simulation: by what it promises, and by the hardware's definition
-pub record IsSimulation (job : Job) (predictor : Option DescribedPredictor) (options : Options) (stop : Stop) (text : List ℕ) : Type 0 where
+pub record IsSimulation (job : Job) (predictor : Guide) (options : Options) (stop : Stop) (text : List ℕ) : Type 0 where
   pub promises : IsSimulationReport job options stop text
   pub timing : IsCoreReport job predictor options stop text
 

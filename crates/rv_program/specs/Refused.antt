@@ -1,14 +1,15 @@
 -- What becomes of the output where an input is refused.
-use Rattle.std.specs.Prelude.{◌≡◌, ℕ, List, Option, Some}
+use Rattle.std.specs.Prelude.{◌≡◌, ℕ, List, Option, Some, Result, Ok}
 use Rattle.rv_command.specs.declared.command.Command.{Command}
 use Rattle.rv_command.specs.declared.command.Command.TheVariants.{Explain}
 use Rattle.rv_job.specs.declared.errors.SimError.{SimError}
 use Rattle.rv_refusal.specs.Refusal.{refusal_text}
-use Rattle.rv_text.specs.Written.{AppendsBeginning}
+use Rattle.rv_text.specs.IsText.{IsText}
+use Rattle.rv_text.specs.declared.output.TextError.{TextError}
 
--- The output is handed back as it was given, but where a job was to be explained: then it has got why the job is refused, whole, or a
--- beginning of that where memory or a write failed.
-abbrev pub HandsBack : {W : Type 0} → (W → Option (List ℕ)) → Command → List ℕ → SimError → W → Option W → Type 0
-HandsBack {W} contents (Explain limit) input error given handed =
-    (output : W) × (handed ≡ Some output) × AppendsBeginning (contents given) (contents output) (refusal_text input error)
-HandsBack contents _ input error given handed = handed ≡ Some given
+-- The output is handed back as it was given, but where a job was to be explained: then it has got why the job is refused, whole, or as
+-- much of that as is answered.
+abbrev pub HandsBack : {W : Type 0} → (W → Option (List ℕ)) → Command → List ℕ → SimError → W → Option W → Result Unit TextError → Type 0
+HandsBack {W} contents (Explain figures limit) input error given handed refusal =
+    (output : W) × (handed ≡ Some output) × IsText (λ _ text. text ≡ refusal_text input error) refusal (contents given) (contents output)
+HandsBack contents _ input error given handed refusal = (handed ≡ Some given) × (refusal ≡ Ok tt)

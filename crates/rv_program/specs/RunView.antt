@@ -1,8 +1,8 @@
 -- What is shown of a job's run.
-use Rattle.std.specs.Prelude.{◌≡◌, ℕ, ◌+◌, List, Option, None, Result, Ok, Err}
+use Rattle.std.specs.Prelude.{◌≡◌, ℕ, ◌+◌, List, None, Result, Ok, Err}
 use Rattle.rv_arch.specs.declared.outcome.Stop.{Stop}
 use Rattle.rv_explain.specs.Explanation.{IsExplanation}
-use Rattle.rv_front.specs.declared.predictors.DescribedPredictor.{DescribedPredictor}
+use Rattle.rv_front.specs.Guide.{Guide}
 use Rattle.rv_hardware.specs.Guided.{GuidedHardware}
 use Rattle.rv_job.specs.declared.listed_job.ListedJob.{ListedJob}
 use Rattle.rv_log.specs.Log.{IsLog}
@@ -28,8 +28,8 @@ IsShown (Log limit) listed old new ended text =
     IsLog listed.job.arrivals limit listed.listing old new ended.stop text × (ended.over ≡ None)
 IsShown (States stretch) listed old new ended text =
     IsStates listed.job.arrivals stretch.from stretch.limit stretch.form listed.listing old new ended.stop text × (ended.over ≡ None)
-IsShown (Explanation limit) listed old new ended text =
-    IsExplanation listed.job.arrivals limit listed.job.description listed.listing old new ended.stop text × (ended.over ≡ None)
+IsShown (Explanation figures limit) listed old new ended text =
+    IsExplanation listed.job.arrivals limit figures listed.job.description listed.listing old new ended.stop text × (ended.over ≡ None)
 IsShown (Profile limit) listed old new ended text =
     IsProfile listed.job.arrivals limit listed.job.description listed.listing old new ended.stop text × (ended.over ≡ None)
 
@@ -38,11 +38,11 @@ abbrev pub limit_of : RunView → ℕ
 limit_of (Picture view) = view.from + view.cycles
 limit_of (Log limit) = limit
 limit_of (States stretch) = stretch.limit
-limit_of (Explanation limit) = limit
+limit_of (Explanation figures limit) = limit
 limit_of (Profile limit) = limit
 
 -- A text is what a view shows of the run of the described hardware that a predictor guides, from reset with the job's image; and that is
 -- how the run ended.
-pub record IsViewOf (listed : ListedJob) (predictor : Option DescribedPredictor) (view : RunView) (ended : RunEnd) (text : List ℕ) : Type 0 where
+pub record IsViewOf (listed : ListedJob) (predictor : Guide) (view : RunView) (ended : RunEnd) (text : List ℕ) : Type 0 where
   pub end : GuidedHardware
   pub shows : IsShown view listed (core_of listed.job predictor) end ended text

@@ -1,11 +1,15 @@
 -- What a command asks of an input, and how that ends.
-use Rattle.std.specs.Prelude.{◌≡◌, ℕ, Bool, List, length, true, false, ⊤, Option, None, Result, Ok, Err}
+use Rattle.std.specs.Prelude.{◌≡◌, ℕ, Bool, List, length, true, false, ⊤, Option, None, Some, Result, Ok, Err}
 use Rattle.std.specs.Io.KnownBytes.{Appends, Keeps}
 use Rattle.rv_arch.specs.declared.outcome.Stop.{Stop}
 use Rattle.rv_arch.specs.declared.outcome.Stop.TheVariants.{Stale}
 use Rattle.rv_command.specs.declared.command.Command.{Command}
 use Rattle.rv_command.specs.declared.command.Command.TheVariants as command
-use Rattle.rv_front.specs.declared.predictors.DescribedPredictor.{DescribedPredictor}
+use Rattle.rv_command.specs.declared.shown.{Shown.Shown, ShownColumns.ShownColumns}
+use Rattle.rv_command.specs.declared.shown.Shown.TheVariants.{Register, Word}
+use Rattle.rv_explain.specs.declared.figures.Figures.{Figures}
+use Rattle.rv_explain.specs.declared.figures.Figures.TheVariants.{Always, UnlessCrashed}
+use Rattle.rv_front.specs.Guide.{Guide}
 use Rattle.rv_isa.specs.Standard.{standard_values}
 use Rattle.rv_isa.specs.declared.values.PredictorValues.{PredictorValues}
 use Rattle.rv_job.specs.Comparison.{IsComparisonOf, RefusesComparison}
@@ -19,7 +23,8 @@ use Rattle.rv_job.specs.declared.errors.SimError.TheVariants.{Memory, WriteFaile
 use Rattle.rv_picture.specs.declared.picture.{Form.Form, Rows.Rows, RunEnd.RunEnd, View.View}
 use Rattle.rv_picture.specs.declared.picture.Form.TheVariants.{Text, Svg}
 use Rattle.rv_picture.specs.declared.picture.Rows.TheVariants.{All, Unsquashed}
-use Rattle.rv_report.specs.declared.options.Options.{Options}
+use Rattle.rv_report.specs.declared.{options.Options.Options, shown.{Shown.Shown as ShownWord, TableOptions.TableOptions}}
+use Rattle.rv_report.specs.declared.shown.Shown.TheVariants as cell
 use Rattle.rv_states.specs.declared.form.Form.{Form as StatesForm}
 use Rattle.rv_states.specs.declared.form.Form.TheVariants.{Lines, Page}
 use Rattle.rv_text.specs.Written.{AppendsBeginning}
@@ -49,9 +54,30 @@ rows_of false = All
 abbrev pub viewed : Bool → Bool → ℕ → ℕ → View
 viewed text retired from cycles = record { form = form_of text; rows = rows_of retired; from = from; cycles = cycles }
 
+-- an explanation has its figures after a crash too where that is asked for
+abbrev pub figures_of : Bool → Figures
+figures_of true = Always
+figures_of false = UnlessCrashed
+
 -- the cycles whose states are written in a form
 abbrev pub stretch_of : StatesForm → ℕ → ℕ → Stretch
 stretch_of form from limit = record { form = form; from = from; limit = limit }
+
+-- a column of a table shows what is asked for
+abbrev pub shown_word : Shown → ShownWord
+shown_word (Register register) = cell.Register register
+shown_word (Word address) = cell.Word address
+
+abbrev pub column_of : Option Shown → Option ShownWord
+column_of None = None
+column_of (Some asked) = Some (shown_word asked)
+
+-- the options of a table
+abbrev pub table_options : ShownColumns → ℕ → TableOptions
+table_options asked limit = record {
+  limit = limit;
+  shown = record { first = column_of asked.first; second = column_of asked.second; third = column_of asked.third; fourth = column_of asked.fourth };
+}
 
 -- a task shows a view of the run of an input's job
 abbrev pub AsksForView : RunView → List ℕ → Task → Type 0
@@ -67,9 +93,9 @@ Asks (command.Picture text retired from cycles) input task = AsksForView (view.P
 Asks (command.Log limit) input task = AsksForView (view.Log limit) input task
 Asks (command.States from limit) input task = AsksForView (view.States (stretch_of Lines from limit)) input task
 Asks (command.Page from limit) input task = AsksForView (view.States (stretch_of Page from limit)) input task
-Asks (command.Explain limit) input task = AsksForView (view.Explanation limit) input task
+Asks (command.Explain figures limit) input task = AsksForView (view.Explanation (figures_of figures) limit) input task
 Asks (command.Profile limit) input task = AsksForView (view.Profile limit) input task
-Asks (command.Compare limit) input (Compare comparison asked_limit) = IsComparisonOf input comparison × (asked_limit ≡ limit)
+Asks (command.Compare shown limit) input (Compare comparison options) = IsComparisonOf input comparison × (options ≡ table_options shown limit)
 Asks _ input _ = ⊥
 
 -- an input has an error for which a command refuses it
@@ -81,9 +107,9 @@ Refuses (command.Picture text retired from cycles) input error = RefusesJob inpu
 Refuses (command.Log limit) input error = RefusesJob input error
 Refuses (command.States from limit) input error = RefusesJob input error
 Refuses (command.Page from limit) input error = RefusesJob input error
-Refuses (command.Explain limit) input error = RefusesJob input error
+Refuses (command.Explain figures limit) input error = RefusesJob input error
 Refuses (command.Profile limit) input error = RefusesJob input error
-Refuses (command.Compare limit) input error = RefusesComparison input error
+Refuses (command.Compare shown limit) input error = RefusesComparison input error
 
 -- the predictor that a task's machine has; each machine of a comparison has its own, and this one guides none of them
 abbrev pub predictor_of : Task → PredictorValues
@@ -91,7 +117,7 @@ predictor_of (Run job options) = job.description.predictor
 predictor_of (Reference job options) = job.description.predictor
 predictor_of (Check made) = made.description.predictor
 predictor_of (Show listed view) = listed.job.description.predictor
-predictor_of (Compare comparison limit) = standard_values.predictor
+predictor_of (Compare comparison options) = standard_values.predictor
 
 -- the exit status of a run
 unfoldable pub stop_status : Stop → ℕ
@@ -112,7 +138,7 @@ ended_after ended (Ok answer) = Ok (ended answer)
 ended_after ended (Err error) = Err error
 
 -- the text of a task that was done with a predictor, and how that ended
-abbrev pub Shows : Task → Option DescribedPredictor → List ℕ → Ended → Type 0
+abbrev pub Shows : Task → Guide → List ℕ → Ended → Type 0
 Shows (Run job options) predictor text ended =
     (stop : Stop) × IsSimulation job predictor options stop text × (ended ≡ ended_by stop None)
 Shows (Reference job options) predictor text ended =
@@ -120,7 +146,7 @@ Shows (Reference job options) predictor text ended =
 Shows (Check made) predictor text ended = (text ≡ image_line (length made.image.bytes) made.image.start) × (ended ≡ done)
 Shows (Show listed view) predictor text ended =
     (end : RunEnd) × IsViewOf listed predictor view end text × (ended ≡ ended_by end.stop end.over)
-Shows (Compare comparison limit) predictor text ended = IsComparisonTable comparison limit text × (ended ≡ done)
+Shows (Compare comparison options) predictor text ended = IsComparisonTable comparison options text × (ended ≡ done)
 
 -- a task asks for memory, but for one that only says which image a job makes
 abbrev pub AsksForMemory : Task → Type 0
@@ -128,7 +154,7 @@ AsksForMemory (Check made) = ⊥
 AsksForMemory _ = ⊤
 
 -- A task ended so, with a predictor: with its text whole, or by an error. The known bytes of its output go from old to new.
-abbrev pub Ends : Task → Option DescribedPredictor → Option (List ℕ) → Option (List ℕ) → Result Ended SimError → Type 0
+abbrev pub Ends : Task → Guide → Option (List ℕ) → Option (List ℕ) → Result Ended SimError → Type 0
 Ends task predictor old new (Ok ended) = (text : List ℕ) × Shows task predictor text ended × Appends old new text
 Ends task predictor old new (Err WriteFailed) = (text : List ℕ) × (ended : Ended) × Shows task predictor text ended × AppendsBeginning old new text
 Ends task predictor old new (Err Memory) = AsksForMemory task × Keeps old new

@@ -1,4 +1,5 @@
-ghost use Rattle.std.specs.Prelude.{◌≡◌, IfOk, Some};
+ghost use Rattle.std.specs.Prelude.{◌≡◌, IfOk};
+ghost use Rattle.rv_front.specs.Predictors.{guide_of};
 ghost use Rattle.rv_isa.specs.Description.{IsLegalPredictor};
 ghost use Rattle.rv_program.specs.CoreReport.{untaught_of};
 
@@ -18,7 +19,7 @@ pub(crate) fn boxed(
     values: PredictorValues,
 ) -> Result<Box<DescribedPredictor>, AllocError>
     requires { IsLegalPredictor values }
-    ensures { IfOk result (λ predictor. Some predictor.value ≡ untaught_of values) }
+    ensures { IfOk result (λ predictor. guide_of predictor.value ≡ untaught_of values) }
 {
     let predictor = DescribedPredictor::new(alloc, values.kind, values.entries)?;
     Ok(Box::new(alloc, predictor)?)

@@ -7,7 +7,7 @@ use crate::boxed_predictor::{BoxedPredictor, boxed};
 use rv_core::Pipeline;
 use rv_isa::PredictorValues;
 use rv_job::{Comparison, Job, SimError};
-use rv_report::{ComparedRun, run_totals, write_table};
+use rv_report::{ComparedRun, TableOptions, run_totals, write_table};
 use std::alloc::Global;
 use std::io::Write;
 
@@ -18,11 +18,11 @@ fn run_guided(
     job: &Job,
     values: PredictorValues,
     predictor: BoxedPredictor,
-    limit: u64,
+    options: &TableOptions,
 ) -> Result<ComparedRun, SimError>
     requires described { known predictor.predictor ≡ untaught_of values }
     requires own { values ≡ job.now.description.predictor }
-    ensures run { IfOk result (IsRun limit job.now) }
+    ensures run { IfOk result (IsRun options.now job.now) }
     ensures errors { IfErr result (λ e. e ≡ SimError.Memory) }
 {
     // The image of a job fits, so that memory alone can be wanting.
@@ -35,7 +35,7 @@ fn run_guided(
         pipeline,
         &mut *predictor.predictor,
         &job.arrivals,
-        limit,
+        options,
     );
     match ended {
         Ok(run) => Ok(run),
@@ -44,25 +44,29 @@ fn run_guided(
 }
 
 // Runs a job with the predictor that it describes.
-fn run_one(alloc: Global, job: &Job, limit: u64) -> Result<ComparedRun, SimError>
-    ensures run { IfOk result (IsRun limit job.now) }
+fn run_one(alloc: Global, job: &Job, options: &TableOptions) -> Result<ComparedRun, SimError>
+    ensures run { IfOk result (IsRun options.now job.now) }
     ensures errors { IfErr result (λ e. e ≡ SimError.Memory) }
 {
     let values = job.description.values().predictor;
     match boxed(alloc, values) {
-        Ok(predictor) => run_guided(alloc, job, values, BoxedPredictor { predictor }, limit),
+        Ok(predictor) => run_guided(alloc, job, values, BoxedPredictor { predictor }, options),
         Err(_) => Err(SimError::Memory),
     }
 }
 
 // Runs jobs one after the other.
-fn run_each(alloc: Global, jobs: &[Job], limit: u64) -> Result<Vec<ComparedRun>, SimError>
-    ensures runs { IfOk result (λ runs. AreRuns limit jobs.now runs.items) }
+fn run_each(
+    alloc: Global,
+    jobs: &[Job],
+    options: &TableOptions,
+) -> Result<Vec<ComparedRun>, SimError>
+    ensures runs { IfOk result (λ runs. AreRuns options.now jobs.now runs.items) }
     ensures errors { IfErr result (λ e. e ≡ SimError.Memory) }
 {
     let mut runs = Vec::new(alloc);
     for job in jobs {
-        let Ok(ended) = run_one(alloc, job, limit) else {
+        let Ok(ended) = run_one(alloc, job, options) else {
             return Err(SimError::Memory);
         };
         let Ok(()) = runs.push(ended) else {
@@ -73,26 +77,27 @@ fn run_each(alloc: Global, jobs: &[Job], limit: u64) -> Result<Vec<ComparedRun>,
 }
 
 /// Runs the program of a comparison on each of its machines, one after the other, each up to a breakpoint, a stale word or
-/// a limit of cycles, and writes a table of what the runs came to: a line for each machine, in their order. Asks for no
+/// the limit of cycles, and writes a table of what the runs came to and of what is to be shown of their ends: a line for each
+/// machine, in their order. Asks for no
 /// memory once it has written.
 ///
 /// Fails by `Memory`, and has written nothing then, or by `WriteFailed`, and has written a beginning of the table.
 pub fn compare<W: Write>(
     alloc: Global,
     comparison: &Comparison,
-    limit: u64,
+    options: &TableOptions,
     writer: &mut W,
 ) -> Result<(), SimError>
-    ensures table { IsAnswer (λ _ text. IsComparisonTable comparison.now limit text) result (W.contents writer.old) (W.contents writer.new) }
+    ensures table { IsAnswer (λ _ text. IsComparisonTable comparison.now options.now text) result (W.contents writer.old) (W.contents writer.new) }
     // The table is a function of the comparison: each machine has the predictor that it describes.
-    ensures one_table { limit ≤ 2 ^ 40 → IsAtMostOneText (IsComparisonTable comparison.now limit) }
+    ensures one_table { options.now.limit ≤ 2 ^ 40 → IsAtMostOneText (IsComparisonTable comparison.now options.now) }
 {
     let jobs = comparison.jobs.as_slice();
-    let Ok(runs) = run_each(alloc, jobs, limit) else {
+    let Ok(runs) = run_each(alloc, jobs, options) else {
         return Err(SimError::Memory);
     };
     let names = comparison.names.as_slice();
     let rows = runs.as_slice();
-    write_table(names, rows, writer)?;
+    write_table(&options.shown, names, rows, writer)?;
     Ok(())
 }

@@ -1,7 +1,7 @@
 //! The program's output, and the buffer before it.
-ghost use Rattle.std.specs.Prelude.{[], Ok};
-ghost use Rattle.std.specs.Io.Buffered.{writer_contents};
-ghost use Rattle.rv_program.specs.Output.{HoldsBeginning, PassesOn};
+ghost use Rattle.std.specs.Prelude.{◌≡◌, Ok, IfErr};
+ghost use Rattle.std.specs.Io.Buffered.{writer_contents, writer_inner};
+ghost use Rattle.rv_program.specs.Output.{PassesOn};
 
 use crate::ended::Ended;
 use rv_job::SimError;
@@ -9,7 +9,7 @@ use std::io::{BufWriter, Write};
 
 // The output behind a buffer that is let go, of which nothing more is written.
 fn cut_off<W: Write + Drop>(buffer: BufWriter<W>) -> W
-    ensures { HoldsBeginning (writer_contents W.contents buffer) (W.contents result) [] }
+    ensures { result ≡ writer_inner buffer }
 {
     let (output, _) = buffer.into_parts();
     output
@@ -32,7 +32,8 @@ pub(crate) fn pass_on<W: Write + Drop>(
     ended: Result<Ended, SimError>,
     buffer: BufWriter<W>,
 ) -> (Result<Ended, SimError>, W)
-    ensures { PassesOn ended result.0 (writer_contents W.contents buffer) (W.contents result.1) }
+    ensures passed { PassesOn ended result.0 (writer_contents W.contents buffer) (W.contents result.1) }
+    ensures cut_off { IfErr ended (λ _. result.1 ≡ writer_inner buffer) }
 {
     match ended {
         Ok(ended) => match buffer.into_inner() {

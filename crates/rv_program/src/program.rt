@@ -1,4 +1,4 @@
-ghost use Rattle.std.specs.Prelude.{◌≡◌, IfOk, OnOk, IfErr};
+ghost use Rattle.std.specs.Prelude.{◌≡◌, Ok, IfOk, OnOk, IfErr};
 ghost use Rattle.rv_job.specs.Fault.{input_fault_line, input_fault_status};
 ghost use Rattle.rv_job.specs.FaultStream.{Tells};
 ghost use Rattle.rv_job.specs.Input.{IsInputOf};
@@ -15,6 +15,7 @@ use crate::task::{Task, begin, finish};
 use rv_command::Command;
 use rv_isa::PredictorValues;
 use rv_job::{FaultLines, SimError, read_input};
+use rv_text::TextError;
 use std::alloc::Global;
 use std::io::{BufWriter, Read, Write};
 
@@ -25,6 +26,8 @@ pub struct Exit<W> {
     pub status: u8,
     /// The output.
     pub output: Option<W>,
+    /// Whether the output has got whole why a job is refused, where that was to be explained. Else there was nothing to say.
+    pub refusal: Result<(), TextError>,
 }
 
 fn take_input<R: Read, E: Write>(
@@ -55,18 +58,29 @@ fn finish_guided<W: Write + Drop, E: Write>(
 ) -> Exit<W>
     requires described { known predictor.predictor ≡ untaught_of values }
     requires own { values ≡ predictor_of task.now }
-    ensures { EndsWithin W.contents task.now output result.output errors.old errors.new result.status }
+    ensures ended { EndsWithin W.contents task.now output result.output errors.old errors.new result.status }
+    ensures refusal { result.refusal ≡ Ok tt }
 {
     let Ok(mut buffer) = BufWriter::new(alloc, output) else {
         let status = errors.tell(SimError::Memory);
         let output = None;
-        return Exit { status, output };
+        let refusal = Ok(());
+        return Exit {
+            status,
+            output,
+            refusal,
+        };
     };
     let ended = finish(alloc, task, predictor, &mut buffer);
     let (ended, output) = pass_on(ended, buffer);
     let status = report(ended, errors);
     let output = Some(output);
-    Exit { status, output }
+    let refusal = Ok(());
+    Exit {
+        status,
+        output,
+        refusal,
+    }
 }
 
 // Does a task with the predictor of its machine.
@@ -76,7 +90,8 @@ fn finish_task<W: Write + Drop, E: Write>(
     output: W,
     errors: &mut FaultLines<E>,
 ) -> Exit<W>
-    ensures { EndsWithin W.contents task.now output result.output errors.old errors.new result.status }
+    ensures ended { EndsWithin W.contents task.now output result.output errors.old errors.new result.status }
+    ensures refusal { result.refusal ≡ Ok tt }
 {
     let values = task.predictor();
     match boxed(alloc, values) {
@@ -87,7 +102,12 @@ fn finish_task<W: Write + Drop, E: Write>(
         Err(_) => {
             let status = errors.tell(SimError::Memory);
             let output = Some(output);
-            Exit { status, output }
+            let refusal = Ok(());
+            Exit {
+                status,
+                output,
+                refusal,
+            }
         }
     }
 }
@@ -95,7 +115,7 @@ fn finish_task<W: Write + Drop, E: Write>(
 /// Does what a command asks of an input: reads it from `reader`, and writes the report, picture, log, sentences or table, or
 /// the line that says which image it makes, to `output`, in blocks, and flushes it. A fault is reported on `errors`, and that the run of a
 /// picture ended before the cycles of the picture; where a job was
-/// to be explained and is refused, `output` gets why, as far as memory and the writes allow. The exit status is 0 for what was done, 1 for a refused job, 3 for a run that a stale word ended, 4 where input or output failed, 5
+/// to be explained and is refused, `output` gets why, and is flushed, unless memory or a write failed, which `refusal` says. The exit status is 0 for what was done, 1 for a refused job, 3 for a run that a stale word ended, 4 where input or output failed, 5
 /// when out of memory.
 pub fn run<R: Read, W: Write + Drop, E: Write>(
     alloc: Global,
@@ -104,13 +124,18 @@ pub fn run<R: Read, W: Write + Drop, E: Write>(
     output: W,
     errors: &mut FaultLines<E>,
 ) -> Exit<W>
-    ensures { Runs W.contents command.now (R.remaining reader.old) output result.output errors.old errors.new result.status }
+    ensures { Runs W.contents command.now (R.remaining reader.old) output result.output result.refusal errors.old errors.new result.status }
 {
     let input = match take_input(alloc, reader, errors) {
         Ok(input) => input,
         Err(status) => {
             let output = Some(output);
-            return Exit { status, output };
+            let refusal = Ok(());
+            return Exit {
+                status,
+                output,
+                refusal,
+            };
         }
     };
     match begin(alloc, command, input.as_slice(), errors) {
@@ -122,9 +147,19 @@ pub fn run<R: Read, W: Write + Drop, E: Write>(
         }
         Err(refused) => {
             let status = refused.status;
-            let output = hand_back(alloc, command, input.as_slice(), refused.error, output);
+            let (output, refusal) = hand_back(
+                alloc,
+                command,
+                input.as_slice(),
+                refused.error,
+                output,
+            );
             let output = Some(output);
-            Exit { status, output }
+            Exit {
+                status,
+                output,
+                refusal,
+            }
         }
     }
 }

@@ -1,5 +1,6 @@
 //! What is shown of a run.
-ghost use Rattle.std.specs.Prelude.{◌≡◌, ◌^◌, ◌≤◌, Some};
+ghost use Rattle.std.specs.Prelude.{◌≡◌, ◌^◌, ◌≤◌};
+ghost use Rattle.rv_front.specs.Predictors.{guide_of};
 ghost use Rattle.rv_front.specs.declared.predictors.DescribedPredictor.{DescribedPredictor};
 ghost use Rattle.rv_hardware.specs.Guided.{guided};
 ghost use Rattle.rv_text.specs.IsText.{IsText};
@@ -11,7 +12,7 @@ use crate::answer::answer;
 use crate::boxed_predictor::BoxedPredictor;
 use rv_arch::Stop;
 use rv_core::Pipeline;
-use rv_explain::write_explanation;
+use rv_explain::{Figures, write_explanation};
 use rv_front::Predictor;
 use rv_job::{ListedJob, SimError};
 use rv_log::write_log;
@@ -45,7 +46,7 @@ pub enum RunView {
     /// the stretch begins, no cycle is written.
     States(Stretch),
     /// What at most so many cycles came to, in plain sentences.
-    Explanation { limit: u64 },
+    Explanation { figures: Figures, limit: u64 },
     /// A table of what became of the instructions at each address in at most so many cycles.
     Profile { limit: u64 },
 }
@@ -92,13 +93,14 @@ fn write_view<W: Write>(
             listing,
             writer,
         )),
-        RunView::Explanation { limit } => whole_run(write_explanation(
+        RunView::Explanation { figures, limit } => whole_run(write_explanation(
             alloc,
             pipeline,
             predictor,
             description,
             arrivals,
             *limit,
+            *figures,
             listing,
             writer,
         )),
@@ -128,7 +130,7 @@ pub fn show<W: Write>(
 ) -> Result<RunEnd, SimError>
     ensures view { IsAnswer (IsViewOf listed.now (known predictor.predictor) view.now) result (W.contents writer.old) (W.contents writer.new) }
     // With a described predictor a view is a function of the job.
-    ensures one_view { (p : DescribedPredictor) → limit_of view.now ≤ 2 ^ 40 → IsAtMostOne (IsViewOf listed.now (Some p) view.now) }
+    ensures one_view { (p : DescribedPredictor) → limit_of view.now ≤ 2 ^ 40 → IsAtMostOne (IsViewOf listed.now (guide_of p) view.now) }
 {
     let mut predictor = predictor;
     // The image of a job fits, so that memory alone can be wanting.

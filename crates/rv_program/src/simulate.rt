@@ -1,4 +1,5 @@
-ghost use Rattle.std.specs.Prelude.{◌^◌, ◌≤◌, Some};
+ghost use Rattle.std.specs.Prelude.{◌^◌, ◌≤◌};
+ghost use Rattle.rv_front.specs.Predictors.{guide_of};
 ghost use Rattle.rv_front.specs.declared.predictors.DescribedPredictor.{DescribedPredictor};
 ghost use Rattle.rv_program.specs.Answer.{IsAnswer};
 ghost use Rattle.rv_program.specs.CoreReport.{IsAtMostOne, IsSimulation};
@@ -28,7 +29,7 @@ pub fn simulate<W: Write>(
 ) -> Result<Stop, SimError>
     ensures report { IsAnswer (IsSimulation job.now (known predictor.predictor) options.now) result (W.contents writer.old) (W.contents writer.new) }
     // With a described predictor the report is a function of the job.
-    ensures one_report { (p : DescribedPredictor) → options.now.limit ≤ 2 ^ 40 → IsAtMostOne (IsSimulation job.now (Some p) options.now) }
+    ensures one_report { (p : DescribedPredictor) → options.now.limit ≤ 2 ^ 40 → IsAtMostOne (IsSimulation job.now (guide_of p) options.now) }
 {
     let options = with_dump(&job.description.values().report, options);
     // The image of a job fits, so that memory alone can be wanting.

@@ -3,7 +3,7 @@ ghost use Rattle.rv_isa.specs.Description.{IsLegalPredictor};
 ghost use Rattle.rv_job.specs.Fault.{fault_line, fault_status};
 ghost use Rattle.rv_job.specs.FaultStream.{Tells};
 ghost use Rattle.rv_job.specs.JobRefusal.{RefusesJob};
-ghost use Rattle.rv_program.specs.Task.{Asks, AsksForView, Refuses, Ends, asked, done, ended_after, ended_by, form_of, predictor_of, rows_of, stop_status};
+ghost use Rattle.rv_program.specs.Task.{Asks, AsksForView, Refuses, Ends, asked, column_of, done, ended_after, ended_by, figures_of, form_of, predictor_of, rows_of, shown_word, stop_status, table_options};
 
 use crate::boxed_predictor::BoxedPredictor;
 use crate::compare::compare;
@@ -12,14 +12,15 @@ use crate::reference::reference;
 use crate::run_view::{RunView, Stretch, show};
 use crate::simulate::simulate;
 use rv_arch::Stop;
-use rv_command::Command;
+use rv_command::{Command, Shown, ShownColumns};
+use rv_explain::Figures;
 use rv_isa::{PredictorValues, Values};
 use rv_job::{
     Comparison, DescribedImage, FaultLines, Job, ListedJob, SimError, read_comparison,
     read_image_text, read_job, read_listed_job, write_image_line,
 };
 use rv_picture::{Form, Rows, RunEnd, View};
-use rv_report::Options;
+use rv_report::{Columns, Options, Shown as ShownWord, TableOptions};
 use rv_states::Form as StatesForm;
 use std::alloc::Global;
 use std::io::Write;
@@ -28,15 +29,29 @@ use std::io::Write;
 #[derive(Drop)]
 pub enum Task {
     /// Run a job on the core.
-    Run { job: Job, options: Options },
+    Run {
+        job: Job,
+        options: Options,
+    },
     /// Run a job on the machine that takes one step at a time.
-    Reference { job: Job, options: Options },
+    Reference {
+        job: Job,
+        options: Options,
+    },
     /// Say which image the job makes.
-    Check { made: DescribedImage },
+    Check {
+        made: DescribedImage,
+    },
     /// Run a job on the core, and show a view of the run.
-    Show { listed: ListedJob, view: RunView },
-    /// Run a program on several machines, up to so many cycles on each, and write a table of what the runs came to.
-    Compare { comparison: Comparison, limit: u64 },
+    Show {
+        listed: ListedJob,
+        view: RunView,
+    },
+    /// Run a program on several machines, and write a table of what the runs came to.
+    Compare {
+        comparison: Comparison,
+        options: TableOptions,
+    },
 }
 
 impl Task {
@@ -84,6 +99,46 @@ const fn rows(are_unsquashed: bool) -> Rows
     } else {
         Rows::All
     }
+}
+
+const fn figures_of(are_asked_for: bool) -> Figures
+    ensures { result ≡ figures_of are_asked_for }
+{
+    if are_asked_for {
+        Figures::Always
+    } else {
+        Figures::UnlessCrashed
+    }
+}
+
+const fn shown_word(asked: Shown) -> ShownWord
+    ensures { result ≡ shown_word asked }
+{
+    match asked {
+        Shown::Register(register) => ShownWord::Register(register),
+        Shown::Word(address) => ShownWord::Word(address),
+    }
+}
+
+const fn column(asked: Option<Shown>) -> Option<ShownWord>
+    ensures { result ≡ column_of asked }
+{
+    match asked {
+        Some(asked) => Some(shown_word(asked)),
+        None => None,
+    }
+}
+
+const fn table_options(asked: &ShownColumns, limit: u64) -> TableOptions
+    ensures { result ≡ table_options asked.now limit }
+{
+    let shown = Columns {
+        first: column(asked.first),
+        second: column(asked.second),
+        third: column(asked.third),
+        fourth: column(asked.fourth),
+    };
+    TableOptions { limit, shown }
 }
 
 // Reads a job of whose run a view is to be shown.
@@ -137,14 +192,18 @@ fn read_task(alloc: Global, command: &Command, input: &[u8]) -> Result<Task, Sim
             let (form, from, limit) = (StatesForm::Page, *from, *limit);
             read_view(alloc, RunView::States(Stretch { form, from, limit }), input)
         }
-        Command::Explain { limit } => {
-            read_view(alloc, RunView::Explanation { limit: *limit }, input)
+        Command::Explain { figures, limit } => {
+            let (figures, limit) = (figures_of(*figures), *limit);
+            read_view(alloc, RunView::Explanation { figures, limit }, input)
         }
         Command::Profile { limit } => read_view(alloc, RunView::Profile { limit: *limit }, input),
-        Command::Compare { limit } => {
+        Command::Compare { shown, limit } => {
             let comparison = read_comparison(alloc, input)?;
-            let limit = *limit;
-            Ok(Task::Compare { comparison, limit })
+            let options = table_options(shown, *limit);
+            Ok(Task::Compare {
+                comparison,
+                options,
+            })
         }
     }
 }
@@ -256,8 +315,9 @@ pub fn finish<W: Write>(
             Ok(DONE)
         }
         Task::Show { listed, view } => { ended_view(show(alloc, listed, predictor, view, output)) }
-        Task::Compare { comparison, limit } => {
-            ended_table(compare(alloc, comparison, *limit, output))
-        }
+        Task::Compare {
+            comparison,
+            options,
+        } => ended_table(compare(alloc, comparison, options, output)),
     }
 }

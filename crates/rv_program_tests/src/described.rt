@@ -15,7 +15,10 @@ const COMMANDS: [Command; 5] = [
         cycles: 1,
     },
     Command::Log { limit: 1 },
-    Command::Explain { limit: 1 },
+    Command::Explain {
+        figures: false,
+        limit: 1,
+    },
 ];
 
 // The predictor that the task of a command on an input has.

@@ -1,4 +1,5 @@
 mod accesses;
+mod crashes;
 mod endings;
 mod exceptions;
 mod predictions;
@@ -8,8 +9,11 @@ mod waits;
 use crate::helpers::{CORE, run_text};
 use rv_command::Command;
 
-/// A run up to so many cycles that is explained in sentences.
-pub(crate) const EXPLAIN: Command = Command::Explain { limit: 100 };
+/// A run up to so many cycles that is explained in sentences, with its figures.
+pub(crate) const EXPLAIN: Command = Command::Explain {
+    figures: true,
+    limit: 100,
+};
 
 /// A program, and a line of the explanation of its run.
 #[derive(Clone, Copy)]

@@ -30,9 +30,9 @@ pub(crate) const GUESSES: [Guesses; 4] = [
 ];
 
 impl Predictor for Guesses {
-    ghost use Rattle.std.specs.Prelude.{None};
+    ghost use Rattle.rv_front.specs.Guide.{unknown};
 
-    ghost known = { λ _. None };
+    ghost known = { λ _. unknown };
 
     fn predict(&self, pc: u32, _word: u32) -> u32 {
         match *self {

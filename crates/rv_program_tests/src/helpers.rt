@@ -1,6 +1,7 @@
 use rv_command::Command;
 use rv_job::FaultLines;
 use rv_program::run;
+use rv_text::TextError;
 use std::alloc::Global;
 use std::io;
 use std::io::{Read, Write};
@@ -14,11 +15,12 @@ pub(crate) const CORE: Command = Command::Run {
     limit: 100_000,
 };
 
-/// How the program ends: its exit status, and what it has written.
+/// How the program ends: its exit status, what it has written, and whether it has written why a job is refused.
 #[derive(Drop)]
 pub(crate) struct Ended {
     pub(crate) status: u8,
     pub(crate) output: Vec<u8>,
+    pub(crate) refusal: Result<(), TextError>,
     pub(crate) errors: Vec<u8>,
 }
 
@@ -35,6 +37,7 @@ pub(crate) fn run_read<R: Read>(alloc: Global, command: Command, reader: &mut R)
     Ended {
         status: exit.status,
         output: exit.output.unwrap_or(Vec::new(alloc)),
+        refusal: exit.refusal,
         errors: errors.into_writer(),
     }
 }
@@ -100,6 +103,33 @@ impl Write for HeldBack {
             return Err(io::Error::from(io::ErrorKind::BrokenPipe));
         }
         self.shown = self.taken.len();
+        Ok(())
+    }
+}
+
+/// A writer that answers an error once, after so many writes, and sees whether it is asked to write again.
+#[derive(Drop)]
+pub(crate) struct FailsOnce {
+    pub(crate) before: u64,
+    pub(crate) has_failed: bool,
+    pub(crate) is_asked_again: bool,
+}
+
+impl Write for FailsOnce {
+    fn write(&mut self, buf: &[u8]) -> io::Result<usize> {
+        if self.has_failed {
+            self.is_asked_again = true;
+            return Ok(buf.len());
+        }
+        if self.before == 0 {
+            self.has_failed = true;
+            return Err(io::Error::from(io::ErrorKind::BrokenPipe));
+        }
+        self.before -= 1;
+        Ok(buf.len())
+    }
+
+    fn flush(&mut self) -> io::Result<()> {
         Ok(())
     }
 }

@@ -27,7 +27,10 @@ const SHOWN: [(Command, &str); 3] = [
     (WHOLE, ""),
     (Command::Check, ""),
     (
-        Command::Explain { limit: 100_000 },
+        Command::Explain {
+            figures: true,
+            limit: 100_000,
+        },
         "expected: at most 33554432 bytes\n",
     ),
 ];

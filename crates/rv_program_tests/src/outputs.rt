@@ -1,8 +1,10 @@
-use crate::helpers::{CORE, Closed, Ended, HeldBack, Narrow, WHOLE, run_text};
+use crate::explanations::EXPLAIN;
+use crate::helpers::{CORE, Closed, Ended, FailsOnce, HeldBack, Narrow, WHOLE, run_text};
 use crate::programs::STORE_INTO_CODE;
 use rv_command::Command;
 use rv_job::FaultLines;
 use rv_program::run;
+use rv_text::TextError;
 use std::alloc::Global;
 use std::test::Fail;
 
@@ -34,6 +36,7 @@ fn run_into(alloc: Global, command: Command, width: usize, room: usize) -> Ended
     Ended {
         status: exit.status,
         output: output.taken,
+        refusal: exit.refusal,
         errors: errors.into_writer(),
     }
 }
@@ -51,14 +54,15 @@ fn run_held(alloc: Global, command: Command, text: &str, can_flush: bool) -> End
     Ended {
         status: exit.status,
         output: taken,
+        refusal: exit.refusal,
         errors: errors.into_writer(),
     }
 }
 
 // Whether an output that holds back shows the whole report of a run.
-fn is_shown(alloc: Global, command: Command, text: &str, status: u8) -> bool {
-    let whole = run_text(alloc, command, text.as_bytes());
-    let ended = run_held(alloc, command, text, true);
+fn is_shown(alloc: Global, command: &Command, text: &str, status: u8) -> bool {
+    let whole = run_text(alloc, *command, text.as_bytes());
+    let ended = run_held(alloc, *command, text, true);
     ended.status == status
         && ended.output.as_slice() == whole.output.as_slice()
         && !ended.output.is_empty()
@@ -67,11 +71,11 @@ fn is_shown(alloc: Global, command: Command, text: &str, status: u8) -> bool {
 
 #[test]
 fn an_output_that_holds_back_is_flushed(rt: HostRuntime) {
-    for command in [CORE, WHOLE] {
+    for command in &[CORE, WHOLE] {
         assert!(rt; is_shown(rt.alloc(), command, "addi x1,x0,5\nebreak\n", 0));
         assert!(rt; is_shown(rt.alloc(), command, STORE_INTO_CODE, 3));
     }
-    assert!(rt; is_shown(rt.alloc(), Command::Check, "ebreak\n", 0));
+    assert!(rt; is_shown(rt.alloc(), &Command::Check, "ebreak\n", 0));
 }
 
 #[test]
@@ -97,10 +101,66 @@ fn an_output_that_takes_few_bytes_gets_the_whole_report(rt: HostRuntime) {
     }
 }
 
+const REFUSED: &str = "frobnicate\n";
+
+#[test]
+fn why_a_job_is_refused_is_flushed(rt: HostRuntime) {
+    let whole = run_text(rt.alloc(), EXPLAIN, REFUSED.as_bytes());
+    assert!(rt; !whole.output.is_empty());
+    let ended = run_held(rt.alloc(), EXPLAIN, REFUSED, true);
+    assert!(rt; ended.output.as_slice() == whole.output.as_slice());
+    for told in [whole, ended] {
+        assert_eq!(rt; told.status, 1);
+        assert!(rt; told.refusal == Ok(()));
+    }
+}
+
+#[test]
+fn why_a_job_is_refused_may_fail_to_be_written(rt: HostRuntime) {
+    let ended = run_held(rt.alloc(), EXPLAIN, REFUSED, false);
+    assert_eq!(rt; ended.status, 1);
+    assert!(rt; ended.refusal == Err(TextError::WriteFailed));
+}
+
+const LOOP: &[u8] = b"again: addi x1,x1,1\nj again\n";
+
+// Whether an output failed that answers an error after so many writes, and whether it was asked to write again.
+fn after_failure(
+    alloc: Global,
+    command: Command,
+    mut input: &[u8],
+    before: u64,
+) -> Option<(bool, bool)> {
+    let output = FailsOnce {
+        before,
+        has_failed: false,
+        is_asked_again: false,
+    };
+    let mut errors = FaultLines::new(Vec::new(alloc));
+    let exit = run(alloc, &command, &mut input, output, &mut errors);
+    let output = exit.output?;
+    Some((output.has_failed, output.is_asked_again))
+}
+
+#[test]
+fn nothing_is_written_after_a_write_that_failed(rt: HostRuntime) {
+    const LOG: Command = Command::Log { limit: 1000 };
+    for (command, input, before) in [
+        (LOG, LOOP, 0),
+        (LOG, LOOP, 1),
+        (LOG, LOOP, 2),
+        (WHOLE, TEXT, 0),
+        (Command::Check, TEXT, 0),
+    ] {
+        let output = after_failure(rt.alloc(), command, input, before);
+        assert_eq!(rt; output, Some((true, false)), "after {before}");
+    }
+}
+
 // Whether a full output has a beginning of a report and the status says so.
-fn is_cut(alloc: Global, command: Command, room: usize) -> bool {
-    let whole = run_text(alloc, command, TEXT);
-    let cut = run_into(alloc, command, 9, room);
+fn is_cut(alloc: Global, command: &Command, room: usize) -> bool {
+    let whole = run_text(alloc, *command, TEXT);
+    let cut = run_into(alloc, *command, 9, room);
     cut.status == 4
         && cut.output.len() == room
         && whole.output.as_slice().starts_with(cut.output.as_slice())
@@ -110,9 +170,9 @@ fn is_cut(alloc: Global, command: Command, room: usize) -> bool {
 #[test]
 fn an_output_that_is_full_has_a_beginning_of_the_report(rt: HostRuntime) {
     for room in [0, 1, 15, 16, 100, 400] {
-        assert!(rt; is_cut(rt.alloc(), WHOLE, room), "at {room}");
+        assert!(rt; is_cut(rt.alloc(), &WHOLE, room), "at {room}");
     }
-    assert!(rt; is_cut(rt.alloc(), Command::Check, 3));
+    assert!(rt; is_cut(rt.alloc(), &Command::Check, 3));
 }
 
 // The status of a run whose faults cannot be reported, and whether there were none to report.

@@ -1,12 +1,13 @@
-use crate::words::loaded_core;
+use crate::words::loaded_pipeline;
 use rv_arch::Stop;
-use rv_core::{Core, Outcome, run};
+use rv_core::{Outcome, Pipeline, run};
+use rv_front::NotTaken;
 use rv_hardware::{StallCounts, Step};
 use rv_isa::{Arrivals, Recovery};
 use std::alloc::Global;
 use std::process::Abort;
 
-// What runs of a core reported, one after the other.
+// What runs of a pipeline reported, one after the other.
 #[derive(Drop)]
 struct Told {
     steps: Vec<Step>,
@@ -50,7 +51,7 @@ impl Told {
 // Adds what one more run reports, unless a breakpoint ended the one before.
 fn add_run(
     alloc: Global,
-    core: &mut Core,
+    pipeline: &mut Pipeline,
     arrivals: &Arrivals,
     cycles: u64,
     told: &mut Told,
@@ -58,15 +59,20 @@ fn add_run(
     if told.is_over {
         return Some(());
     }
-    let outcome = run(alloc, core, arrivals, cycles).ok()?;
+    let outcome = run(alloc, pipeline, &mut NotTaken, arrivals, cycles).ok()?;
     told.add(&outcome)
 }
 
 // What runs of so many cycles each report, up to a breakpoint.
-fn told_by(alloc: Global, core: &mut Core, arrivals: &Arrivals, cycles: u64) -> Option<Told> {
+fn told_by(
+    alloc: Global,
+    pipeline: &mut Pipeline,
+    arrivals: &Arrivals,
+    cycles: u64,
+) -> Option<Told> {
     let mut told = Told::nothing(alloc);
     for _ in 0..200 {
-        add_run(alloc, core, arrivals, cycles, &mut told)?;
+        add_run(alloc, pipeline, arrivals, cycles, &mut told)?;
     }
     Some(told)
 }
@@ -79,8 +85,11 @@ fn told_in_pieces(
     cycles: u64,
 ) -> Told {
     let arrivals = Arrivals::new(Vec::new(alloc)).expect(rt, "no arrivals");
-    let mut core = loaded_core(alloc, bytes, 0x8000_0000, recovery, None).expect(rt, "a core");
-    told_by(alloc, &mut core, &arrivals, cycles).expect(rt, "memory for runs")
+    let mut pipeline = loaded_pipeline(alloc, bytes, 0x8000_0000, recovery).expect(
+        rt,
+        "a pipeline",
+    );
+    told_by(alloc, &mut pipeline, &arrivals, cycles).expect(rt, "memory for runs")
 }
 
 // addi x1,x0,5; addi x1,x1,-1; bne x1,x0,-4; ebreak

@@ -78,9 +78,9 @@ fn a_report_without_a_trace_begins_with_the_stop(rt: HostRuntime) -> Result<(), 
 fn a_stale_word_gives_status_3_and_the_report(rt: HostRuntime) {
     const STALE: [&str; 3] = ["stop stale 80000014", "pc 80000014", "x7 00000000"];
     const FENCED: [&str; 2] = ["stop breakpoint", "x7 00000001"];
-    for command in [WHOLE, CORE] {
-        check_run(&rt, rt.alloc(), command, STORE_INTO_CODE, 3, &STALE);
-        check_run(&rt, rt.alloc(), command, STORE_AND_FENCE, 0, &FENCED);
+    for command in &[WHOLE, CORE] {
+        check_run(&rt, rt.alloc(), *command, STORE_INTO_CODE, 3, &STALE);
+        check_run(&rt, rt.alloc(), *command, STORE_AND_FENCE, 0, &FENCED);
     }
 }
 
@@ -89,11 +89,11 @@ fn words_of_memory_follow_and_go_on_past_the_last_address(rt: HostRuntime) {
     let inside =
         "report.dump_address = 0x80000004\nreport.dump_words = 2\n%%\naddi x1,x0,5\nebreak\n";
     let wrapped = "[report]\ndump_address = 0xfffffffc\ndump_words = 2\n%%\naddi x1,x0,5\nebreak\n";
-    for command in [WHOLE, CORE] {
+    for command in &[WHOLE, CORE] {
         let lines = ["m 80000004 00100073", "m 80000008 00000000"];
-        check_run(&rt, rt.alloc(), command, inside, 0, &lines);
+        check_run(&rt, rt.alloc(), *command, inside, 0, &lines);
         let lines = ["m fffffffc --------", "m 00000000 --------"];
-        check_run(&rt, rt.alloc(), command, wrapped, 0, &lines);
+        check_run(&rt, rt.alloc(), *command, wrapped, 0, &lines);
     }
 }
 

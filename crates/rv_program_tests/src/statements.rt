@@ -22,7 +22,10 @@ const COMMANDS: [Command; 4] = [
         cycles: 9,
     },
     Command::Log { limit: 9 },
-    Command::Explain { limit: 9 },
+    Command::Explain {
+        figures: true,
+        limit: 9,
+    },
 ];
 
 #[test]

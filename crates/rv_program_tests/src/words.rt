@@ -1,7 +1,7 @@
 use crate::guesses::{Guesses, next_word};
 use rv_arch::{Observed, Reference};
-use rv_core::{Core, run};
-use rv_front::NotTaken;
+use rv_core::{Pipeline, run};
+use rv_front::{NotTaken, Predictor};
 use rv_hardware::Step;
 use rv_isa::{Arrivals, Csr, Description, Image, Recovery, Values};
 use std::alloc::Global;
@@ -31,36 +31,16 @@ fn described(ram_base: u32, recovery: Recovery) -> Option<Description> {
     })
 }
 
-// A core that guesses by random words from one on, or, where there is none, that no branch is taken.
-fn guessing_core(
-    alloc: Global,
-    description: &Description,
-    image: &Image,
-    guess: Option<u32>,
-) -> Option<Core> {
-    match guess {
-        Some(word) => {
-            let guesses = Box::new(alloc, Guesses::Word(word)).ok()?;
-            Core::new(alloc, description, image, guesses).ok()
-        }
-        None => {
-            let not_taken = Box::new(alloc, NotTaken).ok()?;
-            Core::new(alloc, description, image, not_taken).ok()
-        }
-    }
-}
-
-// The core with an image at the front of its RAM.
-pub(crate) fn loaded_core(
+// The pipeline with an image at the front of its RAM.
+pub(crate) fn loaded_pipeline(
     alloc: Global,
     bytes: &[u8],
     ram_base: u32,
     recovery: Recovery,
-    guess: Option<u32>,
-) -> Option<Core> {
+) -> Option<Pipeline> {
     let description = described(ram_base, recovery)?;
     let image = Image::from_bytes(alloc, ram_base, bytes, ram_base).ok()?;
-    guessing_core(alloc, &description, &image, guess)
+    Pipeline::new(alloc, &description, &image).ok()
 }
 
 // The one-at-a-time machine with the same image.
@@ -81,15 +61,20 @@ fn stamps_of(alloc: Global, steps: &[Step]) -> Option<Vec<u64>> {
     Some(stamps)
 }
 
-// The stamps of the steps that a core reports of a run.
-fn run_stamped(alloc: Global, core: &mut Core, arrivals: &Arrivals) -> Option<Vec<u64>> {
-    let outcome = run(alloc, core, arrivals, CYCLES).ok()?;
+// The stamps of the steps that a pipeline reports of a run that a predictor guides.
+fn run_stamped(
+    alloc: Global,
+    pipeline: &mut Pipeline,
+    predictor: &mut dyn Predictor,
+    arrivals: &Arrivals,
+) -> Option<Vec<u64>> {
+    let outcome = run(alloc, pipeline, predictor, arrivals, CYCLES).ok()?;
     stamps_of(alloc, outcome.steps.as_slice())
 }
 
-fn is_same_at(core: &Core, reference: &Reference, address: u32) -> bool {
-    core.byte(address) == reference.byte(address)
-        && core.is_stale(address) == reference.is_stale(address)
+fn is_same_at(pipeline: &Pipeline, reference: &Reference, address: u32) -> bool {
+    pipeline.byte(address) == reference.byte(address)
+        && pipeline.is_stale(address) == reference.is_stale(address)
 }
 
 // The control and status registers that a program or a trap can change.
@@ -122,48 +107,49 @@ fn is_seen_alike(left: &Observed, right: &Observed) -> bool {
 }
 
 // Whether programs see the same, in memory from four bytes before RAM to four bytes after it.
-fn is_same(core: &Core, reference: &Reference, ram_base: u32) -> bool {
+fn is_same(pipeline: &Pipeline, reference: &Reference, ram_base: u32) -> bool {
     for offset in 0..RAM_SIZE + 8 {
         let address = ram_base.wrapping_sub(4).wrapping_add(offset);
-        if !is_same_at(core, reference, address) {
+        if !is_same_at(pipeline, reference, address) {
             return false;
         }
     }
-    is_seen_alike(&core.observe(), &reference.observe())
+    is_seen_alike(&pipeline.observe(), &reference.observe())
 }
 
-// Whether the reference takes all reported steps and then shows what the core shows.
+// Whether the reference takes all reported steps and then shows what the pipeline shows.
 fn is_confirmed(
-    core: &Core,
+    pipeline: &Pipeline,
     reference: &mut Reference,
     stamps: &[u64],
     arrivals: &Arrivals,
     ram_base: u32,
 ) -> bool {
-    reference.run_stamps(stamps, arrivals) == stamps.len() && is_same(core, reference, ram_base)
+    reference.run_stamps(stamps, arrivals) == stamps.len() && is_same(pipeline, reference, ram_base)
 }
 
-// Whether the reference confirms a run of the core.
+// Whether the reference confirms a run of the pipeline.
 fn is_run_confirmed(
     rt: &impl Abort,
     alloc: Global,
-    core: &mut Core,
+    pipeline: &mut Pipeline,
+    predictor: &mut dyn Predictor,
     reference: &mut Reference,
     arrivals: &Arrivals,
     ram_base: u32,
 ) -> bool {
-    let stamps = run_stamped(alloc, core, arrivals).expect(rt, "memory for a run");
-    is_confirmed(core, reference, stamps.as_slice(), arrivals, ram_base)
+    let stamps = run_stamped(alloc, pipeline, predictor, arrivals).expect(rt, "memory for a run");
+    is_confirmed(pipeline, reference, stamps.as_slice(), arrivals, ram_base)
 }
 
-// Whether a core that runs random words from one on ends as the reference does.
+// Whether a core that runs random words from one on, and is guided by a predictor, ends as the reference does.
 fn agrees(
     rt: &impl Abort,
     alloc: Global,
     first: u32,
     ram_base: u32,
     recovery: Recovery,
-    guess: Option<u32>,
+    predictor: &mut dyn Predictor,
 ) -> bool {
     let bytes = meaningless(alloc, first).expect(rt, "memory for words");
     let arrivals = Arrivals::new(Vec::new(alloc)).expect(rt, "no arrivals");
@@ -171,21 +157,34 @@ fn agrees(
         rt,
         "a reference",
     );
-    let mut core = loaded_core(alloc, bytes.as_slice(), ram_base, recovery, guess).expect(
-        rt, "a core",
+    let mut pipeline = loaded_pipeline(alloc, bytes.as_slice(), ram_base, recovery).expect(
+        rt,
+        "a pipeline",
     );
-    is_run_confirmed(rt, alloc, &mut core, &mut reference, &arrivals, ram_base)
+    is_run_confirmed(
+        rt,
+        alloc,
+        &mut pipeline,
+        predictor,
+        &mut reference,
+        &arrivals,
+        ram_base,
+    )
 }
 
-// Checks that it does so however it guesses and recovers.
+// Checks that it does so however it recovers, where no branch is predicted as taken, and where it guesses by random words.
 fn check_words(rt: &impl Abort, alloc: Global, first: u32, ram_base: u32) {
     for recovery in [Recovery::Commit, Recovery::Early] {
-        for guess in [None, Some(first)] {
-            assert!(rt;
-                agrees(rt, alloc, first, ram_base, recovery, guess),
-                "{first}"
+        let ends_alike = agrees(rt, alloc, first, ram_base, recovery, &mut NotTaken)
+            && agrees(
+                rt,
+                alloc,
+                first,
+                ram_base,
+                recovery,
+                &mut Guesses::Word(first),
             );
-        }
+        assert!(rt; ends_alike, "{first}");
     }
 }
 

@@ -1,6 +1,6 @@
 -- What is counted of a run for a comparison: nothing yet, one cycle more, and the end.
-use Rattle.std.proofs.Common.{◌≡◌, ◌∙◌, ℕ, ◌+◌, ◌-◌, ◌^◌, ◌≤◌, ◌<◌, Bool, true, false, List, [], ◌∷◌, ◌++◌, length, sym, ap, arith, length-append, Option}
-use Rattle.std.specs.Prelude.{if◌then◌else◌}
+use Rattle.std.proofs.Common.{◌≡◌, ◌∙◌, ℕ, ◌+◌, ◌-◌, ◌^◌, ◌≤◌, ◌<◌, ◌*◌, Bool, true, false, List, [], ◌∷◌, ◌++◌, length, sym, ap, arith, length-append, Option, Some, None}
+use Rattle.std.specs.Prelude.{if◌then◌else◌, nat_lt, ◌==◌}
 use Rattle.std.proofs.lemmas.List.Sums.{count_by-le-length}
 use Rattle.rv_isa.specs.declared.{lines.Arrival.Arrival, values.Values.Values}
 use Rattle.rv_arch.specs.declared.outcome.Stop.{Stop}
@@ -8,7 +8,7 @@ use Rattle.rv_core.specs.Progress.{progress_of}
 use Rattle.rv_core.specs.Watching.{IsShown, Watched, watched, with_shown}
 use Rattle.rv_core.specs.declared.outcome.Progress.{Progress}
 use Rattle.rv_core.proofs.Shown.{cycle_counts, shown_steps-push}
-use Rattle.rv_hardware.specs.Drain.{drain_end}
+use Rattle.rv_hardware.specs.Draining.{drain_end}
 use Rattle.rv_hardware.specs.Guided.{GuidedHardware}
 use Rattle.rv_hardware.specs.Hardware.{Hardware}
 use Rattle.rv_hardware.specs.History.{History, Moment, cycled, ended, reports_of}
@@ -16,43 +16,122 @@ use Rattle.rv_hardware.specs.Run.{IsStop, steps_of}
 use Rattle.rv_hardware.specs.Step.{is_interrupt, is_retirement, is_trap}
 use Rattle.rv_hardware.specs.declared.step.Step.{Step}
 use Rattle.rv_report.specs.Comparison.{RunsTo}
-use Rattle.rv_report.specs.Misses.{is_missed_drain, is_missed_load, missed_after, misses_between, misses_by, misses_in, misses_so_far}
+use Rattle.rv_report.specs.Events.{AreAtMost, begun, both_events, counted_after, events_between, events_by, events_in, events_of_drain, events_of_steps, events_so_far, happens, no_events}
 use Rattle.rv_report.specs.Speculation.{CanCount, Speculated, in_flight, speculated_after, speculated_at, speculated_in}
 use Rattle.rv_report.specs.Tally.{IsTallied, losses_with}
 use Rattle.rv_report.specs.Totals.{HasRoom, both_counts, counts_of, totals_with}
-use Rattle.rv_report.specs.declared.{losses.Losses.Losses, misses.Misses.Misses, totals.StepCounts.StepCounts, totals.Totals.Totals}
+use Rattle.rv_report.specs.Shown.{words_of}
+use Rattle.rv_report.specs.declared.shown.{Columns.Columns, TableOptions.TableOptions}
+use Rattle.rv_report.specs.declared.{events.EventCounter.EventCounter, events.Events.Events, losses.Losses.Losses, totals.StepCounts.StepCounts, totals.Totals.Totals}
+use Rattle.rv_report.specs.declared.events.Event.TheVariants.{Branch, Load, Miss, WriteBack}
+use Rattle.rv_counts.specs.declared.loads.LoadCosts.{LoadCosts}
 use Rattle.rv_report.proofs.LiveReport.{counts_of-append}
 use Rattle.rv_report.proofs.Speculated.{speculated-push}
 
--- the misses of one more cycle
-misses-push : {arrivals : List Arrival} {old now : GuidedHardware} {moments : List Moment} (values : Values) (last : Moment) → History arrivals old moments now
-    → misses_in values old.hardware (moments ++ last ∷ []) ≡ misses_in values old.hardware moments + misses_between values now.hardware last
-misses-push values last ended = omega arith
-misses-push values last (cycled {moment = moment} {moments = moments} first rest) = omega (arith, misses-push values last rest)
+abbrev sum_with : Events → Events → Events → Type 0
+sum_with a b c = both_events (both_events a b) c ≡ both_events a (both_events b c)
+
+both-both : (a b c : Events) → sum_with a b c
+both-both a b c =
+    let branches : a.branches + b.branches + c.branches ≡ a.branches + (b.branches + c.branches) = omega arith in
+    let loads : a.loads + b.loads + c.loads ≡ a.loads + (b.loads + c.loads) = omega arith in
+    let drains : a.drains + b.drains + c.drains ≡ a.drains + (b.drains + c.drains) = omega arith in
+    let hits : a.hits + b.hits + c.hits ≡ a.hits + (b.hits + c.hits) = omega arith in
+    let misses : a.misses + b.misses + c.misses ≡ a.misses + (b.misses + c.misses) = omega arith in
+    let write_backs : a.write_backs + b.write_backs + c.write_backs ≡ a.write_backs + (b.write_backs + c.write_backs) = omega arith in
+    λ i. record { branches = branches i; loads = loads i; drains = drains i; hits = hits i; misses = misses i; write_backs = write_backs i }
+
+both-nothing : (a : Events) → both_events a no_events ≡ both_events no_events a
+both-nothing a =
+    let branches : a.branches + 0 ≡ 0 + a.branches = omega arith in
+    let loads : a.loads + 0 ≡ 0 + a.loads = omega arith in
+    let drains : a.drains + 0 ≡ 0 + a.drains = omega arith in
+    let hits : a.hits + 0 ≡ 0 + a.hits = omega arith in
+    let misses : a.misses + 0 ≡ 0 + a.misses = omega arith in
+    let write_backs : a.write_backs + 0 ≡ 0 + a.write_backs = omega arith in
+    λ i. record { branches = branches i; loads = loads i; drains = drains i; hits = hits i; misses = misses i; write_backs = write_backs i }
+
+-- what one more cycle did
+events-push : {arrivals : List Arrival} {old now : GuidedHardware} {moments : List Moment} (values : Values) (last : Moment) → History arrivals old moments now
+    → events_in values old.hardware (moments ++ last ∷ []) ≡ both_events (events_in values old.hardware moments) (events_between values now.hardware last)
+events-push {old = old} values last ended = both-nothing (events_between values old.hardware last)
+events-push {old = old} {now = now} values last (cycled {moment = moment} {moments = moments} first rest) =
+    ap (both_events (events_between values old.hardware moment)) (events-push values last rest)
+    ∙ sym (both-both (events_between values old.hardware moment) (events_in values moment.after moments) (events_between values now.hardware last))
 
 one-or-none : (b : Bool) → (if b then 1 else 0) ≤ 1
 one-or-none true = omega arith
 one-or-none false = omega arith
 
-misses-few : (hit forward cycle : ℕ) (steps : List Step) (before after : Option ℕ) → misses_by hit forward cycle steps before after ≤ length steps + 1
-misses-few hit forward cycle steps before after =
-    omega (arith, count_by-le-length (is_missed_load hit forward) steps, one-or-none (is_missed_drain hit cycle before after))
+none-or-one : (b : Bool) → (if b then 0 else 1) ≤ 1
+none-or-one true = omega arith
+none-or-one false = omega arith
+
+pub steps-few : (costs : LoadCosts) (steps : List Step) → AreAtMost (length steps) (events_of_steps costs steps)
+steps-few costs steps = record {
+  branches = count_by-le-length (happens costs Branch) steps;
+  loads = count_by-le-length (happens costs Load) steps;
+  drains = omega arith;
+  hits = omega (arith, count_by-le-length (happens costs Load) steps);
+  misses = count_by-le-length (happens costs Miss) steps;
+  write_backs = count_by-le-length (happens costs WriteBack) steps;
+}
+
+pub drain-few : (costs : LoadCosts) (cost : Option ℕ) → AreAtMost 1 (events_of_drain costs cost)
+drain-few costs None =
+    record { branches = omega arith; loads = omega arith; drains = omega arith; hits = omega arith; misses = omega arith; write_backs = omega arith }
+drain-few costs (Some cost) = record {
+  branches = omega arith;
+  loads = omega arith;
+  drains = omega arith;
+  hits = one-or-none (cost == costs.hit);
+  misses = none-or-one (cost == costs.hit);
+  write_backs = one-or-none (nat_lt costs.clean_miss cost);
+}
+
+pub both-few : (some others : Events) (most more : ℕ) → AreAtMost most some → AreAtMost more others → AreAtMost (most + more) (both_events some others)
+both-few some others most more few few' = record {
+  branches = omega (arith, few.branches, few'.branches);
+  loads = omega (arith, few.loads, few'.loads);
+  drains = omega (arith, few.drains, few'.drains);
+  hits = omega (arith, few.hits, few'.hits);
+  misses = omega (arith, few.misses, few'.misses);
+  write_backs = omega (arith, few.write_backs, few'.write_backs);
+}
+
+pub few-below : (events : Events) (most more : ℕ) → AreAtMost most events → most ≤ more → AreAtMost more events
+few-below events most more few below = record {
+  branches = omega (arith, few.branches, below);
+  loads = omega (arith, few.loads, below);
+  drains = omega (arith, few.drains, below);
+  hits = omega (arith, few.hits, below);
+  misses = omega (arith, few.misses, below);
+  write_backs = omega (arith, few.write_backs, below);
+}
+
+cycle-few : (costs : LoadCosts) (cycle : ℕ) (steps : List Step) (before after : Option ℕ) → AreAtMost (length steps + 1) (events_by costs cycle steps before after)
+cycle-few costs cycle steps before after =
+    both-few (events_of_steps costs steps) (events_of_drain costs (begun cycle before after)) (length steps) 1 (steps-few costs steps)
+    (drain-few costs (begun cycle before after))
+
+none-few : AreAtMost 0 no_events
+none-few = record { branches = omega arith; loads = omega arith; drains = omega arith; hits = omega arith; misses = omega arith; write_backs = omega arith }
 
 -- no cycle yet
-pub tallied_nothing : (arrivals : List Arrival) (h : GuidedHardware) (counts : StepCounts) (s : Speculated) (misses : Misses) → counts ≡ counts_of [] → s ≡ speculated_at h.hardware → s.fetched ≤ 288
-    → misses ≡ misses_so_far h.hardware.values (drain_end h.hardware) 0 → IsTallied counts s misses (watched arrivals h [] h)
-tallied_nothing arrivals h counts s misses none begun few missed = record {
+pub tallied_nothing : (arrivals : List Arrival) (h : GuidedHardware) (counts : StepCounts) (s : Speculated) (events : EventCounter) → counts ≡ counts_of [] → s ≡ speculated_at h.hardware → s.fetched ≤ 288
+    → events ≡ events_so_far h.hardware.values (drain_end h.hardware) no_events → IsTallied counts s events (watched arrivals h [] h)
+tallied_nothing arrivals h counts s events none begun few happened = record {
   counted = none;
   speculated = begun;
-  missed = missed;
+  happened = happened;
   fetched = omega (arith, few);
   mispredicted = omega (arith, ap (λ (it : Speculated). it.mispredicted) begun);
-  misses_few = omega (arith, ap (λ (it : Misses). it.count) missed);
+  events_few = rw happened (few-below no_events 0 (9 * h.hardware.cycle) none-few (omega arith));
   steps_few = omega arith;
 }
 
 module _ {seen : Watched} {cycle : ℕ} {steps : List Step} {after : Hardware} {progress : Progress} (shown : IsShown seen cycle steps after progress)
-    {counts : StepCounts} {s : Speculated} {misses : Misses} (tallied : IsTallied counts s misses seen) where
+    {counts : StepCounts} {s : Speculated} {events : EventCounter} (tallied : IsTallied counts s events seen) where
   -- one more cycle can be counted
   pub room_for_steps : HasRoom counts (length steps)
   room_for_steps =
@@ -63,8 +142,8 @@ module _ {seen : Watched} {cycle : ℕ} {steps : List Step} {after : Hardware} {
         interrupts = omega (arith, count_by-le-length is_interrupt so_far, tallied.steps_few, shown.few, shown.number, shown.counted);
       })
 
-  pub room_for_misses : misses.count + length steps + 1 < 2 ^ 64
-  room_for_misses = omega (arith, tallied.misses_few, shown.few, shown.number, shown.counted)
+  pub room_for_events : AreAtMost (2 ^ 62) events.counts
+  room_for_events = few-below events.counts (9 * seen.now.hardware.cycle) (2 ^ 62) tallied.events_few (omega (arith, shown.number, shown.counted))
 
   pub room_for_words : CanCount s
   room_for_words = record {
@@ -87,26 +166,29 @@ module _ {seen : Watched} {cycle : ℕ} {steps : List Step} {after : Hardware} {
       is ∙ (λ i. speculated_after (number i) (shown.steps_are i) after.rob after.front after.pc (tallied.speculated i))
       ∙ sym (speculated-push (speculated_at seen.first.hardware) seen.moments (record { report = shown.report; after = after }))
 
-  missed_now : (misses' : Misses) → misses' ≡ missed_after cycle steps (drain_end after) misses
-      → misses' ≡ misses_so_far seen.first.hardware.values (drain_end after) (misses_in seen.first.hardware.values seen.first.hardware (with_shown seen shown).moments)
-  missed_now misses' is =
-      is ∙ (λ i. missed_after (shown.number i) (shown.steps_are i) (drain_end after) (tallied.missed i))
-      ∙ ap (misses_so_far seen.first.hardware.values (drain_end after)) (sym (misses-push seen.first.hardware.values (record { report = shown.report; after = after }) shown.passes))
+  happened_now : (events' : EventCounter) → events' ≡ counted_after cycle steps (drain_end after) events
+      → events' ≡ events_so_far seen.first.hardware.values (drain_end after) (events_in seen.first.hardware.values seen.first.hardware (with_shown seen shown).moments)
+  happened_now events' is =
+      is ∙ (λ i. counted_after (shown.number i) (shown.steps_are i) (drain_end after) (tallied.happened i))
+      ∙ ap (events_so_far seen.first.hardware.values (drain_end after)) (sym (events-push seen.first.hardware.values (record { report = shown.report; after = after }) shown.passes))
 
   -- one more cycle
-  pub tallied_on : (counts' : StepCounts) (s' : Speculated) (misses' : Misses) → counts' ≡ both_counts counts (counts_of steps) → s' ≡ speculated_after cycle steps after.rob after.front after.pc s
-      → misses' ≡ missed_after cycle steps (drain_end after) misses → s'.fetched ≤ s.fetched + 32 → s'.mispredicted ≤ s.mispredicted + 8 → IsTallied counts' s' misses' (with_shown seen shown)
-  tallied_on counts' s' misses' counted speculated missed fetched mispredicted = record {
+  pub tallied_on : (counts' : StepCounts) (s' : Speculated) (events' : EventCounter) → counts' ≡ both_counts counts (counts_of steps) → s' ≡ speculated_after cycle steps after.rob after.front after.pc s
+      → events' ≡ counted_after cycle steps (drain_end after) events → s'.fetched ≤ s.fetched + 32 → s'.mispredicted ≤ s.mispredicted + 8 → IsTallied counts' s' events' (with_shown seen shown)
+  tallied_on counts' s' events' counted speculated happened fetched mispredicted = record {
     counted = counted ∙ ap (λ c. both_counts c (counts_of steps)) tallied.counted ∙ sym (ap counts_of all_steps ∙ counts_of-append (steps_of (reports_of seen.moments)) steps);
     speculated = speculated_now s' speculated;
-    missed = missed_now misses' missed;
+    happened = happened_now events' happened;
     fetched = omega (arith, fetched, tallied.fetched, one_more);
     mispredicted = omega (arith, mispredicted, tallied.mispredicted, one_more);
-    misses_few = omega (arith, ap (λ (m : Misses). m.count) missed, misses-few misses.hit misses.forward cycle steps misses.drain_end (drain_end after), shown.few, tallied.misses_few, one_more);
+    events_few = rw happened (few-below (both_events events.counts (events_by events.costs cycle steps events.drain_end (drain_end after)))
+        (9 * seen.now.hardware.cycle + (length steps + 1)) (9 * after.cycle)
+        (both-few events.counts (events_by events.costs cycle steps events.drain_end (drain_end after)) (9 * seen.now.hardware.cycle) (length steps + 1)
+        tallied.events_few (cycle-few events.costs cycle steps events.drain_end (drain_end after))) (omega (arith, shown.few, one_more)));
     steps_few = omega (arith, ap length all_steps, length-append (steps_of (reports_of seen.moments)) steps, shown.few, tallied.steps_few, one_more);
   }
 
-module _ {arrivals : List Arrival} {old new : GuidedHardware} {moments : List Moment} {counts : StepCounts} {s : Speculated} {misses : Misses} (tallied : IsTallied counts s misses (watched arrivals old moments new)) where
+module _ {arrivals : List Arrival} {old new : GuidedHardware} {moments : List Moment} {counts : StepCounts} {s : Speculated} {events : EventCounter} (tallied : IsTallied counts s events (watched arrivals old moments new)) where
   -- what ended can be counted together with what is in flight
   pub room_at_end : (left : ℕ) → left ≤ 288 → new.hardware.cycle ≤ 2 ^ 40 → counts.retired + counts.traps + left < 2 ^ 64
   room_at_end left few within =
@@ -114,14 +196,16 @@ module _ {arrivals : List Arrival} {old new : GuidedHardware} {moments : List Mo
       rw tallied.counted (omega (arith, count_by-le-length is_retirement all, count_by-le-length is_trap all, tallied.steps_few, few, within))
 
   -- what a run came to that ended
-  pub tallied_to_the_end : {limit : ℕ} {progress : Progress} {stop : Stop} {totals : Totals} {losses : Losses} (left : ℕ) → History arrivals old moments new → progress ≡ progress_of (reports_of moments)
-      → IsStop limit (reports_of moments) new.hardware stop → totals ≡ totals_with progress counts stop → left ≡ in_flight new.hardware.rob new.hardware.front → losses ≡ losses_with s counts left misses.count
-      → RunsTo arrivals limit old (record { totals = totals; losses = losses })
-  tallied_to_the_end {stop = stop} left passes counted stops totals_are left_is losses_are = rw totals_are (record {
+  pub tallied_to_the_end : {progress : Progress} {stop : Stop} {totals : Totals} {losses : Losses} {did : Events} {words : Columns (Option ℕ)} (options : TableOptions) (left : ℕ) → History arrivals old moments new → progress ≡ progress_of (reports_of moments)
+      → IsStop options.limit (reports_of moments) new.hardware stop → totals ≡ totals_with progress counts stop → left ≡ in_flight new.hardware.rob new.hardware.front → losses ≡ losses_with s counts left → did ≡ events.counts → words ≡ words_of options.shown new.hardware
+      → RunsTo arrivals options old (record { totals = totals; losses = losses; events = did; words = words })
+  tallied_to_the_end {stop = stop} options left passes counted stops totals_are left_is losses_are did_are words_are = rw totals_are (record {
     moments = moments;
     new = new;
     cycles = passes;
     stops = stops;
     totals_are = λ i. totals_with (counted i) (tallied.counted i) stop;
-    losses_are = losses_are ∙ (λ i. losses_with (tallied.speculated i) (tallied.counted i) (left_is i) (ap (λ (m : Misses). m.count) tallied.missed i));
+    losses_are = losses_are ∙ (λ i. losses_with (tallied.speculated i) (tallied.counted i) (left_is i));
+    words_are = words_are;
+    events_are = did_are ∙ ap (λ (e : EventCounter). e.counts) tallied.happened;
   })

@@ -1,13 +1,17 @@
 -- What several runs came to, in a table: a line for each run, its cells with a tab between two.
-use Rattle.std.specs.Prelude.{◌≡◌, ℕ, ◌-◌, List, [], ◌∷◌, ◌++◌, codes, get_or}
+use Rattle.std.specs.Prelude.{◌≡◌, ℕ, ◌-◌, List, [], ◌∷◌, ◌++◌, codes, decimal, get_or, Option}
 use Rattle.std.specs.List.{enumerate_from, flat_map}
 use Rattle.rv_isa.specs.declared.lines.Arrival.{Arrival}
+use Rattle.rv_arch.specs.declared.outcome.Stop.{Stop}
 use Rattle.rv_hardware.specs.Guided.{GuidedHardware}
 use Rattle.rv_hardware.specs.History.{History, Moment, reports_of}
 use Rattle.rv_hardware.specs.Run.{IsStop}
+use Rattle.rv_report.specs.Events.{events_in}
+use Rattle.rv_report.specs.Shown.{cells_text, heads_text, words_of}
 use Rattle.rv_report.specs.State.{stop_text}
 use Rattle.rv_report.specs.Tally.{losses_of}
 use Rattle.rv_report.specs.Totals.{totals_at}
+use Rattle.rv_report.specs.declared.shown.{Columns.Columns, Shown.Shown, TableOptions.TableOptions}
 use Rattle.rv_report.specs.declared.{losses.ComparedRun.ComparedRun, totals.Totals.Totals}
 use Rattle.rv_text.specs.Plain.{plain_text}
 use Rattle.rv_text.specs.ReadField.{cell_text}
@@ -15,19 +19,22 @@ use Rattle.rv_text.specs.declared.fields.Value.{Value}
 use Rattle.rv_text.specs.declared.fields.Value.TheVariants.{Count, Ratio}
 
 -- a run of some hardware that a predictor guides, up to a limit of cycles, came to this
-pub record RunsTo (arrivals : List Arrival) (limit : ℕ) (old : GuidedHardware) (run : ComparedRun) : Type 0 where
+pub record RunsTo (arrivals : List Arrival) (options : TableOptions) (old : GuidedHardware) (run : ComparedRun) : Type 0 where
   pub moments : List Moment
   pub new : GuidedHardware
   pub cycles : History arrivals old moments new
-  pub stops : IsStop limit (reports_of moments) new.hardware run.totals.stop
+  pub stops : IsStop options.limit (reports_of moments) new.hardware run.totals.stop
   pub totals_are : run.totals ≡ totals_at (reports_of moments) run.totals.stop
   pub losses_are : run.losses ≡ losses_of old.hardware moments new.hardware
+  pub words_are : run.words ≡ words_of options.shown new.hardware
+  pub events_are : run.events ≡ events_in old.hardware.values old.hardware moments
 
--- the names of the columns
+-- the names of the columns, but for those of what is shown of the states at the ends
 unfoldable pub table_head : List ℕ
 table_head =
     codes "number\tcycles\tretired\tcpi\ttraps\tinterrupts\tbusy\tstall_fetch\tstall_serial\tstall_rob\t" ++
-    codes "stall_station\tstall_store\tmispredicted\tsquashed\tmisses\tname\tstop\n"
+    (codes "stall_station\tstall_store\tmispredicted\tsquashed\tmisses\tname\tstop\t" ++
+    codes "ipc\tlongest_gap\tbranches\tloads\tdrains\thits\twrite_backs")
 
 -- the number of a run, and the counts of its cycles and steps
 abbrev pub count_values : ℕ → Totals → List Value
@@ -51,7 +58,7 @@ loss_values run =
     Count run.totals.stalls.store ∷
     Count run.losses.mispredicted ∷
     Count run.losses.squashed ∷
-    Count run.losses.misses ∷
+    Count run.events.misses ∷
     []
 
 -- the name of a run's machine in printing characters, or a hyphen where it has none
@@ -59,17 +66,36 @@ unfoldable pub name_text : List ℕ → List ℕ
 name_text [] = codes "-"
 name_text (first ∷ others) = plain_text (first ∷ others)
 
--- the line of a run ends with the name of its machine and why the run ended
-unfoldable pub table_row : ℕ → List ℕ → ComparedRun → List ℕ
-table_row number name run =
-    flat_map cell_text (count_values number run.totals) ++
-    (flat_map cell_text (loss_values run) ++
-    (name_text name ++ (codes "\t" ++ (stop_text run.totals.stop ++ codes "\n"))))
+-- the instructions to each cycle, the longest gap, and what a run did
+abbrev pub event_values : ComparedRun → List Value
+event_values run =
+    Ratio run.totals.steps.retired run.totals.cycles ∷
+    Count run.totals.longest_gap ∷
+    Count run.events.branches ∷
+    Count run.events.loads ∷
+    Count run.events.drains ∷
+    Count run.events.hits ∷
+    []
+
+-- the cells from the name of a run's machine on
+unfoldable pub name_and_stop : List ℕ → Stop → List ℕ
+name_and_stop name stop = name_text name ++ (codes "\t" ++ (stop_text stop ++ codes "\t"))
+
+-- the last count, and what is shown of the state at the end
+unfoldable pub last_cells : Columns (Option Shown) → ComparedRun → List ℕ
+last_cells shown run = decimal run.events.write_backs ++ (cells_text shown run.words ++ codes "\n")
+
+-- the line of a run
+unfoldable pub table_row : Columns (Option Shown) → ℕ → List ℕ → ComparedRun → List ℕ
+table_row shown number name run =
+    flat_map cell_text (count_values number run.totals) ++ (flat_map cell_text (loss_values run) ++
+    (name_and_stop name run.totals.stop ++ (flat_map cell_text (event_values run) ++ last_cells shown run)))
 
 -- the line of a run with a number, where the machines from the first on have these names
-abbrev pub row_of : List (List ℕ) → ℕ × ComparedRun → List ℕ
-row_of names run = table_row run.0 (get_or names (run.0 - 1) []) run.1
+abbrev pub row_of : Columns (Option Shown) → List (List ℕ) → ℕ × ComparedRun → List ℕ
+row_of shown names run = table_row shown run.0 (get_or names (run.0 - 1) []) run.1
 
 -- runs are numbered from 1
-unfoldable pub table_of : List (List ℕ) → List ComparedRun → List ℕ
-table_of names runs = table_head ++ flat_map (row_of names) (enumerate_from 1 runs)
+unfoldable pub table_of : Columns (Option Shown) → List (List ℕ) → List ComparedRun → List ℕ
+table_of shown names runs =
+    table_head ++ (heads_text shown ++ (codes "\n" ++ flat_map (row_of shown names) (enumerate_from 1 runs)))

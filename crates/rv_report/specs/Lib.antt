@@ -6,6 +6,7 @@ pub mod Totals
 pub mod RunReport
 pub mod LiveReport
 pub mod Speculation
-pub mod Misses
+pub mod Events
+pub mod Shown
 pub mod Tally
 pub mod Comparison

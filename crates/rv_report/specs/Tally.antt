@@ -1,34 +1,33 @@
 -- What is counted of a run for a comparison.
 use Rattle.std.specs.Prelude.{◌≡◌, ℕ, ◌+◌, ◌-◌, ◌*◌, ◌≤◌, List, length}
 use Rattle.rv_core.specs.Watching.{Watched}
-use Rattle.rv_hardware.specs.Drain.{drain_end}
+use Rattle.rv_hardware.specs.Draining.{drain_end}
 use Rattle.rv_hardware.specs.Hardware.{Hardware}
 use Rattle.rv_hardware.specs.History.{Moment, reports_of}
 use Rattle.rv_hardware.specs.Run.{steps_of}
-use Rattle.rv_report.specs.Misses.{misses_in, misses_so_far}
+use Rattle.rv_report.specs.Events.{AreAtMost, events_in, events_so_far}
 use Rattle.rv_report.specs.Speculation.{Speculated, in_flight, speculated_at, speculated_in}
 use Rattle.rv_report.specs.Totals.{counts_of}
-use Rattle.rv_report.specs.declared.{losses.Losses.Losses, misses.Misses.Misses, totals.StepCounts.StepCounts}
+use Rattle.rv_report.specs.declared.{events.EventCounter.EventCounter, losses.Losses.Losses, totals.StepCounts.StepCounts}
 
 -- what was fetched, and neither retired nor trapped, nor is in flight at the end, was squashed
-abbrev pub losses_with : Speculated → StepCounts → ℕ → ℕ → Losses
-losses_with s counts left misses = record {
+abbrev pub losses_with : Speculated → StepCounts → ℕ → Losses
+losses_with s counts left = record {
   mispredicted = s.mispredicted;
   squashed = s.fetched - (counts.retired + counts.traps + left);
-  misses = misses;
 }
 
 -- what cycles lost that led from some hardware to other
 abbrev pub losses_of : Hardware → List Moment → Hardware → Losses
 losses_of old moments new =
-    losses_with (speculated_in (speculated_at old) moments) (counts_of (steps_of (reports_of moments))) (in_flight new.rob new.front) (misses_in old.values old moments)
+    losses_with (speculated_in (speculated_at old) moments) (counts_of (steps_of (reports_of moments))) (in_flight new.rob new.front)
 
 -- the cycles so far are counted, and no count is greater than they can make it
-pub record IsTallied (counts : StepCounts) (s : Speculated) (misses : Misses) (seen : Watched) : Type 0 where
+pub record IsTallied (counts : StepCounts) (s : Speculated) (events : EventCounter) (seen : Watched) : Type 0 where
   pub counted : counts ≡ counts_of (steps_of (reports_of seen.moments))
   pub speculated : s ≡ speculated_in (speculated_at seen.first.hardware) seen.moments
-  pub missed : misses ≡ misses_so_far seen.first.hardware.values (drain_end seen.now.hardware) (misses_in seen.first.hardware.values seen.first.hardware seen.moments)
+  pub happened : events ≡ events_so_far seen.first.hardware.values (drain_end seen.now.hardware) (events_in seen.first.hardware.values seen.first.hardware seen.moments)
   pub fetched : s.fetched ≤ 32 * seen.now.hardware.cycle + 288
   pub mispredicted : s.mispredicted ≤ 8 * seen.now.hardware.cycle
-  pub misses_few : misses.count ≤ 9 * seen.now.hardware.cycle
+  pub events_few : AreAtMost (9 * seen.now.hardware.cycle) events.counts
   pub steps_few : length (steps_of (reports_of seen.moments)) ≤ 8 * seen.now.hardware.cycle

@@ -4,8 +4,9 @@ ghost use Rattle.rv_report.specs.Comparison.{RunsTo};
 ghost use Rattle.rv_report.specs.Speculation.{in_flight, speculated_at};
 ghost use Rattle.rv_report.specs.Tally.{losses_with};
 
+use crate::events::EventCounter;
 use crate::losses::{ComparedRun, Losses};
-use crate::misses::Misses;
+use crate::shown::{TableOptions, words};
 use crate::speculation::Speculation;
 use crate::totals::{StepCounts, Totals};
 use rv_core::{Pipeline, Progress, Watcher, watch};
@@ -22,7 +23,7 @@ use std::io::Write;
 struct Tally {
     counts: StepCounts,
     speculation: Speculation,
-    misses: Misses,
+    events: EventCounter,
 }
 
 impl Watcher for Tally {
@@ -30,7 +31,7 @@ impl Watcher for Tally {
 
     type Refusal = Infallible;
 
-    ghost has_seen = { λ _ tally seen _ _. IsTallied tally.counts tally.speculation tally.misses seen };
+    ghost has_seen = { λ _ tally seen _ _. IsTallied tally.counts tally.speculation tally.events seen };
 
     ghost has_room = { λ _. Unit {0} };
 
@@ -51,7 +52,7 @@ impl Watcher for Tally {
         let buffer = pipeline.reorder_buffer();
         let pc = pipeline.observe().pc;
         self.counts.count_all(steps);
-        self.misses.follow(cycle, steps, pipeline.drain_end());
+        self.events.follow(cycle, steps, pipeline.drain_end());
         self.speculation
             .follow(cycle, steps, buffer, pipeline.front(), pc);
     }
@@ -80,41 +81,40 @@ fn begin(alloc: Global, pipeline: &Pipeline) -> Result<Speculation, AllocError>
 // What a run lost that left so many instructions in flight.
 fn losses(tally: &Tally, left: u64) -> Losses
     requires { tally.now.counts.retired + tally.now.counts.traps + left < 2 ^ 64 }
-    ensures { result ≡ losses_with tally.now.speculation tally.now.counts left tally.now.misses.count }
+    ensures { result ≡ losses_with tally.now.speculation tally.now.counts left }
 {
     let ended = tally.counts.retired + tally.counts.traps;
     Losses {
         mispredicted: tally.speculation.mispredicted(),
         squashed: tally.speculation.fetched().saturating_sub(ended + left),
-        misses: tally.misses.count,
     }
 }
 
 /// Runs a pipeline that a predictor guides, each cycle with the lines of its number, up to a breakpoint, a stale word,
-/// exhaustion or a limit of cycles. Answers what the run came to. The only error is out of memory, in which nothing was
+/// exhaustion or the limit of cycles. Answers what the run came to, with the words that are to be shown at its end. The only error is out of memory, in which nothing was
 /// run.
 pub fn run_totals(
     alloc: Global,
     pipeline: Pipeline,
     predictor: &mut dyn Predictor,
     arrivals: &Arrivals,
-    limit: u64,
+    options: &TableOptions,
 ) -> Result<ComparedRun, AllocError>
-    ensures { IfOk result (RunsTo arrivals.now limit (guided pipeline (known predictor.old))) }
+    ensures { IfOk result (RunsTo arrivals.now options.now (guided pipeline (known predictor.old))) }
 {
     let mut pipeline = pipeline;
     let speculation = begin(alloc, &pipeline)?;
     let steps = Vec::with_capacity(alloc, 8)?;
     let mut tally = Tally {
         counts: StepCounts::default(),
-        misses: Misses::begin(&pipeline),
+        events: EventCounter::begin(&pipeline),
         speculation,
     };
     let ended = watch(
         &mut pipeline,
         predictor,
         arrivals,
-        limit,
+        options.limit,
         steps,
         &mut tally,
         &mut io::sink(),
@@ -125,6 +125,8 @@ pub fn run_totals(
         Ok(stop) => Ok(ComparedRun {
             totals: Totals::new(&ended.progress, tally.counts, stop),
             losses: losses(&tally, count_in_flight(&pipeline)),
+            events: tally.events.counts,
+            words: words(&pipeline, &options.shown),
         }),
     }
 }

@@ -1,12 +1,13 @@
 ghost use Rattle.std.specs.Prelude.{◌≡◌, ◌+◌, ◌++◌, [], codes, get_or, map};
 ghost use Rattle.std.specs.List.{enumerate_from, flat_map};
-ghost use Rattle.rv_report.specs.Comparison.{count_values, loss_values, name_text, row_of, table_head, table_of, table_row};
+ghost use Rattle.rv_report.specs.Comparison.{count_values, event_values, last_cells, loss_values, name_and_stop, name_text, row_of, table_head, table_of, table_row};
 ghost use Rattle.rv_report.specs.State.{stop_text};
 ghost use Rattle.rv_text.specs.ReadField.{cell_text};
 ghost use Rattle.rv_text.specs.Said.{Says};
 ghost use Rattle.rv_text.specs.Written.{IsWritten};
 
 use crate::losses::ComparedRun;
+use crate::shown::{Columns, Shown, write_cells, write_heads};
 use crate::state::write_reason;
 use crate::totals::Totals;
 use rv_arch::Stop;
@@ -19,7 +20,8 @@ fn write_head<W: Write>(out: &mut Sink<'_, W>)
 {
     out.put_all(&[
         b"number\tcycles\tretired\tcpi\ttraps\tinterrupts\tbusy\tstall_fetch\tstall_serial\tstall_rob\t",
-        b"stall_station\tstall_store\tmispredicted\tsquashed\tmisses\tname\tstop\n",
+        b"stall_station\tstall_store\tmispredicted\tsquashed\tmisses\tname\tstop\t",
+        b"ipc\tlongest_gap\tbranches\tloads\tdrains\thits\twrite_backs",
     ]);
 }
 
@@ -54,7 +56,7 @@ fn write_losses<W: Write>(out: &mut Sink<'_, W>, run: &ComparedRun)
         Value::Count(run.totals.stalls.store),
         Value::Count(run.losses.mispredicted),
         Value::Count(run.losses.squashed),
-        Value::Count(run.losses.misses),
+        Value::Count(run.events.misses),
     ];
     out.put_cells(&values);
 }
@@ -70,31 +72,60 @@ fn write_name<W: Write>(out: &mut Sink<'_, W>, name: &[u8])
     }
 }
 
-// What the line of a run ends with: a tab, and why the run ended.
-#[tactic(auto, using(rv_text::proofs::Saying::saying))]
-fn write_end<W: Write>(out: &mut Sink<'_, W>, stop: Stop)
-    ensures { Says W.contents out.old out.new (codes "\t" ++ (stop_text stop ++ codes "\n")) }
-{
-    out.put(b"\t");
-    write_reason(out, stop);
-}
-
-// The name of a run's machine, and why the run ended.
-#[tactic(auto, using(rv_text::proofs::Saying::saying))]
-fn write_name_and_end<W: Write>(out: &mut Sink<'_, W>, name: &[u8], stop: Stop)
-    ensures { Says W.contents out.old out.new (name_text name.now ++ (codes "\t" ++ (stop_text stop ++ codes "\n"))) }
+// The name of a run's machine, and why the run ended, a tab after each.
+#[tactic(auto, using(rv_text::proofs::Saying::saying), unfolding(crate::specs::Comparison::name_and_stop))]
+fn write_name_and_stop<W: Write>(out: &mut Sink<'_, W>, name: &[u8], stop: Stop)
+    ensures { Says W.contents out.old out.new (name_and_stop name.now stop) }
 {
     write_name(out, name);
-    write_end(out, stop);
+    out.put(b"\t");
+    write_reason(out, stop);
+    out.put(b"\t");
+}
+
+// The instructions to each cycle, and what a run did.
+fn write_events<W: Write>(out: &mut Sink<'_, W>, run: &ComparedRun)
+    ensures { Says W.contents out.old out.new (flat_map cell_text (event_values run.now)) }
+{
+    let values = [
+        Value::Ratio {
+            count: run.totals.steps.retired,
+            each: run.totals.cycles,
+        },
+        Value::Count(run.totals.longest_gap),
+        Value::Count(run.events.branches),
+        Value::Count(run.events.loads),
+        Value::Count(run.events.drains),
+        Value::Count(run.events.hits),
+    ];
+    out.put_cells(&values);
+}
+
+// The last count of a line, and what is shown of the state at the end.
+#[tactic(auto, using(rv_text::proofs::Saying::saying), unfolding(crate::specs::Comparison::last_cells))]
+fn write_last<W: Write>(out: &mut Sink<'_, W>, shown: &Columns<Option<Shown>>, run: &ComparedRun)
+    ensures { Says W.contents out.old out.new (last_cells shown.now run.now) }
+{
+    out.put_decimal(run.events.write_backs);
+    write_cells(out, shown, &run.words);
+    out.put(b"\n");
 }
 
 // The line of a run.
-fn write_row<W: Write>(out: &mut Sink<'_, W>, number: u64, name: &[u8], run: &ComparedRun)
-    ensures { Says W.contents out.old out.new (table_row number name.now run.now) }
+fn write_row<W: Write>(
+    out: &mut Sink<'_, W>,
+    shown: &Columns<Option<Shown>>,
+    number: u64,
+    name: &[u8],
+    run: &ComparedRun,
+)
+    ensures { Says W.contents out.old out.new (table_row shown.now number name.now run.now) }
 {
     write_counts(out, number, &run.totals);
     write_losses(out, run);
-    write_name_and_end(out, name, run.totals.stop);
+    write_name_and_stop(out, name, run.totals.stop);
+    write_events(out, run);
+    write_last(out, shown, run);
 }
 
 // The name at a place, or none.
@@ -109,36 +140,50 @@ fn name_at(names: &[Vec<u8>], place: usize) -> &[u8]
 }
 
 // The lines of runs, which are numbered from 1.
-fn write_rows<W: Write>(out: &mut Sink<'_, W>, names: &[Vec<u8>], runs: &[ComparedRun])
-    ensures { Says W.contents out.old out.new (flat_map (row_of (map (λ name. name.items) names.now)) (enumerate_from 1 runs.now)) }
+fn write_rows<W: Write>(
+    out: &mut Sink<'_, W>,
+    shown: &Columns<Option<Shown>>,
+    names: &[Vec<u8>],
+    runs: &[ComparedRun],
+)
+    ensures { Says W.contents out.old out.new (flat_map (row_of shown.now (map (λ name. name.items) names.now)) (enumerate_from 1 runs.now)) }
 {
     for place in 0..runs.len() {
         let run = runs[place];
-        write_row(out, 1 + place as u64, name_at(names, place), &run);
+        write_row(out, shown, 1 + place as u64, name_at(names, place), &run);
     }
 }
 
 // The names of the columns, and the lines of the runs.
 #[tactic(auto, using(rv_text::proofs::Saying::saying), unfolding(crate::specs::Comparison::table_of))]
-fn say_table<W: Write>(names: &[Vec<u8>], runs: &[ComparedRun], out: &mut Sink<'_, W>)
-    ensures { Says W.contents out.old out.new (table_of (map (λ name. name.items) names.now) runs.now) }
+fn say_table<W: Write>(
+    shown: &Columns<Option<Shown>>,
+    names: &[Vec<u8>],
+    runs: &[ComparedRun],
+    out: &mut Sink<'_, W>,
+)
+    ensures { Says W.contents out.old out.new (table_of shown.now (map (λ name. name.items) names.now) runs.now) }
 {
     write_head(out);
-    write_rows(out, names, runs);
+    write_heads(out, shown);
+    out.put(b"\n");
+    write_rows(out, shown, names, runs);
 }
 
 /// Writes what several runs came to as a table: a line with the names of the columns, and a line for each run, numbered from
-/// 1, with a tab between two cells. `names` has the names of the runs' machines, in their order. Asks for no memory. Fails by
+/// 1, with a tab between two cells. `names` has the names of the runs' machines, in their order, and `shown` says what the last
+/// columns show of the states at the ends. Asks for no memory. Fails by
 /// `WriteFailed` alone, and what was written is then a beginning of the table.
 #[tactic(auto, using(rv_text::proofs::Saying::says_written))]
 pub fn write_table<W: Write>(
+    shown: &Columns<Option<Shown>>,
     names: &[Vec<u8>],
     runs: &[ComparedRun],
     writer: &mut W,
 ) -> Result<(), ReportError>
-    ensures { IsWritten result (W.contents writer.old) (W.contents writer.new) (table_of (map (λ name. name.items) names.now) runs.now) }
+    ensures { IsWritten result (W.contents writer.old) (W.contents writer.new) (table_of shown.now (map (λ name. name.items) names.now) runs.now) }
 {
     let mut out = Sink::new(writer);
-    say_table(names, runs, &mut out);
+    say_table(shown, names, runs, &mut out);
     out.outcome()
 }

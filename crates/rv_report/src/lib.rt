@@ -5,23 +5,26 @@
 
 mod compared_run;
 mod comparison;
+mod events;
 mod live_report;
 mod losses;
 mod memory;
-mod misses;
 mod options;
 mod reference_report;
 mod rows;
 mod run_report;
+mod shown;
 mod speculation;
 mod state;
 mod totals;
 
 pub use compared_run::run_totals;
 pub use comparison::write_table;
+pub use events::Events;
 pub use live_report::write_run;
 pub use losses::{ComparedRun, Losses};
 pub use options::Options;
 pub use reference_report::write_reference;
 pub use run_report::{write_report, write_totals, write_trace};
+pub use shown::{Columns, Shown, TableOptions};
 pub use totals::{StepCounts, Totals, count_steps};

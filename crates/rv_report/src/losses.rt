@@ -1,3 +1,5 @@
+use crate::events::Events;
+use crate::shown::Columns;
 use crate::totals::Totals;
 
 /// What a run of the core lost cycles to.
@@ -7,9 +9,6 @@ pub struct Losses {
     pub mispredicted: u64,
     /// Fetched instructions that were squashed.
     pub squashed: u64,
-    /// Retired loads at any other cost than that of a hit or of forwarding, and accesses of retired stores to the cache at
-    /// any other cost than that of a hit.
-    pub misses: u64,
 }
 
 /// A run of the core, as a table compares it with others.
@@ -17,4 +16,7 @@ pub struct Losses {
 pub struct ComparedRun {
     pub totals: Totals,
     pub losses: Losses,
+    pub events: Events,
+    /// The words that the table shows of the state at its end.
+    pub words: Columns<Option<u32>>,
 }

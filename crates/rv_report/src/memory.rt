@@ -7,9 +7,9 @@ use rv_core::Pipeline;
 use rv_text::{Sink, hexadecimal};
 use std::io::Write;
 
-// The text of a word of memory, or of `None` outside RAM.
+/// The text of a word of memory, or of `None` outside RAM.
 #[tactic(auto, unfolding(crate::specs::Memory::memory_text))]
-fn memory_text(word: Option<u32>) -> [u8; 8]
+pub(crate) fn memory_text(word: Option<u32>) -> [u8; 8]
     ensures { result ≡ memory_text word }
 {
     match word {
@@ -45,9 +45,9 @@ pub(crate) fn word_of(
     }
 }
 
-// The word of memory that programs see at an address, or `None` outside RAM.
+/// The word of memory that programs see at an address, or `None` outside RAM.
 #[tactic(auto, unfolding(crate::specs::Memory::word_seen))]
-fn word_at(pipeline: &Pipeline, address: u32) -> Option<u32>
+pub(crate) fn word_at(pipeline: &Pipeline, address: u32) -> Option<u32>
     ensures { result ≡ word_seen (layout_of pipeline.now.values) (seen pipeline.now).ram address }
 {
     word_of(

@@ -9,7 +9,7 @@ use crate::options::Options;
 use crate::rows::write_steps;
 use crate::state::{write_state, write_stop};
 use crate::totals::Totals;
-use rv_core::{Core, Outcome, Pipeline};
+use rv_core::{Outcome, Pipeline};
 use rv_hardware::{StallCounts, Step};
 use rv_text::{Field, ReportError, Sink, Value};
 use std::io::Write;
@@ -150,11 +150,16 @@ pub fn write_trace<W: Write>(writer: &mut W, trace: bool, steps: &[Step]) -> Res
 }
 
 // The report of a run of the core.
-fn say_report<W: Write>(outcome: &Outcome, core: &Core, options: &Options, out: &mut Sink<'_, W>)
-    ensures { Says W.contents out.old out.new (report_of outcome.now core.now options.now) }
+fn say_report<W: Write>(
+    outcome: &Outcome,
+    pipeline: &Pipeline,
+    options: &Options,
+    out: &mut Sink<'_, W>,
+)
+    ensures { Says W.contents out.old out.new (report_of outcome.now pipeline.now options.now) }
 {
     say_trace(out, options.trace, outcome.steps.as_slice());
-    say_totals(&Totals::of(outcome), core.pipeline(), options, out);
+    say_totals(&Totals::of(outcome), pipeline, options, out);
 }
 
 /// Writes the report of a run of the core: a line for each step where the options ask for a trace, then why the run ended,
@@ -163,13 +168,13 @@ fn say_report<W: Write>(outcome: &Outcome, core: &Core, options: &Options, out: 
 #[tactic(auto, using(rv_text::proofs::Saying::says_written))]
 pub fn write_report<W: Write>(
     outcome: &Outcome,
-    core: &Core,
+    pipeline: &Pipeline,
     options: &Options,
     writer: &mut W,
 ) -> Result<(), ReportError>
-    ensures { IsWritten result (W.contents writer.old) (W.contents writer.new) (report_of outcome.now core.now options.now) }
+    ensures { IsWritten result (W.contents writer.old) (W.contents writer.new) (report_of outcome.now pipeline.now options.now) }
 {
     let mut out = Sink::new(writer);
-    say_report(outcome, core, options, &mut out);
+    say_report(outcome, pipeline, options, &mut out);
     out.outcome()
 }

@@ -10,16 +10,16 @@ use rv_isa::Csr;
 use rv_text::{Field, Sink, Value, hexadecimal};
 use std::io::Write;
 
-/// Writes why a run ended, and a line feed.
+/// Writes why a run ended.
 #[tactic(auto, unfolding(crate::specs::State::stop_text))]
 pub(crate) fn write_reason<W: Write>(out: &mut Sink<'_, W>, stop: Stop)
-    ensures { Says W.contents out.old out.new (stop_text stop ++ codes "\n") }
+    ensures { Says W.contents out.old out.new (stop_text stop) }
 {
     match stop {
-        Stop::Limit => out.put(b"limit\n"),
-        Stop::Breakpoint => out.put(b"breakpoint\n"),
-        Stop::Stale(pc) => out.put_all(&[b"stale ", hexadecimal(pc).as_slice(), b"\n"]),
-        Stop::Exhausted => out.put(b"exhausted\n"),
+        Stop::Limit => out.put(b"limit"),
+        Stop::Breakpoint => out.put(b"breakpoint"),
+        Stop::Stale(pc) => out.put_all(&[b"stale ", hexadecimal(pc).as_slice()]),
+        Stop::Exhausted => out.put(b"exhausted"),
     }
 }
 
@@ -29,6 +29,7 @@ pub(crate) fn write_stop<W: Write>(out: &mut Sink<'_, W>, stop: Stop)
 {
     out.put(b"stop ");
     write_reason(out, stop);
+    out.put(b"\n");
 }
 
 #[tactic(auto, unfolding(crate::specs::State::register_line, rv_text::specs::Line::word_line, rv_text::specs::Line::line_of))]

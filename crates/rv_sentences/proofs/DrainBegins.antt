@@ -15,7 +15,8 @@ use Rattle.rv_stores.specs.declared.store.StoreState.{StoreState}
 use Rattle.rv_stores.specs.declared.store.StoreState.TheVariants.{Waiting, Faulted, Filled}
 use Rattle.rv_hardware.specs.Commit.{is_drained, with_write_back}
 use Rattle.rv_hardware.specs.Cycle.{IsCycle, any_prediction, commit_with, execute, with_lines}
-use Rattle.rv_hardware.specs.Drain.{drain, drain_cost, drain_end, end_drain, start_drain}
+use Rattle.rv_hardware.specs.Drain.{drain, end_drain, start_drain}
+use Rattle.rv_hardware.specs.Draining.{drain_cost, drain_end}
 use Rattle.rv_hardware.specs.Hardware.{Hardware}
 use Rattle.rv_hardware.specs.Issue.{FromCache, has_port, with_access}
 use Rattle.rv_hardware.specs.Report.{Report}

@@ -5,7 +5,7 @@ use Rattle.std.specs.FinSet as set
 use Rattle.rv_isa.specs.Arrivals.{lines_at}
 use Rattle.rv_isa.specs.declared.lines.Arrival.{Arrival}
 use Rattle.rv_hardware.specs.Cycle.{commit_with}
-use Rattle.rv_hardware.specs.Drain.{drain_cost}
+use Rattle.rv_hardware.specs.Draining.{drain_cost}
 use Rattle.rv_hardware.specs.Hardware.{Hardware}
 use Rattle.rv_sentences.specs.Access.{access_text}
 use Rattle.rv_hardware.specs.History.{Moment}

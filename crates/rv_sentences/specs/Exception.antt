@@ -67,6 +67,10 @@ handler_text e = went_on e.mtvec ++ (word_text e.next_pc ++ codes "\n")
 unfoldable pub taken_text : List ℕ → Listed → Exception → List ℕ
 taken_text which listing e = which ++ (cause_text e ++ (place_text listing e.pc ++ handler_text e))
 
+-- the first exception of a run
+unfoldable pub first_text : Listed → Exception → List ℕ
+first_text listing e = taken_text (codes "The first exception came in cycle ") listing e
+
 -- a count, in a column of its own, and a text
 unfoldable pub counted_text : ℕ → List ℕ → List ℕ
 counted_text count text = indent (codes "       ") (decimal count) ++ (decimal count ++ text)
@@ -105,4 +109,4 @@ several_text listing all kinds =
 unfoldable pub exceptions_text : Listed → Option (Series Exception) → List (Series Exception) → List ℕ
 exceptions_text listing None kinds = codes "No exception came before that.\n"
 exceptions_text listing (Some all) kinds =
-    taken_text (codes "The first exception came in cycle ") listing all.first ++ several_text listing all kinds
+    first_text listing all.first ++ several_text listing all kinds

@@ -1,5 +1,5 @@
 ghost use Rattle.std.specs.Prelude.{◌≡◌};
-ghost use Rattle.rv_sentences.specs.Exception.{cause_name, cause_text, went_on, handler_text, taken_text};
+ghost use Rattle.rv_sentences.specs.Exception.{cause_name, cause_text, first_text, went_on, handler_text, taken_text};
 ghost use Rattle.rv_text.specs.Said.{Says};
 
 use crate::exception::Exception;
@@ -74,4 +74,17 @@ pub fn write_taken<W: Write>(
     write_cause(out, exception);
     write_place(out, listing, exception.pc);
     write_handler(out, exception);
+}
+
+/// Writes what the first exception of a run was, and where the program went on after it.
+#[tactic(auto, unfolding(crate::specs::Exception::first_text))]
+pub fn write_first<W: Write>(out: &mut Sink<'_, W>, listing: &Listing, exception: &Exception)
+    ensures { Says W.contents out.old out.new (first_text listing.now exception.now) }
+{
+    write_taken(
+        out,
+        b"The first exception came in cycle ",
+        listing,
+        exception,
+    );
 }

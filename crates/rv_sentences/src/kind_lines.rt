@@ -5,7 +5,7 @@ ghost use Rattle.rv_sentences.specs.Kinds.{others};
 ghost use Rattle.rv_text.specs.Said.{Says};
 
 use crate::exception::Exception;
-use crate::exceptions::{cause_name, write_taken};
+use crate::exceptions::{cause_name, write_first, write_taken};
 use crate::kinds::Exceptions;
 use crate::place::write_place;
 use crate::series::Series;
@@ -123,12 +123,7 @@ fn write_all<W: Write>(
 )
     ensures { Says W.contents out.old out.new (exceptions_text listing.now (Some all.now) kinds.now) }
 {
-    write_taken(
-        out,
-        b"The first exception came in cycle ",
-        listing,
-        &all.first,
-    );
+    write_first(out, listing, &all.first);
     write_several(out, listing, all, kinds);
 }
 

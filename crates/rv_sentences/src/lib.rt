@@ -34,6 +34,7 @@ pub use accesses::Accesses;
 pub use dispatches::{Dispatches, write_dispatches};
 pub use drains::{add_drain, begun, write_drains};
 pub use exception::Exception;
+pub use exceptions::write_first;
 pub use hotspots::write_hotspots;
 pub use interrupt_lines::write_interrupts;
 pub use interruption::Interruption;

@@ -2,3 +2,4 @@ mod Markup
 pub mod OneText
 mod Showing
 mod Status
+mod WellFormed

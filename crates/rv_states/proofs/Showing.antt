@@ -33,6 +33,7 @@ use Rattle.rv_states.specs.States.{WritesStates, begun_text, cycle_text, cycles_
 use Rattle.rv_json.specs.Stop.{stop_line}
 use Rattle.rv_states.specs.declared.form.Form.{Form}
 use Rattle.rv_states.proofs.Markup.{states_plain}
+use Rattle.rv_states.proofs.WellFormed.{states_are}
 
 -- what is shown of one more cycle
 shown-more : (from : ℕ) (untaught : DescribedPredictor) (cycles : List FollowedCycle) (last : FollowedCycle) →
@@ -121,6 +122,12 @@ shown_to_the_end {from = from} {listing = listing} {old = old} {moments = moment
     let goes_on : Extends first failed mid held told = extends_same (λ i. cycles_text from (untaught_is i) (walk still_open old.hardware moments)) showing.wrote in
     let whole = ap (λ n. (around ++ first_lines) ++ (told ++ (stop_line n stop ++ after_lines form))) (cycles_are ∙ length-reports_of moments) ∙ parts-whole around first_lines told (stop_line (length moments) stop) (after_lines form) in (
       around ++ (states_text from listing old.hardware moments stop ++ after_lines form),
-      record { moments = moments; run = run; no_markup = states_plain from listing old.hardware moments stop; text_is = refl },
+      record {
+        moments = moments;
+        run = run;
+        json = states_are from listing old.hardware moments stop;
+        no_markup = states_plain from listing old.hardware moments stop;
+        text_is = refl;
+      },
       extends_whole (extends_same whole (extends_both begins (extends_both goes_on ends))),
     )

@@ -1,9 +1,9 @@
 -- The counts of a run so far, as JSON.
-use Rattle.std.specs.Prelude.{ℕ, List, [], ◌++◌, codes, decimal, Option, Some, None}
+use Rattle.std.specs.Prelude.{ℕ, List, [], ◌++◌, codes, Option, Some, None}
 use Rattle.rv_core.specs.declared.outcome.Progress.{Progress}
 use Rattle.rv_hardware.specs.declared.report.Stall.{Stall}
 use Rattle.rv_hardware.specs.declared.report.Stall.TheVariants.{Fetch, Serial, Rob, Station, Store}
-use Rattle.rv_json.specs.Json.{Json, also, begins, quoted}
+use Rattle.rv_json.specs.Json.{Json, also, begins, numeral, quoted}
 
 -- a reason to dispatch nothing
 abbrev pub stall_name : Stall → List ℕ
@@ -21,13 +21,13 @@ stall_text (Some stall) = also (codes "stall") (quoted (stall_name stall))
 -- the cycles so far, those that dispatched something, and by the reason those that did not
 unfoldable pub counts_json : Progress → Json
 counts_json progress =
-    begins (codes "cycles") (decimal progress.cycles) ++
-    ((also (codes "busy") (decimal progress.busy) ++
-    (also (codes "fetch") (decimal progress.stalls.fetch) ++
-    (also (codes "serial") (decimal progress.stalls.serial) ++
-    (also (codes "rob") (decimal progress.stalls.rob) ++
-    (also (codes "station") (decimal progress.stalls.station) ++
-    also (codes "store") (decimal progress.stalls.store)))))) ++
+    begins (codes "cycles") (numeral progress.cycles) ++
+    ((also (codes "busy") (numeral progress.busy) ++
+    (also (codes "fetch") (numeral progress.stalls.fetch) ++
+    (also (codes "serial") (numeral progress.stalls.serial) ++
+    (also (codes "rob") (numeral progress.stalls.rob) ++
+    (also (codes "station") (numeral progress.stalls.station) ++
+    also (codes "store") (numeral progress.stalls.store)))))) ++
     codes "}")
 
 -- that, and the counts

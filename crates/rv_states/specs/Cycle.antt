@@ -1,5 +1,5 @@
 -- The lines of the hardware before the first cycle, and of a cycle.
-use Rattle.std.specs.Prelude.{ℕ, List, ◌++◌, codes, decimal, map}
+use Rattle.std.specs.Prelude.{ℕ, List, ◌++◌, codes, map}
 use Rattle.rv_core.specs.declared.outcome.Progress.{Progress}
 use Rattle.rv_front.specs.declared.predictors.DescribedPredictor.{DescribedPredictor}
 use Rattle.rv_hardware.specs.Hardware.{Hardware}
@@ -7,7 +7,7 @@ use Rattle.rv_hardware.specs.declared.step.Step.{Step}
 use Rattle.rv_passage.specs.declared.passage.Passage.{Passage}
 use Rattle.rv_states.specs.Counts.{counts_text}
 use Rattle.rv_json.specs.Instruction.{instruction_json}
-use Rattle.rv_json.specs.Json.{also, array, begins}
+use Rattle.rv_json.specs.Json.{also, array, begins, numeral}
 use Rattle.rv_states.specs.Predictor.{predictor_text}
 use Rattle.rv_states.specs.State.{state_json}
 use Rattle.rv_json.specs.Step.{step_json}
@@ -19,14 +19,14 @@ rest_text h progress = counts_text progress ++ also (codes "state") (state_json 
 -- the number of the next cycle, what is in flight before it, the counts so far, and the hardware
 unfoldable pub start_line : List Passage → Hardware → Progress → List ℕ
 start_line rows h progress =
-    begins (codes "start") (decimal h.cycle) ++
+    begins (codes "start") (numeral h.cycle) ++
     (also (codes "instructions") (array (map instruction_json rows)) ++ (rest_text h progress ++ codes "}\n"))
 
 -- The number of a cycle, the instructions that are in flight at its end or left the hardware in it, in order of fetch, its steps,
 -- the counts of the cycles so far, the hardware after it, and what it taught the predictor and asked of it, which is such after it.
 unfoldable pub cycle_line : ℕ → List Passage → List Step → Hardware → Progress → DescribedPredictor → List ℕ
 cycle_line cycle rows steps h progress predictor =
-    begins (codes "cycle") (decimal cycle) ++
+    begins (codes "cycle") (numeral cycle) ++
     (also (codes "instructions") (array (map instruction_json rows)) ++
     (also (codes "steps") (array (map step_json steps)) ++
     (rest_text h progress ++ (predictor_text predictor cycle steps h.front.entries ++ codes "}\n"))))

@@ -1,9 +1,9 @@
 -- The hardware as JSON.
-use Rattle.std.specs.Prelude.{ℕ, List, ◌++◌, codes, decimal, map}
+use Rattle.std.specs.Prelude.{ℕ, List, ◌++◌, codes, map}
 use Rattle.rv_core.specs.Ties.{queue_of}
 use Rattle.rv_hardware.specs.Hardware.{Hardware}
 use Rattle.rv_json.specs.Fetched.{fetched_json, next_fetch_text}
-use Rattle.rv_json.specs.Json.{Json, also, array}
+use Rattle.rv_json.specs.Json.{Json, also, array, numeral}
 use Rattle.rv_json.specs.Observed.{observed_text}
 use Rattle.rv_json.specs.Queue.{store_json}
 use Rattle.rv_json.specs.Units.{units_json}
@@ -20,7 +20,7 @@ unfoldable pub parts_text : Hardware → List ℕ
 parts_text h =
     also (codes "units") (units_json h.units) ++
     (also (codes "store_queue") (array (map store_json (queue_of h).stores)) ++
-    also (codes "port_free") (decimal h.port_free))
+    also (codes "port_free") (numeral h.port_free))
 
 -- the hardware
 unfoldable pub state_json : Hardware → Json

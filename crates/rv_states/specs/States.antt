@@ -1,9 +1,10 @@
 -- The states of a run, line by line.
-use Rattle.std.specs.Prelude.{◌≡◌, ℕ, ◌+◌, ◌^◌, ◌≤◌, ◌==◌, Bool, if◌then◌else◌, nat_lt, List, [], ◌∷◌, ◌++◌, length, Option, Some}
+use Rattle.std.specs.Prelude.{◌≡◌, ℕ, ◌+◌, ◌^◌, ◌≤◌, ◌==◌, Bool, if◌then◌else◌, nat_lt, List, [], ◌∷◌, ◌++◌, length, Option}
 use Rattle.rv_isa.specs.declared.{lines.Arrival.Arrival, values.Values.Values}
 use Rattle.rv_arch.specs.declared.outcome.Stop.{Stop}
 use Rattle.rv_core.specs.Progress.{progress_of}
 use Rattle.rv_core.specs.declared.outcome.Progress.{Progress}
+use Rattle.rv_front.specs.Predictors.{guide_of}
 use Rattle.rv_front.specs.declared.predictors.DescribedPredictor.{DescribedPredictor}
 use Rattle.rv_hardware.specs.Guided.{GuidedHardware, guided}
 use Rattle.rv_hardware.specs.Hardware.{Hardware}
@@ -18,6 +19,7 @@ use Rattle.rv_source.specs.Listing.{Listed}
 use Rattle.rv_text.specs.Said.{IsSaid}
 use Rattle.rv_states.specs.Page.{after_lines, before_lines}
 use Rattle.rv_states.specs.Cycle.{cycle_line, start_line}
+use Rattle.rv_json.specs.Grammar.{AreLines}
 use Rattle.rv_json.specs.Listing.{listing_lines}
 use Rattle.rv_json.specs.Machine.{header_line}
 use Rattle.rv_json.specs.Markup.{HasNoMarkup}
@@ -79,11 +81,12 @@ lines_text from listing first moments =
 unfoldable pub states_text : ℕ → Listed → Hardware → List Moment → Stop → List ℕ
 states_text from listing first moments stop = lines_text from listing first moments ++ stop_line (length moments) stop
 
--- A text has, in a form, the states of the cycles after the first `from` of a run that ended for a reason. No byte of the lines is one that
--- HTML gives a meaning.
+-- A text has, in a form, the states of the cycles after the first `from` of a run that ended for a reason. Each line is JSON, and no byte of
+-- the lines is one that HTML gives a meaning.
 pub record IsStates (arrivals : List Arrival) (from limit : ℕ) (form : Form) (listing : Listed) (old new : GuidedHardware) (stop : Stop) (text : List ℕ) : Type 0 where
   pub moments : List Moment
   pub run : IsEndedRun arrivals limit old moments new stop
+  pub json : AreLines (states_text from listing old.hardware moments stop)
   pub no_markup : HasNoMarkup (states_text from listing old.hardware moments stop)
   pub text_is : text ≡ before_lines form ++ (states_text from listing old.hardware moments stop ++ after_lines form)
 
@@ -96,5 +99,5 @@ WritesStates arrivals from limit form listing old new stop failed before after =
 abbrev pub HasOneText : List Arrival → ℕ → ℕ → Form → Listed → Type 0
 HasOneText arrivals from limit form listing =
     (h : Hardware) (predictor : DescribedPredictor) (new new' : GuidedHardware) (stop stop' : Stop) (text text' : List ℕ) → h.cycle + limit ≤ 2 ^ 40 →
-    IsStates arrivals from limit form listing (guided h (Some predictor)) new stop text → IsStates arrivals from limit form listing (guided h (Some predictor)) new' stop' text' →
+    IsStates arrivals from limit form listing (guided h (guide_of predictor)) new stop text → IsStates arrivals from limit form listing (guided h (guide_of predictor)) new' stop' text' →
     (stop ≡ stop') × (text ≡ text')

@@ -5,7 +5,7 @@ pub(crate) const BEFORE: &[u8] = br#"<!DOCTYPE html>
 <html lang="en">
 <head>
 <meta charset="utf-8">
-<meta http-equiv="Content-Security-Policy" content="default-src 'none'; script-src 'sha256-jUeFsZB2ooXLHrDJvXJExYSLLwhE0NdBHdpMSe0uH/4='; style-src 'sha256-A729DTxwvY/VjaifYeRBqtbBOxtehZYuR/SxVCZhlEE='; img-src data:; frame-src 'self' file:; base-uri 'none'; form-action 'none'">
+<meta http-equiv="Content-Security-Policy" content="default-src 'none'; script-src 'sha256-LrLaiIVaEEjBOXRK+1IeY1wf6nTVPmOalwSXNIt+Tyg='; style-src 'sha256-olRomiyufp573Kai1buYzNvm244BX9gY97cXXkR5Jvs='; img-src data:; frame-src 'self' file:; base-uri 'none'; form-action 'none'">
 <meta name="viewport" content="width=device-width, initial-scale=1">
 <title>rv_sim: a run, cycle by cycle</title>
 <style>
@@ -46,6 +46,8 @@ main { flex: 1 1 auto; min-height: 0; display: flex; gap: 0.4rem; }
 .panel.grows { flex: 1 1 0; min-height: 6rem; }
 .panel.drawing { min-height: 16rem; }
 .panel.tall { flex: 3 1 0; }
+.drawing:has(~ .tall:not([hidden])) { min-height: 12rem; }
+[data-panel="textbook"] td, [data-panel="textbook"] th { font-size: 0.85rem; height: 1.05rem; line-height: 1.05rem; }
 .framed #tools label:has(#address), .framed #tools label:has(#what), .framed [data-step=previous], .framed [data-step=next] { display: none; }
 .panel h2 { background: var(--title); padding: 0 0.4rem; white-space: nowrap; }
 h2[data-phase]::after { content: attr(data-phase); margin-left: 0.4rem; padding: 0 0.25rem; border-radius: 0.5rem; background: var(--edge); color: var(--text); font-size: 0.75rem; font-weight: normal; }
@@ -57,7 +59,7 @@ h2[data-phase]::after { content: attr(data-phase); margin-left: 0.4rem; padding:
 #stop, #quiz, #beside { background: var(--mark); font-size: 1.4rem; line-height: 1.8rem; padding: 0 0.4rem; }
 .unseen th { height: 0; line-height: 0; font-size: 0; padding: 0; }
 [data-panel="registers"], [data-panel="units"], [data-panel="bus"] { flex: none; }
-#stations, #fetch, #asked, #tables, #stores { font-size: 0.85rem; } #stations td { height: 1.1rem; line-height: 1.1rem; } #accesses { font-size: 0.8rem; } #accesses td { padding: 0 0.12rem; }
+#stations, #fetch, [data-panel="fetch"] thead, #asked, #tables, #stores { font-size: 0.85rem; } #stations td { height: 1.1rem; line-height: 1.1rem; } [data-panel="accesses"] table { font-size: 0.76rem; } [data-panel="accesses"] td, [data-panel="accesses"] th { padding: 0 0.12rem; } [data-panel="accesses"] tr > :first-child { padding-left: 0.3rem; }
 .missed, .differs { color: var(--fault); font-weight: bold; }
 .differs { outline: 2px dashed var(--fault); outline-offset: -2px; }
 tr.differs { color: inherit; font-weight: normal; outline-width: 1px; outline-offset: -1px; }
@@ -69,9 +71,12 @@ th { color: var(--quiet); }
 thead { position: sticky; top: 0; z-index: 1; }
 thead th { background: var(--panel); }
 td.wide { width: 99%; max-width: 0; text-overflow: ellipsis; }
+/* What comes after an address that leaves no room for it takes its line; the address is out of sight below. */
+.placed { display: flex; flex-wrap: wrap-reverse; align-content: flex-end; column-gap: 0.5rem; height: 1.25rem; overflow: hidden; }
+.placed > .pc { flex: none; width: 8ch; } .placed > .text { flex: none; max-width: 100%; overflow: hidden; text-overflow: ellipsis; }
 #rob td:nth-child(2), #fetch td:first-child, #stores td:first-child { min-width: 2.8rem; }
-#rob td:nth-child(n + 6):nth-child(-n + 8) { min-width: 2.4rem; }
-#rob td:nth-child(9) { min-width: 8.6rem; max-width: 12.6rem; text-overflow: ellipsis; }
+#rob td:nth-child(n + 5):nth-child(-n + 7) { min-width: 2.4rem; }
+#rob td:nth-child(8) { min-width: 8.6rem; max-width: 12.6rem; text-overflow: ellipsis; }
 #rob th { min-width: 3.1rem; }
 .free { color: var(--edge); }
 .tag { border: 0; background: none; padding: 0; color: var(--accent); cursor: pointer; border-radius: 0; }
@@ -81,9 +86,11 @@ td.wide { width: 99%; max-width: 0; text-overflow: ellipsis; }
 #memory .row { gap: 0; justify-content: space-between; font-size: 0.9rem; }
 #source .row { font-size: 0.88rem; gap: 0.3rem; }
 .list .line { width: 2.2rem; text-align: right; color: var(--quiet); flex: none; }
-.list .pc { color: var(--quiet); flex: none; }
-.stops .pc { color: var(--fault); font-weight: bold; }
-.list .tags { flex: none; min-width: 1.4rem; display: flex; gap: 0.1rem; }
+.list .pc, .list .mark { color: var(--quiet); flex: none; }
+.list .placed { flex: 1 1 0; min-width: 0; column-gap: 0.3rem; } .list .placed > .pc { width: auto; }
+.list .placed > .placed { flex: none; max-width: 100%; }
+.stops .mark { color: var(--fault); font-weight: bold; }
+.list .tags { flex: none; min-width: 1.9rem; display: flex; gap: 0.1rem; }
 .flying { background: var(--title); font-weight: bold; }
 .stale { text-decoration: underline dotted; }
 .changed { background: var(--mark); font-weight: bold; }
@@ -91,7 +98,7 @@ td.wide { width: 99%; max-width: 0; text-overflow: ellipsis; }
 .dirty { font-style: italic; }
 .fault { color: var(--fault); font-weight: bold; }
 .waits { font-style: italic; }
-.followed { background: var(--mark); box-shadow: inset 0.3rem 0 var(--accent); }
+.followed { background: var(--mark); box-shadow: inset 0.2rem 0 var(--accent); }
 .producing { outline: 1px dashed var(--accent); outline-offset: -1px; }
 .consuming { outline: 1px dotted var(--accent); outline-offset: -1px; }
 .tag.followed { box-shadow: none; font-weight: bold; text-decoration: underline; }
@@ -104,15 +111,15 @@ td.wide { width: 99%; max-width: 0; text-overflow: ellipsis; }
 .interrupt { color: var(--fault); font-weight: bold; }
 .now.interrupt { color: var(--panel); }
 .corner { position: sticky; left: 0; width: 19rem; background: var(--panel); color: var(--quiet); z-index: 1; padding-left: 0.25rem; }
-#picture .row { position: absolute; left: 0; right: 0; height: 1.25rem; cursor: pointer; }
-#picture .label { position: sticky; left: 0; display: inline-block; width: 18.8rem; height: 1.25rem; overflow: hidden; text-overflow: ellipsis; white-space: nowrap; background: var(--panel); z-index: 2; padding-left: 0.25rem; }
+#picture .row { position: absolute; left: 0; right: 0; height: 1.25rem; cursor: pointer; display: flex; }
 #picture .row.followed, #picture .row.producing, #picture .row.consuming { background: none; box-shadow: none; outline: none; }
-#picture .followed .label { background: var(--mark); box-shadow: inset 0.3rem 0 var(--accent); }
-#picture .producing .label { outline: 1px dashed var(--accent); outline-offset: -1px; }
-#picture .consuming .label { outline: 1px dotted var(--accent); outline-offset: -1px; }
-#picture .cell { position: absolute; width: 1.05rem; height: 1.25rem; text-align: center; border: 1px solid var(--panel); line-height: 1.15rem; }
-#picture .gone .label { color: var(--quiet); font-style: italic; }
-#picture .trap .label { color: var(--fault); }
+/* One for all labels, as for heads. */
+#picture-labels { position: sticky; left: 0; width: 18.8rem; height: 0; z-index: 2; }
+.label { position: absolute; left: 0; width: 100%; height: 1.25rem; overflow: hidden; text-overflow: ellipsis; white-space: nowrap; background: var(--panel); padding-left: 0.25rem; cursor: pointer; }
+.label.followed { background: var(--mark); }
+.label.gone { color: var(--quiet); font-style: italic; }
+.label.trap { color: var(--fault); }
+#picture .cell { flex: none; width: 1.05rem; height: 1.25rem; text-align: center; border: 1px solid var(--panel); line-height: 1.15rem; }
 #picture-arrows { position: absolute; top: 0; left: 0; z-index: 1; pointer-events: none; }
 #picture-arrows svg { display: block; }
 .arrow { fill: none; stroke: var(--fault); stroke-width: 0.15; }
@@ -132,7 +139,7 @@ td.wide { width: 99%; max-width: 0; text-overflow: ellipsis; }
 .bar { display: block; height: 0.8rem; min-width: 1px; }
 .busy { background: #1f7a3d; color: #fff; } .fetch { background: #e3eefc; color: #000; } .serial { background: #8c1616; color: #fff; }
 .rob { background: #7fb2ea; color: #000; } .station { background: #fbe3a3; color: #000; } .store { background: #f0a848; color: #000; }
-.six { max-height: 6.4rem; } .ten { max-height: 10.2rem; } .fourteen { max-height: 15.2rem; } .eighteen { max-height: 21.4rem; }
+.six { max-height: 6.4rem; } .ten { max-height: 10.2rem; } [data-panel="fetch"] .ten, [data-panel="stores"] .ten { max-height: 11.4rem; } .fourteen { max-height: 15.2rem; } .eighteen { max-height: 21.4rem; }
 @media screen and (max-width: 60rem) { html:not(.framed) body { height: auto; } html:not(.framed) main { display: block; } html:not(.framed) .column { margin-bottom: 0.4rem; } html:not(.framed) .panel.grows { height: 24rem; flex: none; } }
 /* Two runs side by side. */
 body.pair > header, body.pair > main { display: none; }
@@ -142,7 +149,7 @@ body.pair > header, body.pair > main { display: none; }
 #sides { flex: 1; display: flex; gap: 0.4rem; min-height: 0; }
 #sides iframe { flex: 1 1 0; width: 0; border: 1px solid var(--edge); }
 @page { size: A4 landscape; margin: 8mm; }
-/* On paper nothing is scrolled: the picture is moved to where it was, and its labels with it. */
+/* On paper nothing is scrolled: the picture is moved to where it was, and its labels with it, and so are the lists. */
 @media print {
   html { font-size: 10.5px; }
   body { width: 1262px; height: 850px; }
@@ -151,7 +158,9 @@ body.pair > header, body.pair > main { display: none; }
   #picture { overflow: clip; }
   #picture-space { top: calc(-1rem * var(--down)); left: calc(-1rem * var(--along)); }
   #picture-heads { position: absolute; width: 100%; top: calc(1rem * var(--down)); }
-  .corner, #picture .label { position: absolute; left: calc(1rem * var(--along)); }
+  .corner, #picture-labels { position: absolute; left: calc(1rem * var(--along)); }
+  #picture-labels { top: 1.25rem; }
+  .list { overflow: clip; } .list > div { top: calc(-1rem * var(--down)); }
 }
 </style>
 </head>
@@ -188,7 +197,7 @@ register that was typed or of the followed one's; y: the next store, to the addr
 j, k: follow the next instruction, the one before; Escape: follow none. b: a breakpoint there; B: to its next retirement. g: type a cycle. d: type an address or
 a register. a: ABI names. h: hide what was squashed. o: tables as in the textbook. p: panels. ] and [: size of type; 0: as at first. v, V: save the
 panel with the focus, else the page, as SVG, PNG. . and , : the next stop of the lecture, the one before. q: quiz. 2: another run beside this one, then: by cycle or by
-retired instructions; 3: to the other one. A click on an instruction follows it: blue and double are its places, dashed its producers, dotted its consumers.</p>
+retired instructions; 3: to the other one; 1: this one alone. A click on an instruction follows it: blue and double are its places, dashed its producers, dotted its consumers.</p>
 <p id="stop" role="status" aria-live="polite" hidden></p>
 <p id="quiz" hidden><span id="question" role="status" aria-live="polite"></span> <input type="text" id="answer" aria-labelledby="question" size="16"> <span id="verdict" role="status" aria-live="polite"></span></p>
 <p id="beside" hidden><label>The page of the other run: <input type="text" id="other" size="40"></label></p>
@@ -199,7 +208,7 @@ retired instructions; 3: to the other one. A click on an instruction follows it:
 <div class="column" id="left">
 <section class="panel grows" data-panel="source" aria-labelledby="h-source"><h2 id="h-source">Source</h2><span class="note" id="source-note"></span><div class="list" id="source" tabindex="0" role="region" aria-labelledby="h-source"><div></div></div></section>
 <section class="panel" data-panel="fetch" aria-labelledby="h-fetch"><h2 id="h-fetch" data-phase="7" title="phase 7 of 7 of a cycle: fetch">Fetch buffer</h2><span class="note" id="fetch-note"></span><div class="scroll ten" tabindex="0" role="region" aria-labelledby="h-fetch"><table aria-labelledby="h-fetch">
-<thead><tr><th scope="col">no.</th><th scope="col">pc</th><th scope="col">statement</th><th scope="col" title="the pc that was fetched next, where it is not the next word">then</th></tr></thead><tbody id="fetch"></tbody></table></div></section>
+<thead><tr><th scope="col">no.</th><th scope="col"><div class="placed"><span class="pc">pc</span><span>statement</span></div></th><th scope="col" title="the pc that was fetched next, where it is not the next word">then</th></tr></thead><tbody id="fetch"></tbody></table></div></section>
 <section class="panel" data-panel="predictor" aria-labelledby="h-predictor"><h2 id="h-predictor" data-phase="7" title="phase 7 of 7 of a cycle: fetch">Predictor</h2><span class="note" id="predictor-note"></span><div class="scroll ten" tabindex="0" role="region" aria-labelledby="h-predictor">
 <table aria-label="Words that the predictor was asked of"><thead><tr><th scope="col">no.</th><th scope="col">pc</th><th scope="col" title="the place in the predictor's tables">place</th><th scope="col" title="where the predictor says that the program goes on">answer</th></tr></thead><tbody id="asked"></tbody></table>
 <table aria-label="The predictor's tables"><thead><tr><th scope="col">place</th><th scope="col" colspan="2" title="2 or 3: a branch is predicted taken">counter</th><th scope="col" title="the last target that a JALR had">target</th><th scope="col" title="the branches and JALR of the program that have the place">of</th></tr></thead><tbody id="tables"></tbody></table></div></section>
@@ -208,10 +217,10 @@ retired instructions; 3: to the other one. A click on an instruction follows it:
 </div>
 <div class="column" id="middle">
 <section class="panel grows drawing" data-panel="pipeline" aria-labelledby="h-picture"><h2 id="h-picture">Pipeline</h2><span class="note" id="picture-note"></span><p id="legend"></p>
-<div id="picture" tabindex="0" role="region" aria-labelledby="h-picture"><div id="picture-space"><div id="picture-heads"></div><div id="picture-cursor"></div><div id="picture-rows" role="table" aria-labelledby="h-picture"></div><div id="picture-arrows" aria-hidden="true"></div></div></div></section>
+<div id="picture" tabindex="0" role="region" aria-labelledby="h-picture"><div id="picture-space"><div id="picture-heads"></div><div id="picture-cursor"></div><div id="picture-labels"></div><div id="picture-rows" role="table" aria-labelledby="h-picture"></div><div id="picture-arrows" aria-hidden="true"></div></div></div></section>
 <section class="panel" data-panel="rob" aria-labelledby="h-rob"><h2 id="h-rob" data-phase="2" title="phase 2 of 7 of a cycle: commit">Reorder buffer</h2><span class="note" id="rob-note"></span><div class="scroll eighteen" tabindex="0" role="region" aria-labelledby="h-rob"><table aria-labelledby="h-rob">
-<thead><tr><th scope="col"></th><th scope="col">no.</th><th scope="col">pc</th><th scope="col">statement</th><th scope="col"></th><th scope="col" title="dispatched in cycle">D</th><th scope="col" title="issued in cycle">I</th><th scope="col" title="broadcast in cycle, or after an arrow the first in which it can be">B</th><th scope="col" title="the register and its value; after an arrow where the program is predicted to go on, where that is not the next word">result</th></tr></thead><tbody id="rob"></tbody></table></div></section>
-<section class="panel grows tall" data-panel="textbook" aria-labelledby="h-textbook"><h2 id="h-textbook">As in the textbook</h2><span class="note" title="issue is the cycle of dispatch, execute the cycles in a unit, write result the cycle of the broadcast">issue: dispatch; write result: broadcast; ROBn: entry n</span><div class="scroll" tabindex="0" role="region" aria-labelledby="h-textbook">
+<thead><tr><th scope="col"></th><th scope="col">no.</th><th scope="col"><div class="placed"><span class="pc">pc</span><span>statement</span></div></th><th scope="col"></th><th scope="col" title="dispatched in cycle">D</th><th scope="col" title="issued in cycle">I</th><th scope="col" title="broadcast in cycle, or after an arrow the first in which it can be">B</th><th scope="col" title="the register and its value; after an arrow where the program is predicted to go on, where that is not the next word">result</th></tr></thead><tbody id="rob"></tbody></table></div></section>
+<section class="panel grows tall" data-panel="textbook" aria-labelledby="h-textbook"><h2 id="h-textbook">As in the textbook</h2><span class="note" title="issue is the cycle of dispatch, execute the cycles in a unit, write result the cycle of the broadcast; ROBn is entry n of the reorder buffer">issue: dispatch; write result: broadcast</span><div class="scroll" tabindex="0" role="region" aria-labelledby="h-textbook">
 <table aria-label="Instruction status"><thead><tr><th scope="col">entry</th><th scope="col">no.</th><th scope="col">instruction status</th><th scope="col">issue</th><th scope="col">execute</th><th scope="col">write result</th><th scope="col">commit</th></tr></thead><tbody id="status"></tbody></table>
 <table aria-label="Reservation stations"><thead><tr><th scope="col">station</th><th scope="col">busy</th><th scope="col">op</th><th scope="col">Vj</th><th scope="col">Vk</th><th scope="col">Qj</th><th scope="col">Qk</th><th scope="col">dest</th><th scope="col">A</th></tr></thead><tbody id="waiting"></tbody></table>
 <table aria-label="Register result status"><thead><tr><th scope="colgroup" colspan="16">register result status: the entry that writes it</th></tr></thead><tbody id="results"></tbody></table></div></section>
@@ -262,6 +271,15 @@ function hex(word) { return word.toString(16).padStart(8, "0"); }
 function registerName(register) { return settings.abi ? abiNames[register] : "x" + register; }
 function causeName(cause) { return causeWords[cause] || "cause " + hex(cause); }
 function listed(words) { return words.length < 2 ? words.join("") : words.slice(0, -1).join(", ") + " and " + words[words.length - 1]; }
+// Numbers of instructions: three or more that follow each other by the first and the last of them.
+function numbered(numbers) {
+  const runs = [];
+  for (const number of numbers) {
+    const last = runs[runs.length - 1];
+    if (last && last[last.length - 1] === number - 1) last.push(number); else runs.push([number]);
+  }
+  return listed(runs.flatMap((run) => run.length < 3 ? run.map((number) => "#" + number) : "#" + run[0] + " to #" + run[run.length - 1]));
+}
 function counted(number, word) { return number + " " + word + (number === 1 ? "" : "s"); }
 
 // An instruction by its number and statement.
@@ -284,7 +302,6 @@ function stallSentence(run, here) {
 function cycleSentence(run, place) {
   const here = run.places[place];
   if (place === 0) return run.first === 0 ? "The hardware before the first cycle." : "The hardware before cycle " + run.first + ".";
-  const tags = (numbers) => listed(numbers.map((number) => "#" + number));
   const parts = [];
   for (const interrupt of here.interrupts) {
     parts.push("the " + causeName(interrupt.cause) + " is taken before " + hex(interrupt.pc) + ": everything in flight is squashed");
@@ -299,11 +316,11 @@ function cycleSentence(run, place) {
   if (squashed.length) parts.push(counted(squashed.length, "instruction") + (squashed.length > 1 ? " are" : " is") + " squashed");
   if (here.access) parts.push("the " + here.access.what + " of #" + here.access.number + " accesses the cache at " + hex(here.access.address));
   const phases = here.phases;
-  if (phases.issue.length) parts.push(tags(phases.issue) + (phases.issue.length > 1 ? " issue" : " issues"));
-  if (phases.broadcast.length) parts.push("broadcast of " + tags(phases.broadcast));
-  if (phases.dispatch.length) parts.push("dispatch of " + tags(phases.dispatch));
+  if (phases.issue.length) parts.push(numbered(phases.issue) + (phases.issue.length > 1 ? " issue" : " issues"));
+  if (phases.broadcast.length) parts.push("broadcast of " + numbered(phases.broadcast));
+  if (phases.dispatch.length) parts.push("dispatch of " + numbered(phases.dispatch));
   else if (here.stall) parts.push("nothing is dispatched, since " + stallSentence(run, here));
-  if (phases.fetch.length) parts.push("fetch of " + tags(phases.fetch));
+  if (phases.fetch.length) parts.push("fetch of " + numbered(phases.fetch));
   const text = parts.length ? parts.join("; ") + "." : "nothing happens.";
   if (!run.stop || place < run.places.length - 1) return "Cycle " + here.cycle + ": " + text;
   return "Cycle " + here.cycle + ": " + text + (run.stop.stop === "limit" ? " The page ends here." : " The run ends: " + run.stop.stop + ".");
@@ -876,14 +893,18 @@ function make(wanted) {
   return made;
 }
 
+// What an element was drawn from says what differs: the document is asked for nothing, and told that alone.
 function bring(node, wanted) {
+  if (node.drawn === wanted) return;
   if (!wanted.tag) { if (node.data !== String(wanted)) node.data = wanted; return; }
   const old = node.drawn.attributes, now = wanted.attributes;
-  for (const name of Object.keys(old)) if (!(name in now)) put(node, name, undefined);
-  for (const [name, value] of Object.entries(now)) if (value !== old[name]) put(node, name, value);
+  for (const name in old) if (!(name in now)) put(node, name, undefined);
+  for (const name in now) if (now[name] !== old[name]) put(node, name, now[name]);
   node.drawn = wanted;
   bringChildren(node, wanted.children);
 }
+
+function isAlike(one, other) { return one.tag === other.tag && one.key === other.key; }
 
 function isKind(node, wanted) {
   if (!node) return false;
@@ -892,6 +913,18 @@ function isKind(node, wanted) {
 }
 
 function bringChildren(box, wanted) {
+  const held = box.held || [];
+  box.held = wanted;
+  if (held.length !== wanted.length || !wanted.every((each, k) => isAlike(each, held[k]))) return arrange(box, wanted);
+  let node = box.firstChild;
+  wanted.forEach((each, k) => {
+    if (each !== held[k]) bring(node, each);
+    node = node.nextSibling;
+  });
+}
+
+// Brings the children in their order: some are new, some have gone.
+function arrange(box, wanted) {
   const keys = new Set(wanted.map((each) => each.key).filter((key) => key !== undefined)), kept = new Map();
   for (const node of [...box.childNodes]) {
     const key = node.drawn && node.drawn.key;
@@ -921,6 +954,12 @@ function row(attributes, ...cells) {
 }
 function heading(text) { return element("th", { scope: "row" }, text); }
 function wide(...children) { return element("td", { class: "wide" }, ...children); }
+// A statement after its address, which is left off where it would cut the statement. One that has no room alone is smaller.
+function placed(pc, statement) {
+  return element("td", { class: "wide", title: hex(pc) + " " + statement },
+    element("div", { class: "placed" }, span("pc", hex(pc)), span("text", statement, { style: smaller(statement, 22) })));
+}
+function smaller(text, room) { return text.length > room ? "font-size:" + Math.max(0.7, room / text.length).toFixed(2) + "em" : undefined; }
 function span(kind, text, attributes) { return element("span", { class: kind, ...attributes }, text); }
 function words(...kinds) { return kinds.filter((kind) => kind).join(" "); }
 
@@ -957,11 +996,22 @@ function scrollBox(id, top, left) {
   Object.assign(measures[id], { top: box.scrollTop, left: box.scrollLeft });
 }
 
+// On paper nothing is scrolled: what was, is moved there as far; and a sheet has room for more rows than a window.
+function layOutForPrint(view) {
+  for (const id of scrolled) {
+    byId(id).style.setProperty("--down", measures[id].top / measures.rem);
+    byId(id).style.setProperty("--along", measures[id].left / measures.rem);
+    measures[id].height += 30 * measures.rem;
+  }
+  for (const show of [showSource, showMemory, drawPicture]) show(view);
+  markFollowed(view);
+}
+
 // A list of which only the rows in view are in the document: it is scrolled first, where a row is wanted, and drawn with the rest.
 const lists = {};
 function scrollList(id, wanted) {
   const height = 1.25 * measures.rem, { top, height: high } = measures[id];
-  if (wanted >= 0 && (wanted * height < top || (wanted + 2) * height > top + high)) scrollBox(id, Math.max(0, wanted * height - high / 3), 0);
+  if (wanted >= 0 && (wanted * height < top || (wanted + 2) * height > top + high)) scrollBox(id, Math.max(0, Math.floor(wanted - high / height / 3) * height), 0);
 }
 function drawList(id) {
   const { count, rowAt } = lists[id], { top, height: high } = measures[id], height = 1.25 * measures.rem, rows = [];
@@ -974,6 +1024,19 @@ function drawList(id) {
   bringChildren(byId(id).firstElementChild, rows);
 }
 function sizeList(id, count) { byId(id).firstElementChild.style.height = 1.25 * count + "rem"; }
+
+// A table that may be long: past so many rows only those in view are in the document, between gaps as high as the others.
+const longest = 40, drawnRows = 28, tops = { rob: 0, stations: 0 };
+function boxOf(id) { return byId(id).closest(".scroll"); }
+function fillLong(id, count, rowAt, least, columns) {
+  const height = rowHeights[id], isLong = count > longest;
+  const from = isLong ? Math.max(0, Math.min(count - drawnRows, Math.floor(tops[id] / (height * measures.rem)) - 4)) : 0, to = isLong ? from + drawnRows : count;
+  const gap = (name, rows) => rows > 0 ? [element("tr", { key: name, class: "gap", style: "height:" + rows * height + "rem" }, element("td", { colspan: columns }))] : [];
+  const rows = [];
+  for (let k = from; k < to; k += 1) rows.push(rowAt(k));
+  fill(id, [...gap("above", from), ...rows, ...gap("below", count - to)], least, columns);
+}
+const rowHeights = { rob: 1.25, stations: 1.1 };
 
 // Scrolls to what a view wants to be seen, before the lists and the picture are drawn.
 function scrollAll(view) {
@@ -1041,6 +1104,12 @@ function entriesOf(line) { return line.state.reorder_buffer.map((entry, k) => ({
 function isRunning(entry) { return entry.issued !== undefined && entry.broadcast === undefined; }
 function isJump(entry) { return entry.predicted !== ((entry.pc + 4) >>> 0); }
 
+// A line of the program: its label is left off after its address, where the statement has no room beside it.
+function labelled(text) {
+  const statement = unlabelled(text), label = text.slice(0, text.length - statement.length).trim();
+  return label ? element("div", { class: "placed" }, span("name", label), span("text", statement)) : span("text", statement);
+}
+
 function showSource(view) {
   const { run, place, line } = view, cycle = run.cycleOf(place), flying = new Map();
   line.in_flight.forEach((number) => {
@@ -1057,8 +1126,8 @@ function showSource(view) {
     const stale = run.isStale(address, place), stops = view.breakpoints.has(address);
     const title = hex(address) + ": " + hex(run.wordAt(address, place)) + (stale ? ", stale" : "") + (stops ? ", breakpoint" : "");
     return element("div", { class: words("row", numbers.length && "flying", stale && "stale", stops && "stops"), "data-address": address, title: title + "\n" + text.trim() },
-      span("line", of), span("pc", (address === line.state.pc ? ">" : stops ? "*" : "\u00a0") + hex(address)), element("span", { class: "tags" }, ...tags),
-      span("text", text.trim()));
+      span("line", of), span("mark", address === line.state.pc ? ">" : stops ? "*" : "\u00a0"), element("span", { class: "tags" }, ...tags),
+      element("div", { class: "placed" }, span("pc", hex(address)), labelled(text.trim())));
   };
   note("source-note", "> " + hex(line.state.pc) + " is next to retire");
   lists.source = { count: run.listing.length, rowAt };
@@ -1070,26 +1139,39 @@ function showFetch(view) {
   note("fetch-note", buffer.length + " of " + size + (line.state.halted ? ", halted" : ", next " + hex(line.state.next_fetch)));
   fill("fetch", buffer.map((word, k) => {
     const number = line.in_flight[from + k];
-    return row({ "data-number": number }, tag(number), hex(word.pc), wide(run.statement(word)), isJump(word) ? "\u2192" + hex(word.predicted) : "");
-  }), Math.min(size, 8), 4);
+    return row({ "data-number": number }, tag(number), placed(word.pc, run.statement(word)), isJump(word) ? "\u2192" + hex(word.predicted) : "");
+  }), Math.min(size, 8), 3);
 }
 
 function showReorderBuffer(view) {
-  const { run, line, place } = view, buffer = line.state.reorder_buffer, size = run.machine.rob, cycle = run.cycleOf(place);
+  const { run, line } = view, buffer = line.state.reorder_buffer, size = run.machine.rob;
   note("rob-note", buffer.length + " of " + size + ", tail at the bottom");
-  fill("rob", buffer.map((entry, k) => {
-    const number = line.in_flight[k], letter = letterOf(run.table[number], cycle);
-    const ends = (k === 0 ? "head" : "") + (k === buffer.length - 1 ? (k === 0 ? "+tail" : "tail") : "");
-    const stamp = (value) => value === undefined ? "-" : value;
-    const target = entry.target ? registerName(entry.target) + "=" + (entry.value === undefined ? "?" : hex(entry.value)) : "";
-    const result = entry.fault ? causeName(entry.fault.cause) : target + (isJump(entry) ? "\u2192" + hex(entry.predicted) : "") || "-";
-    const finish = isRunning(entry) ? "\u2192" + (entry.issued + entry.cost) : stamp(entry.broadcast);
-    const title = "fetched in cycle " + entry.fetched + ", sequence number " + entry.sequence;
-    const said = [hex(entry.pc), letter, entry.dispatched, stamp(entry.issued), finish, result].join(" ");
-    return row({ "data-number": number, "data-fact": "entry " + entry.sequence, "data-said": said, title }, heading(ends), tag(number), hex(entry.pc), wide(run.statement(entry)),
-      element("td", { class: "cell " + cellClass(letter), title: letterWords[letter] }, letter), entry.dispatched, stamp(entry.issued), finish,
-      element("td", { class: entry.fault ? "fault" : "", title: "predicted to go on at " + hex(entry.predicted) }, result));
-  }), Math.min(size, 16), 9);
+  fillLong("rob", buffer.length, (k) => entryRow(view, k), Math.min(size, 16), 8);
+}
+
+// What an entry of the reorder buffer is shown to have come to: stage, cycles of dispatch, issue and broadcast, result.
+function entryParts({ run, line, place }, k) {
+  const entry = line.state.reorder_buffer[k], stamp = (value) => value === undefined ? "-" : value;
+  const target = entry.target ? registerName(entry.target) + "=" + (entry.value === undefined ? "?" : hex(entry.value)) : "";
+  const result = entry.fault ? causeName(entry.fault.cause) : target + (isJump(entry) ? "\u2192" + hex(entry.predicted) : "") || "-";
+  const finish = isRunning(entry) ? "\u2192" + (entry.issued + entry.cost) : stamp(entry.broadcast);
+  return [letterOf(run.table[line.in_flight[k]], run.cycleOf(place)), entry.dispatched, stamp(entry.issued), finish, result];
+}
+
+// The same as a fact of two runs: that of its sequence number.
+function entryFact(view, k) {
+  const entry = view.line.state.reorder_buffer[k];
+  return ["entry " + entry.sequence, [hex(entry.pc), ...entryParts(view, k)].join(" ")];
+}
+
+function entryRow(view, k) {
+  const { run, line } = view, buffer = line.state.reorder_buffer, entry = buffer[k], number = line.in_flight[k];
+  const [letter, dispatched, issued, finish, result] = entryParts(view, k);
+  const ends = (k === 0 ? "head" : "") + (k === buffer.length - 1 ? (k === 0 ? "+tail" : "tail") : "");
+  const title = "fetched in cycle " + entry.fetched + ", sequence number " + entry.sequence;
+  return row({ "data-number": number, "data-entry": entry.sequence, title }, heading(ends), tag(number), placed(entry.pc, run.statement(entry)),
+    element("td", { class: "cell " + cellClass(letter), title: letterWords[letter] }, letter), dispatched, issued, finish,
+    element("td", { class: entry.fault ? "fault" : "", title: "predicted to go on at " + hex(entry.predicted) }, result));
 }
 
 function showStations(view) {
@@ -1098,13 +1180,17 @@ function showStations(view) {
     const waiting = entriesOf(line).filter(({ entry }) => entry.kind === kind && entry.issued === undefined);
     const size = run.machine[kind].stations;
     counts.push(kind + " " + waiting.length + "/" + size);
-    const made = waiting.map(({ entry, number }) => row({ "data-number": number }, kind, tag(number),
-      wide(run.statement(entry)), element("td", {}, ...entry.operands.flatMap((operand) => operandOf(view, operand)))));
-    while (made.length < Math.min(size, 4)) made.push(element("tr", { class: "free" }, element("td", {}, kind), element("td", { colspan: 3 })));
-    rows.push(...made);
+    for (const each of waiting) rows.push({ kind, ...each });
+    for (let k = waiting.length; k < Math.min(size, 4); k += 1) rows.push({ kind });
   }
   note("stations-note", counts.join(" "));
-  fill("stations", rows, Math.min(12, rows.length), 4);
+  fillLong("stations", rows.length, (k) => stationRow(view, rows[k]), Math.min(12, rows.length), 4);
+}
+
+function stationRow(view, { kind, entry, number }) {
+  if (!entry) return element("tr", { class: "free" }, element("td", {}, kind), element("td", { colspan: 3 }));
+  return row({ "data-number": number }, kind, tag(number), wide(view.run.statement(entry)),
+    element("td", {}, ...entry.operands.flatMap((operand) => operandOf(view, operand))));
 }
 
 function operandOf(view, operand) {
@@ -1202,27 +1288,39 @@ function showCounts(view) {
   draw("counted", Object.entries(numbers).map(([name, value]) => element("span", { "data-fact": name },
     name + (run.first > 0 && name !== "cycles" && name !== "retired" ? " here " : " ") + value)));
   const total = Math.max(1, counts.cycles), share = (value) => (100 * value / total).toFixed(1);
+  // (a part too narrow for its name has it in its tip)
   draw("stack", parts.filter(([, value]) => value > 0).map(([name, value]) =>
-    element("span", { class: "part " + name, style: "width:" + share(value) + "%", title: name + ": " + share(value) + "% of the cycles" }, name)));
+    element("span", { class: "part " + name, style: "width:" + share(value) + "%", title: name + ": " + share(value) + "% of the cycles" }, share(value) > 2.6 * name.length ? name : "")));
   fill("counts", parts.map(([name, value]) => row({}, heading(name === "busy" ? name : "stall " + name), element("td", { "data-fact": name }, value),
     share(value) + "%", wide(span("bar " + name, "", { style: "width:" + share(value) + "%" })))), 6, 4);
 }
 
-// The places of the followed instruction, its producers and its consumers.
+// The places of the followed instruction, its producers and its consumers. Where none is followed, marks that stand are looked for alone.
+const marks = ["followed", "producing", "consuming"];
 function markFollowed(view, box) {
-  const followed = view.run.table[view.followed], producers = followed ? followed.producers.map((each) => each.number) : [];
-  for (const each of (box || document).querySelectorAll("[data-number]")) {
-    const number = Number(each.dataset.number);
-    each.classList.toggle("followed", number === view.followed);
-    each.classList.toggle("producing", producers.includes(number));
-    each.classList.toggle("consuming", Boolean(followed) && followed.consumers.includes(number));
+  const followed = view.run.table[view.followed], kinds = new Map();
+  if (followed) {
+    for (const number of followed.consumers) kinds.set(number, "consuming");
+    for (const { number } of followed.producers) kinds.set(number, "producing");
+    kinds.set(view.followed, "followed");
+  }
+  const looked = followed ? "[data-number]" : marks.map((name) => "[data-number]." + name).join();
+  for (const each of (box || document).querySelectorAll(looked)) {
+    const kind = kinds.get(Number(each.dataset.number));
+    for (const name of marks) each.classList.toggle(name, name === kind);
   }
 }
 
+const panels = {
+  fetch: showFetch, predictor: showPredictor, rob: showReorderBuffer, textbook: showTextbook, stations: showStations, units: showUnits, bus: showBus,
+  stores: showStores, registers: showRegisters, csrs: showCsrs, cache: showCache, accesses: showAccesses, counts: showCounts,
+};
+// These are drawn though they are left out, since their texts are compared where two runs stand side by side.
+const compared = ["registers", "csrs", "counts"];
+
 // The panels are filled first, since how high they are says how much room the lists and the picture have.
 function showAll(view) {
-  const panels = [showFetch, showPredictor, showReorderBuffer, showTextbook, showStations, showUnits, showBus, showStores, showRegisters, showCsrs, showCache, showAccesses, showCounts];
-  for (const show of panels) show(view);
+  for (const [name, show] of Object.entries(panels)) if (compared.includes(name) || !byId("h-" + name).closest(".panel").hidden) show(view);
   measure();
   scrollAll(view);
   for (const show of [showSource, showMemory, drawPicture]) show(view);
@@ -1242,7 +1340,6 @@ function offsetOf(word) {
 }
 
 function showTextbook(view) {
-  if (!settings.textbook) return;
   showStatus(view);
   showStationTable(view);
   showResultStatus(view);
@@ -1252,7 +1349,7 @@ function showStatus({ run, line, place }) {
   const cycle = run.cycleOf(place), buffer = line.state.reorder_buffer, entered = line.in_flight.slice(0, buffer.length);
   const last = entered.length ? entered[entered.length - 1] : run.places[place].fetchedBefore - 1;
   const oldest = entered.length ? entered[0] : last;
-  const shown = run.table.slice(Math.max(run.firstNumber, oldest - 6), last + 1).filter((each) => each.dispatched <= cycle && !(settings.hide && run.isGone(each)));
+  const shown = run.table.slice(Math.max(run.firstNumber, oldest - 6), last + 1).filter((each) => each.dispatched <= cycle && !(hidesGone() && run.isGone(each)));
   const upTo = (at) => at !== undefined && at <= cycle ? at : "";
   fill("status", shown.map((each) => {
     const k = entered.indexOf(each.number), done = each.issued + each.cost <= cycle ? each.issued + "\u2013" + (each.issued + each.cost - 1) : upTo(each.issued);
@@ -1295,8 +1392,11 @@ const picture = { row: 1.25, column: 1.05, label: 19 };
 // The instructions that have a row, and the row of each: all, or those that were not fetched in vain.
 const pictured = { numbers: [], rows: new Map() };
 
+// The quiz would tell by it what will be squashed.
+function hidesGone() { return settings.hide && !settings.quiz; }
+
 function sizePicture(run) {
-  const all = run.table.filter((each) => each !== undefined), shown = settings.hide ? all.filter((each) => !run.isGone(each)) : all;
+  const all = run.table.filter((each) => each !== undefined), shown = hidesGone() ? all.filter((each) => !run.isGone(each)) : all;
   pictured.numbers = shown.map((each) => each.number);
   pictured.rows = new Map(pictured.numbers.map((number, k) => [number, k]));
   byId("picture-space").style.width = picture.label + run.places.length * picture.column + "rem";
@@ -1311,31 +1411,41 @@ function rowFrom(number) {
   return k < 0 ? pictured.numbers.length : k;
 }
 
-// Scrolls to the cursor's column, and to the rows of what is in flight: all of them where they fit, else as many of the oldest as do.
+// Scrolls to the cursor's column, and to the rows of what is in flight: all of them where they fit, else as many of the oldest as do; and to
+// that of the followed instruction.
 function scrollPicture(view) {
   const { run, place, line } = view, rem = measures.rem, width = picture.column * rem, height = picture.row * rem;
   let { top, left, width: wide, height: high } = measures.picture;
   wide -= picture.label * rem;
   const column = Math.max(place - 1, 0) * width;
-  if (column < left + 3 * width || column + 4 * width > left + wide) left = Math.max(0, column - wide * 0.7);
+  if (column < left + 3 * width || column + 4 * width > left + wide) left = Math.max(0, Math.floor((column - wide * 0.7) / width) * width);
   const flying = line.in_flight.map((number) => pictured.rows.get(number)).filter((k) => k !== undefined);
   const beside = Math.max(0, rowFrom(run.places[place].fetchedBefore) - 1);
   const first = flying.length ? flying[0] : Math.max(0, beside - 2), last = flying.length ? flying[flying.length - 1] : beside;
   // A row stands below the heads, which stay at the top of the box.
-  const least = Math.ceil((last + 2) * height - high), most = Math.floor(first * height);
-  if (top < least) top = least;
-  if (top > most) top = most;
+  const see = (first, last) => {
+    const least = Math.ceil(last + 2 - high / height) * height, most = first * height;
+    if (top < least) top = least;
+    if (top > most) top = most;
+  };
+  see(first, last);
+  // The followed one is seen before others, while it is in flight and where it has just left.
+  const followed = run.table[view.followed], its = pictured.rows.get(view.followed), cycle = run.cycleOf(place);
+  if (its !== undefined && followed.fetched <= cycle && !(followed.left < cycle)) see(its, its);
   scrollBox("picture", Math.max(0, top), left);
 }
+
+function columnAt(column) { return picture.label + column * picture.column + "rem"; }
 
 function drawPicture(view) {
   const { run } = view, { top, left, width: wide, height: high } = measures.picture;
   const height = picture.row * measures.rem, width = picture.column * measures.rem, last = settings.quiz ? view.place - 1 : run.places.length - 2;
   const firstRow = Math.max(0, Math.floor(top / height) - 4), lastRow = Math.ceil((top + high) / height) + 4;
-  const firstColumn = Math.max(0, Math.floor(left / width) - 4), lastColumn = Math.min(last, Math.ceil((left + wide) / width) + 4);
-  const at = (column) => picture.label + column * picture.column + "rem";
+  const firstColumn = Math.max(0, Math.floor(left / width) - 4), lastColumn = Math.min(last, Math.ceil((left + wide - picture.label * measures.rem) / width) + 4);
   const shown = pictured.numbers.slice(firstRow, lastRow + 1).filter((number) => !settings.quiz || run.table[number].fetched <= run.cycleOf(view.place));
-  draw("picture-rows", shown.map((number, k) => pictureRow(view, run.table[number], firstRow + k, firstColumn, lastColumn, at)));
+  const rows = pictureRows(view, shown, firstRow, firstColumn, lastColumn);
+  draw("picture-labels", rows.map((each) => each.label));
+  draw("picture-rows", rows.map((each) => each.row));
   const heads = [element("div", { class: "corner" }, "instruction")];
   for (let column = firstColumn; column <= lastColumn; column += 1) {
     const cycle = run.first + column, now = column === view.place - 1, interrupt = run.places[column + 1].interrupts.length > 0;
@@ -1344,39 +1454,52 @@ function drawPicture(view) {
     const title = "cycle " + cycle + (interrupt ? ": interrupt" : "");
     const text = (interrupt ? "!" : "") + (now || !interrupt ? cycle : "");
     const kinds = words("head", interrupt && "interrupt", now && "now");
-    heads.push(element("div", { class: kinds, "data-go": cycle, style: "left:" + at(column), title }, text));
+    heads.push(element("div", { class: kinds, "data-go": cycle, style: "left:" + columnAt(column), title }, text));
   }
   draw("picture-heads", heads);
-  byId("picture-cursor").style.left = at(view.place - 1);
+  byId("picture-cursor").style.left = columnAt(view.place - 1);
   byId("picture-cursor").hidden = view.place === 0;
-  byId("picture-space").style.setProperty("--along", left / measures.rem);
-  byId("picture-space").style.setProperty("--down", top / measures.rem);
-  markFollowed(view, byId("picture"));
-  drawArrows(view);
 }
 
-// What a label has room for: the address is left off where it would cut the statement.
+// What a label has room for, in characters: the address is left off where it would cut the statement.
+const labelRoom = 30;
 function labelOf(number, pc, statement) {
-  const gap = "\u00a0".repeat(Math.max(1, 5 - String(number).length)), room = 30;
+  const gap = "\u00a0".repeat(Math.max(1, 5 - String(number).length));
   const whole = "#" + number + gap + hex(pc) + " " + statement;
-  return whole.length <= room || statement === hex(pc) ? whole : "#" + number + gap + statement;
+  return whole.length <= labelRoom || statement === hex(pc) ? whole : "#" + number + gap + statement;
 }
 
-function pictureRow(view, instruction, k, firstColumn, lastColumn, at) {
-  const { run } = view, number = instruction.number, now = run.cycleOf(view.place);
-  const end = instruction.left !== undefined && (!settings.quiz || instruction.left <= now) ? instruction.end : undefined;
-  const gone = end === "squashed" ? " gone" : end === "trapped" ? " trap" : "";
-  const cells = [];
-  const until = instruction.left === undefined ? run.last : instruction.left;
-  const from = Math.max(instruction.fetched, run.first + firstColumn), to = Math.min(until, run.first + lastColumn);
+// The rows as they were drawn last, by their numbers: one that is as it was is not described anew.
+let drawnBefore = new Map();
+function pictureRows(view, numbers, firstRow, firstColumn, lastColumn) {
+  const { run } = view, now = run.cycleOf(view.place), drawn = new Map();
+  numbers.forEach((number, k) => {
+    const instruction = run.table[number], { fetched, left } = instruction;
+    const end = left !== undefined && (!settings.quiz || left <= now) ? instruction.end : undefined;
+    const from = Math.max(fetched, run.first + firstColumn), to = Math.min(left === undefined ? run.last : left, run.first + lastColumn);
+    const sign = [firstRow + k, from, to, end].join(), before = drawnBefore.get(number);
+    drawn.set(number, before && before.sign === sign ? before : { sign, ...pictureRow(run, instruction, firstRow + k, from, to, end) });
+  });
+  drawnBefore = drawn;
+  return [...drawn.values()];
+}
+
+// A row: its label, which stands in a box of its own, since one box that stays in view costs a step less than many; and its cells, which
+// stand beside each other from the first that is drawn.
+function pictureRow(run, instruction, k, from, to, end) {
+  const { number, pc } = instruction, cells = [];
   for (let cycle = from; cycle <= to; cycle += 1) {
     const letter = letterOf(instruction, cycle);
     const title = "#" + number + " in cycle " + cycle + ": " + letterWords[letter];
-    cells.push(span("cell " + cellClass(letter), letter, { key: cycle, role: "cell", style: "left:" + at(cycle - run.first), title, "data-cycle": cycle }));
+    cells.push(span("cell " + cellClass(letter), letter, { key: cycle, role: "cell", title, "data-cycle": cycle }));
   }
-  const statement = run.statement(instruction).replace(/\s+/g, " ");
-  const label = span("label", labelOf(number, instruction.pc, statement), { role: "rowheader", title: hex(instruction.pc) + " " + statement });
-  return element("div", { class: "row" + gone, key: number, role: "row", "data-number": number, style: "top:" + (k + 1) * picture.row + "rem" }, label, ...cells);
+  const statement = run.statement(instruction).replace(/\s+/g, " "), id = "label-" + number, label = labelOf(number, pc, statement);
+  return {
+    label: element("div", { class: words("label", { squashed: "gone", trapped: "trap" }[end]), key: number, id, role: "rowheader", "data-number": number,
+      title: hex(pc) + " " + statement, style: "top:" + k * picture.row + "rem;" + (smaller(label, labelRoom) || "") }, label),
+    row: element("div", { class: "row", key: number, role: "row", "aria-owns": id, "data-number": number,
+      style: "top:" + (k + 1) * picture.row + "rem;padding-left:" + columnAt(from - run.first) }, ...cells),
+  };
 }
 
 // A cell's tip says for what an instruction waits, worked out when the cell is pointed at.
@@ -1503,11 +1626,19 @@ function goToStop(way) {
 function showStop() {
   const stop = lecture.stops[lecture.at];
   byId("stop").hidden = !stop;
-  if (stop) note("stop", lecture.at + 1 + " of " + lecture.stops.length + ": " + stop.sentence);
+  if (stop) note("stop", lecture.at + 1 + " of " + lecture.stops.length + ", cycle " + stop.cycle + ": " + stop.sentence);
+}
+
+// The stop at which an address stands, so that a page that is loaded anew goes on from there.
+function findStop(cycle, followed) {
+  lecture.at = lecture.stops.findIndex((stop) => stop.cycle === cycle && stop.followed === followed);
+  showStop();
 }
 
 // The quiz: the next cycle is hidden until Enter. Each question is made from the states: its text, and its answer as words.
 const quiz = { asked: 0, right: 0, question: undefined, answered: false };
+
+function quizCount() { return quiz.right + " of " + quiz.asked + " right"; }
 
 function numbersWords(numbers) { return numbers.length ? numbers.join(" ") : "none"; }
 
@@ -1532,33 +1663,37 @@ function isAnswer(question, text) {
 }
 
 function turnQuiz() {
+  const count = quizCount();
   settings.quiz = !settings.quiz;
   byId("quiz").hidden = !settings.quiz;
   Object.assign(quiz, { asked: 0, right: 0 });
+  sizePicture(run);
   show();
-  if (settings.quiz) ask(); else document.activeElement.blur();
+  if (settings.quiz) { ask(); return byId("answer").focus(); }
+  document.activeElement.blur();
+  say("Quiz: " + count + ".");
 }
 
+// Asks what the cycle after the cursor's does, however the cursor came there.
 function ask() {
   if (view.place >= lastPlace) {
-    note("question", "The page ends here: " + quiz.right + " of " + quiz.asked + " right.");
+    note("question", "The page ends here: " + quizCount() + ".");
     quiz.question = undefined;
     return;
   }
   Object.assign(quiz, { question: questionAt(view.place), answered: false });
   note("question", quiz.question.text);
   byId("answer").value = "";
-  byId("answer").focus();
-  note("verdict", quiz.right + " of " + quiz.asked + " right");
+  note("verdict", quizCount());
 }
 
 // Enter: the first time it answers, the second time the next cycle is shown, with its question.
 function answer() {
   if (!quiz.question) return;
-  if (quiz.answered) { go(view.place + 1); return ask(); }
+  if (quiz.answered) return go(view.place + 1);
   const right = isAnswer(quiz.question, byId("answer").value.trim());
   Object.assign(quiz, { answered: true, asked: quiz.asked + 1, right: quiz.right + (right ? 1 : 0) });
-  note("verdict", (right ? "Right" : "No: " + quiz.question.answer) + ". " + quiz.right + " of " + quiz.asked + " right. Enter: the next cycle.");
+  note("verdict", (right ? "Right" : "No: " + quiz.question.answer) + ". " + quizCount() + ". Enter: the next cycle.");
 }
 // A panel, or the page, as a picture for a slide: an SVG of rectangles and texts that stand where the browser has them, or a PNG of it.
 
@@ -1657,24 +1792,32 @@ function save(asImage) {
 
 const framed = window.parent !== window && new URLSearchParams(location.hash.slice(1)).has("side");
 
-// What an element says that may differ: its text, or, of a row, what it says but for the instruction's number.
-function factOf(each) { return each.dataset.said === undefined ? each.textContent : each.dataset.said; }
+// What the page shows that may differ: texts, and what entries of the reorder buffer have come to.
+function factsOf(view) {
+  const facts = Object.fromEntries(view.line.state.reorder_buffer.map((_, k) => entryFact(view, k)));
+  for (const each of document.querySelectorAll("[data-fact]")) facts[each.dataset.fact] = each.textContent;
+  return facts;
+}
 
 // What a frame tells the page around it: where it stands, and what it shows that may differ.
 function tell(asked) {
   if (!framed) return;
-  const facts = {};
-  for (const each of document.querySelectorAll("[data-fact]")) facts[each.dataset.fact] = factOf(each);
   window.parent.postMessage({
-    rv_sim: "shown", asked: Boolean(asked), cycle: run.cycleOf(view.place), retired: run.places[view.place].retired, first: run.first, last: run.last, facts,
+    rv_sim: "shown", asked: Boolean(asked), cycle: run.cycleOf(view.place), retired: run.places[view.place].retired, first: run.first, last: run.last,
+    facts: factsOf(view),
   }, "*");
 }
 
+function tellPair(wish) { if (framed) window.parent.postMessage({ rv_sim: wish }, "*"); }
+
 // Marks what differs from the other run.
-function markDifferences(others) {
-  for (const each of document.querySelectorAll("[data-fact]")) {
-    const other = others[each.dataset.fact];
-    each.classList.toggle("differs", (other === undefined ? "00000000" : other) !== factOf(each));
+let othersFacts = null;
+function markDifferences() {
+  if (!othersFacts) return;
+  const facts = factsOf(view);
+  for (const each of document.querySelectorAll("[data-fact], [data-entry]")) {
+    const name = each.dataset.fact || "entry " + each.dataset.entry, other = othersFacts[name];
+    each.classList.toggle("differs", (other === undefined ? "00000000" : other) !== facts[name]);
   }
 }
 
@@ -1689,7 +1832,7 @@ function hear(event) {
   if (event.source !== window.parent || !said || typeof said !== "object") return;
   if (said.rv_sim === "go" && Number.isInteger(said.cycle)) go(said.cycle - run.first + 1, true);
   if (said.rv_sim === "retired" && Number.isInteger(said.retired)) go(placeOfRetired(said.retired), true);
-  if (said.rv_sim === "differ" && said.facts && typeof said.facts === "object") markDifferences(said.facts);
+  if (said.rv_sim === "differ" && said.facts && typeof said.facts === "object") { othersFacts = said.facts; markDifferences(); }
 }
 
 // The page around the frames.
@@ -1714,6 +1857,7 @@ function startPair(other) {
   byId("pair").hidden = false;
   document.title = runName() + " beside " + decodeURIComponent(that.pathname.split("/").pop());
   window.addEventListener("message", hearFrame);
+  window.addEventListener("hashchange", () => location.reload());
   byId("pair-slider").addEventListener("input", (event) => pair.frames.forEach((frame) => frame.contentWindow.postMessage({ rv_sim: "go", cycle: Number(event.target.value) }, "*")));
   byId("pair-by").addEventListener("change", (event) => { pair.byRetired = event.target.checked; followLeader(0); });
   pair.frames[0].addEventListener("load", () => pair.frames[0].contentWindow.focus());
@@ -1730,6 +1874,7 @@ function hearFrame(event) {
   if (k < 0 || !said || typeof said !== "object") return;
   if (said.rv_sim === "turn") { pair.byRetired = byId("pair-by").checked = !pair.byRetired; return followLeader(k); }
   if (said.rv_sim === "other") return pair.frames[1 - k].contentWindow.focus();
+  if (said.rv_sim === "alone") return showAlone(k);
   if (said.rv_sim !== "shown") return;
   pair.shown[k] = said;
   if (!said.asked) followLeader(k);
@@ -1740,9 +1885,17 @@ function hearFrame(event) {
   if (both.length === 2) pair.frames.forEach((frame, j) => frame.contentWindow.postMessage({ rv_sim: "differ", facts: pair.shown[1 - j].facts }, "*"));
 }
 
+// One of the two without the other, where it stands.
+function showAlone(k) {
+  const [file, hash] = pair.frames[k].src.split("#"), words = new URLSearchParams(hash);
+  words.delete("side");
+  if (pair.shown[k]) words.set("cycle", pair.shown[k].cycle);
+  location.href = file + "#" + words;
+}
+
 // In a frame: by cycle or by retired instructions. In a page alone: asks for the other page.
 function turnPair() {
-  if (framed) return window.parent.postMessage({ rv_sim: "turn" }, "*");
+  if (framed) return tellPair("turn");
   byId("beside").hidden = false;
   byId("other").focus();
 }
@@ -1777,7 +1930,8 @@ function showFollowed() {
 }
 
 function relatives(number) {
-  const { producers, consumers } = run.table[number];
+  const { producers } = run.table[number], isKnown = (each) => !settings.quiz || run.table[each].dispatched <= run.cycleOf(view.place);
+  const consumers = run.table[number].consumers.filter(isKnown);
   const some = (numbers) => listed(numbers.slice(0, 6).map((each) => "#" + each));
   const from = producers.map((each) => "#" + each.number + " (" + registerName(each.register) + ")");
   return (from.length ? " Producers: " + listed(from) + "." : "") + (consumers.length ? " Consumers: " + some(consumers) + "." : "");
@@ -1787,6 +1941,7 @@ function relatives(number) {
 function go(place, asked) {
   view.place = Math.max(0, Math.min(lastPlace, place));
   show();
+  if (settings.quiz) ask();
   tell(asked);
   clearTimeout(writing);
   writing = setTimeout(writeAddress, 200);
@@ -1815,6 +1970,7 @@ function readAddress() {
   if (size > 0) sizeType(size);
   settings.without = new Set((words.get("without") || (framed ? framedWithout : "")).split(",").filter((name) => panelNames().includes(name)));
   lecture.stops = readStops(words.get("notes") || byId("notes").textContent);
+  findStop(cycle, view.followed);
   view.place = Math.max(0, Math.min(lastPlace, cycle === undefined ? 1 : cycle - run.first + 1));
   settle();
 }
@@ -1844,6 +2000,8 @@ function say(text) { note("following", text); }
 
 function follow(number) {
   view.followed = run.table[number] ? number : undefined;
+  scrollPicture(view);
+  drawPicture(view);
   showPredictor(view);
   showFollowed();
   writeAddress();
@@ -1853,7 +2011,8 @@ function followNext(way) {
   const numbers = view.line.in_flight;
   if (view.followed === undefined && numbers.length) return follow(numbers[way > 0 ? 0 : numbers.length - 1]);
   if (view.followed === undefined) return follow(Math.max(run.firstNumber, run.places[view.place].fetchedBefore - 1));
-  follow(Math.max(run.firstNumber, Math.min(run.table.length - 1, view.followed + way)));
+  const last = settings.quiz ? run.places[view.place].fetchedBefore : run.table.length;
+  follow(Math.max(run.firstNumber, Math.min(last - 1, view.followed + way)));
 }
 
 function isStopped() { return view.place === lastPlace || (view.breakpoints.size > 0 && tests.breakpoint(run.places[view.place])); }
@@ -1896,7 +2055,7 @@ const keys = {
   a: () => turn("abi"), h: () => turn("hide"), o: () => turn("textbook"), g: () => byId("cycle").select(), d: () => byId("address").select(),
   "]": () => resize(1.15), "[": () => resize(1 / 1.15), "0": () => resize(1), p: showSwitches,
   b: turnBreakpoint, B: () => jump("breakpoint", 1), ".": () => goToStop(1), ",": () => goToStop(-1), q: turnQuiz,
-  v: () => save(false), V: () => save(true), "2": turnPair, "3": () => framed && window.parent.postMessage({ rv_sim: "other" }, "*"),
+  v: () => save(false), V: () => save(true), "2": turnPair, "3": () => tellPair("other"), "1": () => tellPair("alone"),
 };
 for (const [key, what] of Object.entries({ r: "retirement", w: "wrong", t: "trap", i: "interrupt", s: "stall", c: "access", m: "miss", x: "register", y: "stored" })) {
   keys[key] = () => jump(what, 1);
@@ -1956,8 +2115,11 @@ function listen() {
   byId("other").addEventListener("change", (event) => { location.hash = location.hash.slice(1) + "&beside=" + encodeURIComponent(event.target.value.trim()); });
   byId("picture").addEventListener("pointerover", (event) => { if (event.target.dataset.cycle && event.target.textContent === ".") tellWait(view, event.target); });
   for (const id of scrolled) byId(id).addEventListener("scroll", () => requestAnimationFrame(() => redraw(id)));
+  for (const id of Object.keys(tops)) boxOf(id).addEventListener("scroll", () => requestAnimationFrame(() => redrawLong(id)));
   window.addEventListener("hashchange", readAddress);
   window.addEventListener("resize", show);
+  window.addEventListener("beforeprint", () => layOutForPrint(view));
+  window.addEventListener("afterprint", show);
   window.addEventListener("message", hear);
 }
 
@@ -1966,7 +2128,15 @@ function redraw(id) {
   const { scrollTop: top, scrollLeft: left } = byId(id);
   if (top === measures[id].top && left === measures[id].left) return;
   Object.assign(measures[id], { top, left });
-  if (id === "picture") drawPicture(view); else { drawList(id); markFollowed(view, byId(id)); }
+  if (id === "picture") drawPicture(view); else drawList(id);
+  markFollowed(view, byId(id));
+}
+
+function redrawLong(id) {
+  tops[id] = boxOf(id).scrollTop;
+  (id === "rob" ? showReorderBuffer : showStations)(view);
+  markFollowed(view, byId(id));
+  markDifferences();
 }
 
 function start() {

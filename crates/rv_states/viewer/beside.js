@@ -3,24 +3,32 @@
 
 const framed = window.parent !== window && new URLSearchParams(location.hash.slice(1)).has("side");
 
-// What an element says that may differ: its text, or, of a row, what it says but for the instruction's number.
-function factOf(each) { return each.dataset.said === undefined ? each.textContent : each.dataset.said; }
+// What the page shows that may differ: texts, and what entries of the reorder buffer have come to.
+function factsOf(view) {
+  const facts = Object.fromEntries(view.line.state.reorder_buffer.map((_, k) => entryFact(view, k)));
+  for (const each of document.querySelectorAll("[data-fact]")) facts[each.dataset.fact] = each.textContent;
+  return facts;
+}
 
 // What a frame tells the page around it: where it stands, and what it shows that may differ.
 function tell(asked) {
   if (!framed) return;
-  const facts = {};
-  for (const each of document.querySelectorAll("[data-fact]")) facts[each.dataset.fact] = factOf(each);
   window.parent.postMessage({
-    rv_sim: "shown", asked: Boolean(asked), cycle: run.cycleOf(view.place), retired: run.places[view.place].retired, first: run.first, last: run.last, facts,
+    rv_sim: "shown", asked: Boolean(asked), cycle: run.cycleOf(view.place), retired: run.places[view.place].retired, first: run.first, last: run.last,
+    facts: factsOf(view),
   }, "*");
 }
 
+function tellPair(wish) { if (framed) window.parent.postMessage({ rv_sim: wish }, "*"); }
+
 // Marks what differs from the other run.
-function markDifferences(others) {
-  for (const each of document.querySelectorAll("[data-fact]")) {
-    const other = others[each.dataset.fact];
-    each.classList.toggle("differs", (other === undefined ? "00000000" : other) !== factOf(each));
+let othersFacts = null;
+function markDifferences() {
+  if (!othersFacts) return;
+  const facts = factsOf(view);
+  for (const each of document.querySelectorAll("[data-fact], [data-entry]")) {
+    const name = each.dataset.fact || "entry " + each.dataset.entry, other = othersFacts[name];
+    each.classList.toggle("differs", (other === undefined ? "00000000" : other) !== facts[name]);
   }
 }
 
@@ -35,7 +43,7 @@ function hear(event) {
   if (event.source !== window.parent || !said || typeof said !== "object") return;
   if (said.rv_sim === "go" && Number.isInteger(said.cycle)) go(said.cycle - run.first + 1, true);
   if (said.rv_sim === "retired" && Number.isInteger(said.retired)) go(placeOfRetired(said.retired), true);
-  if (said.rv_sim === "differ" && said.facts && typeof said.facts === "object") markDifferences(said.facts);
+  if (said.rv_sim === "differ" && said.facts && typeof said.facts === "object") { othersFacts = said.facts; markDifferences(); }
 }
 
 // The page around the frames.
@@ -60,6 +68,7 @@ function startPair(other) {
   byId("pair").hidden = false;
   document.title = runName() + " beside " + decodeURIComponent(that.pathname.split("/").pop());
   window.addEventListener("message", hearFrame);
+  window.addEventListener("hashchange", () => location.reload());
   byId("pair-slider").addEventListener("input", (event) => pair.frames.forEach((frame) => frame.contentWindow.postMessage({ rv_sim: "go", cycle: Number(event.target.value) }, "*")));
   byId("pair-by").addEventListener("change", (event) => { pair.byRetired = event.target.checked; followLeader(0); });
   pair.frames[0].addEventListener("load", () => pair.frames[0].contentWindow.focus());
@@ -76,6 +85,7 @@ function hearFrame(event) {
   if (k < 0 || !said || typeof said !== "object") return;
   if (said.rv_sim === "turn") { pair.byRetired = byId("pair-by").checked = !pair.byRetired; return followLeader(k); }
   if (said.rv_sim === "other") return pair.frames[1 - k].contentWindow.focus();
+  if (said.rv_sim === "alone") return showAlone(k);
   if (said.rv_sim !== "shown") return;
   pair.shown[k] = said;
   if (!said.asked) followLeader(k);
@@ -86,9 +96,17 @@ function hearFrame(event) {
   if (both.length === 2) pair.frames.forEach((frame, j) => frame.contentWindow.postMessage({ rv_sim: "differ", facts: pair.shown[1 - j].facts }, "*"));
 }
 
+// One of the two without the other, where it stands.
+function showAlone(k) {
+  const [file, hash] = pair.frames[k].src.split("#"), words = new URLSearchParams(hash);
+  words.delete("side");
+  if (pair.shown[k]) words.set("cycle", pair.shown[k].cycle);
+  location.href = file + "#" + words;
+}
+
 // In a frame: by cycle or by retired instructions. In a page alone: asks for the other page.
 function turnPair() {
-  if (framed) return window.parent.postMessage({ rv_sim: "turn" }, "*");
+  if (framed) return tellPair("turn");
   byId("beside").hidden = false;
   byId("other").focus();
 }

@@ -26,14 +26,18 @@ function make(wanted) {
   return made;
 }
 
+// What an element was drawn from says what differs: the document is asked for nothing, and told that alone.
 function bring(node, wanted) {
+  if (node.drawn === wanted) return;
   if (!wanted.tag) { if (node.data !== String(wanted)) node.data = wanted; return; }
   const old = node.drawn.attributes, now = wanted.attributes;
-  for (const name of Object.keys(old)) if (!(name in now)) put(node, name, undefined);
-  for (const [name, value] of Object.entries(now)) if (value !== old[name]) put(node, name, value);
+  for (const name in old) if (!(name in now)) put(node, name, undefined);
+  for (const name in now) if (now[name] !== old[name]) put(node, name, now[name]);
   node.drawn = wanted;
   bringChildren(node, wanted.children);
 }
+
+function isAlike(one, other) { return one.tag === other.tag && one.key === other.key; }
 
 function isKind(node, wanted) {
   if (!node) return false;
@@ -42,6 +46,18 @@ function isKind(node, wanted) {
 }
 
 function bringChildren(box, wanted) {
+  const held = box.held || [];
+  box.held = wanted;
+  if (held.length !== wanted.length || !wanted.every((each, k) => isAlike(each, held[k]))) return arrange(box, wanted);
+  let node = box.firstChild;
+  wanted.forEach((each, k) => {
+    if (each !== held[k]) bring(node, each);
+    node = node.nextSibling;
+  });
+}
+
+// Brings the children in their order: some are new, some have gone.
+function arrange(box, wanted) {
   const keys = new Set(wanted.map((each) => each.key).filter((key) => key !== undefined)), kept = new Map();
   for (const node of [...box.childNodes]) {
     const key = node.drawn && node.drawn.key;
@@ -71,6 +87,12 @@ function row(attributes, ...cells) {
 }
 function heading(text) { return element("th", { scope: "row" }, text); }
 function wide(...children) { return element("td", { class: "wide" }, ...children); }
+// A statement after its address, which is left off where it would cut the statement. One that has no room alone is smaller.
+function placed(pc, statement) {
+  return element("td", { class: "wide", title: hex(pc) + " " + statement },
+    element("div", { class: "placed" }, span("pc", hex(pc)), span("text", statement, { style: smaller(statement, 22) })));
+}
+function smaller(text, room) { return text.length > room ? "font-size:" + Math.max(0.7, room / text.length).toFixed(2) + "em" : undefined; }
 function span(kind, text, attributes) { return element("span", { class: kind, ...attributes }, text); }
 function words(...kinds) { return kinds.filter((kind) => kind).join(" "); }
 

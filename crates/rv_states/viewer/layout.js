@@ -17,11 +17,22 @@ function scrollBox(id, top, left) {
   Object.assign(measures[id], { top: box.scrollTop, left: box.scrollLeft });
 }
 
+// On paper nothing is scrolled: what was, is moved there as far; and a sheet has room for more rows than a window.
+function layOutForPrint(view) {
+  for (const id of scrolled) {
+    byId(id).style.setProperty("--down", measures[id].top / measures.rem);
+    byId(id).style.setProperty("--along", measures[id].left / measures.rem);
+    measures[id].height += 30 * measures.rem;
+  }
+  for (const show of [showSource, showMemory, drawPicture]) show(view);
+  markFollowed(view);
+}
+
 // A list of which only the rows in view are in the document: it is scrolled first, where a row is wanted, and drawn with the rest.
 const lists = {};
 function scrollList(id, wanted) {
   const height = 1.25 * measures.rem, { top, height: high } = measures[id];
-  if (wanted >= 0 && (wanted * height < top || (wanted + 2) * height > top + high)) scrollBox(id, Math.max(0, wanted * height - high / 3), 0);
+  if (wanted >= 0 && (wanted * height < top || (wanted + 2) * height > top + high)) scrollBox(id, Math.max(0, Math.floor(wanted - high / height / 3) * height), 0);
 }
 function drawList(id) {
   const { count, rowAt } = lists[id], { top, height: high } = measures[id], height = 1.25 * measures.rem, rows = [];
@@ -34,6 +45,19 @@ function drawList(id) {
   bringChildren(byId(id).firstElementChild, rows);
 }
 function sizeList(id, count) { byId(id).firstElementChild.style.height = 1.25 * count + "rem"; }
+
+// A table that may be long: past so many rows only those in view are in the document, between gaps as high as the others.
+const longest = 40, drawnRows = 28, tops = { rob: 0, stations: 0 };
+function boxOf(id) { return byId(id).closest(".scroll"); }
+function fillLong(id, count, rowAt, least, columns) {
+  const height = rowHeights[id], isLong = count > longest;
+  const from = isLong ? Math.max(0, Math.min(count - drawnRows, Math.floor(tops[id] / (height * measures.rem)) - 4)) : 0, to = isLong ? from + drawnRows : count;
+  const gap = (name, rows) => rows > 0 ? [element("tr", { key: name, class: "gap", style: "height:" + rows * height + "rem" }, element("td", { colspan: columns }))] : [];
+  const rows = [];
+  for (let k = from; k < to; k += 1) rows.push(rowAt(k));
+  fill(id, [...gap("above", from), ...rows, ...gap("below", count - to)], least, columns);
+}
+const rowHeights = { rob: 1.25, stations: 1.1 };
 
 // Scrolls to what a view wants to be seen, before the lists and the picture are drawn.
 function scrollAll(view) {

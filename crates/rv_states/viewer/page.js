@@ -29,7 +29,8 @@ function showFollowed() {
 }
 
 function relatives(number) {
-  const { producers, consumers } = run.table[number];
+  const { producers } = run.table[number], isKnown = (each) => !settings.quiz || run.table[each].dispatched <= run.cycleOf(view.place);
+  const consumers = run.table[number].consumers.filter(isKnown);
   const some = (numbers) => listed(numbers.slice(0, 6).map((each) => "#" + each));
   const from = producers.map((each) => "#" + each.number + " (" + registerName(each.register) + ")");
   return (from.length ? " Producers: " + listed(from) + "." : "") + (consumers.length ? " Consumers: " + some(consumers) + "." : "");
@@ -39,6 +40,7 @@ function relatives(number) {
 function go(place, asked) {
   view.place = Math.max(0, Math.min(lastPlace, place));
   show();
+  if (settings.quiz) ask();
   tell(asked);
   clearTimeout(writing);
   writing = setTimeout(writeAddress, 200);
@@ -67,6 +69,7 @@ function readAddress() {
   if (size > 0) sizeType(size);
   settings.without = new Set((words.get("without") || (framed ? framedWithout : "")).split(",").filter((name) => panelNames().includes(name)));
   lecture.stops = readStops(words.get("notes") || byId("notes").textContent);
+  findStop(cycle, view.followed);
   view.place = Math.max(0, Math.min(lastPlace, cycle === undefined ? 1 : cycle - run.first + 1));
   settle();
 }
@@ -96,6 +99,8 @@ function say(text) { note("following", text); }
 
 function follow(number) {
   view.followed = run.table[number] ? number : undefined;
+  scrollPicture(view);
+  drawPicture(view);
   showPredictor(view);
   showFollowed();
   writeAddress();
@@ -105,7 +110,8 @@ function followNext(way) {
   const numbers = view.line.in_flight;
   if (view.followed === undefined && numbers.length) return follow(numbers[way > 0 ? 0 : numbers.length - 1]);
   if (view.followed === undefined) return follow(Math.max(run.firstNumber, run.places[view.place].fetchedBefore - 1));
-  follow(Math.max(run.firstNumber, Math.min(run.table.length - 1, view.followed + way)));
+  const last = settings.quiz ? run.places[view.place].fetchedBefore : run.table.length;
+  follow(Math.max(run.firstNumber, Math.min(last - 1, view.followed + way)));
 }
 
 function isStopped() { return view.place === lastPlace || (view.breakpoints.size > 0 && tests.breakpoint(run.places[view.place])); }
@@ -148,7 +154,7 @@ const keys = {
   a: () => turn("abi"), h: () => turn("hide"), o: () => turn("textbook"), g: () => byId("cycle").select(), d: () => byId("address").select(),
   "]": () => resize(1.15), "[": () => resize(1 / 1.15), "0": () => resize(1), p: showSwitches,
   b: turnBreakpoint, B: () => jump("breakpoint", 1), ".": () => goToStop(1), ",": () => goToStop(-1), q: turnQuiz,
-  v: () => save(false), V: () => save(true), "2": turnPair, "3": () => framed && window.parent.postMessage({ rv_sim: "other" }, "*"),
+  v: () => save(false), V: () => save(true), "2": turnPair, "3": () => tellPair("other"), "1": () => tellPair("alone"),
 };
 for (const [key, what] of Object.entries({ r: "retirement", w: "wrong", t: "trap", i: "interrupt", s: "stall", c: "access", m: "miss", x: "register", y: "stored" })) {
   keys[key] = () => jump(what, 1);
@@ -208,8 +214,11 @@ function listen() {
   byId("other").addEventListener("change", (event) => { location.hash = location.hash.slice(1) + "&beside=" + encodeURIComponent(event.target.value.trim()); });
   byId("picture").addEventListener("pointerover", (event) => { if (event.target.dataset.cycle && event.target.textContent === ".") tellWait(view, event.target); });
   for (const id of scrolled) byId(id).addEventListener("scroll", () => requestAnimationFrame(() => redraw(id)));
+  for (const id of Object.keys(tops)) boxOf(id).addEventListener("scroll", () => requestAnimationFrame(() => redrawLong(id)));
   window.addEventListener("hashchange", readAddress);
   window.addEventListener("resize", show);
+  window.addEventListener("beforeprint", () => layOutForPrint(view));
+  window.addEventListener("afterprint", show);
   window.addEventListener("message", hear);
 }
 
@@ -218,7 +227,15 @@ function redraw(id) {
   const { scrollTop: top, scrollLeft: left } = byId(id);
   if (top === measures[id].top && left === measures[id].left) return;
   Object.assign(measures[id], { top, left });
-  if (id === "picture") drawPicture(view); else { drawList(id); markFollowed(view, byId(id)); }
+  if (id === "picture") drawPicture(view); else drawList(id);
+  markFollowed(view, byId(id));
+}
+
+function redrawLong(id) {
+  tops[id] = boxOf(id).scrollTop;
+  (id === "rob" ? showReorderBuffer : showStations)(view);
+  markFollowed(view, byId(id));
+  markDifferences();
 }
 
 function start() {

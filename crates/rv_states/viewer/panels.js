@@ -5,6 +5,12 @@ function entriesOf(line) { return line.state.reorder_buffer.map((entry, k) => ({
 function isRunning(entry) { return entry.issued !== undefined && entry.broadcast === undefined; }
 function isJump(entry) { return entry.predicted !== ((entry.pc + 4) >>> 0); }
 
+// A line of the program: its label is left off after its address, where the statement has no room beside it.
+function labelled(text) {
+  const statement = unlabelled(text), label = text.slice(0, text.length - statement.length).trim();
+  return label ? element("div", { class: "placed" }, span("name", label), span("text", statement)) : span("text", statement);
+}
+
 function showSource(view) {
   const { run, place, line } = view, cycle = run.cycleOf(place), flying = new Map();
   line.in_flight.forEach((number) => {
@@ -21,8 +27,8 @@ function showSource(view) {
     const stale = run.isStale(address, place), stops = view.breakpoints.has(address);
     const title = hex(address) + ": " + hex(run.wordAt(address, place)) + (stale ? ", stale" : "") + (stops ? ", breakpoint" : "");
     return element("div", { class: words("row", numbers.length && "flying", stale && "stale", stops && "stops"), "data-address": address, title: title + "\n" + text.trim() },
-      span("line", of), span("pc", (address === line.state.pc ? ">" : stops ? "*" : "\u00a0") + hex(address)), element("span", { class: "tags" }, ...tags),
-      span("text", text.trim()));
+      span("line", of), span("mark", address === line.state.pc ? ">" : stops ? "*" : "\u00a0"), element("span", { class: "tags" }, ...tags),
+      element("div", { class: "placed" }, span("pc", hex(address)), labelled(text.trim())));
   };
   note("source-note", "> " + hex(line.state.pc) + " is next to retire");
   lists.source = { count: run.listing.length, rowAt };
@@ -34,26 +40,39 @@ function showFetch(view) {
   note("fetch-note", buffer.length + " of " + size + (line.state.halted ? ", halted" : ", next " + hex(line.state.next_fetch)));
   fill("fetch", buffer.map((word, k) => {
     const number = line.in_flight[from + k];
-    return row({ "data-number": number }, tag(number), hex(word.pc), wide(run.statement(word)), isJump(word) ? "\u2192" + hex(word.predicted) : "");
-  }), Math.min(size, 8), 4);
+    return row({ "data-number": number }, tag(number), placed(word.pc, run.statement(word)), isJump(word) ? "\u2192" + hex(word.predicted) : "");
+  }), Math.min(size, 8), 3);
 }
 
 function showReorderBuffer(view) {
-  const { run, line, place } = view, buffer = line.state.reorder_buffer, size = run.machine.rob, cycle = run.cycleOf(place);
+  const { run, line } = view, buffer = line.state.reorder_buffer, size = run.machine.rob;
   note("rob-note", buffer.length + " of " + size + ", tail at the bottom");
-  fill("rob", buffer.map((entry, k) => {
-    const number = line.in_flight[k], letter = letterOf(run.table[number], cycle);
-    const ends = (k === 0 ? "head" : "") + (k === buffer.length - 1 ? (k === 0 ? "+tail" : "tail") : "");
-    const stamp = (value) => value === undefined ? "-" : value;
-    const target = entry.target ? registerName(entry.target) + "=" + (entry.value === undefined ? "?" : hex(entry.value)) : "";
-    const result = entry.fault ? causeName(entry.fault.cause) : target + (isJump(entry) ? "\u2192" + hex(entry.predicted) : "") || "-";
-    const finish = isRunning(entry) ? "\u2192" + (entry.issued + entry.cost) : stamp(entry.broadcast);
-    const title = "fetched in cycle " + entry.fetched + ", sequence number " + entry.sequence;
-    const said = [hex(entry.pc), letter, entry.dispatched, stamp(entry.issued), finish, result].join(" ");
-    return row({ "data-number": number, "data-fact": "entry " + entry.sequence, "data-said": said, title }, heading(ends), tag(number), hex(entry.pc), wide(run.statement(entry)),
-      element("td", { class: "cell " + cellClass(letter), title: letterWords[letter] }, letter), entry.dispatched, stamp(entry.issued), finish,
-      element("td", { class: entry.fault ? "fault" : "", title: "predicted to go on at " + hex(entry.predicted) }, result));
-  }), Math.min(size, 16), 9);
+  fillLong("rob", buffer.length, (k) => entryRow(view, k), Math.min(size, 16), 8);
+}
+
+// What an entry of the reorder buffer is shown to have come to: stage, cycles of dispatch, issue and broadcast, result.
+function entryParts({ run, line, place }, k) {
+  const entry = line.state.reorder_buffer[k], stamp = (value) => value === undefined ? "-" : value;
+  const target = entry.target ? registerName(entry.target) + "=" + (entry.value === undefined ? "?" : hex(entry.value)) : "";
+  const result = entry.fault ? causeName(entry.fault.cause) : target + (isJump(entry) ? "\u2192" + hex(entry.predicted) : "") || "-";
+  const finish = isRunning(entry) ? "\u2192" + (entry.issued + entry.cost) : stamp(entry.broadcast);
+  return [letterOf(run.table[line.in_flight[k]], run.cycleOf(place)), entry.dispatched, stamp(entry.issued), finish, result];
+}
+
+// The same as a fact of two runs: that of its sequence number.
+function entryFact(view, k) {
+  const entry = view.line.state.reorder_buffer[k];
+  return ["entry " + entry.sequence, [hex(entry.pc), ...entryParts(view, k)].join(" ")];
+}
+
+function entryRow(view, k) {
+  const { run, line } = view, buffer = line.state.reorder_buffer, entry = buffer[k], number = line.in_flight[k];
+  const [letter, dispatched, issued, finish, result] = entryParts(view, k);
+  const ends = (k === 0 ? "head" : "") + (k === buffer.length - 1 ? (k === 0 ? "+tail" : "tail") : "");
+  const title = "fetched in cycle " + entry.fetched + ", sequence number " + entry.sequence;
+  return row({ "data-number": number, "data-entry": entry.sequence, title }, heading(ends), tag(number), placed(entry.pc, run.statement(entry)),
+    element("td", { class: "cell " + cellClass(letter), title: letterWords[letter] }, letter), dispatched, issued, finish,
+    element("td", { class: entry.fault ? "fault" : "", title: "predicted to go on at " + hex(entry.predicted) }, result));
 }
 
 function showStations(view) {
@@ -62,13 +81,17 @@ function showStations(view) {
     const waiting = entriesOf(line).filter(({ entry }) => entry.kind === kind && entry.issued === undefined);
     const size = run.machine[kind].stations;
     counts.push(kind + " " + waiting.length + "/" + size);
-    const made = waiting.map(({ entry, number }) => row({ "data-number": number }, kind, tag(number),
-      wide(run.statement(entry)), element("td", {}, ...entry.operands.flatMap((operand) => operandOf(view, operand)))));
-    while (made.length < Math.min(size, 4)) made.push(element("tr", { class: "free" }, element("td", {}, kind), element("td", { colspan: 3 })));
-    rows.push(...made);
+    for (const each of waiting) rows.push({ kind, ...each });
+    for (let k = waiting.length; k < Math.min(size, 4); k += 1) rows.push({ kind });
   }
   note("stations-note", counts.join(" "));
-  fill("stations", rows, Math.min(12, rows.length), 4);
+  fillLong("stations", rows.length, (k) => stationRow(view, rows[k]), Math.min(12, rows.length), 4);
+}
+
+function stationRow(view, { kind, entry, number }) {
+  if (!entry) return element("tr", { class: "free" }, element("td", {}, kind), element("td", { colspan: 3 }));
+  return row({ "data-number": number }, kind, tag(number), wide(view.run.statement(entry)),
+    element("td", {}, ...entry.operands.flatMap((operand) => operandOf(view, operand))));
 }
 
 function operandOf(view, operand) {
@@ -166,27 +189,39 @@ function showCounts(view) {
   draw("counted", Object.entries(numbers).map(([name, value]) => element("span", { "data-fact": name },
     name + (run.first > 0 && name !== "cycles" && name !== "retired" ? " here " : " ") + value)));
   const total = Math.max(1, counts.cycles), share = (value) => (100 * value / total).toFixed(1);
+  // (a part too narrow for its name has it in its tip)
   draw("stack", parts.filter(([, value]) => value > 0).map(([name, value]) =>
-    element("span", { class: "part " + name, style: "width:" + share(value) + "%", title: name + ": " + share(value) + "% of the cycles" }, name)));
+    element("span", { class: "part " + name, style: "width:" + share(value) + "%", title: name + ": " + share(value) + "% of the cycles" }, share(value) > 2.6 * name.length ? name : "")));
   fill("counts", parts.map(([name, value]) => row({}, heading(name === "busy" ? name : "stall " + name), element("td", { "data-fact": name }, value),
     share(value) + "%", wide(span("bar " + name, "", { style: "width:" + share(value) + "%" })))), 6, 4);
 }
 
-// The places of the followed instruction, its producers and its consumers.
+// The places of the followed instruction, its producers and its consumers. Where none is followed, marks that stand are looked for alone.
+const marks = ["followed", "producing", "consuming"];
 function markFollowed(view, box) {
-  const followed = view.run.table[view.followed], producers = followed ? followed.producers.map((each) => each.number) : [];
-  for (const each of (box || document).querySelectorAll("[data-number]")) {
-    const number = Number(each.dataset.number);
-    each.classList.toggle("followed", number === view.followed);
-    each.classList.toggle("producing", producers.includes(number));
-    each.classList.toggle("consuming", Boolean(followed) && followed.consumers.includes(number));
+  const followed = view.run.table[view.followed], kinds = new Map();
+  if (followed) {
+    for (const number of followed.consumers) kinds.set(number, "consuming");
+    for (const { number } of followed.producers) kinds.set(number, "producing");
+    kinds.set(view.followed, "followed");
+  }
+  const looked = followed ? "[data-number]" : marks.map((name) => "[data-number]." + name).join();
+  for (const each of (box || document).querySelectorAll(looked)) {
+    const kind = kinds.get(Number(each.dataset.number));
+    for (const name of marks) each.classList.toggle(name, name === kind);
   }
 }
 
+const panels = {
+  fetch: showFetch, predictor: showPredictor, rob: showReorderBuffer, textbook: showTextbook, stations: showStations, units: showUnits, bus: showBus,
+  stores: showStores, registers: showRegisters, csrs: showCsrs, cache: showCache, accesses: showAccesses, counts: showCounts,
+};
+// These are drawn though they are left out, since their texts are compared where two runs stand side by side.
+const compared = ["registers", "csrs", "counts"];
+
 // The panels are filled first, since how high they are says how much room the lists and the picture have.
 function showAll(view) {
-  const panels = [showFetch, showPredictor, showReorderBuffer, showTextbook, showStations, showUnits, showBus, showStores, showRegisters, showCsrs, showCache, showAccesses, showCounts];
-  for (const show of panels) show(view);
+  for (const [name, show] of Object.entries(panels)) if (compared.includes(name) || !byId("h-" + name).closest(".panel").hidden) show(view);
   measure();
   scrollAll(view);
   for (const show of [showSource, showMemory, drawPicture]) show(view);

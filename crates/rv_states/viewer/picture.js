@@ -6,8 +6,11 @@ const picture = { row: 1.25, column: 1.05, label: 19 };
 // The instructions that have a row, and the row of each: all, or those that were not fetched in vain.
 const pictured = { numbers: [], rows: new Map() };
 
+// The quiz would tell by it what will be squashed.
+function hidesGone() { return settings.hide && !settings.quiz; }
+
 function sizePicture(run) {
-  const all = run.table.filter((each) => each !== undefined), shown = settings.hide ? all.filter((each) => !run.isGone(each)) : all;
+  const all = run.table.filter((each) => each !== undefined), shown = hidesGone() ? all.filter((each) => !run.isGone(each)) : all;
   pictured.numbers = shown.map((each) => each.number);
   pictured.rows = new Map(pictured.numbers.map((number, k) => [number, k]));
   byId("picture-space").style.width = picture.label + run.places.length * picture.column + "rem";
@@ -22,31 +25,41 @@ function rowFrom(number) {
   return k < 0 ? pictured.numbers.length : k;
 }
 
-// Scrolls to the cursor's column, and to the rows of what is in flight: all of them where they fit, else as many of the oldest as do.
+// Scrolls to the cursor's column, and to the rows of what is in flight: all of them where they fit, else as many of the oldest as do; and to
+// that of the followed instruction.
 function scrollPicture(view) {
   const { run, place, line } = view, rem = measures.rem, width = picture.column * rem, height = picture.row * rem;
   let { top, left, width: wide, height: high } = measures.picture;
   wide -= picture.label * rem;
   const column = Math.max(place - 1, 0) * width;
-  if (column < left + 3 * width || column + 4 * width > left + wide) left = Math.max(0, column - wide * 0.7);
+  if (column < left + 3 * width || column + 4 * width > left + wide) left = Math.max(0, Math.floor((column - wide * 0.7) / width) * width);
   const flying = line.in_flight.map((number) => pictured.rows.get(number)).filter((k) => k !== undefined);
   const beside = Math.max(0, rowFrom(run.places[place].fetchedBefore) - 1);
   const first = flying.length ? flying[0] : Math.max(0, beside - 2), last = flying.length ? flying[flying.length - 1] : beside;
   // A row stands below the heads, which stay at the top of the box.
-  const least = Math.ceil((last + 2) * height - high), most = Math.floor(first * height);
-  if (top < least) top = least;
-  if (top > most) top = most;
+  const see = (first, last) => {
+    const least = Math.ceil(last + 2 - high / height) * height, most = first * height;
+    if (top < least) top = least;
+    if (top > most) top = most;
+  };
+  see(first, last);
+  // The followed one is seen before others, while it is in flight and where it has just left.
+  const followed = run.table[view.followed], its = pictured.rows.get(view.followed), cycle = run.cycleOf(place);
+  if (its !== undefined && followed.fetched <= cycle && !(followed.left < cycle)) see(its, its);
   scrollBox("picture", Math.max(0, top), left);
 }
+
+function columnAt(column) { return picture.label + column * picture.column + "rem"; }
 
 function drawPicture(view) {
   const { run } = view, { top, left, width: wide, height: high } = measures.picture;
   const height = picture.row * measures.rem, width = picture.column * measures.rem, last = settings.quiz ? view.place - 1 : run.places.length - 2;
   const firstRow = Math.max(0, Math.floor(top / height) - 4), lastRow = Math.ceil((top + high) / height) + 4;
-  const firstColumn = Math.max(0, Math.floor(left / width) - 4), lastColumn = Math.min(last, Math.ceil((left + wide) / width) + 4);
-  const at = (column) => picture.label + column * picture.column + "rem";
+  const firstColumn = Math.max(0, Math.floor(left / width) - 4), lastColumn = Math.min(last, Math.ceil((left + wide - picture.label * measures.rem) / width) + 4);
   const shown = pictured.numbers.slice(firstRow, lastRow + 1).filter((number) => !settings.quiz || run.table[number].fetched <= run.cycleOf(view.place));
-  draw("picture-rows", shown.map((number, k) => pictureRow(view, run.table[number], firstRow + k, firstColumn, lastColumn, at)));
+  const rows = pictureRows(view, shown, firstRow, firstColumn, lastColumn);
+  draw("picture-labels", rows.map((each) => each.label));
+  draw("picture-rows", rows.map((each) => each.row));
   const heads = [element("div", { class: "corner" }, "instruction")];
   for (let column = firstColumn; column <= lastColumn; column += 1) {
     const cycle = run.first + column, now = column === view.place - 1, interrupt = run.places[column + 1].interrupts.length > 0;
@@ -55,39 +68,52 @@ function drawPicture(view) {
     const title = "cycle " + cycle + (interrupt ? ": interrupt" : "");
     const text = (interrupt ? "!" : "") + (now || !interrupt ? cycle : "");
     const kinds = words("head", interrupt && "interrupt", now && "now");
-    heads.push(element("div", { class: kinds, "data-go": cycle, style: "left:" + at(column), title }, text));
+    heads.push(element("div", { class: kinds, "data-go": cycle, style: "left:" + columnAt(column), title }, text));
   }
   draw("picture-heads", heads);
-  byId("picture-cursor").style.left = at(view.place - 1);
+  byId("picture-cursor").style.left = columnAt(view.place - 1);
   byId("picture-cursor").hidden = view.place === 0;
-  byId("picture-space").style.setProperty("--along", left / measures.rem);
-  byId("picture-space").style.setProperty("--down", top / measures.rem);
-  markFollowed(view, byId("picture"));
-  drawArrows(view);
 }
 
-// What a label has room for: the address is left off where it would cut the statement.
+// What a label has room for, in characters: the address is left off where it would cut the statement.
+const labelRoom = 30;
 function labelOf(number, pc, statement) {
-  const gap = "\u00a0".repeat(Math.max(1, 5 - String(number).length)), room = 30;
+  const gap = "\u00a0".repeat(Math.max(1, 5 - String(number).length));
   const whole = "#" + number + gap + hex(pc) + " " + statement;
-  return whole.length <= room || statement === hex(pc) ? whole : "#" + number + gap + statement;
+  return whole.length <= labelRoom || statement === hex(pc) ? whole : "#" + number + gap + statement;
 }
 
-function pictureRow(view, instruction, k, firstColumn, lastColumn, at) {
-  const { run } = view, number = instruction.number, now = run.cycleOf(view.place);
-  const end = instruction.left !== undefined && (!settings.quiz || instruction.left <= now) ? instruction.end : undefined;
-  const gone = end === "squashed" ? " gone" : end === "trapped" ? " trap" : "";
-  const cells = [];
-  const until = instruction.left === undefined ? run.last : instruction.left;
-  const from = Math.max(instruction.fetched, run.first + firstColumn), to = Math.min(until, run.first + lastColumn);
+// The rows as they were drawn last, by their numbers: one that is as it was is not described anew.
+let drawnBefore = new Map();
+function pictureRows(view, numbers, firstRow, firstColumn, lastColumn) {
+  const { run } = view, now = run.cycleOf(view.place), drawn = new Map();
+  numbers.forEach((number, k) => {
+    const instruction = run.table[number], { fetched, left } = instruction;
+    const end = left !== undefined && (!settings.quiz || left <= now) ? instruction.end : undefined;
+    const from = Math.max(fetched, run.first + firstColumn), to = Math.min(left === undefined ? run.last : left, run.first + lastColumn);
+    const sign = [firstRow + k, from, to, end].join(), before = drawnBefore.get(number);
+    drawn.set(number, before && before.sign === sign ? before : { sign, ...pictureRow(run, instruction, firstRow + k, from, to, end) });
+  });
+  drawnBefore = drawn;
+  return [...drawn.values()];
+}
+
+// A row: its label, which stands in a box of its own, since one box that stays in view costs a step less than many; and its cells, which
+// stand beside each other from the first that is drawn.
+function pictureRow(run, instruction, k, from, to, end) {
+  const { number, pc } = instruction, cells = [];
   for (let cycle = from; cycle <= to; cycle += 1) {
     const letter = letterOf(instruction, cycle);
     const title = "#" + number + " in cycle " + cycle + ": " + letterWords[letter];
-    cells.push(span("cell " + cellClass(letter), letter, { key: cycle, role: "cell", style: "left:" + at(cycle - run.first), title, "data-cycle": cycle }));
+    cells.push(span("cell " + cellClass(letter), letter, { key: cycle, role: "cell", title, "data-cycle": cycle }));
   }
-  const statement = run.statement(instruction).replace(/\s+/g, " ");
-  const label = span("label", labelOf(number, instruction.pc, statement), { role: "rowheader", title: hex(instruction.pc) + " " + statement });
-  return element("div", { class: "row" + gone, key: number, role: "row", "data-number": number, style: "top:" + (k + 1) * picture.row + "rem" }, label, ...cells);
+  const statement = run.statement(instruction).replace(/\s+/g, " "), id = "label-" + number, label = labelOf(number, pc, statement);
+  return {
+    label: element("div", { class: words("label", { squashed: "gone", trapped: "trap" }[end]), key: number, id, role: "rowheader", "data-number": number,
+      title: hex(pc) + " " + statement, style: "top:" + k * picture.row + "rem;" + (smaller(label, labelRoom) || "") }, label),
+    row: element("div", { class: "row", key: number, role: "row", "aria-owns": id, "data-number": number,
+      style: "top:" + (k + 1) * picture.row + "rem;padding-left:" + columnAt(from - run.first) }, ...cells),
+  };
 }
 
 // A cell's tip says for what an instruction waits, worked out when the cell is pointed at.

@@ -23,11 +23,19 @@ function goToStop(way) {
 function showStop() {
   const stop = lecture.stops[lecture.at];
   byId("stop").hidden = !stop;
-  if (stop) note("stop", lecture.at + 1 + " of " + lecture.stops.length + ": " + stop.sentence);
+  if (stop) note("stop", lecture.at + 1 + " of " + lecture.stops.length + ", cycle " + stop.cycle + ": " + stop.sentence);
+}
+
+// The stop at which an address stands, so that a page that is loaded anew goes on from there.
+function findStop(cycle, followed) {
+  lecture.at = lecture.stops.findIndex((stop) => stop.cycle === cycle && stop.followed === followed);
+  showStop();
 }
 
 // The quiz: the next cycle is hidden until Enter. Each question is made from the states: its text, and its answer as words.
 const quiz = { asked: 0, right: 0, question: undefined, answered: false };
+
+function quizCount() { return quiz.right + " of " + quiz.asked + " right"; }
 
 function numbersWords(numbers) { return numbers.length ? numbers.join(" ") : "none"; }
 
@@ -52,31 +60,35 @@ function isAnswer(question, text) {
 }
 
 function turnQuiz() {
+  const count = quizCount();
   settings.quiz = !settings.quiz;
   byId("quiz").hidden = !settings.quiz;
   Object.assign(quiz, { asked: 0, right: 0 });
+  sizePicture(run);
   show();
-  if (settings.quiz) ask(); else document.activeElement.blur();
+  if (settings.quiz) { ask(); return byId("answer").focus(); }
+  document.activeElement.blur();
+  say("Quiz: " + count + ".");
 }
 
+// Asks what the cycle after the cursor's does, however the cursor came there.
 function ask() {
   if (view.place >= lastPlace) {
-    note("question", "The page ends here: " + quiz.right + " of " + quiz.asked + " right.");
+    note("question", "The page ends here: " + quizCount() + ".");
     quiz.question = undefined;
     return;
   }
   Object.assign(quiz, { question: questionAt(view.place), answered: false });
   note("question", quiz.question.text);
   byId("answer").value = "";
-  byId("answer").focus();
-  note("verdict", quiz.right + " of " + quiz.asked + " right");
+  note("verdict", quizCount());
 }
 
 // Enter: the first time it answers, the second time the next cycle is shown, with its question.
 function answer() {
   if (!quiz.question) return;
-  if (quiz.answered) { go(view.place + 1); return ask(); }
+  if (quiz.answered) return go(view.place + 1);
   const right = isAnswer(quiz.question, byId("answer").value.trim());
   Object.assign(quiz, { answered: true, asked: quiz.asked + 1, right: quiz.right + (right ? 1 : 0) });
-  note("verdict", (right ? "Right" : "No: " + quiz.question.answer) + ". " + quiz.right + " of " + quiz.asked + " right. Enter: the next cycle.");
+  note("verdict", (right ? "Right" : "No: " + quiz.question.answer) + ". " + quizCount() + ". Enter: the next cycle.");
 }

@@ -13,7 +13,6 @@ function offsetOf(word) {
 }
 
 function showTextbook(view) {
-  if (!settings.textbook) return;
   showStatus(view);
   showStationTable(view);
   showResultStatus(view);
@@ -23,7 +22,7 @@ function showStatus({ run, line, place }) {
   const cycle = run.cycleOf(place), buffer = line.state.reorder_buffer, entered = line.in_flight.slice(0, buffer.length);
   const last = entered.length ? entered[entered.length - 1] : run.places[place].fetchedBefore - 1;
   const oldest = entered.length ? entered[0] : last;
-  const shown = run.table.slice(Math.max(run.firstNumber, oldest - 6), last + 1).filter((each) => each.dispatched <= cycle && !(settings.hide && run.isGone(each)));
+  const shown = run.table.slice(Math.max(run.firstNumber, oldest - 6), last + 1).filter((each) => each.dispatched <= cycle && !(hidesGone() && run.isGone(each)));
   const upTo = (at) => at !== undefined && at <= cycle ? at : "";
   fill("status", shown.map((each) => {
     const k = entered.indexOf(each.number), done = each.issued + each.cost <= cycle ? each.issued + "\u2013" + (each.issued + each.cost - 1) : upTo(each.issued);

@@ -20,6 +20,15 @@ function hex(word) { return word.toString(16).padStart(8, "0"); }
 function registerName(register) { return settings.abi ? abiNames[register] : "x" + register; }
 function causeName(cause) { return causeWords[cause] || "cause " + hex(cause); }
 function listed(words) { return words.length < 2 ? words.join("") : words.slice(0, -1).join(", ") + " and " + words[words.length - 1]; }
+// Numbers of instructions: three or more that follow each other by the first and the last of them.
+function numbered(numbers) {
+  const runs = [];
+  for (const number of numbers) {
+    const last = runs[runs.length - 1];
+    if (last && last[last.length - 1] === number - 1) last.push(number); else runs.push([number]);
+  }
+  return listed(runs.flatMap((run) => run.length < 3 ? run.map((number) => "#" + number) : "#" + run[0] + " to #" + run[run.length - 1]));
+}
 function counted(number, word) { return number + " " + word + (number === 1 ? "" : "s"); }
 
 // An instruction by its number and statement.
@@ -42,7 +51,6 @@ function stallSentence(run, here) {
 function cycleSentence(run, place) {
   const here = run.places[place];
   if (place === 0) return run.first === 0 ? "The hardware before the first cycle." : "The hardware before cycle " + run.first + ".";
-  const tags = (numbers) => listed(numbers.map((number) => "#" + number));
   const parts = [];
   for (const interrupt of here.interrupts) {
     parts.push("the " + causeName(interrupt.cause) + " is taken before " + hex(interrupt.pc) + ": everything in flight is squashed");
@@ -57,11 +65,11 @@ function cycleSentence(run, place) {
   if (squashed.length) parts.push(counted(squashed.length, "instruction") + (squashed.length > 1 ? " are" : " is") + " squashed");
   if (here.access) parts.push("the " + here.access.what + " of #" + here.access.number + " accesses the cache at " + hex(here.access.address));
   const phases = here.phases;
-  if (phases.issue.length) parts.push(tags(phases.issue) + (phases.issue.length > 1 ? " issue" : " issues"));
-  if (phases.broadcast.length) parts.push("broadcast of " + tags(phases.broadcast));
-  if (phases.dispatch.length) parts.push("dispatch of " + tags(phases.dispatch));
+  if (phases.issue.length) parts.push(numbered(phases.issue) + (phases.issue.length > 1 ? " issue" : " issues"));
+  if (phases.broadcast.length) parts.push("broadcast of " + numbered(phases.broadcast));
+  if (phases.dispatch.length) parts.push("dispatch of " + numbered(phases.dispatch));
   else if (here.stall) parts.push("nothing is dispatched, since " + stallSentence(run, here));
-  if (phases.fetch.length) parts.push("fetch of " + tags(phases.fetch));
+  if (phases.fetch.length) parts.push("fetch of " + numbered(phases.fetch));
   const text = parts.length ? parts.join("; ") + "." : "nothing happens.";
   if (!run.stop || place < run.places.length - 1) return "Cycle " + here.cycle + ": " + text;
   return "Cycle " + here.cycle + ": " + text + (run.stop.stop === "limit" ? " The page ends here." : " The run ends: " + run.stop.stop + ".");

@@ -1,5 +1,5 @@
 use crate::machine::{described, listing, no_arrivals, pipeline};
-use rv_explain::write_explanation;
+use rv_explain::{Figures, write_explanation};
 use rv_front::NotTaken;
 use rv_isa::Values;
 use std::alloc::Global;
@@ -52,6 +52,7 @@ fn explained(rt: &impl Abort, alloc: Global, program: &[u8], lines: &[&str]) -> 
         &description,
         &arrivals,
         20,
+        Figures::Always,
         &listing,
         &mut output,
     )

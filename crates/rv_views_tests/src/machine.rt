@@ -1,5 +1,4 @@
-use rv_core::{Core, Pipeline};
-use rv_front::NotTaken;
+use rv_core::Pipeline;
 use rv_isa::{Arrivals, Description, Image, Values};
 use rv_source::{Listing, SourceLine};
 use std::alloc::Global;
@@ -21,18 +20,6 @@ pub(crate) fn narrow() -> Values {
     values.bus_width = 1;
     values.kinds.alu.units = 1;
     values
-}
-
-/// A core at reset with a program at the front of its RAM, which predicts no branch as taken.
-pub(crate) fn core(
-    rt: &impl Abort,
-    alloc: Global,
-    description: &Description,
-    program: &[u8],
-) -> Core {
-    let image = Image::from_bytes(alloc, BASE, program, BASE).expect(rt, "an image");
-    let predictor = Box::new(alloc, NotTaken).expect(rt, "a predictor");
-    Core::new(alloc, description, &image, predictor).expect(rt, "a core")
 }
 
 /// A pipeline at reset with a program at the front of its RAM.

@@ -1,5 +1,5 @@
 -- The turn that a head has by its role is the definition's, and keeps what no turn changes.
-use Rattle.rv_core.proofs.Words.{◌≡◌, ℕ, ◌+◌, ◌≤◌, arith, DescribedPredictor, IsKept, IsTurn, false, true, Stale, Stop, Message, stop_after, turn_ended, turn_left, flushed, with_result, eq-eqb, ne_eqb, ◌≢◌, row_of, List, [], ◌∷◌, slice_get, Some, None, Option, nat_cmp, sym, refl, ap, ◌∙◌, is_serialising, Instr, word_of, Entry, Committing, commit_turn, commit_turn_of, execute_head, finish_broadcast, head_turn, Hardware, broadcast_of, Ends, Step, IsHead, committing, instruction_of_access, role_of, CsrAccess as Access, WaitsForResult}
+use Rattle.rv_core.proofs.Words.{◌≡◌, ℕ, ◌+◌, ◌≤◌, arith, Guide, IsKept, IsTurn, false, true, Stale, Stop, Message, stop_after, turn_ended, turn_left, flushed, with_result, eq-eqb, ne_eqb, ◌≢◌, row_of, List, [], ◌∷◌, slice_get, Some, None, Option, nat_cmp, sym, refl, ap, ◌∙◌, is_serialising, Instr, word_of, Entry, Committing, commit_turn, commit_turn_of, execute_head, finish_broadcast, head_turn, Hardware, broadcast_of, Ends, Step, IsHead, committing, instruction_of_access, role_of, CsrAccess as Access, WaitsForResult}
 use Rattle.std.specs.FinSet as set
 use Rattle.rv_isa.specs.declared.causes.Fault.{Fault}
 use Rattle.rv_hardware.specs.Commit.{finish_head, with_fault}
@@ -18,7 +18,7 @@ none_of [] none = refl
 none_of (e ∷ entries) none = absurd (cc)
 
 -- a turn that ends the phase, takes no step and changes nothing
-pub turn_ends : (h : Hardware) (steps : List Step) (known : Option DescribedPredictor) (why : Option Stop) →
+pub turn_ends : (h : Hardware) (steps : List Step) (known : Guide) (why : Option Stop) →
     ((before : List Step) → commit_turn set.contains (committing h before) ≡ Ends (record { hardware = h; steps = before; stop = why })) →
     IsTurn h h steps steps known known (head.Ends why)
 turn_ends h steps known why left = record { told = None; left = left; appended = refl; learns = refl }
@@ -28,7 +28,7 @@ pub ends_with_none : (h : Hardware) (steps : List Step) → slice_get h.rob.entr
     commit_turn set.contains (committing h steps) ≡ Ends (committing h steps)
 ends_with_none h steps none = ap (λ l. commit_turn_of set.contains l (committing h steps)) (none_of h.rob.entries none)
 
-pub turn_of_none : (h : Hardware) (steps : List Step) (known : Option DescribedPredictor) → slice_get h.rob.entries 0 ≡ None →
+pub turn_of_none : (h : Hardware) (steps : List Step) (known : Guide) → slice_get h.rob.entries 0 ≡ None →
     IsTurn h h steps steps known known (head.Ends None)
 turn_of_none h steps known none = turn_ends h steps known None (λ before. ends_with_none h before none)
 

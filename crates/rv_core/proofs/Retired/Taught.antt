@@ -1,5 +1,5 @@
 -- What the commit phase teaches the predictor, turn by turn, is what its steps' lessons teach.
-use Rattle.rv_core.proofs.Words.{◌≡◌, ℕ, List, [], ◌∷◌, ◌++◌, None, Option, sym, refl, ap, ◌∙◌, subst, append_assoc, append-nil, Lines, due, State, Committing, commit_turn, commit_with, execute, with_lines, Hardware, GoesOn, Turn, Reachable, seen, pc_of, Leads as LeavesEither, fold, AreTaught, after_lesson, DescribedPredictor, first_pc, lesson_of, lessons_of, Step, and_step, committing, lessons_left, turn_left, IsBegun, HeadTurn, Some}
+use Rattle.rv_core.proofs.Words.{◌≡◌, ℕ, List, [], ◌∷◌, ◌++◌, None, Option, sym, refl, ap, ◌∙◌, subst, append_assoc, append-nil, Lines, due, State, Committing, commit_turn, commit_with, execute, with_lines, Hardware, GoesOn, Turn, Reachable, seen, pc_of, Leads as LeavesEither, fold, AreTaught, after_lesson, Guide, first_pc, lesson_of, lessons_of, Step, and_step, committing, lessons_left, turn_left, IsBegun, HeadTurn, Some}
 use Rattle.std.specs.FinSet as set
 use Rattle.std.proofs.lemmas.List.Sums.{fold-append}
 use Rattle.rv_hardware.proofs.Headline.Commit.{IsDone, IsGoing, begins_going, commit_done, turn_done}
@@ -23,11 +23,11 @@ lessons_push (x ∷ steps) s next =
     ∙ sym (append_assoc (lesson_of x (first_pc steps (pc_of s))) (lessons_of steps (pc_of s)) (lesson_of s next))
 
 -- no lessons teach nothing
-pub none_taught : (old : Option DescribedPredictor) → AreTaught old [] old
+pub none_taught : (old : Guide) → AreTaught old [] old
 none_taught old = refl
 
 -- the lessons of one step more, after those before it
-taught_more : (old now new : Option DescribedPredictor) (steps : List Step) (s : Step) (pc next : ℕ) →
+taught_more : (old now new : Guide) (steps : List Step) (s : Step) (pc next : ℕ) →
     AreTaught old (lessons_of steps pc) now → pc_of s ≡ pc →
     AreTaught now (lesson_of s next) new → AreTaught old (lessons_of (steps ++ s ∷ []) next) new
 taught_more old now new steps s pc next so_far here more =
@@ -37,7 +37,7 @@ taught_more old now new steps s pc next so_far here more =
     ∙ sym (fold-append after_lesson old (lessons_of steps pc) (lesson_of s next)) ∙ ap (fold after_lesson old) more_lessons
 
 -- the phase while it goes on, and what the predictor has been taught of its steps
-pub record AreTeaching (start h : Hardware) (steps : List Step) (old now : Option DescribedPredictor) : Type 0 where
+pub record AreTeaching (start h : Hardware) (steps : List Step) (old now : Guide) : Type 0 where
   pub going : IsGoing start.lines (seen start) start (committing h steps)
   pub taught : AreTaught old (lessons_of steps h.pc) now
 
@@ -45,22 +45,22 @@ sound_begun : (h : Hardware) → IsBegun h → IsSound h
 sound_begun h begun = subst IsSound (sym begun.begun) (lines_sound begun.lines begun.before (always_sound begun.reached))
 
 -- after the last turn
-pub taught_all : (start h : Hardware) (steps : List Step) (old now : Option DescribedPredictor) →
+pub taught_all : (start h : Hardware) (steps : List Step) (old now : Guide) →
     AreTeaching start h steps old now → (all : List Step) → steps ≡ all → AreTaught old (lessons_of all h.pc) now
 taught_all start h steps old now so_far all is_all = subst (λ l. AreTaught old (lessons_of l h.pc) now) is_all so_far.taught
 
 -- before the first turn
-pub teaching_begins : (h : Hardware) (now : Option DescribedPredictor) → IsBegun h → due h.csrs h.lines ≡ None →
+pub teaching_begins : (h : Hardware) (now : Guide) → IsBegun h → due h.csrs h.lines ≡ None →
     AreTeaching h h [] now now
 teaching_begins h now begun calm = record { going = begins_going h (sound_begun h begun) calm; taught = none_taught now }
 
 -- a lesson with the pc that the program went on at
-pub learns_at : (old new : Option DescribedPredictor) (told : Option Step) (pc next : ℕ) → pc ≡ next →
+pub learns_at : (old new : Guide) (told : Option Step) (pc next : ℕ) → pc ≡ next →
     AreTaught old (lessons_left told pc) new → AreTaught old (lessons_left told next) new
 learns_at old new told pc next is learned = subst (λ n. AreTaught old (lessons_left told n) new) is learned
 
 -- the lesson of a turn after those before it
-taught_on : (old now new : Option DescribedPredictor) (c d : Committing) (told : Option Step) → GoesFrom c d →
+taught_on : (old now new : Guide) (c d : Committing) (told : Option Step) → GoesFrom c d →
     d.steps ≡ and_step c.steps told → AreTaught old (lessons_of c.steps c.hardware.pc) now →
     AreTaught now (lessons_left told d.hardware.pc) new → AreTaught old (lessons_of (and_step c.steps told) d.hardware.pc) new
 taught_on old now new c d None goes same so_far more =
@@ -69,7 +69,7 @@ taught_on old now new c d None goes same so_far more =
 taught_on old now new c d (Some s) goes same so_far more =
     taught_more old now new c.steps s c.hardware.pc d.hardware.pc so_far (goes.begins s same) more
 
-module _ (start h : Hardware) (steps : List Step) (old now : Option DescribedPredictor)
+module _ (start h : Hardware) (steps : List Step) (old now : Guide)
     (so_far : AreTeaching start h steps old now)
     (told : Option Step) (turn : HeadTurn) (next : Hardware)
     (is : commit_turn set.contains (committing h steps) ≡ turn_left next steps told turn) where
@@ -80,7 +80,7 @@ module _ (start h : Hardware) (steps : List Step) (old now : Option DescribedPre
   left = subst Left is (turn_goes_from (committing h steps) so_far.going.sound)
 
   -- a turn after which the phase goes on
-  pub teaching_goes : (new : Option DescribedPredictor) → turn ≡ head.GoesOn →
+  pub teaching_goes : (new : Guide) → turn ≡ head.GoesOn →
       AreTaught now (lessons_left told next.pc) new → AreTeaching start next (and_step steps told) old new
   teaching_goes new goes more =
       let goes_on : turn_left next steps told turn ≡ GoesOn (committing next (and_step steps told)) =
@@ -95,7 +95,7 @@ module _ (start h : Hardware) (steps : List Step) (old now : Option DescribedPre
       }
 
   -- a turn that ends the phase
-  pub taught_at_end : (why : Option Stop) (new : Option DescribedPredictor) → turn ≡ head.Ends why →
+  pub taught_at_end : (why : Option Stop) (new : Guide) → turn ≡ head.Ends why →
       AreTaught now (lessons_left told next.pc) new → (all : List Step) → and_step steps told ≡ all →
       AreTaught old (lessons_of all next.pc) new
   taught_at_end why new ends more all is_all =
@@ -116,7 +116,7 @@ executed_here lines old committed reached is =
     (record { values_are = refl; cycle_is = refl; sees = refl; sound = sound })).sees
 
 -- lessons of the same steps, to the same pc
-pub taught_as : (old new : Option DescribedPredictor) (steps done : List Step) (pc next : ℕ) → steps ≡ done → pc ≡ next →
+pub taught_as : (old new : Guide) (steps done : List Step) (pc next : ℕ) → steps ≡ done → pc ≡ next →
     AreTaught old (lessons_of steps pc) new → AreTaught old (lessons_of done next) new
 taught_as old new steps done pc next same here taught =
     subst (λ l. AreTaught old (lessons_of l next) new) same (subst (λ n. AreTaught old (lessons_of steps n) new) here taught)

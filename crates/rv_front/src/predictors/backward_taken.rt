@@ -1,6 +1,6 @@
-ghost use Rattle.std.specs.Prelude.{◌≡◌, Some};
+ghost use Rattle.std.specs.Prelude.{◌≡◌};
 ghost use Rattle.rv_front.specs.Flow.{flow_at};
-ghost use Rattle.rv_front.specs.Predictors.{backward_taken};
+ghost use Rattle.rv_front.specs.Predictors.{backward_taken, guide_of};
 ghost use Rattle.rv_front.specs.declared.predictors.DescribedPredictor.TheVariants as described;
 
 use crate::flow::Flow;
@@ -11,7 +11,7 @@ use crate::predictor::Predictor;
 pub struct BackwardTaken;
 
 impl Predictor for BackwardTaken {
-    ghost known = { λ predictor. Some (described.BackwardTaken predictor) };
+    ghost known = { λ predictor. guide_of (described.BackwardTaken predictor) };
 
     fn predict(&self, pc: u32, word: u32) -> u32
         ensures { result ≡ backward_taken pc (flow_at pc word) }

@@ -1,8 +1,8 @@
-ghost use Rattle.std.specs.Prelude.{◌≡◌, ◌<◌, length, slice_index, IfOk, Some, None};
+ghost use Rattle.std.specs.Prelude.{◌≡◌, ◌<◌, length, slice_index, IfOk, None};
 ghost use Rattle.std.specs.List.{slice_index_or};
 ghost use Rattle.rv_isa.specs.Description.{Within};
 ghost use Rattle.rv_front.specs.Flow.{flow_at};
-ghost use Rattle.rv_front.specs.Predictors.{bimodal, counted, learned, place_of};
+ghost use Rattle.rv_front.specs.Predictors.{bimodal, counted, guide_of, learned, place_of};
 ghost use Rattle.rv_front.specs.declared.predictors.DescribedPredictor.TheVariants as described;
 ghost use Rattle.rv_front.specs.Tables.{untaught};
 
@@ -77,7 +77,7 @@ impl Bimodal {
 }
 
 impl Predictor for Bimodal {
-    ghost known = { λ tables. Some (described.Bimodal tables) };
+    ghost known = { λ tables. guide_of (described.Bimodal tables) };
 
     fn predict(&self, pc: u32, word: u32) -> u32
         ensures { result ≡ bimodal self.now pc (flow_at pc word) }

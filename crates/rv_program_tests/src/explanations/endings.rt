@@ -23,7 +23,10 @@ const CUT_OFF: &str =
 
 #[test]
 fn a_run_that_is_cut_off_stands_at_the_first_that_has_not_retired(rt: HostRuntime) {
-    let command = Command::Explain { limit: 4 };
+    let command = Command::Explain {
+        figures: false,
+        limit: 4,
+    };
     let counts = "cycles 4, retired instructions 0";
     let ratio = "cycles per instruction -";
     let program = "addi x1,x0,5\nebreak";

@@ -109,7 +109,10 @@ mret
 
 #[test]
 fn eight_kinds_of_exceptions_are_told_apart(rt: HostRuntime) {
-    let command = Command::Explain { limit: 400 };
+    let command = Command::Explain {
+        figures: true,
+        limit: 400,
+    };
     let others = "      2 of other causes or at other places";
     check_run(&rt, rt.alloc(), command, NINE_CALLS, 0, &[others]);
 }

@@ -21,6 +21,7 @@ class Keys:
         self.tip()
         self.hidden()
         self.textbook()
+        self.long_tables()
         self.explained()
         self.breakpoint()
         self.switches()
@@ -152,6 +153,19 @@ class Keys:
         self.same("register result status", shown, {f"x{k}": writers.get(k, "") for k in range(32)})
         self.status(page, panels, cycle, entry_name)
 
+    def long_tables(self):
+        """Of a long table the rows in view are there, wherever it is scrolled."""
+        cycle = max(range(self.first, self.last + 1), key=lambda at: len(self.window.at[at]["state"]["reorder_buffer"]))
+        self.browser.tell(f"go({cycle} - run.first + 1)")
+        for part in (0.5, 1, 0.2, 0):
+            self.browser.tell(f"""(() => {{
+              for (const id of ["rob", "stations"]) {{ const box = document.getElementById(id).closest(".scroll"); box.scrollTop = {part} * (box.scrollHeight - box.clientHeight); }}
+              return new Promise((done) => requestAnimationFrame(() => requestAnimationFrame(() => done(0))));
+            }})()""")
+            panels = Panels(self.facts, self.browser.tell(READ), cycle, self.same)
+            panels.reorder_buffer()
+            panels.stations()
+
     def status(self, page, panels, cycle, entry_name):
         entered = {number: entry_name(entry["sequence"]) for number, entry in panels.entries}
         for row in texts(page["tables"]["status"]):
@@ -225,7 +239,7 @@ class Keys:
         self.browser.open(f"{self.page}#notes={at[0]} %23{number} One.|{at[1]} Two.|{at[2]} Three.")
         for key, k in ((".", 0), (".", 1), (",", 0), (".", 1), (".", 2), (".", 2)):
             self.after(f"stop {k + 1}", key, at[k])
-            self.same("sentence of the stop", self.browser.tell("document.getElementById('stop').textContent"), f"{k + 1} of 3: {['One.', 'Two.', 'Three.'][k]}")
+            self.same("sentence of the stop", self.browser.tell("document.getElementById('stop').textContent"), f"{k + 1} of 3, cycle {at[k]}: {['One.', 'Two.', 'Three.'][k]}")
 
     def quiz(self):
         """The quiz asks what the next cycle does, hides it, and counts."""

@@ -13,12 +13,12 @@ def compare_lessons(lessons, program, folder, known):
     if ran.returncode:
         return [f"lessons' pages: {ran.stdout.strip()}"]
     rows = re.findall(r'<td><a href="([\w-]+)\.html">\1</a></td><td>(\d+) cycles</td><td>CPI ([\d.-]+)</td><td>(?:(\d+) stops)?</td>', (folder / "index.html").read_text())
-    stops = [line.split(" ")[0] for line in (lessons / "stops").read_text().splitlines() if not line.startswith("#")]
+    stops = stops_of(lessons / "stops")
     wrong = [f"lessons' pages: {name} is not in the index" for name in {*stops} - {row[0] for row in rows}]
     for name, cycles, cpi, count in rows:
         facts, page, _ = known[name]
         report = report_of(facts.trace)
-        if (cycles, cpi, count) != (report["cycles"], report["cpi"], str(stops.count(name) or "")):
+        if (cycles, cpi, count) != (report["cycles"], report["cpi"], str(len(stops.get(name, ())) or "")):
             wrong.append(f"lessons' pages: the index says of {name}: {cycles} cycles, CPI {cpi}, {count} stops")
         made = re.sub(r'(?s)(<script type="text/plain" id="notes">).*?(</script>)', r"\1\2", (folder / f"{name}.html").read_text())
         if facts.first == 0 and made != page.read_text():
@@ -26,19 +26,22 @@ def compare_lessons(lessons, program, folder, known):
     return wrong if rows else ["lessons' pages: the index has no run"]
 
 
-def compare_stops(path, known):
-    """In the cycle of each stop its instruction is in the stage that the sentence names."""
-    wrong = []
+def stops_of(path):
+    """The stops of each job: cycle, number of the followed instruction, sentence."""
+    found = {}
     for line in path.read_text().splitlines():
-        if line.startswith("#"):
-            continue
-        found = re.fullmatch(r"([\w-]+) (\d+) #(\d+) (.+)", line)
-        if not found or (found[1] not in known and len(known) > 5):
-            wrong.append(f"stops: no job, cycle and instruction: {line}")
-        elif found[1] in known:
-            log, cycle = known[found[1]].log, int(found[2])
-            each = log.get(int(found[3]))
-            in_flight = each is not None and each.stages["F"] <= cycle and (each.left is None or cycle <= each.left)
-            if not in_flight or WORDS[each.letter(cycle)] not in found[4]:
-                wrong.append(f"stops: {line}: the instruction is in stage {each.letter(cycle) if in_flight else 'none'}")
+        if not line.startswith("#"):
+            name, cycle, number, sentence = re.fullmatch(r"([\w-]+) (\d+) #(\d+) (.+)", line).groups()
+            found.setdefault(name, []).append((int(cycle), int(number), sentence))
+    return found
+
+
+def compare_stops(stops, known):
+    """In the cycle of each stop its instruction is in the stage that the sentence names."""
+    wrong = [f"stops: no job {name}" for name in stops if name not in known and len(known) > 5]
+    for name, cycle, number, sentence in [(name, *each) for name in stops if name in known for each in stops[name]]:
+        each = known[name].log.get(number)
+        in_flight = each is not None and each.stages["F"] <= cycle and (each.left is None or cycle <= each.left)
+        if not in_flight or WORDS[each.letter(cycle)] not in sentence:
+            wrong.append(f"stops: {name} {cycle} #{number} {sentence}: the instruction is in stage {each.letter(cycle) if in_flight else 'none'}")
     return wrong

@@ -1,8 +1,9 @@
 """Two runs side by side: one cursor for both, by cycle or by retired instructions, and marks where they differ."""
 import time
 
-READ_FRAME = r"""({ name: location.pathname.split("/").pop(), cycle: Number(document.documentElement.dataset.cycle), facts: Object.fromEntries([...document.querySelectorAll("[data-fact]")].map((each) => [each.dataset.fact, each.tagName === "TR" ? [...each.cells].filter((cell, k) => ![0, 1, 3].includes(k)).map((cell) => cell.textContent).join(" ") : each.textContent])),
-  differs: [...document.querySelectorAll(".differs")].map((each) => each.dataset.fact), panels: [...document.querySelectorAll("[data-panel]:not([hidden]) h2")].map((each) => each.textContent) })"""
+READ_FRAME = r"""({ name: location.pathname.split("/").pop(), cycle: Number(document.documentElement.dataset.cycle), facts: Object.fromEntries([...document.querySelectorAll("[data-fact], [data-entry]")].map((each) => each.dataset.entry === undefined ? [each.dataset.fact, each.textContent]
+    : ["entry " + each.dataset.entry, [each.querySelector(".pc"), ...[...each.cells].slice(3)].map((cell) => cell.textContent).join(" ")])),
+  differs: [...document.querySelectorAll(".differs")].map((each) => each.dataset.fact || "entry " + each.dataset.entry), panels: [...document.querySelectorAll("[data-panel]:not([hidden]) h2")].map((each) => each.textContent) })"""
 
 
 def marked_wrong(frames):
@@ -24,6 +25,14 @@ def settled(browser, names, wanted):
         time.sleep(0.02)
 
 
+def open_beside(browser, name):
+    """Types the other run's name, and answers when both stand there."""
+    browser.press("2", *name, "Enter")
+    until = time.monotonic() + 3
+    while len(browser.tell_frames("0")) < 2 and time.monotonic() < until:
+        time.sleep(0.05)
+
+
 def by_retired(facts, others, cycle):
     """The first cycle in which the other run has as many retired instructions as one has after a cycle."""
     def retired(run, at):
@@ -42,10 +51,7 @@ def compare_pair(browser, one, other):
     (facts, page), (others, beside) = one, other
     browser.size(1920, 1080)
     browser.open(f"{page.as_uri()}#cycle=20")
-    browser.press("2", *beside.name, "Enter")
-    until = time.monotonic() + 3
-    while len(browser.tell_frames("0")) < 2 and time.monotonic() < until:
-        time.sleep(0.05)
+    open_beside(browser, beside.name)
     # 2 turns from cycles to retired instructions and back, and 3 goes to the other run, which leads from then on
     for keys, wanted in (((), [20, 20]), (("ArrowRight",), [21, 21]), (("PageDown",), [31, 31]), (("2",), [31, by_retired(facts, others, 31)]),
                          (("PageUp",), [21, by_retired(facts, others, 21)]), (("2",), [21, 21]), (("3", "ArrowRight"), [22, 22])):

@@ -1,4 +1,5 @@
 """The panels' texts and marks beside log, report, states, the one-at-a-time machine and a model of the predictor."""
+from reading.known import unlabelled
 from reading.predictor import Model, uses_tables
 
 KINDS = ("alu", "mul", "div", "mem")
@@ -30,6 +31,21 @@ class Panels:
         self.entries = list(zip(self.numbers, self.buffer))
         self.tables, self.notes, self.machine = page["tables"], page["notes"], self.window.machine
 
+    def drawn(self, id, rows):
+        """The rows of a long table that are in the document: without gaps all of them."""
+        gaps = self.page["gaps"][id]
+        self.same(f"gap in view of {id}", gaps["seen"], False)
+        self.same(f"rows of {id} with those left out", gaps["above"] + len(self.tables[id]) + gaps["below"] >= len(rows), True)
+        return rows[gaps["above"]:len(rows) - gaps["below"]]
+
+    def placed(self, id, at, rows):
+        """Rows of statements after their addresses, as they are known, without the addresses that the page leaves off for want of room."""
+        shown = [row["cells"] for row in self.tables[id] if "free" not in row["marks"]]
+        self.same(f"statements and addresses of {id}", [fault for cells in shown if len(cells) > at for fault in cells[at]["faults"]], [])
+        left_off = [len(cells) > at and cells[at]["text"] == "" for cells in shown]
+        self.same(f"tips of statements of {id}", [" ".join(cells[at + 1]["tip"].split()) for cells in shown if len(cells) > at + 1], [f"{row[at]} {row[at + 1]}" for row in rows])
+        return [row[:at] + [""] + row[at + 1:] if is_left else row for row, is_left in zip(rows, left_off)] + rows[len(left_off):]
+
     def compare(self):
         for check in (self.front, self.reorder_buffer, self.stations, self.units, self.bus, self.stores, self.registers, self.csrs, self.counts,
                       self.reference, self.cache, self.accesses, self.memory, self.source, self.predictor):
@@ -48,8 +64,8 @@ class Panels:
 
     def front(self):
         buffer, known = self.state["fetch_buffer"], self.numbers[len(self.buffer):]
-        self.same("fetch buffer", texts(self.tables["fetch"]),
-                  [[f"#{number}", word(each["pc"]), self.window.statement(each), self.then(each)] for number, each in zip(known, buffer)])
+        rows = [[f"#{number}", word(each["pc"]), self.window.statement(each), self.then(each)] for number, each in zip(known, buffer)]
+        self.same("fetch buffer", texts(self.tables["fetch"]), self.placed("fetch", 1, rows))
         self.same("fetch buffer's note", self.notes["fetch-note"], f"{len(buffer)} of {self.machine['fetch_buffer']}, " +
                   ("halted" if self.state["halted"] else f"next {word(self.state['next_fetch'])}"))
         self.same("the log's fetch buffer", known, [each.number for each in self.facts.flying(self.cycle) if each.at("D", self.cycle) is None])
@@ -66,10 +82,13 @@ class Panels:
             target = f"x{entry['target']}=" + (word(entry["value"]) if "value" in entry else "?") if entry.get("target") else ""
             result = CAUSES[entry["cause"]] if "cause" in entry else target + self.then(entry) or "-"
             rows.append([ends, f"#{number}", f"{each.pc:08x}", self.window.statement(entry), each.letter(self.cycle), *shown, result])
+        known, count = self.drawn("rob", rows), len(rows)
+        rows = self.placed("rob", 2, known)
         self.same("reorder buffer", texts(self.tables["rob"]), rows)
         self.same("stages' colours", [row["cells"][4]["kind"] for row in self.tables["rob"] if len(row["cells"]) == 9], ["cell " + STAGES[row[4]] for row in rows])
-        self.same("faults' marks", ["fault" in row["cells"][8]["marks"] for row in self.tables["rob"] if len(row["cells"]) == 9], ["cause" in entry for entry in self.buffer])
-        self.same("reorder buffer's note", self.notes["rob-note"], f"{len(rows)} of {self.machine['rob']}, tail at the bottom")
+        self.same("faults' marks", ["fault" in row["cells"][8]["marks"] for row in self.tables["rob"] if len(row["cells"]) == 9],
+                  self.drawn("rob", ["cause" in entry for entry in self.buffer]))
+        self.same("reorder buffer's note", self.notes["rob-note"], f"{count} of {self.machine['rob']}, tail at the bottom")
 
     def waiting(self, kind):
         return [(number, entry) for number, entry in self.entries if entry.get("kind") == kind and "issued" not in entry]
@@ -81,16 +100,21 @@ class Panels:
     def stations(self):
         rows, counts = [], []
         for kind in KINDS:
-            for number, entry in self.waiting(kind):
+            waiting, size = self.waiting(kind), self.machine[kind]["stations"]
+            for number, entry in waiting:
                 operands = [self.operand(entry[name]) for name in ("first", "second") if name in entry]
                 rows.append([kind, f"#{number}", self.window.statement(entry), " ".join(operands)])
-            counts.append(f"{kind} {len(self.waiting(kind))}/{self.machine[kind]['stations']}")
-        self.same("stations", texts(self.tables["stations"]), rows)
+            # (of each kind four are shown, though they are free)
+            rows += [None] * (min(size, 4) - len(waiting))
+            counts.append(f"{kind} {len(waiting)}/{size}")
+        drawn = self.drawn("stations", rows)
+        self.same("stations", texts(self.tables["stations"]), [row for row in drawn if row])
+        self.same("free stations", sum("free" in row["marks"] for row in self.tables["stations"]), drawn.count(None))
         self.same("stations' note", self.notes["stations-note"], " ".join(counts))
         log = self.facts.log
         waited = [each.number for each in self.facts.flying(self.cycle) if each.at("D", self.cycle) is not None and each.at("X", self.cycle) is None]
         # (whether an instruction that was squashed before its issue would have had one, the log does not say)
-        self.same("the log's stations", sorted(int(row[1][1:]) for row in texts(self.tables["stations"]) if "X" in log[int(row[1][1:])].stages),
+        self.same("the log's stations", sorted(int(row[1][1:]) for row in rows if row and "X" in log[int(row[1][1:])].stages),
                   [number for number in waited if "X" in log[number].stages])
 
     def units(self):
@@ -165,7 +189,8 @@ class Panels:
         self.same("cycles by what they did", [row[:2] for row in rows], [[head, report[name]] for head, name in names])
         self.same("shares", [row[2] for row in rows if abs(float(row[2][:-1]) - 100 * int(row[1]) / total) > 0.051], [])
         self.same("bars", [[float(width[:-1]) for width in row["widths"]] for row in self.tables["counts"]], [[float(row[2][:-1])] for row in rows])
-        self.same("stack", [[name, float(width[:-1])] for name, width in self.page["stack"]],
+        self.same("names in the stack", [[name, said, is_cut] for name, width, said, is_cut in self.page["stack"] if is_cut or said != (name if float(width[:-1]) > 2.6 * len(name) else "")], [])
+        self.same("stack", [[name, float(width[:-1])] for name, width, *_ in self.page["stack"]],
                   [[head.split()[-1], float(row[2][:-1])] for (head, name), row in zip(names, rows) if report[name] != "0"])
         self.same("number of shares", len(rows), len(shares))
 
@@ -274,14 +299,20 @@ class Panels:
             flying.setdefault(self.facts.log[number].pc, []).append(number)
         known = {each["address"]: each for each in self.window.listing}
         for row in self.page["source"]:
-            line, pc, tags, text = row["parts"]
-            address, here = int(pc["text"].lstrip(">*"), 16), []
+            line, mark, tags, pc, text = row["parts"]
+            address, here = int(row["tip"][:8], 16), []
+            self.same("address in source", pc["text"] or word(address), word(address))
+            self.same(f"statements and addresses of the source at {address:08x}", pc["faults"], [])
             for number in flying.get(address, [])[:4]:
                 here.append(self.facts.log[number].letter(self.cycle))
             more = len(flying.get(address, [])) - 4
-            self.same(f"source at {address:08x}", (line["text"], pc["text"].startswith(">"), tags["parts"], tags["text"], text["text"], "flying" in row["marks"]),
-                      (str(known[address]["line"]), address == self.state["pc"], here, "".join(here) + (f"+{more}" if more > 0 else ""),
-                       " ".join(known[address]["text"].replace("\u00a0", " ").split()), address in flying))
+            whole = " ".join(known[address]["text"].replace("\u00a0", " ").split())
+            # (without its label it is left where there is no room for that)
+            said = text["text"] if text["text"] == unlabelled(whole) and pc["text"] == "" else whole
+            self.same(f"source at {address:08x}", (line["text"], mark["text"] == ">", tags["parts"], tags["text"], text["text"], "flying" in row["marks"]),
+                      (str(known[address]["line"]), address == self.state["pc"], here, "".join(here) + (f"+{more}" if more > 0 else ""), said, address in flying))
+        pcs = [int(row["tip"][:8], 16) for row in self.page["source"]]
+        self.same("lines of the source in order", pcs, [each["address"] for each in self.window.listing if each["address"] in pcs])
         order = [row["top"] for row in self.page["source"]]
         self.same("order of the source", order, sorted(order))
         if known and not self.page["source"]:

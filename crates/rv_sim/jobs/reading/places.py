@@ -15,6 +15,9 @@ def compare_picture(facts, page, cycle, same):
     picture, log, window = page["picture"], facts.log, facts.lines
     if not picture["rows"]:
         return same("rows of the picture", 0, "some")
+    if len(picture["labels"]) != len(picture["rows"]) or not all("label" in row for row in picture["rows"]):
+        return same("rows with a label beside each", len(picture["labels"]), len(picture["rows"]))
+    same("labels at the left", [each["left"] for each in picture["labels"] if not near(each["left"], picture["left"])], [])
     lefts, wrong, colours, tips = {}, [], [], []
     for row in picture["rows"]:
         number = int(re.match(r"#(\d+)", row["label"])[1])

@@ -11,7 +11,13 @@ def listed(words):
 
 
 def tags(numbers):
-    return listed([f"#{number}" for number in numbers])
+    """Numbers of instructions, in order: three or more that follow each other by the first and the last of them."""
+    words = []
+    while numbers:
+        count = next(k for k in range(len(numbers), 0, -1) if numbers[k - 1] == numbers[0] + k - 1)
+        words += [f"#{numbers[0]} to #{numbers[count - 1]}"] if count > 2 else [f"#{number}" for number in numbers[:count]]
+        numbers = numbers[count:]
+    return listed(words)
 
 
 def counted(count, name):

@@ -1,5 +1,6 @@
 use super::{refused, words};
-use rv_command::{Command, parse_words};
+use rv_command::{Command, Shown, ShownColumns, parse_words};
+use rv_isa::Reg;
 use std::alloc::Global;
 use std::process::Abort;
 use std::test::Fail;
@@ -184,29 +185,33 @@ fn has_a_limit_alone(rt: &impl Abort, alloc: Global, name: &str) -> Result<(), F
 }
 
 #[test]
-fn a_log_an_explanation_a_profile_and_a_comparison_have_a_limit_and_nothing_else(
+fn a_log_and_a_profile_have_a_limit_and_an_explanation_its_figures_too(
     rt: HostRuntime,
 ) -> Result<(), Fail> {
-    const CASES: [(&[&str], Command); 8] = [
+    const CASES: [(&[&str], Command); 6] = [
         (&["rv_sim", "log"], Command::Log { limit: 100_000 }),
         (
             &["rv_sim", "log", "--limit", "7"],
             Command::Log { limit: 7 },
         ),
-        (&["rv_sim", "explain"], Command::Explain { limit: 100_000 }),
         (
-            &["rv_sim", "explain", "--limit=8"],
-            Command::Explain { limit: 8 },
+            &["rv_sim", "explain"],
+            Command::Explain {
+                figures: false,
+                limit: 100_000,
+            },
+        ),
+        (
+            &["rv_sim", "explain", "--limit=8", "--figures"],
+            Command::Explain {
+                figures: true,
+                limit: 8,
+            },
         ),
         (&["rv_sim", "profile"], Command::Profile { limit: 100_000 }),
         (
             &["rv_sim", "profile", "--limit", "6"],
             Command::Profile { limit: 6 },
-        ),
-        (&["rv_sim", "compare"], Command::Compare { limit: 100_000 }),
-        (
-            &["rv_sim", "compare", "--limit", "9"],
-            Command::Compare { limit: 9 },
         ),
     ];
     const NAMES: [&str; 4] = ["log", "explain", "profile", "compare"];
@@ -257,5 +262,61 @@ fn a_limit_stands_after_an_equals_sign_or_a_space_and_once(rt: HostRuntime) -> R
     for texts in &TAKEN {
         is_taken(&rt, alloc, texts, Command::Reference { limit: 7 })?;
     }
+    each_is_refused(&rt, alloc, &REFUSED)
+}
+
+const NOTHING_SHOWN: ShownColumns = ShownColumns {
+    first: None,
+    second: None,
+    third: None,
+    fourth: None,
+};
+
+#[test]
+fn a_comparison_shows_four_registers_and_words_at_most(rt: HostRuntime) -> Result<(), Fail> {
+    const REFUSED: [&[&str]; 6] = [
+        &["rv_sim", "compare", "--show", "a8"],
+        &["rv_sim", "compare", "--show", "0x80001002"],
+        &["rv_sim", "compare", "--show", "a0 "],
+        &["rv_sim", "compare", "--show", ""],
+        &["rv_sim", "compare", "--show"],
+        &[
+            "rv_sim",
+            "compare",
+            "--show=a0",
+            "--show=a1",
+            "--show=a2",
+            "--show=a3",
+            "--show=a4",
+        ],
+    ];
+    let alloc = rt.alloc();
+    let bare = Command::Compare {
+        shown: NOTHING_SHOWN,
+        limit: 9,
+    };
+    is_taken(&rt, alloc, &["rv_sim", "compare", "--limit", "9"], bare)?;
+    let shown = ShownColumns {
+        first: Some(Shown::Register(Reg::new(10).expect(&rt, "a register"))),
+        second: Some(Shown::Word(0x8000_1000)),
+        third: Some(Shown::Register(Reg::new(31).expect(&rt, "a register"))),
+        fourth: Some(Shown::Word(16)),
+    };
+    let words = &[
+        "rv_sim",
+        "compare",
+        "--show",
+        "a0",
+        "--show=0x80001000",
+        "--show",
+        "x31",
+        "--show",
+        "16",
+    ];
+    let whole = Command::Compare {
+        shown,
+        limit: 100_000,
+    };
+    is_taken(&rt, alloc, words, whole)?;
     each_is_refused(&rt, alloc, &REFUSED)
 }

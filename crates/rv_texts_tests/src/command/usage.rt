@@ -189,6 +189,7 @@ const HELP_OF_EXPLAIN: &str = help_of_run!(
 Usage: rv_sim explain [OPTIONS]
 
 Options:
+      --figures    After a crash says too where the cycles went
       --limit <N>  The most cycles, 1 to 1000000 [default: 100000]
   -h, --help       Print help
 ",
@@ -212,18 +213,20 @@ const HELP_OF_COMPARE: &str = "Runs one program on several machines, and compare
 Usage: rv_sim compare [OPTIONS]
 
 Options:
-      --limit <N>  The most cycles of each run, 1 to 1000000 [default: 100000]
-  -h, --help       Print help
+      --limit <N>    The most cycles of each run, 1 to 1000000 [default: 100000]
+      --show <WHAT>  Shows a register or the word at an address at each run's end, four at most
+  -h, --help         Print help
 
 Reads from standard input up to 64 descriptions of machines in TOML, a line %% after each, and a program,
 as in:
-  rv_sim compare < FILE
+  rv_sim compare --show a0 < FILE
 
 Writes a line for each machine, in their order, its cells with a tab between two: its number, the
-counts of its run, and why the run ended. No machine of a comparison has interrupt arrivals.
+counts of its run, its name, why the run ended, and more counts. No machine of a comparison has
+interrupt arrivals.
 
 Exit status:
-  0  the table was written; its last column says how each run ended
+  0  the table was written; its column stop says how each run ended
   1  a description or the program was refused
   2  wrong usage
   4  standard input or output failed
@@ -243,6 +246,8 @@ For more information, try '--help'.
 ";
 
 const VERSION: &str = "rv_sim 0.1.0
+What stays while it is 0.1: lines of reports and faults, exit statuses, keys, commands and options, columns of
+tables by their names, members of states by theirs (format rv_sim states 1), calls of the libraries
 ";
 
 const LIMIT_OF_ZERO: &str = "error: invalid value '0' for '--limit <N>': 0 is not in 1..=1000000

@@ -1,6 +1,6 @@
 use crate::machine::{described, listing, narrow, no_arrivals, pipeline};
 use rv_arch::Stop;
-use rv_core::run_pipeline;
+use rv_core::run;
 use rv_front::NotTaken;
 use rv_log::write_log;
 
@@ -71,7 +71,7 @@ fn a_log_that_begins_in_a_run_counts_what_retires(rt: HostRuntime) {
     let mut text = Vec::new(alloc);
     let mut pipeline = pipeline(&rt, alloc, &described(&rt, narrow()), PROGRAM);
     let mut predictor = NotTaken;
-    assert!(&rt; run_pipeline(alloc, &mut pipeline, &mut predictor, &arrivals, 4).is_ok());
+    assert!(&rt; run(alloc, &mut pipeline, &mut predictor, &arrivals, 4).is_ok());
     let stop = write_log(
         alloc,
         &mut pipeline,

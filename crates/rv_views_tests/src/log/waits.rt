@@ -1,5 +1,5 @@
 use crate::machine::{described, listing, narrow, no_arrivals, pipeline};
-use rv_core::run_pipeline;
+use rv_core::run;
 use rv_front::NotTaken;
 use rv_isa::Values;
 use rv_log::write_log;
@@ -20,7 +20,7 @@ pub(crate) fn log_of(
     let mut text = Vec::new(alloc);
     let mut pipeline = pipeline(rt, alloc, &described(rt, values), program);
     let mut predictor = NotTaken;
-    assert!(rt; run_pipeline(alloc, &mut pipeline, &mut predictor, &arrivals, first).is_ok());
+    assert!(rt; run(alloc, &mut pipeline, &mut predictor, &arrivals, first).is_ok());
     let stop = write_log(
         alloc,
         &mut pipeline,

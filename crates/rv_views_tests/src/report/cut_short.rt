@@ -1,5 +1,5 @@
 use crate::machine::{described, no_arrivals};
-use rv_core::{Core, run};
+use rv_core::{Pipeline, run};
 use rv_front::NotTaken;
 use rv_hardware::Step;
 use rv_isa::{Arrivals, Image, Values};
@@ -20,11 +20,11 @@ fn follow(steps: &[Step], before: usize) -> bool {
 // The steps, the cycles, the busy cycles and the waits for fetch of a run, whether memory cut it short or not.
 fn part(
     alloc: Global,
-    core: &mut Core,
+    pipeline: &mut Pipeline,
     arrivals: &Arrivals,
     limit: u64,
 ) -> (Vec<Step>, u64, u64, u64) {
-    match run(alloc, core, arrivals, limit) {
+    match run(alloc, pipeline, &mut NotTaken, arrivals, limit) {
         Ok(it) => (it.steps, it.cycles, it.busy, it.stalls.fetch),
         Err(it) => (it.steps, it.cycles, it.busy, it.stalls.fetch),
     }
@@ -37,13 +37,13 @@ fn a_run_that_memory_cut_short_and_a_second_one_are_the_whole(rt: HostRuntime) -
     let alloc = rt.alloc();
     let description = described(&rt, Values::standard());
     let image = Image::from_bytes(alloc, 0x8000_0000, &[], 0x8000_0000)?;
-    let mut core = Core::new(alloc, &description, &image, Box::new(alloc, NotTaken)?)?;
+    let mut pipeline = Pipeline::new(alloc, &description, &image)?;
     let arrivals = no_arrivals(&rt, alloc);
     let (mut steps, mut cycles, mut busy, mut waits) = (0, 0, 0, 0);
     for _ in 0..2 {
         let (part, more, more_busy, more_waits) = part(
             alloc,
-            &mut core,
+            &mut pipeline,
             &arrivals,
             LIMIT.saturating_sub(cycles),
         );

@@ -1,19 +1,20 @@
 use crate::machine::{described, narrow, no_arrivals, pipeline};
+use crate::report::tables::A_HUNDRED_CYCLES;
 use rv_front::NotTaken;
 use rv_isa::{Lines, Recovery, Values};
-use rv_report::{Losses, run_totals};
+use rv_report::{ComparedRun, Events, Losses, TableOptions, run_totals};
 use std::alloc::Global;
 use std::process::Abort;
 use std::test::Fail;
 
-// What a run of a program loses after so many cycles, on a machine that predicts no branch as taken.
-fn lost(
+// A run of a program after so many cycles, on a machine that predicts no branch as taken.
+fn ran(
     rt: &impl Abort,
     alloc: Global,
     values: Values,
     words: &[u32],
     before: u32,
-) -> Result<Losses, Fail> {
+) -> Result<ComparedRun, Fail> {
     let mut program = Vec::new(alloc);
     for word in words {
         program.extend_from_slice(&word.to_le_bytes())?;
@@ -24,8 +25,11 @@ fn lost(
         pipeline.cycle(&mut predictor, Lines::default());
     }
     let arrivals = no_arrivals(rt, alloc);
-    let run = run_totals(alloc, pipeline, &mut predictor, &arrivals, 1000)?;
-    Ok(run.losses)
+    let options = TableOptions {
+        limit: 1000,
+        ..A_HUNDRED_CYCLES
+    };
+    Ok(run_totals(alloc, pipeline, &mut predictor, &arrivals, &options)?)
 }
 
 // auipc x1,0; jalr x5,12(x1); lw x6,256(x1); beq x0,x0,8; addi x6,x0,2; bne x0,x0,8; jal x0,8; addi x6,x0,3; csrw mscratch,x1;
@@ -56,11 +60,10 @@ fn wrong_predictions_and_squashed_words_are_counted(rt: HostRuntime) -> Result<(
     let losses = Losses {
         mispredicted: 2,
         squashed: 15,
-        misses: 0,
     };
-    assert!(&rt; lost(&rt, rt.alloc(), narrow(), &JUMPS, 0)? == losses);
+    assert!(&rt; ran(&rt, rt.alloc(), narrow(), &JUMPS, 0)?.losses == losses);
     // The jalr is in flight before the first cycle.
-    assert!(&rt; lost(&rt, rt.alloc(), narrow(), &JUMPS, 5)? == losses);
+    assert!(&rt; ran(&rt, rt.alloc(), narrow(), &JUMPS, 5)?.losses == losses);
     Ok(())
 }
 
@@ -72,16 +75,14 @@ fn a_prediction_that_is_mended_early_was_wrong_too(rt: HostRuntime) -> Result<()
     let losses = Losses {
         mispredicted: 2,
         squashed: 13,
-        misses: 0,
     };
-    assert!(&rt; lost(&rt, rt.alloc(), values, &JUMPS, 0)? == losses);
+    assert!(&rt; ran(&rt, rt.alloc(), values, &JUMPS, 0)?.losses == losses);
     // The jalr was mended before the first cycle.
     let later = Losses {
         mispredicted: 1,
         squashed: 10,
-        misses: 0,
     };
-    assert!(&rt; lost(&rt, rt.alloc(), values, &JUMPS, 6)? == later);
+    assert!(&rt; ran(&rt, rt.alloc(), values, &JUMPS, 6)?.losses == later);
     Ok(())
 }
 
@@ -110,7 +111,52 @@ const ACCESSES: [u32; 14] = [
 fn loads_and_drains_that_miss_are_counted(rt: HostRuntime) -> Result<(), Fail> {
     let mut values = Values::standard();
     values.forward = 3;
-    let losses = lost(&rt, rt.alloc(), values, &ACCESSES, 0)?;
-    assert_eq!(&rt; losses.misses, 4);
+    let events = Events {
+        branches: 0,
+        loads: 5,
+        drains: 5,
+        hits: 6,
+        misses: 4,
+        write_backs: 0,
+    };
+    assert!(&rt; ran(&rt, rt.alloc(), values, &ACCESSES, 0)?.events == events);
+    Ok(())
+}
+
+// The jalr, the two branches and the jal retire, mret is none of them, and the load is jumped over.
+#[test]
+fn branches_and_jumps_are_counted(rt: HostRuntime) -> Result<(), Fail> {
+    let events = ran(&rt, rt.alloc(), narrow(), &JUMPS, 0)?.events;
+    assert_eq!(&rt; (events.branches, events.loads, events.drains), (4, 0, 0));
+    Ok(())
+}
+
+// auipc x1,0; sw x1,256(x1); sw x1,272(x1); div x7,x1,x1; div x8,x7,x7; add x9,x1,x8; lw x5,287(x9); ebreak
+const DIRTY_LINES: [u32; 8] = [
+    0x0000_0097,
+    0x1010_a023,
+    0x1010_a823,
+    0x0210_c3b3,
+    0x0273_c433,
+    0x0080_84b3,
+    0x11f4_a283,
+    0x0010_0073,
+];
+
+// The cache has one line. The second store writes the first one's back, and the load, which waits for the divisions, the second one's.
+#[test]
+fn dirty_lines_that_are_written_back_are_counted(rt: HostRuntime) -> Result<(), Fail> {
+    let mut values = Values::standard();
+    values.cache.sets = 1;
+    values.cache.ways = 1;
+    let events = Events {
+        branches: 0,
+        loads: 1,
+        drains: 2,
+        hits: 0,
+        misses: 3,
+        write_backs: 2,
+    };
+    assert!(&rt; ran(&rt, rt.alloc(), values, &DIRTY_LINES, 0)?.events == events);
     Ok(())
 }

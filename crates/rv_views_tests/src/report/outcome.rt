@@ -1,6 +1,7 @@
-use crate::machine::{core, described, no_arrivals};
+use crate::machine::{described, no_arrivals, pipeline};
 use rv_arch::Stop;
 use rv_core::run;
+use rv_front::NotTaken;
 use rv_isa::{Lines, Values};
 use rv_report::{Options, write_report};
 use std::test::Fail;
@@ -18,13 +19,13 @@ const OPTIONS: Options = Options {
 #[test]
 fn the_outcome_of_a_run_is_reported_with_its_steps(rt: HostRuntime) -> Result<(), Fail> {
     let alloc = rt.alloc();
-    let mut core = core(&rt, alloc, &described(&rt, Values::standard()), &ADDITION);
+    let mut pipeline = pipeline(&rt, alloc, &described(&rt, Values::standard()), &ADDITION);
     let arrivals = no_arrivals(&rt, alloc);
-    let Ok(outcome) = run(alloc, &mut core, &arrivals, 100) else {
+    let Ok(outcome) = run(alloc, &mut pipeline, &mut NotTaken, &arrivals, 100) else {
         return Err(Fail::from("no memory for the steps"));
     };
     let mut report = Vec::new(alloc);
-    write_report(&outcome, &core, &OPTIONS, &mut report)?;
+    write_report(&outcome, &pipeline, &OPTIONS, &mut report)?;
     let lines = b"R 80000000 00500093 F0 D1 I2 B3 C4 x1=00000005
 T 80000004 00000003 00000000 C4
 stop breakpoint
@@ -40,11 +41,11 @@ traps 1
 #[test]
 fn a_cycle_reports_its_own_steps_and_its_stop(rt: HostRuntime) {
     let alloc = rt.alloc();
-    let mut core = core(&rt, alloc, &described(&rt, Values::standard()), &ADDITION);
+    let mut pipeline = pipeline(&rt, alloc, &described(&rt, Values::standard()), &ADDITION);
     for _ in 0..4 {
-        let report = core.cycle(Lines::default());
+        let report = pipeline.cycle(&mut NotTaken, Lines::default());
         assert!(&rt; (report.steps.len(), report.stop) == (0, None));
     }
-    let report = core.cycle(Lines::default());
+    let report = pipeline.cycle(&mut NotTaken, Lines::default());
     assert!(&rt; (report.steps.len(), report.stop) == (2, Some(Stop::Breakpoint)));
 }

@@ -2,9 +2,32 @@ use crate::machine::{described, no_arrivals, pipeline};
 use rv_arch::Stop;
 use rv_front::NotTaken;
 use rv_hardware::StallCounts;
-use rv_isa::Values;
-use rv_report::{ComparedRun, Losses, StepCounts, Totals, run_totals, write_table};
+use rv_isa::{Reg, Values};
+use rv_report::{
+    Columns, ComparedRun, Events, Losses, Shown, StepCounts, TableOptions, Totals, run_totals,
+    write_table,
+};
 use std::test::Fail;
+
+// A table without further columns, of runs up to a hundred cycles.
+const NOTHING_SHOWN: Columns<Option<Shown>> = Columns {
+    first: None,
+    second: None,
+    third: None,
+    fourth: None,
+};
+
+const NO_WORDS: Columns<Option<u32>> = Columns {
+    first: None,
+    second: None,
+    third: None,
+    fourth: None,
+};
+
+pub(crate) const A_HUNDRED_CYCLES: TableOptions = TableOptions {
+    limit: 100,
+    shown: NOTHING_SHOWN,
+};
 
 #[test]
 fn a_table_has_a_line_for_each_run(rt: HostRuntime) -> Result<(), Fail> {
@@ -34,26 +57,37 @@ fn a_table_has_a_line_for_each_run(rt: HostRuntime) -> Result<(), Fail> {
     let losses = Losses {
         mispredicted: 8,
         squashed: 9,
+    };
+    let events = Events {
+        branches: 11,
+        loads: 12,
+        drains: 13,
+        hits: 14,
         misses: 10,
+        write_backs: 15,
     };
     let runs = [
         ComparedRun {
             totals: stale,
             losses,
+            events,
+            words: NO_WORDS,
         },
         ComparedRun {
             totals: none,
             losses,
+            events,
+            words: NO_WORDS,
         },
     ];
     let mut table = Vec::new(rt.alloc());
     let names = [Vec::from_slice(rt.alloc(), b"a\tb")?];
-    write_table(&names, &runs, &mut table)?;
+    write_table(&NOTHING_SHOWN, &names, &runs, &mut table)?;
     let lines = "\
 number\tcycles\tretired\tcpi\ttraps\tinterrupts\tbusy\tstall_fetch\tstall_serial\tstall_rob\tstall_station\tstall_store\t\
-mispredicted\tsquashed\tmisses\tname\tstop
-1\t17\t3\t5.666\t7\t6\t2\t1\t2\t3\t4\t5\t8\t9\t10\ta b\tstale 80000014
-2\t17\t0\t-\t0\t0\t2\t1\t2\t3\t4\t5\t8\t9\t10\t-\tlimit
+mispredicted\tsquashed\tmisses\tname\tstop\tipc\tlongest_gap\tbranches\tloads\tdrains\thits\twrite_backs
+1\t17\t3\t5.666\t7\t6\t2\t1\t2\t3\t4\t5\t8\t9\t10\ta b\tstale 80000014\t0.176\t4\t11\t12\t13\t14\t15
+2\t17\t0\t-\t0\t0\t2\t1\t2\t3\t4\t5\t8\t9\t10\t-\tlimit\t0.000\t4\t11\t12\t13\t14\t15
 ";
     assert_eq!(rt; table.as_slice(), lines.as_bytes());
     Ok(())
@@ -66,11 +100,53 @@ fn a_run_comes_to_its_totals(rt: HostRuntime) -> Result<(), Fail> {
     let arrivals = no_arrivals(&rt, alloc);
     let pipeline = pipeline(&rt, alloc, &described(&rt, Values::standard()), &[]);
     let mut predictor = NotTaken;
-    let totals = run_totals(alloc, pipeline, &mut predictor, &arrivals, 100)?.totals;
+    let totals = run_totals(
+        alloc,
+        pipeline,
+        &mut predictor,
+        &arrivals,
+        &A_HUNDRED_CYCLES,
+    )?
+    .totals;
     assert_eq!(rt;
         (totals.cycles, totals.busy, totals.stalls.fetch),
         (100, 50, 50)
     );
     assert_eq!(rt; (totals.steps.traps, totals.steps.retired), (49, 0));
+    Ok(())
+}
+
+// addi x10,x0,5; auipc x1,0; sw x10,256(x1); ebreak
+const STORE: [u8; 16] = [
+    0x13, 0x05, 0x50, 0x00, 0x97, 0x00, 0x00, 0x00, 0x23, 0xa0, 0xa0, 0x10, 0x73, 0x00, 0x10, 0x00,
+];
+
+// A register, the word that was stored, whether or not the cache has it, and an address outside RAM.
+#[test]
+fn a_table_shows_registers_and_words_at_the_end(rt: HostRuntime) -> Result<(), Fail> {
+    let alloc = rt.alloc();
+    let arrivals = no_arrivals(&rt, alloc);
+    let pipeline = pipeline(&rt, alloc, &described(&rt, Values::standard()), &STORE);
+    let options = TableOptions {
+        limit: 100,
+        shown: Columns {
+            first: Some(Shown::Register(Reg::new(10).expect(&rt, "a register"))),
+            second: Some(Shown::Word(0x8000_0104)),
+            third: None,
+            fourth: Some(Shown::Word(4)),
+        },
+    };
+    let mut predictor = NotTaken;
+    let run = run_totals(alloc, pipeline, &mut predictor, &arrivals, &options)?;
+    let mut table = Vec::new(alloc);
+    write_table(&options.shown, &[], &[run], &mut table)?;
+    let text = table.as_slice();
+    assert!(&rt; text.ends_with(b"\t00000005\t00000005\t--------\n"));
+    let head = "\
+number\tcycles\tretired\tcpi\ttraps\tinterrupts\tbusy\tstall_fetch\tstall_serial\tstall_rob\tstall_station\tstall_store\t\
+mispredicted\tsquashed\tmisses\tname\tstop\tipc\tlongest_gap\tbranches\tloads\tdrains\thits\twrite_backs\t\
+a0\t0x80000104\t0x00000004
+";
+    assert!(&rt; text.starts_with(head.as_bytes()));
     Ok(())
 }

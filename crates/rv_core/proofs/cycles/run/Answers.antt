@@ -1,9 +1,10 @@
-use Rattle.rv_core.proofs.Words.{guided, IsDone}
-use Rattle.rv_core.proofs.Guiding.{some_guide}
+use Rattle.rv_core.proofs.TrueRun.{promise_is_kept, stop_is_true}
 use Rattle.rv_core.proofs.cycles.run.Goals as goal
 
-pub returns-clause-cycles : goal.returns-clause-cycles
-returns-clause-cycles g c =
-    some_guide (λ h before after. IsDone c.args.arrivals.now c.args.limit (guided h before)
-    (guided c.run_pipeline.new.pipeline after) c.run_pipeline.result)
-    c.core.view_is c.run_pipeline.ensures.cycles
+pub returns-clause-promised : goal.returns-clause-promised
+returns-clause-promised g c =
+    promise_is_kept c.args.arrivals.now c.args.limit _ _ c.cycles_done.ensures.reached c.run_cycles.result c.run_cycles.ensures
+
+pub returns-clause-stopped : goal.returns-clause-stopped
+returns-clause-stopped g c =
+    stop_is_true c.args.arrivals.now c.args.limit _ _ c.cycles_done.ensures.reached c.run_cycles.result c.run_cycles.ensures

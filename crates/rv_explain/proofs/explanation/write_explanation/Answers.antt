@@ -6,10 +6,6 @@ use Rattle.rv_explain.proofs.explanation.write_explanation.Goals as goal
 pub run_told-told-requires-clause-untold : goal.run_told-told-requires-clause-untold
 run_told-told-requires-clause-untold g c = c.in-Ok.ensures.untold c.args.arrivals.now c.args.pipeline.now
 
-pub run_told-told-requires-clause-room : goal.run_told-told-requires-clause-room
-run_told-told-requires-clause-room g c =
-    record { room = c.in-Ok.ensures.room; rows = c.in-Ok.ensures.rows; interrupts = c.in-Ok.ensures.interrupts }
-
 pub write_told-written-requires : goal.write_told-written-requires
 write_told-written-requires g c =
     let told = c.run_told-told.result in
@@ -22,19 +18,19 @@ write_told-written-requires g c =
 pub returns-in-Ok-written-clause-written : goal.returns-in-Ok-written-clause-written
 returns-in-Ok-written-clause-written g c =
     let told = c.run_told-told.result in
-    (_, explained _ c.args.limit c.args.description.now c.args.listing.now _ _ told.stop told.progress told.fetched told.tale c.run_told-told.ensures, c.in-Ok-written.ensures)
+    (_, explained _ c.args.limit c.args.figures c.args.description.now c.args.listing.now _ _ told.stop told.progress told.fetched told.tale c.run_told-told.ensures, c.in-Ok-written.ensures)
 
 pub returns-in-Err-WriteFailed-clause-written : goal.returns-in-Err-WriteFailed-clause-written
 returns-in-Err-WriteFailed-clause-written g c =
     let told = c.run_told-told.result in
-    (told.stop, _, explained _ c.args.limit c.args.description.now c.args.listing.now _ _ told.stop told.progress told.fetched told.tale c.run_told-told.ensures, c.in-Err-WriteFailed.ensures)
+    (told.stop, _, explained _ c.args.limit c.args.figures c.args.description.now c.args.listing.now _ _ told.stop told.progress told.fetched told.tale c.run_told-told.ensures, c.in-Err-WriteFailed.ensures)
 
 -- whatever was written
 pub returns-in_default-clause-one_explanation : goal.returns-in_default-clause-one_explanation
-returns-in_default-clause-one_explanation g c = one_explanation c.args.arrivals.now c.args.limit c.args.description.now c.args.listing.now
+returns-in_default-clause-one_explanation g c = one_explanation c.args.arrivals.now c.args.limit c.args.figures c.args.description.now c.args.listing.now
 
 pub returns-in-Ok-written-clause-one_explanation : goal.returns-in-Ok-written-clause-one_explanation
-returns-in-Ok-written-clause-one_explanation g c = one_explanation c.args.arrivals.now c.args.limit c.args.description.now c.args.listing.now
+returns-in-Ok-written-clause-one_explanation g c = one_explanation c.args.arrivals.now c.args.limit c.args.figures c.args.description.now c.args.listing.now
 
 pub returns-in-Err-WriteFailed-clause-one_explanation : goal.returns-in-Err-WriteFailed-clause-one_explanation
-returns-in-Err-WriteFailed-clause-one_explanation g c = one_explanation c.args.arrivals.now c.args.limit c.args.description.now c.args.listing.now
+returns-in-Err-WriteFailed-clause-one_explanation g c = one_explanation c.args.arrivals.now c.args.limit c.args.figures c.args.description.now c.args.listing.now

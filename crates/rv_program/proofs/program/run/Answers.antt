@@ -2,7 +2,7 @@ use Rattle.std.proofs.Common.{◌≡◌, inl, inr, refl, rules}
 use Rattle.rv_program.proofs.program.run.Goals as goal
 
 pub returns-in-Err : goal.returns-in-Err
-returns-in-Err g c = inl (refl, c.in-Err.ensures.unread)
+returns-in-Err g c = inl (refl, refl, c.in-Err.ensures.unread)
 
 pub returns-in-Ok-begin : goal.returns-in-Ok-begin
 returns-in-Ok-begin g c =
@@ -10,8 +10,8 @@ returns-in-Ok-begin g c =
     let silent = c.in-Ok.ensures.nothing_told in
     let asked = rw same at c.in-Ok-begin.ensures.task in
     let begun = c.in-Ok-begin.ensures.nothing_told in
-    let ended = rw (begun, silent) at c.finish_task-exit.ensures in
-    inr (c.in-Ok.input.items, c.in-Ok.ensures.input, inr (c.in-Ok-begin.task, asked, ended))
+    let ended = rw (begun, silent) at c.finish_task-exit.ensures.ended in
+    inr (c.in-Ok.input.items, c.in-Ok.ensures.input, inr (c.finish_task-exit.ensures.refusal, (c.in-Ok-begin.task, asked, ended)))
 
 pub returns : goal.returns
 returns g c =

@@ -17,7 +17,7 @@ returns-in-States g c =
 pub returns-in-Explanation : goal.returns-in-Explanation
 returns-in-Explanation g c =
     rw c.in-Explanation.is
-    (shown_whole (IsShown (Explanation c.in-Explanation.limit) c.args.listed.now _ _) c.write_explanation.result _ _ c.write_explanation.ensures.written c.whole_run-in-Explanation.ensures (λ stop text is. (is, refl)))
+    (shown_whole (IsShown (Explanation c.in-Explanation.figures c.in-Explanation.limit) c.args.listed.now _ _) c.write_explanation.result _ _ c.write_explanation.ensures.written c.whole_run-in-Explanation.ensures (λ stop text is. (is, refl)))
 
 pub returns-in-Profile : goal.returns-in-Profile
 returns-in-Profile g c =

@@ -35,6 +35,6 @@ returns-in-Show g c =
 pub returns-in-Compare : goal.returns-in-Compare
 returns-in-Compare g c =
     rw c.in-Compare.is
-    (Ends-after (Compare c.in-Compare.comparison c.in-Compare.limit)
+    (Ends-after (Compare c.in-Compare.comparison c.in-Compare.options)
     ((goal.Predictor-dyn g (c.args.predictor.predictor.vtable, c.args.predictor.predictor.value)).known c.args.predictor.predictor.value)
-    (λ _ text. IsComparisonTable c.in-Compare.comparison c.in-Compare.limit text) (λ _. done) c.compare.result _ _ tt (λ _ text is. (is, refl)) c.compare.ensures.table c.ended_table.ensures)
+    (λ _ text. IsComparisonTable c.in-Compare.comparison c.in-Compare.options text) (λ _. done) c.compare.result _ _ tt (λ _ text is. (is, refl)) c.compare.ensures.table c.ended_table.ensures)

@@ -1,4 +1,4 @@
-use Rattle.std.proofs.Common.{◌≡◌, [], None}
+use Rattle.std.proofs.Common.{◌≡◌, [], None, refl}
 use Rattle.rv_core.proofs.Shown.{stops_by}
 use Rattle.rv_report.specs.Totals.{counts_of}
 use Rattle.rv_report.proofs.Tallied.{room_at_end, tallied_nothing, tallied_to_the_end}
@@ -17,4 +17,4 @@ returns g c =
     let none : c.default.result ≡ counts_of [] = λ i. record { retired = zeros.0 i; traps = zeros.1.0 i; interrupts = zeros.1.1 i } in
     let begun = tallied_nothing c.args.arrivals.now _ c.default.result c.in_ok-speculation.speculation c.begin-2.result none c.in_ok-speculation.ensures.speculated c.in_ok-speculation.ensures.few c.begin-2.ensures in
     let run = c.watch-ended.ensures in
-    tallied_to_the_end (run.seen None begun) c.count_in_flight.result run.passes run.counted (stops_by run c.in-Ok.stop c.in-Ok.is) c.new.ensures c.count_in_flight.ensures.count c.losses.ensures
+    tallied_to_the_end (run.seen None begun) c.args.options.now c.count_in_flight.result run.passes run.counted (stops_by run c.in-Ok.stop c.in-Ok.is) c.new.ensures c.count_in_flight.ensures.count c.losses.ensures refl c.words.ensures

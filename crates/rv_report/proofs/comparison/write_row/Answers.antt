@@ -4,4 +4,6 @@ use Rattle.rv_report.proofs.comparison.write_row.Goals as goal
 
 pub returns : goal.returns
 unfolding table_row
-returns g c = says_both c.write_counts.ensures (says_both c.write_losses.ensures c.write_name_and_end.ensures)
+returns g c =
+    says_both c.write_counts.ensures (says_both c.write_losses.ensures (says_both c.write_name_and_stop.ensures
+    (says_both c.write_events.ensures c.write_last.ensures)))

@@ -5,4 +5,4 @@ use Rattle.rv_report.proofs.state.write_stop.Goals as goal
 
 pub returns : goal.returns
 unfolding stop_line line_of
-returns g c = says_both c.put.ensures c.write_reason.ensures
+returns g c = says_both c.put.ensures (says_both c.write_reason.ensures c.put-2.ensures)

@@ -73,7 +73,8 @@ returns-then-message-entry-clause-turn g c =
           ∙ retires_on e m h steps c.in_default-fault.is c.if-message-entry.true
           ∙ sym (ap (λ x. turn_left x steps told turn.GoesOn) c.retire.ensures);
       appended = c.append.ensures.items ∙ ap (λ s. c.args.steps.now.items ++ s ∷ []) (row g at.After-append);
-      learns = learns_at _ _ told _ _ (sym (ap (λ (x : Hardware). x.pc) c.retire.ensures))
+      learns = learns_at ((goal.Predictor-dyn g c.args.predictor.now).known c.args.predictor.now.1) _ told _ _
+          (sym (ap (λ (x : Hardware). x.pc) c.retire.ensures))
           (rw (← c.unwrap_or.ensures) c.learn.ensures);
     }
 
@@ -94,7 +95,8 @@ returns-clause-turn g c =
           ∙ retires_last e m h steps c.in_default-fault.is c.if-message-entry.false
           ∙ sym (ap (λ x. turn_left x steps told (turn.Ends None)) flushed_is);
       appended = c.append.ensures.items ∙ ap (λ s. c.args.steps.now.items ++ s ∷ []) (row g at.After-append);
-      learns = learns_at _ _ told _ _ (sym (ap (λ (x : Hardware). x.pc) flushed_is))
+      learns = learns_at ((goal.Predictor-dyn g c.args.predictor.now).known c.args.predictor.now.1) _ told _ _
+          (sym (ap (λ (x : Hardware). x.pc) flushed_is))
           (rw (← c.unwrap_or.ensures) c.learn.ensures);
     }
 

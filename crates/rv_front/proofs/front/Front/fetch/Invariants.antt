@@ -1,6 +1,6 @@
 use Rattle.std.proofs.Common.{◌≡◌, ◌-◌}
 use Rattle.rv_front.specs.FetchBuffer.{IsLinked}
-use Rattle.rv_front.specs.Predictors.{answers_of}
+use Rattle.rv_front.specs.Guide.{answers_of}
 use Rattle.rv_front.proofs.Fetching.{Fetching}
 use Rattle.rv_front.proofs.front.Front.fetch.Given as goal
 

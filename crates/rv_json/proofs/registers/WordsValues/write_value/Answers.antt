@@ -1,12 +1,11 @@
-use Rattle.std.proofs.Common.{◌∙◌}
-use Rattle.std.specs.Prelude.{decimal}
+use Rattle.std.proofs.Common.{ap}
+use Rattle.rv_json.specs.Json.{numeral}
 use Rattle.rv_json.proofs.Arrays.{has_item, item_said}
 use Rattle.rv_text.proofs.Saying.{says_same}
 use Rattle.rv_json.proofs.registers.WordsValues.write_value.Goals as goal
 
 pub returns : goal.returns
-returns g c =
-    item_said decimal c.args.self.now.words.now _ 0 c.requires (says_same (c.as_bytes.ensures.value ∙ c.format.ensures.text) c.put.ensures)
+returns g c = item_said numeral c.args.self.now.words.now _ 0 c.requires (says_same (ap numeral c.from.ensures) c.write_digits.ensures)
 
 pub bounds-self-place : goal.bounds-self-place
-bounds-self-place g c = has_item decimal c.args.self.now.words.now _ c.requires
+bounds-self-place g c = has_item numeral c.args.self.now.words.now _ c.requires

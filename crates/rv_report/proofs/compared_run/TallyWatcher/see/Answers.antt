@@ -1,6 +1,6 @@
 use Rattle.std.proofs.Common.{◌∙◌, ap}
 use Rattle.rv_passage.proofs.InFlight.{short_buffers}
-use Rattle.rv_report.specs.Misses.{missed_after}
+use Rattle.rv_report.specs.Events.{counted_after}
 use Rattle.rv_report.specs.Speculation.{speculated_after}
 use Rattle.rv_report.proofs.Tallied.{tallied_on}
 use Rattle.rv_report.proofs.compared_run.TallyWatcher.see.Goals as goal
@@ -11,5 +11,5 @@ follow-requires-2-clause-short g c = short_buffers c.cycles_done.ensures.reached
 pub returns : goal.returns
 returns g c start seen before shown tallied =
     let speculated = c.follow-2.ensures.followed ∙ (λ i. speculated_after c.args.cycle c.args.steps.now (c.reorder_buffer-buffer.ensures i) (c.front.ensures i) (c.observe-pc.ensures.pc i) c.args.self.now.speculation) in
-    let missed = c.follow.ensures ∙ ap (λ end. missed_after c.args.cycle c.args.steps.now end c.args.self.now.misses) c.drain_end.ensures in
-    tallied_on shown tallied c.count_all.new.self c.follow-2.new.self c.follow.new.self c.count_all.ensures speculated missed c.follow-2.ensures.fetched c.follow-2.ensures.mispredicted
+    let happened = c.follow.ensures ∙ ap (λ end. counted_after c.args.cycle c.args.steps.now end c.args.self.now.events) c.drain_end.ensures in
+    tallied_on shown tallied c.count_all.new.self c.follow-2.new.self c.follow.new.self c.count_all.ensures speculated happened c.follow-2.ensures.fetched c.follow-2.ensures.mispredicted

@@ -1,0 +1,37 @@
+-- What `--show` names.
+use Rattle.std.specs.Prelude.{ℕ, ◌%◌, ◌==◌, nat_lt, if◌then◌else◌, List, [], length, get_or, slice_get, Option, Some, None, codes, option_and_then, unwrap_or}
+use Rattle.std.specs.{Option.option_map, Option.option_map_or}
+use Rattle.clap.specs.Words.{Row, Text, all_of}
+use Rattle.rv_asm.specs.Names.{register_named}
+use Rattle.rv_asm.specs.Token.{Lexeme, Token, Name, Number, first_lexeme}
+use Rattle.rv_command.specs.declared.shown.{Shown.Shown, ShownColumns.ShownColumns}
+use Rattle.rv_command.specs.declared.shown.Shown.TheVariants.{Register, Word}
+
+-- a register by its name, or the word of memory at an address, as the assembler reads names and numbers
+abbrev pub shown_by : Token → Option Shown
+shown_by (Name name) = option_map Register (register_named name)
+shown_by (Number address) = if address % 4 == 0 then Some (Word address) else None
+shown_by _ = None
+
+-- what a text names that is one token
+abbrev pub shown_of : Text → Option Shown
+shown_of text =
+    if length text == 0 then None
+    else option_and_then (λ (lexeme : Lexeme). if lexeme.size == length text then option_and_then shown_by lexeme.token else None)
+    (first_lexeme (get_or text 0 0) text)
+
+-- the column of the text at a place: none where there is no text, and no answer where that names nothing
+abbrev pub column_of : List Text → ℕ → Option (Option Shown)
+column_of texts place = option_map_or (λ text. option_map Some (shown_of text)) (slice_get texts place) (Some None)
+
+-- the columns of at most four texts
+abbrev pub columns_of : List Text → Option ShownColumns
+columns_of texts =
+    if nat_lt 4 (length texts) then None
+    else option_and_then (λ one. option_and_then (λ two. option_and_then (λ three. option_map (λ four.
+    record { first = one; second = two; third = three; fourth = four })
+    (column_of texts 3)) (column_of texts 2)) (column_of texts 1)) (column_of texts 0)
+
+-- those that the matches hold
+abbrev pub columns_in : List Row → Option ShownColumns
+columns_in rows = columns_of (unwrap_or (all_of (codes "show") rows) [])

@@ -1,0 +1,15 @@
+use Rattle.std.proofs.Common.{[], refl}
+use Rattle.rv_text.proofs.Saying.{says_nothing}
+use Rattle.rv_explain.proofs.Telling.{room, telling_on}
+use Rattle.rv_explain.proofs.running.TellerView.see.Goals as goal
+
+pub add-requires : goal.add-requires
+add-requires g c = let (start, seen, next, telling) = c.requires.shown in record { room = room next telling }
+
+pub returns-clause-seen : goal.returns-clause-seen
+returns-clause-seen g c start seen next telling =
+    telling_on next telling c.begun-drain.result c.add.new.self c.observe.result.regs c.drain_end-drain_end.result c.begun-drain.ensures
+    c.add.ensures.kept c.add.ensures.bus_grows c.add.ensures.units_grow c.observe.ensures.registers c.drain_end-drain_end.ensures
+
+pub returns-clause-said : goal.returns-clause-said
+returns-clause-said g c start seen next telling = ([], says_nothing _, refl)

@@ -1,0 +1,48 @@
+-- A program that crashed, or ran past its last line.
+use Rattle.std.specs.Prelude.{ℕ, ◌-◌, ◌/◌, ◌==◌, ◌&&◌, Bool, is_none, is_some, if◌then◌else◌, List, [], ◌++◌, codes, Option, Some, None}
+use Rattle.rv_arch.specs.declared.outcome.Stop.{Stop}
+use Rattle.rv_arch.specs.declared.outcome.Stop.TheVariants.{Limit, Breakpoint, Stale, Exhausted}
+use Rattle.rv_source.specs.Listing.{Listed, line_at}
+use Rattle.rv_sentences.specs.Exception.{first_text}
+use Rattle.rv_sentences.specs.Interrupt.{interrupts_text}
+use Rattle.rv_sentences.specs.Place.{place_text}
+use Rattle.rv_sentences.specs.declared.{exception.Exception.Exception, interrupts.Interrupts.Interrupts, series.Series.Series}
+use Rattle.rv_explain.specs.declared.figures.Figures.{Figures}
+use Rattle.rv_explain.specs.declared.figures.Figures.TheVariants.{Always, UnlessCrashed}
+
+-- an address stands right behind the last line of some code: the word before it has a line, and its own has none
+abbrev pub is_behind_code : Listed → ℕ → Bool
+is_behind_code listing address = is_some (line_at listing (address - 4)) && is_none (line_at listing address)
+
+-- a program came to an address that stands there
+unfoldable pub passed_text : Listed → ℕ → List ℕ
+passed_text listing address =
+    if is_behind_code listing address then codes "The program ran past its last line, at " ++ place_text listing (address - 4) else []
+
+-- where the first exception of a run came, if there was one
+unfoldable pub first_passed_text : Listed → Option (Series Exception) → List ℕ
+first_passed_text listing None = []
+first_passed_text listing (Some all) = passed_text listing all.first.pc
+
+-- the first exception of a run, where no handler was set for it: the address in mtvec was 0 (Privileged Architecture 20211203, 3.1.7)
+abbrev pub unhandled : Option (Series Exception) → Option Exception
+unhandled None = None
+unhandled (Some all) = if all.first.mtvec / 4 == 0 then Some all.first else None
+
+-- the exception by which a program crashed: that one, where the run did not end by itself either
+abbrev pub crash_of : Stop → Option (Series Exception) → Option Exception
+crash_of Breakpoint all = None
+crash_of (Stale pc) all = None
+crash_of Limit all = unhandled all
+crash_of Exhausted all = unhandled all
+
+-- that of which alone is told
+abbrev pub lone_crash : Figures → Stop → Option (Series Exception) → Option Exception
+lone_crash Always stop all = None
+lone_crash UnlessCrashed stop all = crash_of stop all
+
+-- the sentences on a crash: the line that the program ran past, if it did, the exception, and the interrupts of the run, since one that
+-- found no handler is followed by an exception
+unfoldable pub crash_text : Listed → Exception → Interrupts → List ℕ
+crash_text listing crash interrupts =
+    passed_text listing crash.pc ++ (first_text listing crash ++ interrupts_text listing interrupts)

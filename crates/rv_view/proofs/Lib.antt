@@ -1,0 +1,3 @@
+mod Begun
+mod Viewing
+pub mod EndedView

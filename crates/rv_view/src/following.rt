@@ -1,0 +1,62 @@
+ghost use Rattle.std.specs.Prelude.{◌≡◌, ◌≤◌, IfOk, length};
+ghost use Rattle.rv_passage.specs.Table.{CanCount, HasRoom, passages_of};
+ghost use Rattle.rv_view.specs.Following.{BeginsAt, FollowsFrom, IsFollowedOn};
+
+use rv_core::Pipeline;
+use rv_hardware::Step;
+use rv_passage::{Passage, Table};
+use std::alloc::{AllocError, Global};
+
+/// What it takes to follow a run: a table of what is in flight, with room for two cycles, and a list with room for the steps of
+/// a cycle.
+#[derive(Drop)]
+pub struct Following {
+    pub(crate) table: Table,
+    pub(crate) steps: Vec<Step>,
+}
+
+impl Following {
+    /// Begins with what is in flight in a pipeline. The only error is out of memory.
+    pub fn begin(alloc: Global, pipeline: &Pipeline) -> Result<Following, AllocError>
+        ensures { IfOk result (FollowsFrom pipeline.now) }
+    {
+        let table = begin_table(alloc, pipeline)?;
+        let steps = Vec::with_capacity(alloc, 8)?;
+        Ok(Following { table, steps })
+    }
+
+    /// What is in flight, in order of fetch.
+    pub fn rows(&self) -> &[Passage]
+        ensures { result.now ≡ (passages_of self.now.table).rows }
+    {
+        self.table.rows()
+    }
+}
+
+/// A table that begins with what is in flight in a pipeline. The only error is out of memory.
+pub fn begin_table(alloc: Global, pipeline: &Pipeline) -> Result<Table, AllocError>
+    ensures { IfOk result (BeginsAt pipeline.now) }
+{
+    // Of hardware that a reset and cycles lead to, the buffers are as long as described.
+    let _ = pipeline.cycles_done();
+    Table::begin(alloc, pipeline.reorder_buffer(), pipeline.front())
+}
+
+/// Follows instructions through a cycle that had these steps, and left the pipeline. Asks for no memory.
+pub fn follow(table: &mut Table, cycle: u64, steps: &[Step], pipeline: &Pipeline)
+    requires room { HasRoom table.old }
+    requires countable { CanCount (passages_of table.old) }
+    requires few { length steps.now ≤ 8 }
+    ensures { IsFollowedOn cycle steps.now pipeline.now table.old table.new }
+{
+    // Of hardware that a reset and cycles lead to, the buffers are as long as described.
+    let _ = pipeline.cycles_done();
+    let pc = pipeline.observe().pc;
+    table.follow(
+        cycle,
+        steps,
+        pipeline.reorder_buffer(),
+        pipeline.front(),
+        pc,
+    );
+}
