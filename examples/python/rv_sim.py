@@ -183,9 +183,15 @@ def profile(assembly, description=None, *, arrivals=None, limit=None):
 
 
 def states(assembly, description=None, *, arrivals=None, first=None, cycles=None):
-    """The lines of `states`, as dictionaries (docs/STATES.md): the hardware in `cycles` cycles from `first` on."""
+    """The lines of `states`, as dictionaries (docs/STATES.md): the hardware in `cycles` cycles from `first` on. Each word of a source line
+    has the line's text here."""
     words = [*(["--from", first] if first is not None else []), *(["--cycles", cycles] if cycles is not None else [])]
-    return [json.loads(it) for it in call(["states", *words], job(assembly, description, arrivals)).splitlines()]
+    lines = [json.loads(it) for it in call(["states", *words], job(assembly, description, arrivals)).splitlines()]
+    before = None
+    for line in lines:
+        if "address" in line:
+            before = line.setdefault("text", before)
+    return lines
 
 
 def compare(assembly, descriptions, *, limit=None, show=()):

@@ -1,5 +1,5 @@
 -- No JSON of a part has a byte that HTML gives a meaning.
-use Rattle.std.proofs.Common.{ℕ, List, Option, Some, None, refl}
+use Rattle.std.proofs.Common.{ℕ, List, true, false, Option, Some, None, refl}
 use Rattle.std.specs.Prelude.{Bool, codes, map, option_map}
 use Rattle.rv_isa.specs.declared.{broadcast.StoreAccess.StoreAccess, issues.Issue.Issue, lines.Lines.Lines, operations.Kind.Kind, per_kind.PerKind.PerKind}
 use Rattle.rv_isa.specs.declared.operations.Kind.TheVariants as kind
@@ -29,7 +29,7 @@ use Rattle.rv_json.specs.Entry.{cause_of, cost_of, entry_text, fault_value_of, f
 use Rattle.rv_json.specs.Fetched.{fetched_json, next_fetch_text}
 use Rattle.rv_json.specs.Instruction.{details_text, ended_text, ending_text, instruction_json, passage_text, retired_text, squashed_text, trapped_text}
 use Rattle.rv_json.specs.Json.{array, numeral}
-use Rattle.rv_json.specs.Listing.{line_if, line_text, listing_lines, place_text}
+use Rattle.rv_json.specs.Listing.{line_if, line_text, listing_lines, place_text, statement_text}
 use Rattle.rv_isa.specs.Choice.{predictor_name}
 use Rattle.rv_json.specs.Machine.{buffers_text, cache_json, format_text, header_line, kind_json, kinds_text, machine_json, numbers_text, predictor_json, recovery_text, sizes_text, widths_text}
 use Rattle.rv_json.specs.Markup.{HasNoMarkup}
@@ -98,17 +98,22 @@ unfolding format_text header_line
 header_plain first v = both (both (beginning _ refl (number _)) (member _ refl (in_quotes (plain refl)))) (both (named _ refl) (both (machine v) (plain refl)))
 
 -- the program
-line_plain : (address : ℕ) (line : Line) → HasNoMarkup (line_text address line)
-unfolding place_text line_text
-line_plain address line = both (both (beginning _ refl (number _)) (counted _ refl _)) (both (named _ refl) (both (string_of _) (plain refl)))
+statement_plain : (is_first : Bool) (text : List ℕ) → HasNoMarkup (statement_text is_first text)
+unfolding statement_text
+statement_plain true text = member _ refl (string_of text)
+statement_plain false text = plain refl
 
-line_if_plain : (address : ℕ) (line : Option Line) → HasNoMarkup (line_if address line)
-line_if_plain address None = plain refl
-line_if_plain address (Some line) = line_plain address line
+line_plain : (is_first : Bool) (address : ℕ) (line : Line) → HasNoMarkup (line_text is_first address line)
+unfolding place_text line_text
+line_plain is_first address line = both (both (beginning _ refl (number _)) (counted _ refl _)) (both (statement_plain is_first line.text) (plain refl))
+
+line_if_plain : (before : Option ℕ) (address : ℕ) (line : Option Line) → HasNoMarkup (line_if before address line)
+line_if_plain before address None = plain refl
+line_if_plain before address (Some line) = line_plain _ address line
 
 pub listing_plain : (listing : Listed) (v : Values) → HasNoMarkup (listing_lines listing v)
 unfolding listing_lines
-listing_plain listing v = each _ (λ n. line_if_plain (word_address v.ram_base n) (line_at listing (word_address v.ram_base n))) _
+listing_plain listing v = each _ (λ n. line_if_plain _ (word_address v.ram_base n) (line_at listing (word_address v.ram_base n))) _
 
 -- memory and the cache
 pub word_plain : (address word : ℕ) (stale : Bool) → HasNoMarkup (word_text address word stale)

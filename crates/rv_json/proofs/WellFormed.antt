@@ -31,7 +31,7 @@ use Rattle.rv_json.specs.Fetched.{fetched_json, next_fetch_text}
 use Rattle.rv_json.specs.Grammar.{AreLines, AreMembers, IsJson, no_lines, no_members}
 use Rattle.rv_json.specs.Instruction.{details_text, ended_text, ending_text, instruction_json, passage_text, retired_text, squashed_text, trapped_text}
 use Rattle.rv_json.specs.Json.{array, numeral, quoted}
-use Rattle.rv_json.specs.Listing.{line_if, line_text, listing_lines, place_text}
+use Rattle.rv_json.specs.Listing.{line_if, line_text, listing_lines, place_text, statement_text}
 use Rattle.rv_json.specs.Machine.{buffers_text, cache_json, format_text, header_line, kind_json, kinds_text, machine_json, numbers_text, predictor_json, recovery_text, sizes_text, widths_text}
 use Rattle.rv_json.specs.Observed.{lines_text as levels_text, observed_text}
 use Rattle.rv_json.specs.Operand.{known_text, operand_json}
@@ -108,17 +108,22 @@ place : (address n : ℕ) → IsOpen (place_text address n)
 unfolding place_text
 place address n = begun (beginning _ refl (number _)) (counted _ refl _)
 
-line_is : (address : ℕ) (line : Line) → AreLines (line_text address line)
-unfolding line_text
-line_is address line = object_line (place address line.number) (last (codes "text") refl (string_of line.text))
+statement : (is_first : Bool) (text : List ℕ) → AreMembers (statement_text is_first text)
+unfolding statement_text
+statement true text = member _ refl (string_of text)
+statement false text = no_members
 
-line_if_is : (address : ℕ) (line : Option Line) → AreLines (line_if address line)
-line_if_is address None = no_lines
-line_if_is address (Some line) = line_is address line
+line_is : (is_first : Bool) (address : ℕ) (line : Line) → AreLines (line_text is_first address line)
+unfolding line_text
+line_is is_first address line = object_line (place address line.number) (more (statement is_first line.text) closes)
+
+line_if_is : (before : Option ℕ) (address : ℕ) (line : Option Line) → AreLines (line_if before address line)
+line_if_is before address None = no_lines
+line_if_is before address (Some line) = line_is _ address line
 
 pub listing_is : (listing : Listed) (v : Values) → AreLines (listing_lines listing v)
 unfolding listing_lines
-listing_is listing v = lines_each _ (λ n. line_if_is (word_address v.ram_base n) (line_at listing (word_address v.ram_base n))) _
+listing_is listing v = lines_each _ (λ n. line_if_is _ (word_address v.ram_base n) (line_at listing (word_address v.ram_base n))) _
 
 -- memory and the cache
 pub word_is : (address word : ℕ) (stale : Bool) → AreLines (word_text address word stale)

@@ -1,5 +1,5 @@
 -- The table of a profile: a line for each address, its cells with a tab between two.
-use Rattle.std.specs.Prelude.{ℕ, ◌==◌, if◌then◌else◌, List, [], ◌∷◌, ◌++◌, codes, decimal, Option, Some, None}
+use Rattle.std.specs.Prelude.{ℕ, ◌==◌, if◌then◌else◌, List, [], ◌∷◌, ◌++◌, codes, decimal, take, Option, Some, None}
 use Rattle.std.specs.List.{flat_map}
 use Rattle.rv_source.specs.Listing.{Line, Listed, line_at}
 use Rattle.rv_text.specs.Line.{ratio_text, word_text}
@@ -15,9 +15,9 @@ table_head =
     codes "address\tline\tstatement\tfetched\tretired\tsquashed\tdispatch_mean\tdispatch_most\tissue_mean\tissue_most\t" ++
     codes "broadcast_mean\tbroadcast_most\tretire_mean\tretire_most\thits\tmisses\tmispredicted\thead\n"
 
--- a number, a text in printing characters, and a tab after each
+-- a number, the first 64 bytes of a text in printing characters, and a tab after each
 abbrev pub filled_cells : ℕ → List ℕ → List ℕ
-filled_cells number text = (decimal number ++ codes "\t") ++ (plain_text text ++ codes "\t")
+filled_cells number text = (decimal number ++ codes "\t") ++ (plain_text (take 64 text) ++ codes "\t")
 
 -- the number and the statement of a line; nothing of a word that no line fills
 unfoldable pub line_cells : Option Line → List ℕ

@@ -1,4 +1,4 @@
-ghost use Rattle.std.specs.Prelude.{◌≡◌, ◌++◌, ◌*◌, ◌^◌, ◌<◌, ◌≤◌, ◌/◌, ◌%◌, codes, decimal};
+ghost use Rattle.std.specs.Prelude.{◌≡◌, ◌++◌, ◌*◌, ◌^◌, ◌<◌, ◌≤◌, ◌/◌, ◌%◌, codes, decimal, take};
 ghost use Rattle.std.specs.List.{flat_map};
 ghost use Rattle.rv_profile.specs.Text.{ended_cells, filled_cells, last_cells, line_cells, mean_cells, place_cells, table_head, table_text, wait_cells, waits_cells, word_line};
 ghost use Rattle.rv_source.specs.Listing.{line_at};
@@ -10,7 +10,7 @@ ghost use Rattle.rv_text.specs.Written.{IsWritten};
 use itoa::Buffer;
 use rv_counts::{Wait, WordCounts};
 use rv_source::Listing;
-use rv_text::{ReportError, Sink, Value, three_digits};
+use rv_text::{ReportError, Sink, Value, front, three_digits};
 use std::io::Write;
 
 #[tactic(auto, unfolding(crate::specs::Text::table_head))]
@@ -31,11 +31,12 @@ fn write_number<W: Write>(out: &mut Sink<'_, W>, number: usize)
     out.put(b"\t");
 }
 
+// Writes at most 64 bytes of a statement: a line that lays down many words has a row for each.
 #[tactic(auto, using(rv_text::proofs::Saying::saying))]
 fn write_statement<W: Write>(out: &mut Sink<'_, W>, text: &[u8])
-    ensures { Says W.contents out.old out.new (plain_text text.now ++ codes "\t") }
+    ensures { Says W.contents out.old out.new (plain_text (take 64 text.now) ++ codes "\t") }
 {
-    out.put_plain(text);
+    out.put_plain(front(text, 64));
     out.put(b"\t");
 }
 

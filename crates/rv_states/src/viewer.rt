@@ -5,7 +5,7 @@ pub(crate) const BEFORE: &[u8] = br#"<!DOCTYPE html>
 <html lang="en">
 <head>
 <meta charset="utf-8">
-<meta http-equiv="Content-Security-Policy" content="default-src 'none'; script-src 'sha256-LrLaiIVaEEjBOXRK+1IeY1wf6nTVPmOalwSXNIt+Tyg='; style-src 'sha256-olRomiyufp573Kai1buYzNvm244BX9gY97cXXkR5Jvs='; img-src data:; frame-src 'self' file:; base-uri 'none'; form-action 'none'">
+<meta http-equiv="Content-Security-Policy" content="default-src 'none'; script-src 'sha256-zrKooTXQP9auK9rIqTnHgrFnqWFLQ43jW1uUGeZzJtE='; style-src 'sha256-olRomiyufp573Kai1buYzNvm244BX9gY97cXXkR5Jvs='; img-src data:; frame-src 'self' file:; base-uri 'none'; form-action 'none'">
 <meta name="viewport" content="width=device-width, initial-scale=1">
 <title>rv_sim: a run, cycle by cycle</title>
 <style>
@@ -472,7 +472,9 @@ class Run {
   }
 
   readOther(value) {
-    if (value.text !== undefined) {
+    if (value.line !== undefined) {
+      // A line's text stands at the first of its words alone.
+      value.text ??= this.listing.at(-1).text;
       this.listing.push(value);
       this.statements.set(value.address, unlabelled(value.text.trim()));
     } else if (value.memory !== undefined) {
@@ -1959,6 +1961,13 @@ function writeAddress() {
   history.replaceState(null, "", "#" + words.toString().replace(/=(?=&|$)/g, ""));
 }
 
+// Opens another run beside this one, which stays at its cursor.
+function openBeside(name) {
+  clearTimeout(writing);
+  writeAddress();
+  location.hash = location.hash.slice(1) + "&beside=" + encodeURIComponent(name);
+}
+
 function readAddress() {
   const words = new URLSearchParams(location.hash.slice(1));
   if (besideName()) return location.reload();
@@ -2112,7 +2121,7 @@ function listen() {
   byId("play").addEventListener("click", () => play(!playing));
   byId("help").addEventListener("click", showKeys);
   byId("panels").addEventListener("click", showSwitches);
-  byId("other").addEventListener("change", (event) => { location.hash = location.hash.slice(1) + "&beside=" + encodeURIComponent(event.target.value.trim()); });
+  byId("other").addEventListener("change", (event) => openBeside(event.target.value.trim()));
   byId("picture").addEventListener("pointerover", (event) => { if (event.target.dataset.cycle && event.target.textContent === ".") tellWait(view, event.target); });
   for (const id of scrolled) byId(id).addEventListener("scroll", () => requestAnimationFrame(() => redraw(id)));
   for (const id of Object.keys(tops)) boxOf(id).addEventListener("scroll", () => requestAnimationFrame(() => redrawLong(id)));

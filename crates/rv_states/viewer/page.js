@@ -58,6 +58,13 @@ function writeAddress() {
   history.replaceState(null, "", "#" + words.toString().replace(/=(?=&|$)/g, ""));
 }
 
+// Opens another run beside this one, which stays at its cursor.
+function openBeside(name) {
+  clearTimeout(writing);
+  writeAddress();
+  location.hash = location.hash.slice(1) + "&beside=" + encodeURIComponent(name);
+}
+
 function readAddress() {
   const words = new URLSearchParams(location.hash.slice(1));
   if (besideName()) return location.reload();
@@ -211,7 +218,7 @@ function listen() {
   byId("play").addEventListener("click", () => play(!playing));
   byId("help").addEventListener("click", showKeys);
   byId("panels").addEventListener("click", showSwitches);
-  byId("other").addEventListener("change", (event) => { location.hash = location.hash.slice(1) + "&beside=" + encodeURIComponent(event.target.value.trim()); });
+  byId("other").addEventListener("change", (event) => openBeside(event.target.value.trim()));
   byId("picture").addEventListener("pointerover", (event) => { if (event.target.dataset.cycle && event.target.textContent === ".") tellWait(view, event.target); });
   for (const id of scrolled) byId(id).addEventListener("scroll", () => requestAnimationFrame(() => redraw(id)));
   for (const id of Object.keys(tops)) boxOf(id).addEventListener("scroll", () => requestAnimationFrame(() => redrawLong(id)));

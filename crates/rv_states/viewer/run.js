@@ -65,7 +65,9 @@ class Run {
   }
 
   readOther(value) {
-    if (value.text !== undefined) {
+    if (value.line !== undefined) {
+      // A line's text stands at the first of its words alone.
+      value.text ??= this.listing.at(-1).text;
       this.listing.push(value);
       this.statements.set(value.address, unlabelled(value.text.trim()));
     } else if (value.memory !== undefined) {

@@ -178,7 +178,9 @@ class Window:
         for line in self.lines:
             if "machine" in line:
                 self.machine, self.first = line["machine"], line["first"]
-            elif "text" in line:
+            elif "line" in line:
+                # a line's text stands at the first of its words alone
+                line.setdefault("text", self.listing[-1]["text"] if self.listing else None)
                 self.listing.append(line)
                 self.statements[line["address"]] = unlabelled(line["text"])
             elif "state" in line:

@@ -1,6 +1,5 @@
 use Rattle.std.proofs.Common.{◌≡◌, ◌/◌, ap, arith}
-use Rattle.rv_json.specs.Listing.{listing_line, listing_lines}
-use Rattle.rv_json.specs.Place.{word_address}
+use Rattle.rv_json.specs.Listing.{listing_lines, numbered_line}
 use Rattle.rv_text.proofs.Saying.{says_below, says_nothing, says_same}
 use Rattle.rv_text.proofs.Writing.{texts_below}
 use Rattle.rv_json.proofs.listing.write_listing.Goals as goal
@@ -11,10 +10,10 @@ loop-number-init g c = says_nothing _
 
 pub loop-number-preserved : goal.loop-number-preserved
 loop-number-preserved g c =
-    says_below (λ number. listing_line c.args.listing.now (word_address c.args.values.now.ram_base number)) c.loop-number.number c.loop-number.invariant (says_same (ap (listing_line c.args.listing.now) c.word_address.ensures) c.write_listing_line.ensures)
+    says_below (numbered_line c.args.listing.now c.args.values.now.ram_base) c.loop-number.number c.loop-number.invariant c.write_numbered.ensures
 
 pub returns : goal.returns
 unfolding texts_below listing_lines
 returns g c =
     let all : c.loop-number.number ≡ c.args.values.now.ram_size / 4 = omega arith in
-    says_same (ap (texts_below (λ number. listing_line c.args.listing.now (word_address c.args.values.now.ram_base number))) all) c.loop-number.invariant
+    says_same (ap (texts_below (numbered_line c.args.listing.now c.args.values.now.ram_base)) all) c.loop-number.invariant
