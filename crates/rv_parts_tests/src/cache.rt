@@ -147,3 +147,21 @@ fn an_access_is_aligned_and_lies_in_the_cached_memory(rt: HostRuntime) {
         check_equal_at(&rt, address, cache.can_access(address, count), false);
     }
 }
+
+// Checks that a store brings its line in, and that a later one makes it the latest: the line that is dropped then is clean.
+fn check_stores<M: Backing>(rt: &impl Abort, cache: &mut Cache<M>)
+    requires base { cache.old.base ≡ A }
+    requires size { length cache.old.bytes ≡ 4096 }
+{
+    check_equal(rt, write_word(cache, A, [1, 2, 3, 4]), 11);
+    check_equal(rt, read_word(cache, B).1, 11);
+    check_equal(rt, write_word(cache, A, [5, 6, 7, 8]), 1);
+    check_equal(rt, read_word(cache, C).1, 11);
+    check_equal(rt, read_word(cache, A), ([5, 6, 7, 8], 1));
+}
+
+#[test]
+fn a_store_makes_its_line_the_latest(rt: HostRuntime) {
+    let ram = small_ram(&rt, rt.alloc());
+    check_stores(&rt, &mut small_cache(&rt, rt.alloc(), ram, 2));
+}

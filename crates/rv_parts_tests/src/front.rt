@@ -247,3 +247,14 @@ fn fetch_decodes_each_word(rt: HostRuntime) {
         check_equal_at(&rt, *pc, found, Some(*code));
     }
 }
+
+// Addresses that are alike in bits 3 to 0 alone share a place of four.
+#[test]
+fn a_place_goes_by_the_lowest_bits(rt: HostRuntime) -> Result<(), Fail> {
+    let mut predictor = Bimodal::new(rt.alloc(), 4)?;
+    predictor.learn(BASE, BRANCH_FORWARD, BASE + 8);
+    for pc in [0, 0x7fff_fff0, 0xaaaa_aaa0, 0x8000_0010] {
+        check_equal_at(&rt, pc, predictor.predict(pc, BRANCH_FORWARD), pc + 8);
+    }
+    Ok(())
+}

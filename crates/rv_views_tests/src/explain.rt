@@ -1,7 +1,9 @@
 use crate::machine::{described, listing, no_arrivals, pipeline};
+use crate::states::has_part;
+use rv_core::Pipeline;
 use rv_explain::{Figures, write_explanation};
 use rv_front::NotTaken;
-use rv_isa::Values;
+use rv_isa::{Image, Values};
 use std::alloc::Global;
 use std::process::Abort;
 
@@ -87,4 +89,83 @@ The lines that stood longest at the head of the reorder buffer, in cycles:
 fn words_of_no_line_are_told_each_by_itself(rt: HostRuntime) {
     let output = explained(&rt, rt.alloc(), &CHAIN, &["addi x1,x0,5"]);
     assert!(&rt; output.as_slice().ends_with(LINES_OF_CHAIN));
+}
+
+// What is told of a hundred cycles of a program at an address, unless it crashed its crash alone.
+fn told(rt: &impl Abort, alloc: Global, base: u32, program: &[u8]) -> Vec<u8> {
+    let mut values = Values::standard();
+    values.ram_base = base;
+    let description = described(rt, values);
+    let arrivals = no_arrivals(rt, alloc);
+    let listing = listing(rt, alloc, &[]);
+    let mut output = Vec::new(alloc);
+    let image = Image::from_bytes(alloc, base, program, base).expect(rt, "an image");
+    let mut pipeline = Pipeline::new(alloc, &description, &image).expect(rt, "a pipeline");
+    let mut predictor = NotTaken;
+    write_explanation(
+        alloc,
+        &mut pipeline,
+        &mut predictor,
+        &description,
+        &arrivals,
+        100,
+        Figures::UnlessCrashed,
+        &listing,
+        &mut output,
+    )
+    .expect(rt, "room");
+    output
+}
+
+// addi x1,x0,4; csrw mtvec,x1; ecall
+const HANDLER_AT_4: [u8; 12] = [
+    0x93, 0x00, 0x40, 0x00, 0x73, 0x90, 0x50, 0x30, 0x73, 0x00, 0x00, 0x00,
+];
+
+// The least address that is a handler's: no word of RAM is there, so the program traps again and again, at that address.
+#[test]
+fn a_handler_at_4_is_one(rt: HostRuntime) {
+    let output = told(&rt, rt.alloc(), 0x8000_0000, &HANDLER_AT_4);
+    let ending = b"The run was cut off at its limit of cycles, and the program stood at 00000004";
+    assert!(&rt; output.as_slice().starts_with(ending));
+}
+
+// addi x1,x1,1; addi x2,x0,2; beq x1,x2,8; ecall; ebreak
+const SECOND_TURN: [u8; 20] = [
+    0x93, 0x80, 0x10, 0x00, 0x13, 0x01, 0x20, 0x00, 0x63, 0x84, 0x20, 0x00, 0x73, 0x00, 0x00, 0x00,
+    0x73, 0x00, 0x10, 0x00,
+];
+
+// The call finds no handler, and the program goes on at its own first word, at address 0. The second turn ends at the breakpoint.
+#[test]
+fn a_run_that_ended_at_a_breakpoint_did_not_crash(rt: HostRuntime) {
+    let output = told(&rt, rt.alloc(), 0, &SECOND_TURN);
+    let ending = b"The run ended at a breakpoint, at 00000010";
+    assert!(&rt; output.as_slice().starts_with(ending));
+}
+
+// addi x1,x0,5; div x2,x1,x1; add x3,x1,x2; ebreak
+const SECOND_IS_LATER: [u8; 16] = [
+    0x93, 0x00, 0x50, 0x00, 0x33, 0xc1, 0x10, 0x02, 0xb3, 0x81, 0x20, 0x00, 0x73, 0x00, 0x10, 0x00,
+];
+
+// The sum waits for the quotient, its second operand, and then for no unit.
+#[test]
+fn a_wait_for_a_unit_begins_with_the_last_operand(rt: HostRuntime) {
+    let output = told(&rt, rt.alloc(), 0x8000_0000, &SECOND_IS_LATER);
+    let waits = b"cycles that instructions waited for a unit: alu 0, mul 0, div 0, mem 0";
+    assert!(&rt; has_part(output.as_slice(), waits));
+}
+
+// auipc x1,0; lw x2,256(x1); sw x0,256(x1); jal x0,0
+const STORE_THAT_HITS: [u8; 16] = [
+    0x97, 0x00, 0x00, 0x00, 0x03, 0xa1, 0x00, 0x10, 0x23, 0xa0, 0x00, 0x10, 0x6f, 0x00, 0x00, 0x00,
+];
+
+// The load brought the line in, to which the store is drained.
+#[test]
+fn a_drain_into_a_line_that_is_there_hits(rt: HostRuntime) {
+    let output = told(&rt, rt.alloc(), 0x8000_0000, &STORE_THAT_HITS);
+    let drains = b"drains: 1, of them 1 at the cost of a hit, 0 at that of a miss";
+    assert!(&rt; has_part(output.as_slice(), drains));
 }

@@ -17,11 +17,15 @@ mod picture;
 #[cfg(test)]
 mod profile;
 #[cfg(test)]
+mod registers;
+#[cfg(test)]
 mod report;
 #[cfg(test)]
 mod state_lines;
 #[cfg(test)]
 mod state_operands;
+#[cfg(test)]
+mod state_predictor;
 #[cfg(test)]
 mod state_start;
 #[cfg(test)]

@@ -1,4 +1,5 @@
 use crate::machine::{described, narrow, pipeline};
+use crate::state_predictor::told_from;
 use crate::state_start::counts;
 use crate::states::has_part;
 use rv_core::Pipeline;
@@ -92,4 +93,17 @@ fn a_load_that_misses_keeps_the_port(rt: HostRuntime) {
     for part in MISSING {
         assert!(&rt; has_part(line.as_slice(), part));
     }
+}
+
+// auipc x1,0; lw x2,240(x1); jal x0,0
+const LOAD_OF_THE_LAST_SET: [u8; 12] = [
+    0x97, 0x00, 0x00, 0x00, 0x03, 0xa1, 0x00, 0x0f, 0x6f, 0x00, 0x00, 0x00,
+];
+
+// The line of 800000f0, of sixteen bytes, is the last of the first sixteen.
+#[test]
+fn the_last_set_stands_before_a_window(rt: HostRuntime) {
+    let lines = told_from(&rt, rt.alloc(), 25, &LOAD_OF_THE_LAST_SET);
+    let set = b"{\"set\":15,\"lines\":[{\"line\":134217743,\"dirty\":false}]}\n";
+    assert!(&rt; has_part(lines.as_slice(), set));
 }

@@ -82,3 +82,10 @@ fn a_front_longer_than_ram_is_refused(rt: HostRuntime) {
     };
     check_true(&rt, Description::new(values).is_none());
 }
+
+#[test]
+fn a_miss_may_cost_no_more_than_a_hit(rt: HostRuntime) {
+    let mut values = Values::standard();
+    values.cache.miss = 0;
+    check_true(&rt, Description::new(values).is_some());
+}

@@ -57,3 +57,9 @@ fn a_distance_is_exact_and_only_la_counts_modulo_2_to_the_32(rt: HostRuntime) ->
     )?;
     each_is_refused(rt.alloc(), &CASES)
 }
+
+// The first word of RAM lies at 80000000.
+#[test]
+fn a_number_is_taken_from_a_symbol(rt: HostRuntime) -> Result<(), Fail> {
+    means(rt.alloc(), "l: .word l-4, l+4", &[0x7ffffffc, 0x80000004])
+}

@@ -1,8 +1,9 @@
 use crate::machine::{described, no_arrivals, pipeline};
 use rv_arch::Stop;
+use rv_core::Pipeline;
 use rv_front::NotTaken;
 use rv_hardware::StallCounts;
-use rv_isa::{Reg, Values};
+use rv_isa::{Image, Reg, Values};
 use rv_report::{
     Columns, ComparedRun, Events, Losses, Shown, StepCounts, TableOptions, Totals, run_totals,
     write_table,
@@ -148,5 +149,68 @@ mispredicted\tsquashed\tmisses\tname\tstop\tipc\tlongest_gap\tbranches\tloads\td
 a0\t0x80000104\t0x00000004
 ";
     assert!(&rt; text.starts_with(head.as_bytes()));
+    Ok(())
+}
+
+// Columns stand in the order in which they are asked for: the word of the first instruction, the address of the second, what the first
+// computed, and the word of the last.
+#[test]
+fn four_columns_stand_in_their_order(rt: HostRuntime) -> Result<(), Fail> {
+    let alloc = rt.alloc();
+    let arrivals = no_arrivals(&rt, alloc);
+    let pipeline = pipeline(&rt, alloc, &described(&rt, Values::standard()), &STORE);
+    let options = TableOptions {
+        limit: 100,
+        shown: Columns {
+            first: Some(Shown::Word(0x8000_0000)),
+            second: Some(Shown::Register(Reg::new(1).expect(&rt, "a register"))),
+            third: Some(Shown::Register(Reg::new(10).expect(&rt, "a register"))),
+            fourth: Some(Shown::Word(0x8000_000c)),
+        },
+    };
+    let mut predictor = NotTaken;
+    let run = run_totals(alloc, pipeline, &mut predictor, &arrivals, &options)?;
+    let mut table = Vec::new(alloc);
+    write_table(&options.shown, &[], &[run], &mut table)?;
+    let text = table.as_slice();
+    assert!(&rt; text.ends_with(b"\t00500513\t80000004\t00000005\t00100073\n"));
+    let head = "\
+number\tcycles\tretired\tcpi\ttraps\tinterrupts\tbusy\tstall_fetch\tstall_serial\tstall_rob\tstall_station\tstall_store\t\
+mispredicted\tsquashed\tmisses\tname\tstop\tipc\tlongest_gap\tbranches\tloads\tdrains\thits\twrite_backs\t\
+0x80000000\tra\ta0\t0x8000000c
+";
+    assert!(&rt; text.starts_with(head.as_bytes()));
+    Ok(())
+}
+
+// sw x0,256(x0); sw x0,256(x0); ebreak
+const TWO_STORES: [u8; 12] = [
+    0x23, 0x20, 0x00, 0x10, 0x23, 0x20, 0x00, 0x10, 0x73, 0x00, 0x10, 0x00,
+];
+
+// One place is in the reorder buffer, and one in the store queue. The second store waits for both in the two cycles until the first
+// retires, and then for the eleven cycles of its drain; the breakpoint waits two cycles for the second store.
+#[test]
+fn a_full_reorder_buffer_is_the_reason_before_a_full_store_queue(
+    rt: HostRuntime,
+) -> Result<(), Fail> {
+    let alloc = rt.alloc();
+    let mut values = Values::standard();
+    values.ram_base = 0;
+    values.rob = 1;
+    values.store_queue = 1;
+    let arrivals = no_arrivals(&rt, alloc);
+    let image = Image::from_bytes(alloc, 0, &TWO_STORES, 0)?;
+    let pipeline = Pipeline::new(alloc, &described(&rt, values), &image).expect(&rt, "a pipeline");
+    let mut predictor = NotTaken;
+    let run = run_totals(
+        alloc,
+        pipeline,
+        &mut predictor,
+        &arrivals,
+        &A_HUNDRED_CYCLES,
+    )?;
+    let stalls = run.totals.stalls;
+    assert_eq!(rt; (stalls.rob, stalls.store), (4, 11));
     Ok(())
 }
