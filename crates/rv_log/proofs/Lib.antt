@@ -1,4 +1,4 @@
-mod Behind
+mod AfterNumber
 mod Logging
 pub mod OneLog
 mod Printing

@@ -36,7 +36,7 @@ cycle_text listing first cycle stalled rows =
     flat_map (row_at listing cycle) rows ++ (room_at cycle stalled rows ++ (codes "C\t1\n" ++ flat_map (left_at first cycle) rows))
 
 -- cycles one after the other, where the cycle before dispatched nothing for a reason
-unfoldable pub cycles_text : Listed → ℕ → Option Stall → List FollowedCycle → List ℕ
+abbrev pub cycles_text : Listed → ℕ → Option Stall → List FollowedCycle → List ℕ
 cycles_text listing first before [] = []
 cycles_text listing first before (cycle ∷ cycles) =
     cycle_text listing first cycle.number (record { before = before; reason = cycle.report.stall }) cycle.passages.rows ++ cycles_text listing first cycle.report.stall cycles

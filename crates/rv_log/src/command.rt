@@ -9,7 +9,7 @@ use rv_source::Listing;
 use rv_text::{Sink, hexadecimal};
 use std::io::Write;
 
-#[tactic(auto, using(crate::proofs::Behind::numbering), unfolding(crate::specs::Command::introduction_text))]
+#[tactic(auto, using(crate::proofs::AfterNumber::numbering), unfolding(crate::specs::Command::introduction_text))]
 fn write_introduction<W: Write>(out: &mut Sink<'_, W>, number: u64, pc: u32)
     ensures { Says W.contents out.old out.new (introduction_text number pc) }
 {
@@ -36,11 +36,11 @@ pub(crate) fn write_appearance<W: Write>(out: &mut Sink<'_, W>, listing: &Listin
 pub(crate) fn write_stage<W: Write>(out: &mut Sink<'_, W>, number: u64, stage: Stage)
     ensures { Says W.contents out.old out.new (stage_line number stage) }
 {
-    write_numbered(out, b"S\t", number, stage.behind_number())
+    write_numbered(out, b"S\t", number, stage.after_number())
 }
 
 /// Writes that an instruction retires, so many before it.
-#[tactic(auto, using(crate::proofs::Behind::numbering), unfolding(crate::specs::Command::retirement_line))]
+#[tactic(auto, using(crate::proofs::AfterNumber::numbering), unfolding(crate::specs::Command::retirement_line))]
 pub(crate) fn write_retirement<W: Write>(out: &mut Sink<'_, W>, number: u64, order: u64)
     ensures { Says W.contents out.old out.new (retirement_line number order) }
 {
@@ -49,7 +49,7 @@ pub(crate) fn write_retirement<W: Write>(out: &mut Sink<'_, W>, number: u64, ord
 }
 
 /// Writes that an instruction is flushed.
-#[tactic(auto, using(crate::proofs::Behind::numbering), unfolding(crate::specs::Command::flush_line))]
+#[tactic(auto, using(crate::proofs::AfterNumber::numbering), unfolding(crate::specs::Command::flush_line))]
 pub(crate) fn write_flush<W: Write>(out: &mut Sink<'_, W>, number: u64)
     ensures { Says W.contents out.old out.new (flush_line number) }
 {

@@ -8,7 +8,7 @@ use rv_source::Listing;
 use rv_text::Sink;
 use std::io::Write;
 
-#[tactic(auto, using(crate::proofs::Behind::numbering), unfolding(crate::specs::Dependence::dependence_line))]
+#[tactic(auto, using(crate::proofs::AfterNumber::numbering), unfolding(crate::specs::Dependence::dependence_line))]
 #[inline(never)]
 fn write_dependence<W: Write>(out: &mut Sink<'_, W>, number: u64, producer: u64)
     ensures { Says W.contents out.old out.new (dependence_line number producer) }

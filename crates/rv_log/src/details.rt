@@ -10,7 +10,7 @@ use rv_passage::{Ending, Passage, register_name};
 use rv_text::{Sink, hexadecimal};
 use std::io::Write;
 
-#[tactic(auto, using(crate::proofs::Behind::numbering), unfolding(crate::specs::Details::written_text))]
+#[tactic(auto, using(crate::proofs::AfterNumber::numbering), unfolding(crate::specs::Details::written_text))]
 fn write_retired<W: Write>(out: &mut Sink<'_, W>, written: Option<(Reg, u32)>)
     ensures { Says W.contents out.old out.new (written_text written) }
 {

@@ -22,8 +22,8 @@ fn put_before(line: &mut [u8], end: usize, text: &[u8]) -> usize
     ensures same { length line.new ≡ length line.old }
 {
     let start = end - text.len();
-    let (_, behind) = line.split_at_mut(start);
-    let (place, _) = behind.split_at_mut(text.len());
+    let (_, rest) = line.split_at_mut(start);
+    let (place, _) = rest.split_at_mut(text.len());
     place.copy_from_slice(text);
     start
 }

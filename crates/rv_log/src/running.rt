@@ -1,19 +1,20 @@
-ghost use Rattle.std.specs.Prelude.{◌≡◌, ◌≤◌, length, vec_capacity};
+ghost use Rattle.std.specs.Prelude.{false};
 ghost use Rattle.rv_hardware.specs.Guided.{guided};
 ghost use Rattle.rv_log.specs.Log.{WritesLog, begin_text};
-ghost use Rattle.rv_passage.specs.Table.{HasRoom, passages_of, table_at};
-ghost use Rattle.rv_text.specs.Said.{IsSaid};
+ghost use Rattle.rv_text.specs.Said.{Extends};
+ghost use Rattle.rv_view.specs.Following.{FollowsFrom};
 
 use crate::cycle::{write_begin, write_cycle};
 use crate::room::Stalled;
 use rv_arch::Stop;
-use rv_core::{Pipeline, Progress, Watcher, watch};
+use rv_core::Pipeline;
 use rv_front::Predictor;
-use rv_hardware::{Stall, Step};
+use rv_hardware::Stall;
 use rv_isa::Arrivals;
-use rv_passage::{Passage, Table};
+use rv_passage::Passage;
 use rv_source::Listing;
 use rv_text::Sink;
+use rv_view::{Following, ShownCycle, View, run_view};
 use std::convert::Infallible;
 use std::io::Write;
 
@@ -24,114 +25,86 @@ pub(crate) struct Logged {
     pub(crate) has_failed: bool,
 }
 
-// The watcher that writes a log: its first cycle, why the last cycle dispatched nothing, what became of the instructions that
-// may still go on, and whether a write failed.
+// The view that writes a log: its first cycle, and why the last cycle dispatched nothing.
 #[derive(Drop)]
 struct Logger<'a> {
     listing: &'a Listing,
     first: u64,
     stall: Option<Stall>,
-    table: Table,
-    has_failed: bool,
 }
 
-impl Watcher for Logger<'_> {
+impl View for Logger<'_> {
+    ghost use Rattle.std.specs.Prelude.{None, refl};
+    ghost use Rattle.rv_log.specs.Log.{cycles_text};
     ghost use Rattle.rv_log.specs.Logging.{IsLogging};
 
     type Refusal = Infallible;
 
-    ghost has_seen = { λ start logger seen before now. IsLogging start.listing.now logger.listing.now logger.first logger.stall logger.table logger.has_failed seen before now };
+    ghost has_seen = { λ start logger seen. IsLogging start.listing.now logger.listing.now logger.first logger.stall seen };
+
+    ghost text = { λ logger first cycles. cycles_text logger.listing.now first.cycle None cycles };
 
     ghost has_room = { λ _. Unit {0} };
+
+    ghost nothing_said = { λ _ _. refl };
 
     fn make_room(&mut self) -> Result<(), Infallible> {
         Ok(())
     }
 
-    fn see<W: Write>(
-        &mut self,
-        cycle: u64,
-        steps: &[Step],
-        pipeline: &Pipeline,
-        progress: &Progress,
-        output: &mut W,
-    ) {
-        // Of hardware that a reset and cycles lead to, the buffers are as long as described.
-        let _ = pipeline.cycles_done();
-        let buffer = pipeline.reorder_buffer();
-        let pc = pipeline.observe().pc;
-        self.table
-            .follow(cycle, steps, buffer, pipeline.front(), pc);
+    fn see<W: Write>(&mut self, cycle: &ShownCycle<'_>, out: &mut Sink<'_, W>) {
         let stalled = Stalled {
             before: self.stall,
-            reason: progress.stall,
+            reason: cycle.progress.stall,
         };
-        let mut out = Sink::after(output, self.has_failed);
         write_cycle(
-            &mut out,
+            out,
             self.listing,
             self.first,
-            cycle,
+            cycle.number,
             stalled,
-            self.table.rows(),
+            cycle.rows,
         );
-        self.has_failed = out.has_failed();
-        self.stall = progress.stall;
-        self.table.drop_ended();
+        self.stall = cycle.progress.stall;
     }
 }
 
 // Writes the begin of a log. Answers whether a write failed.
 fn begin<W: Write>(writer: &mut W, listing: &Listing, first: u64, rows: &[Passage]) -> bool
-    ensures { IsSaid result (W.contents writer.old) (W.contents writer.new) (begin_text listing.now first rows.now) }
+    ensures { Extends false result (W.contents writer.old) (W.contents writer.new) (begin_text listing.now first rows.now) }
 {
     let mut out = Sink::new(writer);
     write_begin(&mut out, listing, first, rows);
     out.has_failed()
 }
 
-/// Runs a pipeline that a predictor guides up to so many cycles, and writes the log as far as no write fails. The table is that
-/// of the pipeline, and has room for two cycles; `steps` has room for the steps of a cycle. Asks for no memory.
+/// Runs a pipeline that a predictor guides up to so many cycles, and writes the log as far as no write fails. Asks for no memory.
 pub(crate) fn run_logged<W: Write>(
     pipeline: &mut Pipeline,
     predictor: &mut dyn Predictor,
     arrivals: &Arrivals,
     limit: u64,
     listing: &Listing,
-    table: Table,
-    steps: Vec<Step>,
+    following: Following,
     writer: &mut W,
 ) -> Logged
-    requires begun { passages_of table ≡ table_at pipeline.old }
-    requires room { HasRoom table }
-    requires rows { 576 ≤ vec_capacity table.rows }
-    requires interrupts { 8 ≤ vec_capacity table.interrupts }
-    requires few { length (passages_of table).rows ≤ 288 }
-    requires steps { 8 ≤ vec_capacity steps }
+    requires { FollowsFrom pipeline.old following }
     ensures { WritesLog arrivals.now limit listing.now (guided pipeline.old (known predictor.old)) (guided pipeline.new (known predictor.new)) result.stop result.has_failed (W.contents writer.old) (W.contents writer.new) }
 {
     let first = pipeline.cycles_done();
-    let has_failed = begin(writer, listing, first, table.rows());
-    let mut logger = Logger {
+    let has_failed = begin(writer, listing, first, following.rows());
+    let logger = Logger {
         listing,
         first,
         stall: None,
-        table,
-        has_failed,
     };
-    let ended = watch(
-        pipeline,
-        predictor,
-        arrivals,
-        limit,
-        steps,
-        &mut logger,
-        writer,
+    let viewed = run_view(
+        pipeline, predictor, arrivals, limit, following, logger, has_failed, writer,
     );
-    match ended.stop {
+    match viewed.stop {
         Ok(stop) => Logged {
             stop,
-            has_failed: logger.has_failed,
+            has_failed: viewed.has_failed,
         },
     }
 }

@@ -10,7 +10,7 @@ use rv_passage::Passage;
 use rv_text::Sink;
 use std::io::Write;
 
-// The words behind the number of the cycles of a wait; the name of what is awaited comes after them.
+// The words after the number of the cycles of a wait; the name of what is awaited comes after them.
 #[tactic(auto, unfolding(crate::specs::Waited::awaited_text, crate::specs::Waited::awaited_name))]
 fn awaited_words(awaited: Awaited) -> &'static [u8]
     ensures { codes " " ++ awaited_text awaited ≡ result.now ++ awaited_name awaited }

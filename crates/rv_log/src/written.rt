@@ -8,9 +8,9 @@ use rv_arch::Stop;
 use rv_core::Pipeline;
 use rv_front::Predictor;
 use rv_isa::Arrivals;
-use rv_passage::Table;
 use rv_source::Listing;
 use rv_text::TextError;
+use rv_view::Following;
 use std::alloc::Global;
 use std::io::Write;
 
@@ -41,16 +41,11 @@ pub fn write_log<W: Write>(
     ensures one_log { HasOneLog arrivals.now limit listing.now }
     ensures not_run { result ≡ Err TextError.Memory → (pipeline.new ≡ pipeline.old) × (known predictor.new ≡ known predictor.old) }
 {
-    // Of hardware that a reset and cycles lead to, the buffers are as long as described.
-    let _ = pipeline.cycles_done();
-    let Ok(table) = Table::begin(alloc, pipeline.reorder_buffer(), pipeline.front()) else {
-        return Err(TextError::Memory);
-    };
-    let Ok(steps) = Vec::with_capacity(alloc, 8) else {
+    let Ok(following) = Following::begin(alloc, pipeline) else {
         return Err(TextError::Memory);
     };
     let logged = run_logged(
-        pipeline, predictor, arrivals, limit, listing, table, steps, writer,
+        pipeline, predictor, arrivals, limit, listing, following, writer,
     );
     if logged.has_failed {
         Err(TextError::WriteFailed)

@@ -2,7 +2,7 @@ use Rattle.std.proofs.Common.{◌∙◌, ◌++◌, ap}
 use Rattle.std.specs.Prelude.{decimal}
 use Rattle.rv_log.specs.Waited.{awaited_name, awaited_text, cycles_of, wait_text}
 use Rattle.rv_text.proofs.Saying.{says_both, says_same}
-use Rattle.rv_log.proofs.Behind.{wait-words}
+use Rattle.rv_log.proofs.AfterNumber.{wait-words}
 use Rattle.rv_log.proofs.waited.write_wait.Goals as goal
 
 pub returns : goal.returns
