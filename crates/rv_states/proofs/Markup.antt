@@ -21,6 +21,7 @@ use Rattle.rv_hardware.specs.Seen.{layout_of, seen}
 use Rattle.rv_hardware.specs.declared.{report.Stall.Stall, step.Step.Step}
 use Rattle.rv_hardware.specs.declared.report.Stall.TheVariants.{Fetch, Serial, Rob, Station, Store}
 use Rattle.rv_hardware.specs.declared.step.Step.TheVariants.{Retired, Trap, Interrupt}
+use Rattle.rv_passage.specs.Passage.{is_in_flight}
 use Rattle.rv_passage.specs.Table.{still_open}
 use Rattle.rv_passage.specs.Walk.{FollowedCycle, walk}
 use Rattle.rv_passage.specs.declared.passage.Passage.{Passage}
@@ -36,7 +37,7 @@ use Rattle.rv_json.specs.Step.{step_json}
 use Rattle.rv_json.proofs.Markup.{AllPlain, array_of, beginning, both, chosen, counted, each, each_plain, in_quotes, member, number, otherwise, plain}
 use Rattle.rv_json.proofs.Parts.{asked_plain, entry_plain, fetched_plain, header_plain, instruction_plain, listing_plain, next_fetch_plain, observed_plain, operand_plain, place_plain, set_plain, step_plain, stop_plain, store_plain, units_plain, word_plain}
 use Rattle.rv_states.specs.Counts.{counts_json, counts_text, stall_text}
-use Rattle.rv_states.specs.Cycle.{cycle_line, rest_text, start_line}
+use Rattle.rv_states.specs.Cycle.{cycle_line, json_in_flight, rest_text, start_line}
 use Rattle.rv_states.specs.Entries.{entries_json, entry_json}
 use Rattle.rv_states.specs.Memory.{memory_line, memory_lines, word_if, word_seen}
 use Rattle.rv_states.specs.Operands.{operand_text, operands_of, operands_text}
@@ -91,10 +92,6 @@ rest : (h : Hardware) (p : Progress) → HasNoMarkup (rest_text h p)
 unfolding rest_text
 rest h p = both (counts p) (member _ refl (state h))
 
-start : (rows : List Passage) (h : Hardware) (p : Progress) → HasNoMarkup (start_line rows h p)
-unfolding start_line
-start rows h p = both (beginning _ refl (number _)) (both (member _ refl (array_of _ (each_plain instruction_json instruction_plain rows))) (both (rest h p) (plain refl)))
-
 -- what the predictor knows and answers
 place_of_tables : (place counter : ℕ) (target : Option ℕ) → HasNoMarkup (place_if place counter target)
 place_of_tables place counter target = otherwise _ (both (place_plain place counter target) (plain refl))
@@ -145,6 +142,10 @@ predictor_plain : (predictor : DescribedPredictor) (n : ℕ) (steps : List Step)
 unfolding predictor_text
 predictor_plain predictor n steps words = both (learned predictor steps) (asked predictor n words)
 
+start : (rows : List Passage) (h : Hardware) (p : Progress) → HasNoMarkup (start_line rows h p)
+unfolding start_line
+start rows h p = both (beginning _ refl (number _)) (both (member _ refl (array_of _ (given_plain json_in_flight (λ row. one_plain (is_in_flight row) _ (instruction_plain row)) rows))) (both (rest h p) (plain refl)))
+
 cycle : (n : ℕ) (rows : List Passage) (steps : List Step) (h : Hardware) (p : Progress) (predictor : DescribedPredictor) → HasNoMarkup (cycle_line n rows steps h p predictor)
 unfolding cycle_line
 cycle n rows steps h p predictor =
@@ -171,7 +172,7 @@ window rows h p predictor =
 shown : (from : ℕ) (c : FollowedCycle) (predictor : DescribedPredictor) → HasNoMarkup (cycle_text from c predictor)
 unfolding cycle_text
 shown from c predictor =
-    both (chosen _ (cycle c.number c.passages.rows c.report.steps c.after (progress_of c.reports) predictor)) (chosen _ (window (still_open c.passages).rows c.after (progress_of c.reports) predictor))
+    both (chosen _ (cycle c.number c.passages.rows c.report.steps c.after (progress_of c.reports) predictor)) (chosen _ (window c.passages.rows c.after (progress_of c.reports) predictor))
 
 all_shown : (from : ℕ) (predictor : DescribedPredictor) (cycles : List FollowedCycle) → HasNoMarkup (cycles_text from predictor cycles)
 all_shown from predictor [] = plain refl

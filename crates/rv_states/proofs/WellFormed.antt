@@ -21,6 +21,7 @@ use Rattle.rv_hardware.specs.Seen.{layout_of, seen}
 use Rattle.rv_hardware.specs.declared.{report.Stall.Stall, step.Step.Step}
 use Rattle.rv_hardware.specs.declared.report.Stall.TheVariants.{Fetch, Serial, Rob, Station, Store}
 use Rattle.rv_hardware.specs.declared.step.Step.TheVariants.{Retired, Trap, Interrupt}
+use Rattle.rv_passage.specs.Passage.{is_in_flight}
 use Rattle.rv_passage.specs.Table.{still_open}
 use Rattle.rv_passage.specs.Walk.{FollowedCycle, walk}
 use Rattle.rv_passage.specs.declared.passage.Passage.{Passage}
@@ -36,7 +37,7 @@ use Rattle.rv_json.specs.Step.{step_json}
 use Rattle.rv_json.proofs.Grammar.{AllJson, array_of, beginning, both, closes, counted, each_json, in_quotes, lines_both, lines_each, lines_unless, lines_where, member, more, number, object, object_line, one_line}
 use Rattle.rv_json.proofs.WellFormed.{asked_is, entry_is, fetched_is, header_is, instruction_is, listing_is, next_fetch_is, observed_is, operand_is, place_is, set_is, step_is, stop_is, store_is, units_are, word_is}
 use Rattle.rv_states.specs.Counts.{counts_json, counts_text, stall_text}
-use Rattle.rv_states.specs.Cycle.{cycle_line, rest_text, start_line}
+use Rattle.rv_states.specs.Cycle.{cycle_line, json_in_flight, rest_text, start_line}
 use Rattle.rv_states.specs.Entries.{entries_json, entry_json}
 use Rattle.rv_states.specs.Memory.{memory_line, memory_lines, word_if, word_seen}
 use Rattle.rv_states.specs.Operands.{operand_text, operands_of, operands_text}
@@ -104,11 +105,6 @@ rest : (h : Hardware) (p : Progress) → AreMembers (rest_text h p)
 unfolding rest_text
 rest h p = both (counts p) (member _ refl (state h))
 
-start : (rows : List Passage) (h : Hardware) (p : Progress) → AreLines (start_line rows h p)
-unfolding start_line
-start rows h p =
-    object_line (beginning _ refl (number _)) (more (member _ refl (array_of _ (each_json instruction_json instruction_is rows))) (more (rest h p) closes))
-
 -- what the predictor knows and answers
 place_of_tables : (place counter : ℕ) (target : Option ℕ) → AreLines (place_if place counter target)
 place_of_tables place counter target = lines_unless _ (one_line (place_is place counter target))
@@ -156,6 +152,11 @@ unfolding predictor_text
 predictor_is predictor n steps words = both (learned predictor steps) (asked predictor n words)
 
 -- the lines of a cycle, and those before the window
+start : (rows : List Passage) (h : Hardware) (p : Progress) → AreLines (start_line rows h p)
+unfolding start_line
+start rows h p =
+    object_line (beginning _ refl (number _)) (more (member _ refl (array_of _ (all_given json_in_flight (λ row. if_shown (is_in_flight row) _ (instruction_is row, tt)) rows))) (more (rest h p) closes))
+
 cycle : (n : ℕ) (rows : List Passage) (steps : List Step) (h : Hardware) (p : Progress) (predictor : DescribedPredictor) → AreLines (cycle_line n rows steps h p predictor)
 unfolding cycle_line
 cycle n rows steps h p predictor =
@@ -187,7 +188,7 @@ shown : (from : ℕ) (c : FollowedCycle) (predictor : DescribedPredictor) → Ar
 unfolding cycle_text
 shown from c predictor =
     lines_both (lines_where _ (cycle c.number c.passages.rows c.report.steps c.after (progress_of c.reports) predictor))
-    (lines_where _ (window (still_open c.passages).rows c.after (progress_of c.reports) predictor))
+    (lines_where _ (window c.passages.rows c.after (progress_of c.reports) predictor))
 
 all_shown : (from : ℕ) (predictor : DescribedPredictor) (cycles : List FollowedCycle) → AreLines (cycles_text from predictor cycles)
 all_shown from predictor [] = no_lines

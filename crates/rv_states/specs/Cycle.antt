@@ -1,13 +1,15 @@
 -- The lines of the hardware before the first cycle, and of a cycle.
-use Rattle.std.specs.Prelude.{ℕ, List, ◌++◌, codes, map}
+use Rattle.std.specs.Prelude.{ℕ, if◌then◌else◌, List, [], ◌∷◌, ◌++◌, codes, map}
+use Rattle.std.specs.List.{flat_map}
 use Rattle.rv_core.specs.declared.outcome.Progress.{Progress}
 use Rattle.rv_front.specs.declared.predictors.DescribedPredictor.{DescribedPredictor}
 use Rattle.rv_hardware.specs.Hardware.{Hardware}
 use Rattle.rv_hardware.specs.declared.step.Step.{Step}
+use Rattle.rv_passage.specs.Passage.{is_in_flight}
 use Rattle.rv_passage.specs.declared.passage.Passage.{Passage}
 use Rattle.rv_states.specs.Counts.{counts_text}
 use Rattle.rv_json.specs.Instruction.{instruction_json}
-use Rattle.rv_json.specs.Json.{also, array, begins, numeral}
+use Rattle.rv_json.specs.Json.{Json, also, array, begins, numeral}
 use Rattle.rv_states.specs.Predictor.{predictor_text}
 use Rattle.rv_states.specs.State.{state_json}
 use Rattle.rv_json.specs.Step.{step_json}
@@ -16,11 +18,15 @@ use Rattle.rv_json.specs.Step.{step_json}
 unfoldable pub rest_text : Hardware → Progress → List ℕ
 rest_text h progress = counts_text progress ++ also (codes "state") (state_json h)
 
--- the number of the next cycle, what is in flight before it, the counts so far, and the hardware
+-- an instruction that is in flight
+abbrev pub json_in_flight : Passage → List Json
+json_in_flight row = if is_in_flight row then instruction_json row ∷ [] else []
+
+-- the number of the next cycle, those of some instructions that are in flight before it, the counts so far, and the hardware
 unfoldable pub start_line : List Passage → Hardware → Progress → List ℕ
 start_line rows h progress =
     begins (codes "start") (numeral h.cycle) ++
-    (also (codes "instructions") (array (map instruction_json rows)) ++ (rest_text h progress ++ codes "}\n"))
+    (also (codes "instructions") (array (flat_map json_in_flight rows)) ++ (rest_text h progress ++ codes "}\n"))
 
 -- The number of a cycle, the instructions that are in flight at its end or left the hardware in it, in order of fetch, its steps,
 -- the counts of the cycles so far, the hardware after it, and what it taught the predictor and asked of it, which is such after it.

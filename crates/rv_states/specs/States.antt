@@ -50,7 +50,7 @@ begun_text from rows h progress predictor = if progress.cycles == from then wind
 unfoldable pub cycle_text : ℕ → FollowedCycle → DescribedPredictor → List ℕ
 cycle_text from cycle predictor =
     shown_text from cycle.number cycle.passages.rows cycle.report.steps cycle.after (progress_of cycle.reports) predictor ++
-    begun_text from (still_open cycle.passages).rows cycle.after (progress_of cycle.reports) predictor
+    begun_text from cycle.passages.rows cycle.after (progress_of cycle.reports) predictor
 
 -- the predictor after a cycle
 abbrev pub taught_by : DescribedPredictor → FollowedCycle → DescribedPredictor

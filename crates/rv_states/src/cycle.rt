@@ -2,6 +2,7 @@ ghost use Rattle.rv_states.specs.Cycle.{cycle_line, rest_text, start_line};
 ghost use Rattle.rv_text.specs.Said.{Says};
 
 use crate::counts::write_counts;
+use crate::in_flight::write_instructions_in_flight;
 use crate::predictor::write_predictor;
 use crate::state::write_state;
 use rv_core::{Pipeline, Progress};
@@ -21,8 +22,8 @@ fn write_rest<W: Write>(out: &mut Sink<'_, W>, pipeline: &Pipeline, progress: &P
     write_state(out, pipeline)
 }
 
-/// Writes the line of the hardware before the window's first cycle: the number of the cycle, what is in flight, the hardware,
-/// and the counts of the cycles so far.
+/// Writes the line of the hardware before the window's first cycle: the number of the cycle, those of the instructions that are in
+/// flight, the hardware, and the counts of the cycles so far.
 #[tactic(auto, using(rv_text::proofs::Saying::says_both), unfolding(crate::specs::Cycle::start_line))]
 pub fn write_start<W: Write>(
     out: &mut Sink<'_, W>,
@@ -33,7 +34,7 @@ pub fn write_start<W: Write>(
     ensures { Says W.contents out.old out.new (start_line rows.now pipeline.now progress.now) }
 {
     write_begin(out, "start", pipeline.cycles_done());
-    write_array_member(out, "instructions", &Instructions { rows });
+    write_instructions_in_flight(out, rows);
     write_rest(out, pipeline, progress);
     out.put(b"}\n")
 }

@@ -7,6 +7,7 @@ mod counts;
 mod cycle;
 mod entries;
 mod form;
+mod in_flight;
 mod memory;
 mod moment;
 mod operands;

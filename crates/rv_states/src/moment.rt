@@ -38,7 +38,8 @@ fn write_window<W: Write>(
     write_start(out, rows, pipeline, progress)
 }
 
-/// Writes the lines before the window, after the last of the cycles before it; else nothing.
+/// Writes the lines before the window, with those of the instructions that are in flight, after the last of the cycles before it;
+/// else nothing.
 pub(crate) fn write_begun<W: Write>(
     out: &mut Sink<'_, W>,
     from: u64,

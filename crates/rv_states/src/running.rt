@@ -1,23 +1,23 @@
-ghost use Rattle.std.specs.Prelude.{◌≡◌, ◌≤◌, ◌++◌, false, length, vec_capacity};
+ghost use Rattle.std.specs.Prelude.{◌≡◌, ◌++◌, false};
 ghost use Rattle.rv_hardware.specs.Guided.{guided};
-ghost use Rattle.rv_passage.specs.Table.{HasRoom, passages_of, table_at};
 ghost use Rattle.rv_states.specs.Page.{after_lines, before_lines};
 ghost use Rattle.rv_states.specs.Predictor.{untaught_predictor};
 ghost use Rattle.rv_states.specs.States.{WritesStates, head_text};
 ghost use Rattle.rv_json.specs.Stop.{stop_line};
 ghost use Rattle.rv_text.specs.Said.{Extends};
+ghost use Rattle.rv_view.specs.Following.{FollowsFrom};
 
 use crate::form::Form;
 use crate::moment::{write_begun, write_end, write_head, write_shown};
 use crate::predictor::teach;
 use rv_arch::Stop;
-use rv_core::{Pipeline, Progress, Watcher, watch};
+use rv_core::Pipeline;
 use rv_front::{DescribedPredictor, Predictor};
-use rv_hardware::Step;
 use rv_isa::Arrivals;
-use rv_passage::{Passage, Table};
+use rv_passage::Passage;
 use rv_source::Listing;
 use rv_text::Sink;
+use rv_view::{Following, ShownCycle, View, run_view};
 use std::convert::Infallible;
 use std::io::Write;
 
@@ -28,66 +28,54 @@ pub(crate) struct Shown {
     pub(crate) has_failed: bool,
 }
 
-// The watcher that writes the states after the first `from` cycles: what became of the instructions that may still go on, what
-// the predictor knows, and whether a write failed.
+// The view that writes the states after the first `from` cycles, and what the predictor knows.
 #[derive(Drop)]
 struct Shower {
     from: u64,
-    table: Table,
     predictor: DescribedPredictor,
-    has_failed: bool,
 }
 
-impl Watcher for Shower {
+impl View for Shower {
+    ghost use Rattle.std.specs.Prelude.{refl};
     ghost use Rattle.rv_states.specs.Showing.{IsShowing};
+    ghost use Rattle.rv_states.specs.States.{cycles_text};
 
     type Refusal = Infallible;
 
-    ghost has_seen = { λ start shower seen before now. IsShowing start.from shower.from start.predictor shower.predictor start.has_failed shower.has_failed shower.table seen before now };
+    ghost has_seen = { λ start shower seen. IsShowing start.from shower.from start.predictor shower.predictor seen };
+
+    ghost text = { λ shower _ cycles. cycles_text shower.from shower.predictor cycles };
 
     ghost has_room = { λ _. Unit {0} };
+
+    ghost nothing_said = { λ _ _. refl };
 
     fn make_room(&mut self) -> Result<(), Infallible> {
         Ok(())
     }
 
-    fn see<W: Write>(
-        &mut self,
-        cycle: u64,
-        steps: &[Step],
-        pipeline: &Pipeline,
-        progress: &Progress,
-        output: &mut W,
-    ) {
-        // Of hardware that a reset and cycles lead to, the buffers are as long as described.
-        let _ = pipeline.cycles_done();
-        let buffer = pipeline.reorder_buffer();
-        let pc = pipeline.observe().pc;
-        self.table
-            .follow(cycle, steps, buffer, pipeline.front(), pc);
-        teach(&mut self.predictor, steps, pc);
+    fn see<W: Write>(&mut self, cycle: &ShownCycle<'_>, out: &mut Sink<'_, W>) {
+        let next = cycle.pipeline.observe().pc;
+        teach(&mut self.predictor, cycle.steps, next);
         let from = self.from;
-        let mut out = Sink::after(output, self.has_failed);
         write_shown(
-            &mut out,
+            out,
             from,
-            cycle,
-            self.table.rows(),
-            steps,
-            pipeline,
-            progress,
+            cycle.number,
+            cycle.rows,
+            cycle.steps,
+            cycle.pipeline,
+            cycle.progress,
             &self.predictor,
         );
-        self.table.drop_ended();
         write_begun(
-            &mut out,
+            out,
             from,
-            self.table.rows(),
-            pipeline,
-            progress,
+            cycle.rows,
+            cycle.pipeline,
+            cycle.progress,
             &self.predictor,
         );
-        self.has_failed = out.has_failed();
     }
 }
 
@@ -118,8 +106,7 @@ fn end<W: Write>(writer: &mut W, has_failed: bool, form: Form, cycles: u64, stop
 }
 
 /// Runs a pipeline that a predictor guides up to so many cycles, and writes the states after the first `from` of them as far as no
-/// write fails. The table is that of the pipeline, and has room for two cycles; `untaught` is its predictor before any lesson;
-/// `steps` has room for the steps of a cycle. Asks for no memory.
+/// write fails. `untaught` is its predictor before any lesson. Asks for no memory.
 pub(crate) fn run_shown<W: Write>(
     pipeline: &mut Pipeline,
     predictor: &mut dyn Predictor,
@@ -128,18 +115,12 @@ pub(crate) fn run_shown<W: Write>(
     limit: u64,
     form: Form,
     listing: &Listing,
-    table: Table,
+    following: Following,
     untaught: DescribedPredictor,
-    steps: Vec<Step>,
     writer: &mut W,
 ) -> Shown
-    requires begun { passages_of table ≡ table_at pipeline.old }
-    requires room { HasRoom table }
-    requires rows { 576 ≤ vec_capacity table.rows }
-    requires interrupts { 8 ≤ vec_capacity table.interrupts }
+    requires follows { FollowsFrom pipeline.old following }
     requires untaught { untaught ≡ untaught_predictor pipeline.old.values }
-    requires few { length (passages_of table).rows ≤ 288 }
-    requires steps { 8 ≤ vec_capacity steps }
     ensures { WritesStates arrivals.now from limit form listing.now (guided pipeline.old (known predictor.old)) (guided pipeline.new (known predictor.new)) result.stop result.has_failed (W.contents writer.old) (W.contents writer.new) }
 {
     let has_failed = begin(
@@ -147,29 +128,27 @@ pub(crate) fn run_shown<W: Write>(
         form,
         from,
         listing,
-        table.rows(),
+        following.rows(),
         pipeline,
         &untaught,
     );
-    let mut shower = Shower {
+    let shower = Shower {
         from,
-        table,
         predictor: untaught,
-        has_failed,
     };
-    let ended = watch(
-        pipeline,
-        predictor,
-        arrivals,
-        limit,
-        steps,
-        &mut shower,
-        writer,
+    let viewed = run_view(
+        pipeline, predictor, arrivals, limit, following, shower, has_failed, writer,
     );
-    match ended.stop {
+    match viewed.stop {
         Ok(stop) => Shown {
             stop,
-            has_failed: end(writer, shower.has_failed, form, ended.progress.cycles, stop),
+            has_failed: end(
+                writer,
+                viewed.has_failed,
+                form,
+                viewed.progress.cycles,
+                stop,
+            ),
         },
     }
 }

@@ -9,9 +9,9 @@ use rv_arch::Stop;
 use rv_core::Pipeline;
 use rv_front::{DescribedPredictor, Predictor};
 use rv_isa::Arrivals;
-use rv_passage::Table;
 use rv_source::Listing;
 use rv_text::TextError;
+use rv_view::Following;
 use std::alloc::Global;
 use std::io::Write;
 
@@ -41,20 +41,17 @@ pub fn write_states<W: Write>(
     ensures one_text { HasOneText arrivals.now from limit form listing.now }
     ensures not_run { result ≡ Err TextError.Memory → (pipeline.new ≡ pipeline.old) × (known predictor.new ≡ known predictor.old) }
 {
-    // Of hardware that a reset and cycles lead to, the buffers are as long as described.
-    let _ = pipeline.cycles_done();
-    let Ok(table) = Table::begin(alloc, pipeline.reorder_buffer(), pipeline.front()) else {
+    let Ok(following) = Following::begin(alloc, pipeline) else {
         return Err(TextError::Memory);
     };
+    // Of hardware that a reset and cycles lead to, the predictor is one that a description can say.
+    let _ = pipeline.cycles_done();
     let described = pipeline.values().predictor;
     let Ok(untaught) = DescribedPredictor::new(alloc, described.kind, described.entries) else {
         return Err(TextError::Memory);
     };
-    let Ok(steps) = Vec::with_capacity(alloc, 8) else {
-        return Err(TextError::Memory);
-    };
     let shown = run_shown(
-        pipeline, predictor, arrivals, from, limit, form, listing, table, untaught, steps, writer,
+        pipeline, predictor, arrivals, from, limit, form, listing, following, untaught, writer,
     );
     if shown.has_failed {
         Err(TextError::WriteFailed)

@@ -1,15 +1,9 @@
 use Rattle.std.proofs.Common.{◌∙◌, ap, arith}
 use Rattle.rv_isa.specs.declared.values.Values.{Values}
 use Rattle.rv_hardware.proofs.Always.Sound.{sound}
-use Rattle.rv_passage.specs.Passage.{in_buffers}
-use Rattle.rv_passage.specs.Table.{table_from}
-use Rattle.rv_passage.proofs.InFlight.{short_buffers}
 use Rattle.rv_states.specs.Predictor.{untaught_predictor}
 use Rattle.rv_states.proofs.OneText.{one_text}
 use Rattle.rv_states.proofs.states.write_states.Goals as goal
-
-pub begin-requires : goal.begin-requires
-begin-requires g c = short_buffers c.cycles_done.ensures.reached c.reorder_buffer.ensures c.front.ensures
 
 pub new-requires : goal.new-requires
 new-requires g c =
@@ -19,10 +13,6 @@ new-requires g c =
 
 pub run_shown-shown-requires-clause-untaught : goal.run_shown-shown-requires-clause-untaught
 run_shown-shown-requires-clause-untaught g c = c.in-Ok-new.ensures ∙ ap untaught_predictor c.values.ensures
-
-pub run_shown-shown-requires-clause-begun : goal.run_shown-shown-requires-clause-begun
-run_shown-shown-requires-clause-begun g c =
-    c.in-Ok.ensures.table ∙ (λ i. table_from (in_buffers (c.reorder_buffer.ensures i) (c.front.ensures i)))
 
 pub returns-then-shown-clause-written : goal.returns-then-shown-clause-written
 returns-then-shown-clause-written g c =
@@ -37,9 +27,6 @@ returns-in_default-clause-one_text g c = one_text c.args.arrivals.now c.args.fro
 
 pub returns-in_default-new-clause-one_text : goal.returns-in_default-new-clause-one_text
 returns-in_default-new-clause-one_text g c = one_text c.args.arrivals.now c.args.from c.args.limit c.args.form c.args.listing.now
-
-pub returns-in_default-with_capacity-clause-one_text : goal.returns-in_default-with_capacity-clause-one_text
-returns-in_default-with_capacity-clause-one_text g c = one_text c.args.arrivals.now c.args.from c.args.limit c.args.form c.args.listing.now
 
 pub returns-then-shown-clause-one_text : goal.returns-then-shown-clause-one_text
 returns-then-shown-clause-one_text g c = one_text c.args.arrivals.now c.args.from c.args.limit c.args.form c.args.listing.now
