@@ -13,7 +13,7 @@ use Rattle.rv_core.proofs.RunReports.{progress_of-push}
 use Rattle.rv_core.proofs.Shown.{cycle_counts, moments_counted, reports_of-push}
 use Rattle.rv_hardware.specs.Guided.{GuidedHardware}
 use Rattle.rv_hardware.specs.Hardware.{Hardware}
-use Rattle.rv_hardware.specs.History.{History, Moment, reports_of, cycled, ended}
+use Rattle.rv_hardware.specs.History.{History, Moment, reports_of, ended}
 use Rattle.rv_hardware.specs.Report.{Report}
 use Rattle.rv_hardware.specs.declared.report.Stall.{Stall}
 use Rattle.rv_hardware.specs.declared.step.Step.{Step}

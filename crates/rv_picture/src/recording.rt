@@ -5,7 +5,7 @@ ghost use Rattle.std.specs.List.{find};
 ghost use Rattle.std.specs.Option.{option_copied};
 ghost use Rattle.rv_passage.specs.EndedRun.{IsEndedRun};
 ghost use Rattle.rv_passage.specs.Passage.{is_in_flight};
-ghost use Rattle.rv_passage.specs.Table.{passages_of, table_at};
+ghost use Rattle.rv_passage.specs.Table.{passages_of};
 ghost use Rattle.rv_picture.specs.Recording.{HasRun, IsRecorded, held_by, is_limit, recorded_from, stopped_at};
 
 use rv_arch::Stop;
@@ -15,6 +15,7 @@ use rv_front::Predictor;
 use rv_hardware::{Stall, Step};
 use rv_isa::Arrivals;
 use rv_passage::{Passage, Table};
+use rv_view::{begin_table, follow};
 use std::alloc::{AllocError, Global};
 use std::convert::Infallible;
 use std::io;
@@ -82,12 +83,7 @@ impl Watcher for Follower {
         progress: &Progress,
         _: &mut W,
     ) {
-        // Of hardware that a reset and cycles lead to, the buffers are as long as described.
-        let _ = pipeline.cycles_done();
-        let buffer = pipeline.reorder_buffer();
-        let pc = pipeline.observe().pc;
-        self.table
-            .follow(cycle, steps, buffer, pipeline.front(), pc);
+        follow(&mut self.table, cycle, steps, pipeline);
         note(&mut self.stalls, progress.stall);
     }
 }
@@ -125,18 +121,8 @@ fn run_on(
     }
 }
 
-// A table that begins with what is in flight in a pipeline.
-fn begin(alloc: Global, pipeline: &Pipeline) -> Result<Table, AllocError>
-    ensures table { IfOk result (λ table. passages_of table ≡ table_at pipeline.now) }
-    ensures few { IfOk result (λ table. length (passages_of table).rows ≤ 288) }
-{
-    // Of hardware that a reset and cycles lead to, the buffers are as long as described.
-    let _ = pipeline.cycles_done();
-    Table::begin(alloc, pipeline.reorder_buffer(), pipeline.front())
-}
-
 // Runs a pipeline that a predictor guides up to so many cycles, and follows its instructions through them.
-fn follow(
+fn record_run(
     alloc: Global,
     pipeline: &mut Pipeline,
     predictor: &mut dyn Predictor,
@@ -147,8 +133,9 @@ fn follow(
     ensures run { OnErr result (HasRun arrivals.now (guided pipeline.old (known predictor.old)) (guided pipeline.new (known predictor.new))) }
 {
     let first = pipeline.cycles_done();
+    let table = begin_table(alloc, pipeline)?;
     let mut follower = Follower {
-        table: begin(alloc, pipeline)?,
+        table,
         stalls: Vec::new(alloc),
     };
     let steps = Vec::with_capacity(alloc, 8)?;
@@ -215,7 +202,7 @@ fn is_limit(stop: Stop) -> bool
 fn nothing_shown(alloc: Global, pipeline: &Pipeline, stop: Stop) -> Result<Recording, AllocError>
     ensures { IfOk result (λ recording. (held_by recording ≡ recorded_from pipeline.now [] stop) × (recording.stop ≡ stop)) }
 {
-    let table = begin(alloc, pipeline)?;
+    let table = begin_table(alloc, pipeline)?;
     let first = pipeline.cycles_done();
     Ok(recorded(table, first, 0, Vec::new(alloc), stop))
 }
@@ -239,7 +226,7 @@ pub(crate) fn record_window(
     let steps = Vec::with_capacity(alloc, 8)?;
     let stop = run_on(pipeline, predictor, arrivals, from, steps);
     if is_limit(stop) {
-        follow(alloc, pipeline, predictor, arrivals, limit)
+        record_run(alloc, pipeline, predictor, arrivals, limit)
     } else {
         nothing_shown(alloc, pipeline, stop)
     }

@@ -16,7 +16,7 @@ returns-then-is_limit-clause-recording g c =
     let old = guided c.args.pipeline.now ((goal.Predictor-dyn g c.args.predictor.now).known c.args.predictor.now.1) in
     let start = guided c.run_on-stop.new.pipeline ((goal.Predictor-dyn g (c.args.predictor.now.0, c.run_on-stop.new.predictor)).known c.run_on-stop.new.predictor) in
     let limit : c.run_on-stop.result ≡ Limit = is_by_limit c.run_on-stop.result (sym c.is_limit.ensures ∙ c.if-is_limit.true) in
-    if_ok_by c.follow.result (λ r rest. recorded_behind (subst (IsEndedRun c.args.arrivals.now c.args.from old before start) limit run) rest) c.follow.ensures.followed
+    if_ok_by c.record_run.result (λ r rest. recorded_behind (subst (IsEndedRun c.args.arrivals.now c.args.from old before start) limit run) rest) c.record_run.ensures.followed
 
 pub returns-else-is_limit-clause-recording : goal.returns-else-is_limit-clause-recording
 returns-else-is_limit-clause-recording g c =
@@ -29,7 +29,7 @@ returns-else-is_limit-clause-recording g c =
     c.nothing_shown.ensures
 
 pub returns-then-is_limit-clause-run : goal.returns-then-is_limit-clause-run
-returns-then-is_limit-clause-run g c = on_err_by c.follow.result (λ more. has_run_on (has_run c.run_on-stop.ensures.1.passes) more) c.follow.ensures.run
+returns-then-is_limit-clause-run g c = on_err_by c.record_run.result (λ more. has_run_on (has_run c.run_on-stop.ensures.1.passes) more) c.record_run.ensures.run
 
 pub returns-else-is_limit-clause-run : goal.returns-else-is_limit-clause-run
 returns-else-is_limit-clause-run g c = on_err _ (has_run c.run_on-stop.ensures.1.passes)
