@@ -15,7 +15,7 @@ use Rattle.rv_hardware.specs.Run.{steps_of}
 use Rattle.rv_hardware.proofs.AnyPrediction.{any_cycle}
 use Rattle.rv_passage.specs.EndedRun.{IsEndedRun}
 use Rattle.rv_passage.specs.Followed.{HasOpen}
-use Rattle.rv_passage.specs.Table.{Passages, still_open}
+use Rattle.rv_passage.specs.Table.{Passages, passages_of, still_open}
 use Rattle.rv_passage.specs.Walk.{passages_after}
 use Rattle.rv_passage.specs.declared.{passage.Passage.Passage, table.Table.Table}
 use Rattle.rv_passage.proofs.EndedRun.{length-reports_of}
@@ -104,12 +104,12 @@ module _ {arrivals : List Arrival} {old new : GuidedHardware} {moments : List Mo
   left_are = ap (λ (t : Tale). t.work.left) (telling.told telling.values telling.untold)
 
   -- all that was fetched can be counted
-  pub fetched_counted : (rows : List Passage) → rows ≡ table.rows.items → new.hardware.cycle ≤ 2 ^ 40 → tale.work.left + length rows < 2 ^ 64
+  pub fetched_counted : (rows : List Passage) → rows ≡ (passages_of table).rows → new.hardware.cycle ≤ 2 ^ 40 → tale.work.left + length rows < 2 ^ 64
   fetched_counted rows rows_are within = omega (arith, left_are, telling.some_left, kept.few, ap length rows_are, within)
 
   -- what was kept of the run
   pub told_to_the_end : {limit : ℕ} {values : Values} {stop : Stop} {progress : Progress} → IsEndedRun arrivals limit old moments new stop
-      → progress ≡ progress_of (reports_of moments) → first ≡ tale_of values arrivals old.hardware [] [] → (rows : List Passage) → rows ≡ table.rows.items
+      → progress ≡ progress_of (reports_of moments) → first ≡ tale_of values arrivals old.hardware [] [] → (rows : List Passage) → rows ≡ (passages_of table).rows
       → IsTold arrivals limit values old new stop progress (tale.work.left + length rows) tale
   told_to_the_end {values = values} run counted untold rows rows_are =
       let open_rows : rows ≡ (passages_after still_open old.hardware moments).rows = rows_are ∙ ap (λ (t : Passages). t.rows) kept.followed.passages in

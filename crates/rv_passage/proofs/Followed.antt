@@ -1,5 +1,5 @@
 -- A table that follows a run: no cycle yet, and one cycle more.
-use Rattle.std.proofs.Common.{◌≡◌, ◌∙◌, ℕ, suc, ◌+◌, ◌*◌, ◌^◌, ◌<◌, ◌≤◌, List, [], ◌∷◌, ◌++◌, length, vec_capacity, refl, ap, sym, subst, arith, inl, inr}
+use Rattle.std.proofs.Common.{◌≡◌, ◌∙◌, ℕ, suc, ◌+◌, ◌^◌, ◌<◌, ◌≤◌, List, [], ◌∷◌, ◌++◌, length, vec_capacity, refl, ap, sym, subst, arith, inl, inr}
 use Rattle.std.specs.Prelude.{IfOk, Result, Ok, Err}
 use Rattle.std.proofs.lemmas.Bool.{cases_Bool}
 use Rattle.rv_isa.specs.declared.lines.Arrival.{Arrival}
@@ -95,13 +95,13 @@ roomy_again table full opened few rows interrupts = record {
   interrupts = interrupts;
 }
 
-pub open_nothing : (h : Hardware) (table : Table) → passages_of table ≡ table_at h → IsRoomy table → length table.rows.items ≤ 288 → HasOpen h [] h table
+pub open_nothing : (h : Hardware) (table : Table) → passages_of table ≡ table_at h → IsRoomy table → length (passages_of table).rows ≤ 288 → HasOpen h [] h table
 open_nothing h table is roomy few = record { followed = followed_nothing still_open h (passages_of table) is few; few = few; room = roomy }
 
 module _ {first now : Hardware} {moments : List Moment} {table : Table} (so_far : HasOpen first moments now table) where
   -- at the end of a cycle there is no more than was in flight before it and fetched in it
   pub few_rows : (cycle : ℕ) (steps : List Step) (after : Hardware) (full : Table) → passages_of full ≡ after_cycle cycle steps after (passages_of table)
-      → full.fetched ≤ table.fetched + 288 → length full.rows.items ≤ 576
+      → full.fetched ≤ table.fetched + 288 → length (passages_of full).rows ≤ 576
   few_rows cycle steps after full takes more =
       let same = steps-stay steps after.pc (passages_of table) in
       omega (arith, ap (λ (t : Passages). t.fetched) takes, ap (λ (t : Passages). length t.rows) takes, same.rows, same.fetched, so_far.few, more)

@@ -1,6 +1,7 @@
 pub mod InFlight
 mod YoungestLeft
 mod Moving
+mod Dropped
 mod Youngest
 pub mod Walk
 pub mod Followed

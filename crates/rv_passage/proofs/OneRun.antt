@@ -1,5 +1,5 @@
 -- From the same hardware with the same described predictor there is one run.
-use Rattle.std.proofs.Common.{◌≡◌, ◌∙◌, ℕ, ◌+◌, ◌^◌, ◌≤◌, List, [], ◌∷◌, refl, sym, ap, subst, arith}
+use Rattle.std.proofs.Common.{◌≡◌, ◌∙◌, ℕ, ◌+◌, ◌^◌, ◌≤◌, List, ◌∷◌, refl, sym, ap, subst, arith}
 use Rattle.std.specs.List.{fold}
 use Rattle.std.specs.Prelude.{length}
 use Rattle.rv_isa.specs.declared.lines.Arrival.{Arrival}
@@ -11,7 +11,6 @@ use Rattle.rv_hardware.specs.Guided.{GuidedCycles, GuidedHardware, guided, cycle
 use Rattle.rv_hardware.specs.Hardware.{Hardware}
 use Rattle.rv_hardware.specs.History.{History, Moment, reports_of, cycled, ended}
 use Rattle.rv_hardware.specs.Lessons.{lessons_of}
-use Rattle.rv_hardware.specs.Report.{Report}
 use Rattle.rv_hardware.proofs.Determined.{cycle_once, reported_once, run_once, still_described}
 use Rattle.rv_passage.specs.EndedRun.{IsEndedRun}
 

@@ -1,5 +1,5 @@
 -- A table that follows a run.
-use Rattle.std.specs.Prelude.{◌≡◌, ℕ, ◌+◌, ◌*◌, ◌≤◌, List, length, vec_capacity}
+use Rattle.std.specs.Prelude.{◌≡◌, ◌+◌, ◌*◌, ◌≤◌, List, length, vec_capacity}
 use Rattle.rv_hardware.specs.Hardware.{Hardware}
 use Rattle.rv_hardware.specs.History.{Moment}
 use Rattle.rv_passage.specs.Table.{HasRoom, Passages, passages_of, still_open}
@@ -21,5 +21,5 @@ pub record IsRoomy (table : Table) : Type 0 where
 -- a table has what is in flight after some cycles, and room for a further one
 pub record HasOpen (first : Hardware) (moments : List Moment) (now : Hardware) (table : Table) : Type 0 where
   pub followed : HasFollowed still_open first moments now (passages_of table)
-  pub few : length table.rows.items ≤ 288
+  pub few : length (passages_of table).rows ≤ 288
   pub room : IsRoomy table

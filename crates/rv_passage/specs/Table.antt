@@ -17,9 +17,9 @@ pub record Passages : Type 0 where
   pub fetched : ℕ
   pub retired : ℕ
 
--- what a table holds
+-- what a table holds: its rows without those that are dropped
 abbrev pub passages_of : Table → Passages
-passages_of t = record { rows = t.rows.items; interrupts = t.interrupts.items; fetched = t.fetched; retired = t.retired }
+passages_of t = record { rows = drop t.dropped t.rows.items; interrupts = t.interrupts.items; fetched = t.fetched; retired = t.retired }
 
 -- instructions numbered in their order
 abbrev pub numbered_from : ℕ → List Passage → List Passage
@@ -106,7 +106,7 @@ without_squashed t = record t { rows = filter is_unsquashed t.rows }
 
 -- room for what a cycle may add: as many rows as can be in flight, and an interrupt for each step
 pub record HasRoom (t : Table) : Type 0 where
-  pub rows : length t.rows.items + 288 ≤ vec_capacity t.rows
+  pub rows : length (passages_of t).rows + 288 ≤ vec_capacity t.rows
   pub interrupts : length t.interrupts.items + 8 ≤ vec_capacity t.interrupts
 
 -- the counts can go on

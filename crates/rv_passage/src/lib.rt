@@ -4,10 +4,12 @@
 #![tactic(auto)]
 
 mod in_flight;
+mod kept;
 mod left;
 mod names;
 mod passage;
 mod producers;
+mod put;
 mod rows;
 mod table;
 

@@ -85,7 +85,7 @@ pub struct Passage {
 }
 
 // The cycle in which a result was broadcast.
-pub(crate) fn broadcast_of(stage: &Stage) -> Option<u64>
+fn broadcast_of(stage: &Stage) -> Option<u64>
     ensures { result ≡ broadcast_of stage.now }
 {
     match *stage {

@@ -4,10 +4,10 @@ ghost use Rattle.rv_isa.specs.Instruction.{kind_of_word, target_of_word};
 ghost use Rattle.rv_isa.specs.Operands.{sources_of};
 ghost use Rattle.rv_passage.specs.Producers.{broadcast_among, followed_in, is_to_come, is_writer, other_than, producer_among, producer_by, producers_among, producers_for};
 
-use crate::passage::{Passage, broadcast_of};
+use crate::passage::Passage;
 use rv_front::Fetched;
 use rv_isa::{Instr, Kind, Reg, kind, sources, target};
-use rv_rob::Entry;
+use rv_rob::{Entry, Stage};
 
 /// An instruction whose result another one waits for.
 #[derive(Clone, Copy)]
@@ -186,8 +186,37 @@ fn producers_among(older: &[Passage], instruction: &Option<Instr>) -> Producers
 }
 
 impl Passage {
-    ghost use Rattle.rv_passage.specs.Passage.{is_in_flight, of_entry, of_fetched};
+    ghost use Rattle.rv_rob.specs.Entry.{issue_of};
+    ghost use Rattle.rv_passage.specs.Passage.{broadcast_of, is_in_flight, of_entry, of_fetched};
     ghost use Rattle.rv_passage.specs.Producers.{producers_now, standing_at};
+
+    // It is dispatched after the older ones.
+    #[inline(never)]
+    fn note_producers(&mut self, older: &[Passage], instruction: &Option<Instr>)
+        ensures { self.new ≡ record self.old { producers = producers_among older.now instruction.now } }
+    {
+        self.producers = producers_among(older, instruction);
+    }
+
+    // It has come so far.
+    fn reach(&mut self, stage: &Stage)
+        ensures { self.new ≡ record self.old { issue = issue_of stage.now; broadcast = broadcast_of stage.now } }
+    {
+        match stage {
+            Stage::Waiting => {
+                self.issue = None;
+                self.broadcast = None;
+            }
+            Stage::Running { issue, .. } => {
+                self.issue = Some(*issue);
+                self.broadcast = None;
+            }
+            Stage::Finished { issue, cycle, .. } => {
+                self.issue = *issue;
+                self.broadcast = issue.map(|_| *cycle);
+            }
+        }
+    }
 
     // It stands in the reorder buffer at the end of a cycle, after the older ones.
     pub(crate) fn stand_as_entry(&mut self, older: &[Passage], entry: &Entry)
@@ -197,15 +226,14 @@ impl Passage {
         if self.dispatched.is_some() {
             self.producers.follow(older);
         } else {
-            self.producers = producers_among(older, &entry.instruction);
+            self.note_producers(older, &entry.instruction);
         }
         self.pc = entry.pc;
         self.word = entry.word;
         self.instruction = entry.instruction;
         self.fetched = entry.fetched;
         self.dispatched = Some(entry.dispatched);
-        self.issue = entry.stage.issue();
-        self.broadcast = broadcast_of(&entry.stage);
+        self.reach(&entry.stage);
     }
 
     // It stands in the fetch buffer at the end of a cycle, after the older ones.

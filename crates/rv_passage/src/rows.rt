@@ -1,6 +1,6 @@
 ghost use Rattle.std.specs.Prelude.{◌≡◌, ◌+◌, ◌^◌, ◌<◌, ◌≤◌, true, drop, take, length, is_some, slice_get, slice_set, Some, option_copied};
 ghost use Rattle.std.specs.Option.{option_map, option_to_list};
-ghost use Rattle.std.specs.List.{position};
+ghost use Rattle.std.specs.List.{list_all, position, position_or_len};
 ghost use Rattle.rv_passage.specs.Passage.{in_buffers, is_in_flight, of_entry, of_fetched, retired_by, trapped_by};
 ghost use Rattle.rv_passage.specs.declared.passage.Passage.{Passage};
 ghost use Rattle.rv_passage.specs.Table.{AreMovedOn, gone_on, left_after, moved, next_before, with_oldest};
@@ -17,6 +17,23 @@ fn oldest_in_flight(rows: &[Passage]) -> Option<usize>
     ensures { result ≡ position is_in_flight rows.now }
 {
     rows.iter().position(|row| row.is_in_flight())
+}
+
+// How many come before the oldest in flight: all, where none is.
+pub(crate) fn count_first_ended(rows: &[Passage]) -> usize
+    ensures { result ≡ position_or_len is_in_flight rows.now }
+{
+    match oldest_in_flight(rows) {
+        Some(place) => place,
+        None => rows.len(),
+    }
+}
+
+// Whether all are in flight.
+pub(crate) fn are_in_flight(rows: &[Passage]) -> bool
+    ensures { result ≡ list_all is_in_flight rows.now }
+{
+    rows.iter().all(|row| row.is_in_flight())
 }
 
 // The oldest in flight, if one is, retires as its row reports, so many before it, and the program goes on at `next`.

@@ -1,14 +1,16 @@
-ghost use Rattle.std.specs.Prelude.{◌≡◌, ◌+◌, ◌≤◌, ◌<◌, ◌^◌, ◌++◌, [], ◌∷◌, drop, length, vec_capacity, IfOk};
+ghost use Rattle.std.specs.Prelude.{◌≡◌, ◌+◌, ◌≤◌, ◌<◌, ◌^◌, ◌++◌, [], ◌∷◌, drop, filter, length, vec_capacity, IfOk};
 ghost use Rattle.rv_hardware.specs.Lessons.{first_pc};
 ghost use Rattle.rv_hardware.specs.Step.{pc_of};
-ghost use Rattle.rv_passage.specs.Passage.{in_buffers, numbered};
-ghost use Rattle.rv_passage.specs.Table.{AreMovedOn, AreShort, CanCount, HasRoom, after_steps, numbered_from, passages_of, still_open, table_from, with_step, with_steps, without_squashed};
+ghost use Rattle.rv_passage.specs.Passage.{in_buffers, is_in_flight, numbered, trapped_by};
 
 use crate::in_flight::{MOST_IN_FLIGHT, count_in_flight, present_at};
+use crate::kept::{move_kept_on, retire_kept, trap_kept};
 use crate::passage::Passage;
-use crate::rows::{move_on, retire_oldest, trap_oldest};
+use crate::put::put_last;
+use crate::rows::{are_in_flight, count_first_ended};
 use rv_front::Front;
-use rv_hardware::Step;
+use rv_hardware::{Row, Step};
+use rv_isa::Cause;
 use rv_rob::Rob;
 use std::alloc::{AllocError, Global};
 
@@ -34,14 +36,19 @@ fn pc_of(step: &Step) -> u32
 /// The passages of instructions in order of fetch, and the cycles of the interrupts.
 #[derive(Drop)]
 pub struct Table {
+    // The first `dropped` rows are forgotten. They lie there until their room is wanted, so that the others need not be moved.
     rows: Vec<Passage>,
+    dropped: usize,
     interrupts: Vec<u64>,
     // How many instructions were fetched, and how many retired.
     fetched: u64,
     retired: u64,
+    ghost within: { dropped ≤ length rows.items },
 }
 
 impl Table {
+    ghost use Rattle.rv_passage.specs.Table.{AreMovedOn, AreShort, CanCount, HasRoom, after_steps, numbered_from, passages_of, still_open, table_from, with_oldest, with_step, with_steps, without_squashed};
+
     /// A table that begins with what is in flight in two buffers, numbered from 0. It has room for two cycles.
     pub fn begin(alloc: Global, rob: &Rob, front: &Front) -> Result<Table, AllocError>
         requires { AreShort rob.now front.now }
@@ -59,11 +66,13 @@ impl Table {
     // A table of nothing, with room for two cycles.
     fn empty(alloc: Global) -> Result<Table, AllocError>
         ensures table { IfOk result (λ table. passages_of table ≡ table_from []) }
+        ensures none { IfOk result (λ table. length table.rows.items ≡ 0) }
         ensures rows { IfOk result (λ table. vec_capacity table.rows ≡ 576) }
         ensures interrupts { IfOk result (λ table. vec_capacity table.interrupts ≡ 8) }
     {
         Ok(Table {
             rows: Vec::with_capacity(alloc, 2 * MOST_IN_FLIGHT)?,
+            dropped: 0,
             interrupts: Vec::with_capacity(alloc, 8)?,
             fetched: 0,
             retired: 0,
@@ -74,7 +83,7 @@ impl Table {
     pub fn rows(&self) -> &[Passage]
         ensures { result.now ≡ (passages_of self.now).rows }
     {
-        self.rows.as_slice()
+        &self.rows.as_slice()[self.dropped..]
     }
 
     /// The cycles in which interrupts were taken.
@@ -101,8 +110,26 @@ impl Table {
         requires countable { CanCount (passages_of self.old) }
         requires few { length steps.now ≤ 8 }
         ensures followed { passages_of self.new ≡ after_steps cycle steps.now rob.now front.now pc (passages_of self.old) }
-        ensures rows { vec_capacity self.old.rows ≤ vec_capacity self.new.rows }
-        ensures interrupts { vec_capacity self.old.interrupts ≤ vec_capacity self.new.interrupts }
+        ensures rows { vec_capacity self.new.rows ≡ vec_capacity self.old.rows }
+        ensures interrupts { vec_capacity self.new.interrupts ≡ vec_capacity self.old.interrupts }
+        ensures fetched { self.new.fetched ≤ self.old.fetched + 288 }
+        ensures retired { self.new.retired ≤ self.old.retired + 8 }
+        ensures open { length (still_open (passages_of self.new)).rows ≤ 288 }
+    {
+        self.clear_space();
+        self.follow_in_space(cycle, steps, rob, front, pc);
+    }
+
+    // The same where there is room after the rows for a cycle.
+    fn follow_in_space(&mut self, cycle: u64, steps: &[Step], rob: &Rob, front: &Front, pc: u32)
+        requires short { AreShort rob.now front.now }
+        requires room { length self.old.rows.items + 288 ≤ vec_capacity self.old.rows }
+        requires interrupts { length self.old.interrupts.items + 8 ≤ vec_capacity self.old.interrupts }
+        requires countable { CanCount (passages_of self.old) }
+        requires few { length steps.now ≤ 8 }
+        ensures followed { passages_of self.new ≡ after_steps cycle steps.now rob.now front.now pc (passages_of self.old) }
+        ensures rows { vec_capacity self.new.rows ≡ vec_capacity self.old.rows }
+        ensures interrupts { vec_capacity self.new.interrupts ≡ vec_capacity self.old.interrupts }
         ensures fetched { self.new.fetched ≤ self.old.fetched + 288 }
         ensures retired { self.new.retired ≤ self.old.retired + 8 }
         ensures open { length (still_open (passages_of self.new)).rows ≤ 288 }
@@ -112,14 +139,41 @@ impl Table {
         self.append_fetched(fetched, rob, front);
     }
 
+    // Moves the rows to the front where there is no room after them for a cycle.
+    fn clear_space(&mut self)
+        requires { length (passages_of self.old).rows + 288 ≤ vec_capacity self.old.rows }
+        ensures same { passages_of self.new ≡ passages_of self.old }
+        ensures room { length self.new.rows.items + 288 ≤ vec_capacity self.new.rows }
+        ensures capacity { vec_capacity self.new.rows ≡ vec_capacity self.old.rows }
+        ensures interrupts { self.new.interrupts ≡ self.old.interrupts }
+    {
+        if self.rows.capacity() - self.rows.len() < MOST_IN_FLIGHT {
+            self.move_to_front();
+        }
+    }
+
+    // Moves the rows to the front, over those that are dropped.
+    fn move_to_front(&mut self)
+        ensures same { passages_of self.new ≡ passages_of self.old }
+        ensures none { self.new.dropped ≡ 0 }
+        ensures capacity { vec_capacity self.new.rows ≡ vec_capacity self.old.rows }
+        ensures interrupts { self.new.interrupts ≡ self.old.interrupts }
+    {
+        let len = self.rows.len();
+        self.rows.copy_within(self.dropped..len, 0);
+        self.rows.truncate(len - self.dropped);
+        self.dropped = 0;
+    }
+
     // Ends an instruction for each step, or notes an interrupt. After the last the program goes on at `next`.
     fn take_steps(&mut self, steps: &[Step], next: u32)
         requires countable { self.old.retired + 8 < 2 ^ 64 }
         requires room { length self.old.interrupts.items + 8 ≤ vec_capacity self.old.interrupts }
         requires few { length steps.now ≤ 8 }
         ensures taken { passages_of self.new ≡ with_steps steps.now next (passages_of self.old) }
-        ensures rows { vec_capacity self.old.rows ≤ vec_capacity self.new.rows }
-        ensures interrupts { vec_capacity self.old.interrupts ≤ vec_capacity self.new.interrupts }
+        ensures len { length self.new.rows.items ≡ length self.old.rows.items }
+        ensures rows { vec_capacity self.new.rows ≡ vec_capacity self.old.rows }
+        ensures interrupts { vec_capacity self.new.interrupts ≡ vec_capacity self.old.interrupts }
     {
         for place in 0..steps.len() {
             self.take_step(&steps[place], first_pc(steps, place + 1, next));
@@ -128,12 +182,36 @@ impl Table {
 
     // What was in flight before a cycle goes on, or was squashed in it.
     fn move_rows_on(&mut self, cycle: u64, rob: &Rob, front: &Front) -> usize
-        ensures rows { AreMovedOn cycle (in_buffers rob.now front.now) self.old.rows.items self.new.rows.items result }
+        ensures rows { AreMovedOn cycle (in_buffers rob.now front.now) (passages_of self.old).rows (passages_of self.new).rows result }
+        ensures kept { length (passages_of self.new).rows ≡ length (passages_of self.old).rows }
         ensures len { length self.new.rows.items ≡ length self.old.rows.items }
         ensures others { (self.new.interrupts ≡ self.old.interrupts) × (self.new.fetched ≡ self.old.fetched) × (self.new.retired ≡ self.old.retired) }
         ensures capacity { vec_capacity self.new.rows ≡ vec_capacity self.old.rows }
     {
-        move_on(self.rows.as_mut_slice(), cycle, rob, front)
+        move_kept_on(self.rows.as_mut_slice(), self.dropped, cycle, rob, front)
+    }
+
+    // The oldest instruction in flight, if one is, retires as its row reports, and the program goes on at `next`.
+    fn retire(&mut self, row: &Row, next: u32)
+        requires { self.old.retired + 1 < 2 ^ 64 }
+        ensures taken { passages_of self.new ≡ with_step (Step.Retired row.now) next (passages_of self.old) }
+        ensures len { length self.new.rows.items ≡ length self.old.rows.items }
+        ensures capacity { vec_capacity self.new.rows ≡ vec_capacity self.old.rows }
+        ensures interrupts { self.new.interrupts ≡ self.old.interrupts }
+    {
+        let order = self.retired;
+        retire_kept(self.rows.as_mut_slice(), self.dropped, row, order, next);
+        self.retired += 1;
+    }
+
+    // The oldest instruction in flight, if one is, traps.
+    fn trap(&mut self, cause: Cause, cycle: u64)
+        ensures rows { (passages_of self.new).rows ≡ with_oldest (trapped_by cause cycle) (passages_of self.old).rows }
+        ensures len { length self.new.rows.items ≡ length self.old.rows.items }
+        ensures capacity { vec_capacity self.new.rows ≡ vec_capacity self.old.rows }
+        ensures others { (self.new.interrupts ≡ self.old.interrupts) × (self.new.fetched ≡ self.old.fetched) × (self.new.retired ≡ self.old.retired) }
+    {
+        trap_kept(self.rows.as_mut_slice(), self.dropped, cause, cycle);
     }
 
     // Ends the oldest instruction in flight by a step, after which the program goes on at `next`, or notes an interrupt.
@@ -141,18 +219,14 @@ impl Table {
         requires countable { self.old.retired + 1 < 2 ^ 64 }
         requires room { length self.old.interrupts.items < vec_capacity self.old.interrupts }
         ensures taken { passages_of self.new ≡ with_step step.now next (passages_of self.old) }
-        ensures rows { vec_capacity self.old.rows ≤ vec_capacity self.new.rows }
-        ensures interrupts { vec_capacity self.old.interrupts ≤ vec_capacity self.new.interrupts }
+        ensures len { length self.new.rows.items ≡ length self.old.rows.items }
+        ensures rows { vec_capacity self.new.rows ≡ vec_capacity self.old.rows }
+        ensures interrupts { vec_capacity self.new.interrupts ≡ vec_capacity self.old.interrupts }
     {
-        match *step {
-            Step::Retired(row) => {
-                retire_oldest(self.rows.as_mut_slice(), &row, self.retired, next);
-                self.retired += 1;
-            }
-            Step::Trap { cause, cycle, .. } => {
-                trap_oldest(self.rows.as_mut_slice(), cause, cycle);
-            }
-            Step::Interrupt { cycle, .. } => self.interrupts.extend_from_slice(&[cycle]).unwrap(),
+        match step {
+            Step::Retired(row) => self.retire(row, next),
+            Step::Trap { cause, cycle, .. } => self.trap(*cause, *cycle),
+            Step::Interrupt { cycle, .. } => put_last(&mut self.interrupts, *cycle),
         }
     }
 
@@ -161,10 +235,10 @@ impl Table {
         requires short { AreShort rob.now front.now }
         requires room { length self.old.rows.items + 288 ≤ vec_capacity self.old.rows }
         requires countable { self.old.fetched + 288 < 2 ^ 64 }
-        ensures rows { self.new.rows.items ≡ self.old.rows.items ++ numbered_from self.old.fetched (drop from (in_buffers rob.now front.now)) }
+        ensures rows { (passages_of self.new).rows ≡ (passages_of self.old).rows ++ numbered_from self.old.fetched (drop from (in_buffers rob.now front.now)) }
         ensures fetched { self.new.fetched ≡ self.old.fetched + length (drop from (in_buffers rob.now front.now)) }
         ensures others { (self.new.interrupts ≡ self.old.interrupts) × (self.new.retired ≡ self.old.retired) }
-        ensures capacity { vec_capacity self.old.rows ≤ vec_capacity self.new.rows }
+        ensures capacity { vec_capacity self.new.rows ≡ vec_capacity self.old.rows }
         ensures few { length (in_buffers rob.now front.now) ≤ 288 }
     {
         for place in from..count_in_flight(rob, front) {
@@ -176,16 +250,17 @@ impl Table {
     fn append(&mut self, now: Passage)
         requires room { length self.old.rows.items < vec_capacity self.old.rows }
         requires countable { self.old.fetched + 1 < 2 ^ 64 }
-        ensures rows { self.new.rows.items ≡ self.old.rows.items ++ numbered self.old.fetched now ∷ [] }
+        ensures rows { (passages_of self.new).rows ≡ (passages_of self.old).rows ++ numbered self.old.fetched now ∷ [] }
+        ensures len { length self.new.rows.items ≡ length self.old.rows.items + 1 }
         ensures fetched { self.new.fetched ≡ self.old.fetched + 1 }
         ensures others { (self.new.interrupts ≡ self.old.interrupts) × (self.new.retired ≡ self.old.retired) }
-        ensures capacity { vec_capacity self.old.rows ≤ vec_capacity self.new.rows }
+        ensures capacity { vec_capacity self.new.rows ≡ vec_capacity self.old.rows }
     {
         let passage = Passage {
             number: self.fetched,
             ..now
         };
-        self.rows.push(passage).unwrap();
+        put_last(&mut self.rows, passage);
         self.fetched += 1;
     }
 
@@ -193,16 +268,39 @@ impl Table {
     pub fn drop_squashed(&mut self)
         ensures { passages_of self.new ≡ without_squashed (passages_of self.old) }
     {
+        self.move_to_front();
         self.rows.retain(|row| row.is_unsquashed());
+    }
+
+    // Forgets the first instructions, up to the oldest in flight.
+    fn drop_first_ended(&mut self)
+        ensures opened { still_open (passages_of self.new) ≡ still_open (passages_of self.old) }
+        ensures capacity { vec_capacity self.new.rows ≡ vec_capacity self.old.rows }
+        ensures interrupts { self.new.interrupts ≡ self.old.interrupts }
+    {
+        self.dropped += count_first_ended(self.rows());
+    }
+
+    // Forgets all instructions that left the hardware, and moves the others where one of those lies after one of these.
+    fn drop_other_ended(&mut self)
+        ensures rows { (passages_of self.new).rows ≡ filter is_in_flight (passages_of self.old).rows }
+        ensures capacity { vec_capacity self.new.rows ≡ vec_capacity self.old.rows }
+        ensures others { (self.new.interrupts ≡ self.old.interrupts) × (self.new.fetched ≡ self.old.fetched) × (self.new.retired ≡ self.old.retired) }
+    {
+        if !are_in_flight(self.rows()) {
+            self.move_to_front();
+            self.rows.retain(|row| row.is_in_flight());
+        }
     }
 
     /// Forgets the instructions that left the hardware, and the interrupts.
     pub fn drop_ended(&mut self)
         ensures opened { passages_of self.new ≡ still_open (passages_of self.old) }
-        ensures rows { vec_capacity self.old.rows ≤ vec_capacity self.new.rows }
-        ensures interrupts { vec_capacity self.old.interrupts ≤ vec_capacity self.new.interrupts }
+        ensures rows { vec_capacity self.new.rows ≡ vec_capacity self.old.rows }
+        ensures interrupts { vec_capacity self.new.interrupts ≡ vec_capacity self.old.interrupts }
     {
-        self.rows.retain(|row| row.is_in_flight());
+        self.drop_first_ended();
+        self.drop_other_ended();
         self.interrupts.clear();
     }
 }

@@ -11,7 +11,7 @@ use Rattle.rv_hardware.specs.Guided.{GuidedHardware}
 use Rattle.rv_hardware.specs.History.{Moment}
 use Rattle.rv_passage.specs.EndedRun.{IsEndedRun}
 use Rattle.rv_passage.specs.Followed.{HasOpen}
-use Rattle.rv_passage.specs.Table.{Passages, still_open}
+use Rattle.rv_passage.specs.Table.{Passages, passages_of, still_open}
 use Rattle.rv_passage.specs.Walk.{passages_after}
 use Rattle.rv_passage.specs.declared.passage.Passage.{Passage}
 use Rattle.rv_passage.specs.declared.table.Table.{Table}
@@ -81,7 +81,7 @@ module _ {seen : Watched} {cycle : ShownCycle} (next : IsNextCycle seen cycle) {
 module _ {arrivals : List Arrival} {old new : GuidedHardware} {moments : List Moment} {costs : LoadCosts} {profile : Profiled} {table : Table} (profiling : IsProfiling costs profile (watched arrivals old moments new))
     (kept : HasOpen old.hardware moments new.hardware table) where
   -- those in flight can be counted
-  pub can_finish : (rows : List Passage) → rows ≡ table.rows.items → new.hardware.cycle ≤ 2 ^ 40 → CanCountMore profile.words (length rows)
+  pub can_finish : (rows : List Passage) → rows ≡ (passages_of table).rows → new.hardware.cycle ≤ 2 ^ 40 → CanCountMore profile.words (length rows)
   can_finish rows rows_are counted = record {
     most = 577 * new.hardware.cycle;
     counts = profiling.within;
@@ -89,7 +89,7 @@ module _ {arrivals : List Arrival} {old new : GuidedHardware} {moments : List Mo
   }
 
   -- the counts of the run
-  pub counted_to_the_end : {limit : ℕ} {stop : Stop} (values : Values) (words : List WordCounts) (rows : List Passage) → IsEndedRun arrivals limit old moments new stop → rows ≡ table.rows.items → costs ≡ costs_of values
+  pub counted_to_the_end : {limit : ℕ} {stop : Stop} (values : Values) (words : List WordCounts) (rows : List Passage) → IsEndedRun arrivals limit old moments new stop → rows ≡ (passages_of table).rows → costs ≡ costs_of values
       → words ≡ with_passages profile.costs rows profile.words → IsCounted arrivals limit values old new stop words
   counted_to_the_end values words rows run rows_are costs_is words_are =
       let last : rows ≡ (passages_after still_open old.hardware moments).rows = rows_are ∙ ap (λ (t : Passages). t.rows) kept.followed.passages in

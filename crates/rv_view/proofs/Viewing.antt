@@ -47,10 +47,10 @@ module _ {V : Type 0} (has_seen : Seeing V) (text : Saying V) where
 
     -- one more cycle, which the table follows
     module _ {full : Table} (on : IsFollowedOn cycle steps after table full) where
-      pub rows_now : (rows : List Passage) → rows ≡ full.rows.items → rows ≡ (cycle_shown seen shown).passages.rows
+      pub rows_now : (rows : List Passage) → rows ≡ (passages_of full).rows → rows ≡ (cycle_shown seen shown).passages.rows
       rows_now rows are = are ∙ ap (λ (t : Passages). t.rows) (full_is shown.passes viewing.kept.followed last shown.number shown.steps_are on.followed)
 
-      pub few_now : (rows : List Passage) → rows ≡ full.rows.items → length rows ≤ 576
+      pub few_now : (rows : List Passage) → rows ≡ (passages_of full).rows → length rows ≤ 576
       few_now rows are = omega (arith, ap length are, few_rows viewing.kept cycle steps after full on.followed on.fetched)
 
       -- and whose text is said

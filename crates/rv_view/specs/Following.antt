@@ -10,7 +10,7 @@ use Rattle.rv_view.specs.declared.following.Following.{Following}
 -- a table begins with what is in flight in the hardware, and has room for two cycles
 pub record BeginsAt (h : Hardware) (table : Table) : Type 0 where
   pub passages : passages_of table ≡ table_at h
-  pub few : length table.rows.items ≤ 288
+  pub few : length (passages_of table).rows ≤ 288
   pub room : IsRoomy table
 
 -- such a table, and room for the steps of a cycle

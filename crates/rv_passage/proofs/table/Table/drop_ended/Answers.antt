@@ -1,9 +1,12 @@
-use Rattle.std.proofs.Common.{◌≡◌, filter, rules}
-use Rattle.std.proofs.lemmas.Fn.{filter_same}
-use Rattle.rv_passage.specs.Passage.{is_in_flight}
+use Rattle.std.proofs.Common.{◌∙◌, ap}
+use Rattle.rv_passage.specs.Table.{Passages}
 use Rattle.rv_passage.proofs.table.Table.drop_ended.Goals as goal
 
 pub returns-clause-opened : goal.returns-clause-opened
 returns-clause-opened c =
-    let kept : c.retain.new.self.items ≡ filter is_in_flight c.args.self.now.rows.items = filter_same _ is_in_flight _ (λ x b f' k. search rules) _ _ c.retain.ensures.filtered in
-    λ i. record { rows = kept i; interrupts = c.clear.ensures.items i; fetched = c.args.self.now.fetched; retired = c.args.self.now.retired }
+    let same = c.drop_first_ended.ensures.opened in
+    let others = c.drop_other_ended.ensures.others in
+    let rows = c.drop_other_ended.ensures.rows ∙ ap (λ (t : Passages). t.rows) same in
+    let fetched = others.1 ∙ ap (λ (t : Passages). t.fetched) same in
+    let retired = others.2 ∙ ap (λ (t : Passages). t.retired) same in
+    λ i. record { rows = rows i; interrupts = c.clear.ensures.items i; fetched = fetched i; retired = retired i }

@@ -18,6 +18,7 @@ loop-place-preserved c =
           ∙ c.loop-place.invariant.left;
       retired = omega (arith, within.retired, retired, c.loop-place.invariant.retired);
       noted = omega (arith, within.interrupts, noted, c.loop-place.invariant.noted);
+      len = omega arith;
       rows = omega arith;
       interrupts = omega arith;
     }

@@ -8,6 +8,7 @@ invariant-loop-place l = record {
   left : with_steps (drop l.place l.steps) l.next (passages_of l.self) ≡ with_steps l.steps l.next (passages_of l.fn.self);
   retired : l.self.retired ≤ l.fn.self.retired + l.place;
   noted : length l.self.interrupts.items ≤ length l.fn.self.interrupts.items + l.place;
-  rows : vec_capacity l.fn.self.rows ≤ vec_capacity l.self.rows;
-  interrupts : vec_capacity l.fn.self.interrupts ≤ vec_capacity l.self.interrupts;
+  len : length l.self.rows.items ≡ length l.fn.self.rows.items;
+  rows : vec_capacity l.self.rows ≡ vec_capacity l.fn.self.rows;
+  interrupts : vec_capacity l.self.interrupts ≡ vec_capacity l.fn.self.interrupts;
 }

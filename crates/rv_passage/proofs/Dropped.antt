@@ -1,0 +1,54 @@
+-- Rows after those that are dropped, and those that are still in flight among them.
+use Rattle.std.proofs.Common.{◌≡◌, ◌∙◌, ℕ, suc, ◌+◌, ◌-◌, ◌≤◌, nat_lt, true, false, List, [], ◌∷◌, ◌++◌, length, filter, take, drop, None, Some, refl, ap, sym, arith, inl, inr, length-drop}
+use Rattle.std.specs.List.{list_all, position, position_or_len}
+use Rattle.std.proofs.Math.Seq.{drop-append_seam, paste}
+use Rattle.std.proofs.lemmas.Bool.{cases_Bool, ltb-false}
+use Rattle.std.proofs.lemmas.List.{take_all}
+use Rattle.std.proofs.lemmas.List.Edits.{take-paste}
+use Rattle.std.proofs.lemmas.Option.{none-some}
+use Rattle.rv_passage.specs.Passage.{is_in_flight}
+use Rattle.rv_passage.specs.declared.passage.Passage.{Passage}
+
+-- what comes after so many
+pub drop-joined : {X : Type 0} (n : ℕ) (front back : List X) → length front ≡ n → drop n (front ++ back) ≡ back
+drop-joined n front back is = ap (λ k. drop k (front ++ back)) (sym is) ∙ drop-append_seam front back
+
+-- what comes after so many, moved over them
+pub moved_to_front : {X : Type 0} (xs : List X) (n : ℕ) → n ≤ length xs → take (length xs - n) (paste xs 0 (drop n xs) (length xs - n)) ≡ drop n xs
+moved_to_front xs n within =
+    let left : length xs - n ≡ 0 + (length xs - n) = omega arith in
+    ap (λ k. take k (paste xs 0 (drop n xs) (length xs - n))) left
+    ∙ take-paste xs 0 (drop n xs) (length xs - n) (omega arith) (omega (arith, length-drop n xs))
+    ∙ take_all (length xs - n) (drop n xs) (omega (arith, length-drop n xs))
+
+-- those in flight are none of the first ones that ended
+pub open-after_first : (rows : List Passage) → filter is_in_flight (drop (position_or_len is_in_flight rows) rows) ≡ filter is_in_flight rows
+open-after_first [] = refl
+open-after_first (p ∷ ps) = elim (cases_Bool (is_in_flight p)) [
+  | inl flies ↦ rw flies (rw flies refl)
+  | inr ended ↦
+      let next : 1 + position_or_len is_in_flight ps ≡ suc (position_or_len is_in_flight ps) = omega arith in
+      rw ended (ap (λ k. filter is_in_flight (drop k (p ∷ ps))) next ∙ open-after_first ps)
+]
+
+pub first-within : (rows : List Passage) → position_or_len is_in_flight rows ≤ length rows
+first-within [] = omega arith
+first-within (p ∷ ps) = elim (cases_Bool (is_in_flight p)) [
+  | inl flies ↦ rw flies (omega arith)
+  | inr ended ↦ rw ended (omega (arith, first-within ps))
+]
+
+-- where none is in flight, all come before the first that is
+pub none_in_flight : (rows : List Passage) → position is_in_flight rows ≡ None → position_or_len is_in_flight rows ≡ length rows
+none_in_flight rows none = elim (cases_Bool (nat_lt (position_or_len is_in_flight rows) (length rows))) [
+  | inl here ↦ let some : Some (position_or_len is_in_flight rows) ≡ None = rw here at none in absurd (none-some _ (sym some))
+  | inr past ↦ omega (arith, ltb-false _ _ past, first-within rows)
+]
+
+-- where all are in flight, none is left out
+pub open-all : (rows : List Passage) → list_all is_in_flight rows ≡ true → filter is_in_flight rows ≡ rows
+open-all [] all = refl
+open-all (p ∷ ps) all = elim (cases_Bool (is_in_flight p)) [
+  | inl flies ↦ let rest : list_all is_in_flight ps ≡ true = rw flies at all in rw flies (ap (λ l. p ∷ l) (open-all ps rest))
+  | inr ended ↦ let none : false ≡ true = rw ended at all in cc
+]
