@@ -22,6 +22,8 @@ use rv_source::Listing;
 use rv_text::Sink;
 use std::io::Write;
 
+// It stands apart, since its caller mostly writes nothing.
+#[inline(never)]
 #[tactic(auto, using(rv_text::proofs::Saying::says_both), unfolding(crate::specs::States::window_text, crate::specs::States::storage_text))]
 fn write_window<W: Write>(
     out: &mut Sink<'_, W>,
