@@ -28,26 +28,20 @@ pub(crate) fn entry_at(rob: &Rob, place: usize) -> Option<&Entry>
 }
 
 // The instruction at a place among those in flight, the oldest at place 0. A table gives it its number.
-pub(crate) fn passage_at(rob: &Rob, front: &Front, place: usize) -> Option<Passage>
-    ensures { result ≡ slice_get (in_buffers rob.now front.now) place }
-{
-    let dispatched = rob.len();
-    if place < dispatched {
-        let entry = entry_at(rob, place)?;
-        Some(Passage::of_entry(entry))
-    } else {
-        let word = front.get(place - dispatched)?;
-        Some(Passage::of_fetched(word))
-    }
-}
-
-// The instruction at a place that there is.
 pub(crate) fn present_at(rob: &Rob, front: &Front, place: usize) -> Passage
     requires { place < length (in_buffers rob.now front.now) }
     ensures { slice_get (in_buffers rob.now front.now) place ≡ Some result }
 {
-    match passage_at(rob, front, place) {
-        Some(passage) => passage,
-        None => unreachable!(),
+    let dispatched = rob.len();
+    if place < dispatched {
+        match entry_at(rob, place) {
+            Some(entry) => Passage::of_entry(entry),
+            None => unreachable!(),
+        }
+    } else {
+        match front.get(place - dispatched) {
+            Some(word) => Passage::of_fetched(word),
+            None => unreachable!(),
+        }
     }
 }

@@ -36,7 +36,7 @@ fn pc_of(step: &Step) -> u32
 /// The passages of instructions in order of fetch, and the cycles of the interrupts.
 #[derive(Drop)]
 pub struct Table {
-    // The first `dropped` rows are forgotten. They lie there until their room is wanted, so that the others need not be moved.
+    // The first `dropped` rows are forgotten. They lie there until their room is wanted, so that the others stay.
     rows: Vec<Passage>,
     dropped: usize,
     interrupts: Vec<u64>,
@@ -247,7 +247,7 @@ impl Table {
     }
 
     // Numbers an instruction, and appends it.
-    fn append(&mut self, now: Passage)
+    fn append(&mut self, mut now: Passage)
         requires room { length self.old.rows.items < vec_capacity self.old.rows }
         requires countable { self.old.fetched + 1 < 2 ^ 64 }
         ensures rows { (passages_of self.new).rows ≡ (passages_of self.old).rows ++ numbered self.old.fetched now ∷ [] }
@@ -256,11 +256,8 @@ impl Table {
         ensures others { (self.new.interrupts ≡ self.old.interrupts) × (self.new.retired ≡ self.old.retired) }
         ensures capacity { vec_capacity self.new.rows ≡ vec_capacity self.old.rows }
     {
-        let passage = Passage {
-            number: self.fetched,
-            ..now
-        };
-        put_last(&mut self.rows, passage);
+        now.number = self.fetched;
+        put_last(&mut self.rows, now);
         self.fetched += 1;
     }
 
