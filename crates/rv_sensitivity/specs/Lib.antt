@@ -1,0 +1,4 @@
+pub mod Change
+pub mod Trials
+pub mod Neighbours
+pub mod Setting
