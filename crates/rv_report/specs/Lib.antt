@@ -10,3 +10,4 @@ pub mod Events
 pub mod Shown
 pub mod Tally
 pub mod Comparison
+pub mod Sensitivity
