@@ -57,6 +57,10 @@ told_cycles_rule = number_rule (codes "cycles") 1 most_cycles_told (codes "200")
 abbrev pub show_rule : Rule
 show_rule = record (new_rule (codes "show")) { long = Some (codes "show"); action = Some Append; value_names = 1 }
 
+-- `--also KEY=VALUE`: a change of a user's own; it may be given more than once
+abbrev pub also_rule : Rule
+also_rule = record (new_rule (codes "also")) { long = Some (codes "also"); action = Some Append; value_names = 1 }
+
 -- ---- the commands
 
 -- `rv_sim NAME [--limit N]`
@@ -70,6 +74,10 @@ flagged_arguments name flag = with_rule (with_rule (new_app name) (flag_rule fla
 -- `rv_sim compare [--limit N] [--show WHAT]..`
 abbrev pub compare_arguments : App
 compare_arguments = with_rule (limited_arguments (codes "compare")) show_rule
+
+-- `rv_sim sensitivity [--limit N] [--also KEY=VALUE]..`
+abbrev pub sensitivity_arguments : App
+sensitivity_arguments = with_rule (limited_arguments (codes "sensitivity")) also_rule
 
 -- `rv_sim check`
 abbrev pub check_arguments : App
@@ -124,6 +132,7 @@ program_arguments = with_commands bare_arguments (
     flagged_arguments (codes "explain") (codes "figures") ∷
     limited_arguments (codes "profile") ∷
     compare_arguments ∷
+    sensitivity_arguments ∷
     []
     )
 

@@ -7,10 +7,11 @@ use Rattle.clap.specs.Walk.{is_empty}
 use Rattle.clap.specs.Kinds.{or_else}
 use Rattle.clap.specs.Words.{Kinds, Row, Text, fault_of, one_of, subcommand_of}
 use Rattle.clap.specs.declared.error.kind.ErrorKind.TheVariants.{ValueValidation}
+use Rattle.rv_command.specs.Also.{also_in}
 use Rattle.rv_command.specs.Arguments.{last_cycle, most_cycles_shown, most_cycles_told, most_steps, program_arguments}
 use Rattle.rv_command.specs.Shown.{columns_in}
 use Rattle.rv_command.specs.declared.command.Command.{Command}
-use Rattle.rv_command.specs.declared.command.Command.TheVariants.{Run, Reference, Check, Picture, Log, States, Page, Explain, Profile, Compare}
+use Rattle.rv_command.specs.declared.command.Command.TheVariants.{Run, Reference, Check, Picture, Log, States, Page, Explain, Profile, Compare, Sensitivity}
 
 -- the limit of a run is 1 to 1,000,000
 abbrev pub IsLegalLimit : ℕ → Type 0
@@ -36,6 +37,7 @@ HasLegalNumbers (Page from limit) = IsLegalStretch from limit
 HasLegalNumbers (Explain figures limit) = IsLegalLimit limit
 HasLegalNumbers (Profile limit) = IsLegalLimit limit
 HasLegalNumbers (Compare shown limit) = IsLegalLimit limit
+HasLegalNumbers (Sensitivity also limit) = IsLegalLimit limit
 
 -- ---- what the matches of a command hold
 
@@ -92,6 +94,10 @@ explain_in rows = option_map (Explain (flag_in (codes "figures") rows)) (limit_i
 abbrev pub compare_in : List Row → Option Command
 compare_in rows = option_and_then (λ shown. option_map (Compare shown) (limit_in rows)) (columns_in rows)
 
+-- what the matches of `sensitivity` ask for
+abbrev pub sensitivity_in : List Row → Option Command
+sensitivity_in rows = option_and_then (λ also. option_map (Sensitivity also) (limit_in rows)) (also_in rows)
+
 -- what the matches of `picture` ask for
 abbrev pub picture_in : List Row → Option Command
 picture_in rows =
@@ -119,7 +125,8 @@ command_named given =
     else (if bytes_eq given.0 (codes "page") then page_in given.1
     else (if bytes_eq given.0 (codes "explain") then explain_in given.1
     else (if bytes_eq given.0 (codes "profile") then option_map Profile (limit_in given.1)
-    else (if bytes_eq given.0 (codes "compare") then compare_in given.1 else None)))))))))
+    else (if bytes_eq given.0 (codes "compare") then compare_in given.1
+    else (if bytes_eq given.0 (codes "sensitivity") then sensitivity_in given.1 else None))))))))))
 
 -- the command that the words ask for, where they fit the program's arguments
 abbrev pub command_of : List Text → Option Command

@@ -2,7 +2,7 @@
 ghost use Rattle.std.specs.Prelude.{◌≡◌, false, IfOk};
 ghost use Rattle.clap.specs.Words.{App, Rule, new_app, rule_of, with_rule, with_subcommand};
 ghost use Rattle.rv_command.specs.Arguments.{IsParserOf, check_arguments, compare_arguments, cycles_rule, flag_rule, flagged_arguments, from_rule, limit_rule};
-ghost use Rattle.rv_command.specs.Arguments.{limited_arguments, number_rule, picture_arguments, program_arguments, show_rule};
+ghost use Rattle.rv_command.specs.Arguments.{also_rule, limited_arguments, number_rule, picture_arguments, program_arguments, sensitivity_arguments, show_rule};
 ghost use Rattle.rv_command.specs.Arguments.{bare_arguments, bare_picture_arguments, told_arguments, told_from_arguments};
 
 use crate::command::{LAST_CYCLE, MOST_CYCLES_SHOWN, MOST_CYCLES_TOLD, MOST_STEPS};
@@ -148,6 +148,27 @@ fn compare_command<'a>(alloc: Global) -> Result<Command<'a>, AllocError>
     )
 }
 
+// The option of a change of a user's own.
+fn also_argument<'a>(alloc: Global) -> Arg<'a>
+    ensures rule { rule_of result ≡ also_rule }
+    ensures local { result.global ≡ false }
+{
+    Arg::new(alloc, "also")
+        .long("also")
+        .value_name("KEY=VALUE")
+        .help("Tries a value of your own for a key of the description too, four at most")
+        .action(ArgAction::Append)
+}
+
+fn sensitivity_command<'a>(alloc: Global) -> Result<Command<'a>, AllocError>
+    ensures arguments { IfOk result (IsParserOf sensitivity_arguments) }
+{
+    with_argument(
+        limited_command(alloc, "sensitivity", &help::SENSITIVITY),
+        also_argument(alloc),
+    )
+}
+
 // `picture` with its flags, and no number yet.
 fn bare_picture_command<'a>(alloc: Global) -> Result<Command<'a>, AllocError>
     ensures arguments { IfOk result (IsParserOf bare_picture_arguments) }
@@ -270,5 +291,6 @@ pub(crate) fn parser<'a>(alloc: Global) -> Result<Command<'a>, AllocError>
         flagged_command(alloc, "explain", "figures", &help::EXPLAIN),
     );
     let program = with_command(program, limited_command(alloc, "profile", &help::PROFILE));
-    with_command(program, compare_command(alloc))
+    let program = with_command(program, compare_command(alloc));
+    with_command(program, sensitivity_command(alloc))
 }

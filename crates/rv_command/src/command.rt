@@ -2,12 +2,14 @@ ghost use Rattle.std.specs.Prelude.{◌≡◌, ◌≤◌, ◌⊎◌, ◌∷◌, 
 ghost use Rattle.clap.specs.Words.{FailsBy, HasKind, app_of, fault_of, found_of, kind_of, rows_of, subcommand_rows_of};
 ghost use Rattle.rv_command.specs.Arguments.{program_arguments};
 ghost use Rattle.rv_command.specs.Command.{HasLegalNumbers, IsLegalLimit, IsLegalStretch, command_named, command_of, flag_in, limit_in, limited_named, number_in};
-ghost use Rattle.rv_command.specs.Command.{compare_in, explain_in, page_in, picture_in, refused_kinds, run_in, states_in, stretch_in};
+ghost use Rattle.rv_command.specs.Command.{compare_in, explain_in, page_in, picture_in, refused_kinds, run_in, sensitivity_in, states_in, stretch_in};
 
+use crate::also::also_given;
 use crate::arguments::parser;
 use crate::shown::{ShownColumns, columns_given};
 use clap::error::ErrorKind;
 use clap::{ArgMatches, Command as Parser, Error};
+use rv_sensitivity::Settings;
 use std::alloc::Global;
 
 /// The most steps or cycles that a run may be asked for.
@@ -24,6 +26,10 @@ pub const MOST_CYCLES_TOLD: u64 = 10_000;
 
 const WHAT_IS_SHOWN: &str =
     "WHAT is a register, as a0 or x10, or the address of a word, as 0x80001000; --show may be given four times";
+
+const WHAT_IS_SET: &str =
+    "KEY=VALUE is a key of a description that says how fast a program runs, as rob, cache.line, div.pipelined or predictor.kind, \
+     and a value that it takes, as 64, true or not_taken; --also may be given four times, each time with another key";
 
 /// What the program is asked to do.
 #[derive(Clone, Copy, PartialEq, Eq)]
@@ -81,6 +87,12 @@ pub enum Command {
         shown: ShownColumns,
         limit: u64,
     },
+    /// Say which change of a job's machine would help its program, by the cycles of a run on each, of at most so many cycles,
+    /// with changes of a user's own.
+    Sensitivity {
+        also: Settings,
+        limit: u64,
+    },
 }
 
 fn flag_given(given: &ArgMatches, name: &str) -> bool
@@ -133,6 +145,15 @@ fn compare_given(given: &ArgMatches) -> Option<Command>
     let shown = columns_given(given)?;
     let limit = limit_given(given)?;
     Some(Command::Compare { shown, limit })
+}
+
+fn sensitivity_given(given: &ArgMatches) -> Option<Command>
+    ensures sensitivity { result ≡ sensitivity_in (rows_of (found_of given.now)) }
+    ensures legal { IfSome result HasLegalNumbers }
+{
+    let also = also_given(given)?;
+    let limit = limit_given(given)?;
+    Some(Command::Sensitivity { also, limit })
 }
 
 fn picture_given(given: &ArgMatches) -> Option<Command>
@@ -204,15 +225,24 @@ fn command_given(matches: &ArgMatches) -> Option<Command>
         "page" => page_given(given),
         "explain" => explain_given(given),
         "compare" => compare_given(given),
+        "sensitivity" => sensitivity_given(given),
         _ => limited_given(name, given),
     }
 }
 
-// The error of words that name no command with numbers in their ranges, or nothing that a table can show.
-fn refusal(parser: &mut Parser<'_>) -> Error
+// What is wrong with words that name no command: only a value of `--show` or of `--also` can be.
+fn what_is_expected(words: &[String]) -> &'static str {
+    match words.get(1) {
+        Some(command) if command.as_str() == "sensitivity" => WHAT_IS_SET,
+        _ => WHAT_IS_SHOWN,
+    }
+}
+
+// The error of words that name no command with numbers in their ranges, or nothing that a table can show or a machine can have.
+fn refusal(parser: &mut Parser<'_>, expected: &str) -> Error
     ensures kind { HasKind (ErrorKind.ValueValidation ∷ []) result }
 {
-    match parser.error(ErrorKind::ValueValidation, WHAT_IS_SHOWN) {
+    match parser.error(ErrorKind::ValueValidation, expected) {
         Ok(error) => error,
         Err(error) => Error::from(error),
     }
@@ -245,7 +275,7 @@ fn parse_by<'a>(parser: &mut Parser<'a>, words: &'a [String]) -> Result<Command,
     match matched(parser, words)? {
         Some(command) => Ok(command),
         // `clap` has refused such words before; see DECISIONS.
-        None => Err(refusal(parser)),
+        None => Err(refusal(parser, what_is_expected(words))),
     }
 }
 

@@ -182,3 +182,26 @@ Exit status:
     },
     limit: CYCLES_OF_EACH,
 };
+
+pub(crate) static SENSITIVITY: LimitedHelp = LimitedHelp {
+    texts: CommandHelp {
+        about: "Says which key of the machine would help the text on standard input",
+        ending: "Reads a job from standard input and runs it on its machine and on machines that differ in one key:
+each size and width twice as large, each latency and cost half as long, a kind pipelined, the other
+recovery, the other predictors, and all widths at once, each within its key's range, as in:
+  rv_sim sensitivity < FILE
+  rv_sim sensitivity --also rob=64 --also predictor.kind=not_taken < FILE
+
+Writes a line for the machine as it is and one for each other, the fewest cycles first, its cells with
+a tab between two: the key, its value and the one tried, the cycles, how many thousandths of the cycles
+that is more or less, and why the run ended.
+
+Exit status:
+  0  the table was written; its column stop says how each run ended
+  1  the job was refused
+  2  wrong usage
+  4  standard input or output failed
+  5  out of memory",
+    },
+    limit: CYCLES_OF_EACH,
+};

@@ -2,6 +2,7 @@
 //! arguments. The program stands on it.
 #![tactic(auto)]
 
+mod also;
 mod arguments;
 mod command;
 mod help;

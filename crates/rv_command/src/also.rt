@@ -1,0 +1,223 @@
+ghost use Rattle.std.specs.Prelude.{◌≡◌, ◌<◌, IfSome, length, map, position};
+ghost use Rattle.clap.specs.Words.{found_of, rows_of};
+ghost use Rattle.rv_asm.specs.Read.{token_of};
+ghost use Rattle.rv_isa.specs.Choice.{predictor_named, recovery_named};
+ghost use Rattle.rv_isa.specs.Key.{text_of};
+ghost use Rattle.std.specs.Str.{bytes_eq};
+ghost use Rattle.rv_command.specs.Also.{also_in, has_twice, index_named, is_equals, is_of_one_key, key_at, number_by, number_named, set_once, setting_named, setting_of, settings_of, taken, truth_named, value_at, column_of};
+
+use clap::ArgMatches;
+use rv_asm::{Token, first_lexeme};
+use rv_isa::{Key, PredictorKind, Recovery, all_keys};
+use rv_sensitivity::{KeyValue, Setting, Settings};
+
+/// The most changes of a user's own.
+const MOST_SETTINGS: usize = 4;
+
+// The number that a token is.
+fn number_by(token: Token<'_>) -> Option<u32>
+    ensures { result ≡ number_by (token_of token.entry) }
+{
+    match token {
+        Token::Number(number) => Some(number),
+        _ => None,
+    }
+}
+
+// The number that a text is.
+fn number_named(text: &[u8]) -> Option<u32>
+    ensures { result ≡ number_named text.now }
+{
+    if text.is_empty() {
+        return None;
+    }
+    let lexeme = first_lexeme(text)?;
+    if lexeme.size != text.len() {
+        return None;
+    }
+    number_by(lexeme.token?)
+}
+
+fn truth_named(text: &[u8]) -> Option<bool>
+    ensures { result ≡ truth_named text.now }
+{
+    if text == b"true".as_slice() {
+        Some(true)
+    } else if text == b"false".as_slice() {
+        Some(false)
+    } else {
+        None
+    }
+}
+
+fn recovery_named(text: &[u8]) -> Option<Recovery>
+    ensures { result ≡ recovery_named text.now }
+{
+    if text == b"commit".as_slice() {
+        Some(Recovery::Commit)
+    } else if text == b"early".as_slice() {
+        Some(Recovery::Early)
+    } else {
+        None
+    }
+}
+
+fn predictor_named(text: &[u8]) -> Option<PredictorKind>
+    ensures { result ≡ predictor_named text.now }
+{
+    if text == b"not_taken".as_slice() {
+        Some(PredictorKind::NotTaken)
+    } else if text == b"backward_taken".as_slice() {
+        Some(PredictorKind::BackwardTaken)
+    } else if text == b"bimodal".as_slice() {
+        Some(PredictorKind::Bimodal)
+    } else {
+        None
+    }
+}
+
+// The value that a text is for a key.
+fn value_at(key: Key, text: &[u8]) -> Option<KeyValue>
+    ensures { result ≡ value_at key text.now }
+{
+    match key {
+        Key::Number(_) => Some(KeyValue::Number(number_named(text)?)),
+        Key::Recovery => Some(KeyValue::Recovery(recovery_named(text)?)),
+        Key::Pipelined(_) => Some(KeyValue::Truth(truth_named(text)?)),
+        Key::PredictorKind => Some(KeyValue::Predictor(predictor_named(text)?)),
+    }
+}
+
+fn is_named(key: Key, name: &[u8]) -> bool
+    ensures { result ≡ bytes_eq (text_of key) name.now }
+{
+    key.place().text.as_bytes() == name
+}
+
+// The index of the key with a name.
+#[tactic(auto, unfolding(crate::specs::Also::index_named))]
+fn index_named(name: &[u8]) -> Option<usize>
+    ensures { result ≡ index_named name.now }
+{
+    all_keys().iter().position(|key| is_named(*key, name))
+}
+
+// The key at an index.
+#[tactic(auto, unfolding(crate::specs::Also::key_at))]
+fn key_at(index: usize) -> Option<Key>
+    ensures { result ≡ key_at index }
+{
+    all_keys().get(index).copied()
+}
+
+// A setting, where its key takes the value.
+fn taken(setting: Setting) -> Option<Setting>
+    ensures { result ≡ taken setting }
+{
+    match setting.change() {
+        Some(_) => Some(setting),
+        None => None,
+    }
+}
+
+// The setting of a key with a name.
+fn setting_named(name: &[u8], text: &[u8]) -> Option<Setting>
+    ensures { result ≡ setting_named name.now text.now }
+{
+    let index = index_named(name)?;
+    let key = key_at(index)?;
+    let value = value_at(key, text)?;
+    taken(Setting { index, value })
+}
+
+fn is_equals(byte: u8) -> bool
+    ensures { result ≡ is_equals byte }
+{
+    byte == b'='
+}
+
+// Where the first `=` stands.
+fn equals_at(text: &[u8]) -> Option<usize>
+    ensures place { result ≡ position is_equals text.now }
+    ensures within { IfSome result (λ at. at < length text.now) }
+{
+    text.iter().position(|byte| is_equals(*byte))
+}
+
+// The setting that a text asks for.
+fn setting_of(text: &[u8]) -> Option<Setting>
+    ensures { result ≡ setting_of text.now }
+{
+    let at = equals_at(text)?;
+    let name = text.split_at(at).0;
+    let value = text.split_at(at + 1).1;
+    setting_named(name, value)
+}
+
+// The setting that the text at a place asks for, where one is there.
+fn column(texts: &[&str], place: usize) -> Option<Option<Setting>>
+    ensures { result ≡ column_of (map (λ text. text.now) texts.now) place }
+{
+    match texts.get(place) {
+        Some(text) => Some(Some(setting_of(text.as_bytes())?)),
+        None => Some(None),
+    }
+}
+
+fn is_of_one_key(setting: Option<Setting>, other: Option<Setting>) -> bool
+    ensures { result ≡ is_of_one_key setting other }
+{
+    match (setting, other) {
+        (Some(setting), Some(other)) => setting.index == other.index,
+        _ => false,
+    }
+}
+
+// Whether a key is set twice.
+fn has_twice(settings: &Settings) -> bool
+    ensures { result ≡ has_twice settings.now }
+{
+    is_of_one_key(settings.first, settings.second)
+        || is_of_one_key(settings.first, settings.third)
+        || is_of_one_key(settings.first, settings.fourth)
+        || is_of_one_key(settings.second, settings.third)
+        || is_of_one_key(settings.second, settings.fourth)
+        || is_of_one_key(settings.third, settings.fourth)
+}
+
+// Settings, where no key is set twice.
+fn set_once(settings: Settings) -> Option<Settings>
+    ensures { result ≡ set_once settings }
+{
+    if has_twice(&settings) {
+        None
+    } else {
+        Some(settings)
+    }
+}
+
+// The settings that texts ask for.
+fn settings(texts: &[&str]) -> Option<Settings>
+    ensures { result ≡ settings_of (map (λ text. text.now) texts.now) }
+{
+    if texts.len() > MOST_SETTINGS {
+        return None;
+    }
+    let settings = Settings {
+        first: column(texts, 0)?,
+        second: column(texts, 1)?,
+        third: column(texts, 2)?,
+        fourth: column(texts, 3)?,
+    };
+    set_once(settings)
+}
+
+/// What the texts of `--also` ask for.
+pub(crate) fn also_given(given: &ArgMatches) -> Option<Settings>
+    ensures { result ≡ also_in (rows_of (found_of given.now)) }
+{
+    match given.get_strs("also") {
+        Some(texts) => settings(texts),
+        None => settings(&[]),
+    }
+}
