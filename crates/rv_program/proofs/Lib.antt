@@ -9,3 +9,5 @@ pub mod OneReport
 pub mod OneTable
 pub mod OneView
 pub mod Viewed
+pub mod OneSensitivity
+pub mod Tried

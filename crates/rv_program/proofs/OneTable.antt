@@ -1,6 +1,6 @@
 -- A comparison has one table: its machines' predictors are described, and so each of them has one run.
-use Rattle.std.proofs.Common.{◌≡◌, ◌∙◌, ℕ, ◌+◌, ◌^◌, ◌≤◌, List, [], ◌∷◌, ◌++◌, map, refl, sym, ap, arith}
-use Rattle.rv_front.specs.Predictors.{described, guide_of}
+use Rattle.std.proofs.Common.{◌≡◌, ◌∙◌, ◌+◌, ◌^◌, ◌≤◌, List, [], ◌∷◌, ◌++◌, map, refl, sym, ap, arith}
+use Rattle.rv_front.specs.Predictors.{guide_of}
 use Rattle.rv_front.specs.declared.predictors.DescribedPredictor.{DescribedPredictor}
 use Rattle.rv_hardware.specs.Guided.{guided}
 use Rattle.rv_hardware.specs.Hardware.{Hardware}
@@ -20,7 +20,7 @@ use Rattle.rv_program.specs.Comparison.{AreRuns, IsAtMostOneText, IsComparisonTa
 use Rattle.rv_program.specs.CoreReport.{hardware_of}
 
 -- a run of hardware with a described predictor comes to one thing
-came_to_once : {arrivals : List Arrival} {options : TableOptions} {h : Hardware} {predictor : DescribedPredictor} (run run' : ComparedRun) → h.cycle + options.limit ≤ 2 ^ 40
+pub came_to_once : {arrivals : List Arrival} {options : TableOptions} {h : Hardware} {predictor : DescribedPredictor} (run run' : ComparedRun) → h.cycle + options.limit ≤ 2 ^ 40
     → RunsTo arrivals options (guided h (guide_of predictor)) run → RunsTo arrivals options (guided h (guide_of predictor)) run' → run ≡ run'
 came_to_once {arrivals} {options} {h} {predictor} run run' within is is' =
     let ended : IsEndedRun arrivals options.limit (guided h (guide_of predictor)) is.moments is.new run.totals.stop = record { passes = is.cycles; stops = is.stops } in

@@ -1,14 +1,20 @@
 -- What the table of a comparison says.
 use Rattle.std.specs.Prelude.{◌≡◌, ℕ, List, [], ◌∷◌, ◌++◌, map}
+use Rattle.rv_hardware.specs.Guided.{guided}
+use Rattle.rv_isa.specs.declared.values.Values.{Values}
 use Rattle.rv_job.specs.declared.{comparison.Comparison.Comparison, job.Job.Job}
 use Rattle.rv_report.specs.Comparison.{RunsTo, table_of}
 use Rattle.rv_report.specs.declared.losses.ComparedRun.{ComparedRun}
 use Rattle.rv_report.specs.declared.shown.TableOptions.{TableOptions}
-use Rattle.rv_program.specs.CoreReport.{core_of, untaught_of}
+use Rattle.rv_program.specs.CoreReport.{hardware_on, untaught_of}
 
--- a run of the hardware that a job describes, with the predictor that it describes, from reset with its image, came to this
+-- a run of a machine, with the predictor that it describes, from reset with a job's image, came to this
+abbrev pub IsRunOn : TableOptions → Job → Values → ComparedRun → Type 0
+IsRunOn options job machine run = RunsTo job.arrivals options (guided (hardware_on machine job) (untaught_of machine.predictor)) run
+
+-- a run of the machine that a job describes
 abbrev pub IsRun : TableOptions → Job → ComparedRun → Type 0
-IsRun options job run = RunsTo job.arrivals options (core_of job (untaught_of job.description.predictor)) run
+IsRun options job run = IsRunOn options job job.description run
 
 -- runs of some jobs came to this, in the jobs' order
 pub data AreRuns (options : TableOptions) : List Job → List ComparedRun → Type 0 where

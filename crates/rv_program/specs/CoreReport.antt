@@ -1,7 +1,7 @@
 -- What the report of a simulation says in the words of the hardware's definition, which has every cycle of it.
 use Rattle.std.specs.Prelude.{◌≡◌, ℕ, List}
 use Rattle.rv_arch.specs.declared.outcome.Stop.{Stop}
-use Rattle.rv_isa.specs.declared.values.PredictorValues.{PredictorValues}
+use Rattle.rv_isa.specs.declared.values.{PredictorValues.PredictorValues, Values.Values}
 use Rattle.rv_front.specs.Guide.{Guide}
 use Rattle.rv_front.specs.Predictors.{described, guide_of}
 use Rattle.rv_hardware.specs.Guided.{GuidedCycles, GuidedHardware, guided}
@@ -17,9 +17,13 @@ use Rattle.rv_program.specs.ReferenceReport.{layout_of, shown}
 use Rattle.rv_program.specs.SimulationReport.{IsSimulationReport}
 use Rattle.rv_job.specs.declared.job.Job.{Job}
 
--- the hardware at reset with the image of a job
+-- the hardware of a machine at reset with the image of a job
+abbrev pub hardware_on : Values → Job → Hardware
+hardware_on machine job = reset_hardware machine job.image.bytes job.image.start
+
+-- that of the machine that the job describes
 abbrev pub hardware_of : Job → Hardware
-hardware_of job = reset_hardware job.description job.image.bytes job.image.start
+hardware_of job = hardware_on job.description job
 
 -- the hardware at reset with the image of a job, guided by a predictor
 abbrev pub core_of : Job → Guide → GuidedHardware

@@ -9,3 +9,4 @@ pub mod CoreReport
 pub mod RunView
 pub mod Task
 pub mod Comparison
+pub mod Sensitivity

@@ -25,6 +25,8 @@ use Rattle.rv_picture.specs.declared.picture.Form.TheVariants.{Text, Svg}
 use Rattle.rv_picture.specs.declared.picture.Rows.TheVariants.{All, Unsquashed}
 use Rattle.rv_report.specs.declared.{options.Options.Options, shown.{Shown.Shown as ShownWord, TableOptions.TableOptions}}
 use Rattle.rv_report.specs.declared.shown.Shown.TheVariants as cell
+use Rattle.rv_sensitivity.specs.Setting.{changes_of}
+use Rattle.rv_sensitivity.specs.declared.setting.Settings.{Settings}
 use Rattle.rv_states.specs.declared.form.Form.{Form as StatesForm}
 use Rattle.rv_states.specs.declared.form.Form.TheVariants.{Lines, Page}
 use Rattle.rv_text.specs.Written.{AppendsBeginning}
@@ -32,9 +34,10 @@ use Rattle.rv_program.specs.Comparison.{IsComparisonTable}
 use Rattle.rv_program.specs.CoreReport.{IsSimulation}
 use Rattle.rv_program.specs.ReferenceReport.{IsReferenceReport}
 use Rattle.rv_program.specs.RunView.{IsViewOf}
+use Rattle.rv_program.specs.Sensitivity.{IsSensitivityTable}
 use Rattle.rv_program.specs.declared.{ended.Ended.Ended, run_view.{RunView.RunView, Stretch.Stretch}, task.Task.Task}
 use Rattle.rv_program.specs.declared.run_view.RunView.TheVariants as view
-use Rattle.rv_program.specs.declared.task.Task.TheVariants.{Run, Reference, Check, Show, Compare}
+use Rattle.rv_program.specs.declared.task.Task.TheVariants.{Run, Reference, Check, Show, Compare, Sensitivity}
 
 -- the options of a command; which words of memory a report shows is the job's to say
 abbrev pub asked : Bool → ℕ → Options
@@ -79,6 +82,15 @@ table_options asked limit = record {
   shown = record { first = column_of asked.first; second = column_of asked.second; third = column_of asked.third; fourth = column_of asked.fourth };
 }
 
+-- the options of a table that shows nothing of the states at the ends
+abbrev pub plain_options : ℕ → TableOptions
+plain_options limit = record { limit = limit; shown = record { first = None; second = None; third = None; fourth = None } }
+
+-- a task tries the neighbours of the machine of an input's job, among them those of settings of a user's own
+abbrev pub AsksForNeighbours : Settings → ℕ → List ℕ → Task → Type 0
+AsksForNeighbours also limit input (Sensitivity job own options) = IsJobOf input job × (own.items ≡ changes_of also) × (options ≡ plain_options limit)
+AsksForNeighbours also limit input _ = ⊥
+
 -- a task shows a view of the run of an input's job
 abbrev pub AsksForView : RunView → List ℕ → Task → Type 0
 AsksForView view input (Show listed asked_view) = IsListedJobOf input listed × (asked_view ≡ view)
@@ -96,6 +108,7 @@ Asks (command.Page from limit) input task = AsksForView (view.States (stretch_of
 Asks (command.Explain figures limit) input task = AsksForView (view.Explanation (figures_of figures) limit) input task
 Asks (command.Profile limit) input task = AsksForView (view.Profile limit) input task
 Asks (command.Compare shown limit) input (Compare comparison options) = IsComparisonOf input comparison × (options ≡ table_options shown limit)
+Asks (command.Sensitivity also limit) input task = AsksForNeighbours also limit input task
 Asks _ input _ = ⊥
 
 -- an input has an error for which a command refuses it
@@ -110,14 +123,16 @@ Refuses (command.Page from limit) input error = RefusesJob input error
 Refuses (command.Explain figures limit) input error = RefusesJob input error
 Refuses (command.Profile limit) input error = RefusesJob input error
 Refuses (command.Compare shown limit) input error = RefusesComparison input error
+Refuses (command.Sensitivity also limit) input error = RefusesJob input error
 
--- the predictor that a task's machine has; each machine of a comparison has its own, and this one guides none of them
+-- the predictor that a task's machine has; each machine of a table has its own, and this one guides none of them
 abbrev pub predictor_of : Task → PredictorValues
 predictor_of (Run job options) = job.description.predictor
 predictor_of (Reference job options) = job.description.predictor
 predictor_of (Check made) = made.description.predictor
 predictor_of (Show listed view) = listed.job.description.predictor
 predictor_of (Compare comparison options) = standard_values.predictor
+predictor_of (Sensitivity job own options) = standard_values.predictor
 
 -- the exit status of a run
 unfoldable pub stop_status : Stop → ℕ
@@ -147,6 +162,7 @@ Shows (Check made) predictor text ended = (text ≡ image_line (length made.imag
 Shows (Show listed view) predictor text ended =
     (end : RunEnd) × IsViewOf listed predictor view end text × (ended ≡ ended_by end.stop end.over)
 Shows (Compare comparison options) predictor text ended = IsComparisonTable comparison options text × (ended ≡ done)
+Shows (Sensitivity job own options) predictor text ended = IsSensitivityTable job own.items options text × (ended ≡ done)
 
 -- a task asks for memory, but for one that only says which image a job makes
 abbrev pub AsksForMemory : Task → Type 0

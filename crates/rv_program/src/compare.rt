@@ -1,32 +1,33 @@
 ghost use Rattle.std.specs.Prelude.{◌≡◌, ◌^◌, ◌≤◌, IfOk, IfErr};
 ghost use Rattle.rv_program.specs.Answer.{IsAnswer};
-ghost use Rattle.rv_program.specs.Comparison.{AreRuns, IsAtMostOneText, IsComparisonTable, IsRun};
+ghost use Rattle.rv_program.specs.Comparison.{AreRuns, IsAtMostOneText, IsComparisonTable, IsRunOn};
 ghost use Rattle.rv_program.specs.CoreReport.{untaught_of};
 
 use crate::boxed_predictor::{BoxedPredictor, boxed};
 use rv_core::Pipeline;
-use rv_isa::PredictorValues;
+use rv_isa::{Description, PredictorValues};
 use rv_job::{Comparison, Job, SimError};
 use rv_report::{ComparedRun, TableOptions, run_totals, write_table};
 use std::alloc::Global;
 use std::io::Write;
 
-// Runs a job on the core that it describes, guided by a predictor that is the described one, up to a breakpoint, a stale
-// word or a limit of cycles.
+// Runs a job on a machine, guided by a predictor that is the described one, up to a breakpoint, a stale word or a limit of
+// cycles.
 fn run_guided(
     alloc: Global,
     job: &Job,
+    machine: &Description,
     values: PredictorValues,
     predictor: BoxedPredictor,
     options: &TableOptions,
 ) -> Result<ComparedRun, SimError>
     requires described { known predictor.predictor ≡ untaught_of values }
-    requires own { values ≡ job.now.description.predictor }
-    ensures run { IfOk result (IsRun options.now job.now) }
+    requires own { values ≡ machine.now.predictor }
+    ensures run { IfOk result (IsRunOn options.now job.now machine.now) }
     ensures errors { IfErr result (λ e. e ≡ SimError.Memory) }
 {
     // The image of a job fits, so that memory alone can be wanting.
-    let Ok(pipeline) = Pipeline::new(alloc, &job.description, &job.image) else {
+    let Ok(pipeline) = Pipeline::new(alloc, machine, &job.image) else {
         return Err(SimError::Memory);
     };
     let mut predictor = predictor;
@@ -43,14 +44,27 @@ fn run_guided(
     }
 }
 
-// Runs a job with the predictor that it describes.
-fn run_one(alloc: Global, job: &Job, options: &TableOptions) -> Result<ComparedRun, SimError>
-    ensures run { IfOk result (IsRun options.now job.now) }
+/// Runs a job on a machine whose RAM is that of the job's own, with the predictor that it describes. The only error is
+/// out of memory.
+pub(crate) fn run_on(
+    alloc: Global,
+    job: &Job,
+    machine: &Description,
+    options: &TableOptions,
+) -> Result<ComparedRun, SimError>
+    ensures run { IfOk result (IsRunOn options.now job.now machine.now) }
     ensures errors { IfErr result (λ e. e ≡ SimError.Memory) }
 {
-    let values = job.description.values().predictor;
+    let values = machine.values().predictor;
     match boxed(alloc, values) {
-        Ok(predictor) => run_guided(alloc, job, values, BoxedPredictor { predictor }, options),
+        Ok(predictor) => run_guided(
+            alloc,
+            job,
+            machine,
+            values,
+            BoxedPredictor { predictor },
+            options,
+        ),
         Err(_) => Err(SimError::Memory),
     }
 }
@@ -66,7 +80,7 @@ fn run_each(
 {
     let mut runs = Vec::new(alloc);
     for job in jobs {
-        let Ok(ended) = run_one(alloc, job, options) else {
+        let Ok(ended) = run_on(alloc, job, &job.description, options) else {
             return Err(SimError::Memory);
         };
         let Ok(()) = runs.push(ended) else {

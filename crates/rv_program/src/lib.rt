@@ -11,6 +11,7 @@ mod program;
 pub mod reference;
 mod refusal;
 mod run_view;
+pub mod sensitivity;
 pub mod simulate;
 mod task;
 

@@ -3,13 +3,14 @@ ghost use Rattle.rv_isa.specs.Description.{IsLegalPredictor};
 ghost use Rattle.rv_job.specs.Fault.{fault_line, fault_status};
 ghost use Rattle.rv_job.specs.FaultStream.{Tells};
 ghost use Rattle.rv_job.specs.JobRefusal.{RefusesJob};
-ghost use Rattle.rv_program.specs.Task.{Asks, AsksForView, Refuses, Ends, asked, column_of, done, ended_after, ended_by, figures_of, form_of, predictor_of, rows_of, shown_word, stop_status, table_options};
+ghost use Rattle.rv_program.specs.Task.{Asks, AsksForNeighbours, AsksForView, Refuses, Ends, asked, column_of, done, ended_after, ended_by, figures_of, form_of, plain_options, predictor_of, rows_of, shown_word, stop_status, table_options};
 
 use crate::boxed_predictor::BoxedPredictor;
 use crate::compare::compare;
 use crate::ended::Ended;
 use crate::reference::reference;
 use crate::run_view::{RunView, Stretch, show};
+use crate::sensitivity::sensitivity;
 use crate::simulate::simulate;
 use rv_arch::Stop;
 use rv_command::{Command, Shown, ShownColumns};
@@ -21,6 +22,7 @@ use rv_job::{
 };
 use rv_picture::{Form, Rows, RunEnd, View};
 use rv_report::{Columns, Options, Shown as ShownWord, TableOptions};
+use rv_sensitivity::{Change, Settings, changes};
 use rv_states::Form as StatesForm;
 use std::alloc::Global;
 use std::io::Write;
@@ -52,11 +54,18 @@ pub enum Task {
         comparison: Comparison,
         options: TableOptions,
     },
+    /// Run a job on its machine and on the neighbours of it, among them those of a user's own changes, and write a table of
+    /// the cycles that the runs took.
+    Sensitivity {
+        job: Job,
+        own: Vec<Change>,
+        options: TableOptions,
+    },
 }
 
 impl Task {
-    /// Which predictor guides the fetch of the machine, and how many entries it has. Each machine of a comparison has its
-    /// own, and what is answered for one guides none of them.
+    /// Which predictor guides the fetch of the machine, and how many entries it has. Each machine of a table has its own, and
+    /// what is answered for one guides none of them.
     pub fn predictor(&self) -> PredictorValues
         ensures predictor { result ≡ predictor_of self.now }
         ensures legal { IsLegalPredictor result }
@@ -68,7 +77,7 @@ impl Task {
                 .predictor,
             Task::Check { made } => made.description.values().predictor,
             Task::Show { listed, .. } => listed.job.description.values().predictor,
-            Task::Compare { .. } => Values::standard().predictor,
+            Task::Compare { .. } | Task::Sensitivity { .. } => Values::standard().predictor,
         }
     }
 }
@@ -141,6 +150,37 @@ const fn table_options(asked: &ShownColumns, limit: u64) -> TableOptions
     TableOptions { limit, shown }
 }
 
+// The options of a table that shows nothing of the states at the ends.
+const fn plain_options(limit: u64) -> TableOptions
+    ensures { result ≡ plain_options limit }
+{
+    let shown = Columns {
+        first: None,
+        second: None,
+        third: None,
+        fourth: None,
+    };
+    TableOptions { limit, shown }
+}
+
+// Reads a job whose machine's neighbours are to be tried.
+fn read_sensitivity(
+    alloc: Global,
+    also: &Settings,
+    limit: u64,
+    input: &[u8],
+) -> Result<Task, SimError>
+    ensures task { IfOk result (AsksForNeighbours also.now limit input.now) }
+    ensures refused { IfErr result (RefusesJob input.now) }
+{
+    let job = read_job(alloc, input)?;
+    let options = plain_options(limit);
+    match changes(alloc, also) {
+        Ok(own) => Ok(Task::Sensitivity { job, own, options }),
+        Err(_) => Err(SimError::Memory),
+    }
+}
+
 // Reads a job of whose run a view is to be shown.
 fn read_view(alloc: Global, view: RunView, input: &[u8]) -> Result<Task, SimError>
     ensures task { IfOk result (AsksForView view input.now) }
@@ -205,6 +245,7 @@ fn read_task(alloc: Global, command: &Command, input: &[u8]) -> Result<Task, Sim
                 options,
             })
         }
+        Command::Sensitivity { also, limit } => read_sensitivity(alloc, also, *limit, input),
     }
 }
 
@@ -285,7 +326,7 @@ fn ended_view(run: Result<RunEnd, SimError>) -> Result<Ended, SimError>
     }
 }
 
-// How a comparison ended, or why it failed, after its table.
+// How a task ended that writes a table, or why it failed, after its table.
 fn ended_table(table: Result<(), SimError>) -> Result<Ended, SimError>
     ensures { result ≡ ended_after (λ _. done) table }
 {
@@ -319,5 +360,8 @@ pub fn finish<W: Write>(
             comparison,
             options,
         } => ended_table(compare(alloc, comparison, options, output)),
+        Task::Sensitivity { job, own, options } => {
+            ended_table(sensitivity(alloc, job, own.as_slice(), options, output))
+        }
     }
 }

@@ -4,8 +4,9 @@ use Rattle.rv_program.specs.Comparison.{IsComparisonTable}
 use Rattle.rv_program.specs.CoreReport.{IsSimulation}
 use Rattle.rv_program.specs.ReferenceReport.{IsReferenceReport}
 use Rattle.rv_program.specs.RunView.{IsViewOf}
+use Rattle.rv_program.specs.Sensitivity.{IsSensitivityTable}
 use Rattle.rv_program.specs.Task.{done, ended_by}
-use Rattle.rv_program.specs.declared.task.Task.TheVariants.{Run, Reference, Check, Show, Compare}
+use Rattle.rv_program.specs.declared.task.Task.TheVariants.{Run, Reference, Check, Show, Compare, Sensitivity}
 use Rattle.rv_program.proofs.Ending.{Ends-after, Ends-by_write}
 use Rattle.rv_program.proofs.task.finish.Goals as goal
 
@@ -38,3 +39,10 @@ returns-in-Compare g c =
     (Ends-after (Compare c.in-Compare.comparison c.in-Compare.options)
     ((goal.Predictor-dyn g (c.args.predictor.predictor.vtable, c.args.predictor.predictor.value)).known c.args.predictor.predictor.value)
     (λ _ text. IsComparisonTable c.in-Compare.comparison c.in-Compare.options text) (λ _. done) c.compare.result _ _ tt (λ _ text is. (is, refl)) c.compare.ensures.table c.ended_table.ensures)
+
+pub returns-in-Sensitivity : goal.returns-in-Sensitivity
+returns-in-Sensitivity g c =
+    rw c.in-Sensitivity.is
+    (Ends-after (Sensitivity c.in-Sensitivity.job c.in-Sensitivity.own c.in-Sensitivity.options)
+    ((goal.Predictor-dyn g (c.args.predictor.predictor.vtable, c.args.predictor.predictor.value)).known c.args.predictor.predictor.value)
+    (λ _ text. IsSensitivityTable c.in-Sensitivity.job c.in-Sensitivity.own.items c.in-Sensitivity.options text) (λ _. done) c.sensitivity.result _ _ tt (λ _ text is. (is, refl)) (rw c.as_slice.ensures.value at c.sensitivity.ensures.table) c.ended_table-in-Sensitivity.ensures)

@@ -1,8 +1,8 @@
 use denote.Param.Object.{read_made}
 use Rattle.std.proofs.Common.{refl, ◌∙◌}
 use Rattle.rv_program.specs.contracts.compare.run_guided.{dyn-1-ghosts}
-use Rattle.rv_program.proofs.compare.run_one.OwnLists.{at-1-1, lawful-own-1, own-1}
-use Rattle.rv_program.proofs.compare.run_one.Goals as goal
+use Rattle.rv_program.proofs.compare.run_on.OwnLists.{at-1-1, lawful-own-1, own-1}
+use Rattle.rv_program.proofs.compare.run_on.Goals as goal
 
 -- what is known of the box is what was put into it
 pub run_guided-requires-clause-described : goal.run_guided-requires-clause-described
