@@ -43,6 +43,8 @@ mod references;
 #[cfg(test)]
 mod reports;
 #[cfg(test)]
+mod sensitivities;
+#[cfg(test)]
 mod simulations;
 #[cfg(test)]
 mod statements;

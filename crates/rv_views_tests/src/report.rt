@@ -2,4 +2,5 @@ mod cut_short;
 mod losses;
 mod outcome;
 mod reports;
+mod sensitivity;
 mod tables;

@@ -11,17 +11,18 @@ const HELP: &str = "Simulates a RISC-V core
 Usage: rv_sim <COMMAND>
 
 Commands:
-  run        Runs the text on standard input on the core, cycle by cycle
-  reference  Runs the text on standard input, one step at a time
-  check      Assembles the text on standard input
-  picture    Draws some cycles of a run of the text on standard input
-  log        Writes a run of the text on standard input as a log for pipeline viewers (Konata)
-  states     Writes the hardware in some cycles of a run of the text on standard input, as lines of JSON
-  page       Makes a page of some cycles of a run of the text on standard input, to step through in a browser
-  explain    Says in sentences how a run of the text on standard input went
-  profile    Writes a table of what each line of the text on standard input cost in a run
-  compare    Runs one program on several machines, and compares their totals
-  help       Print this message or the help of the given subcommand(s)
+  run          Runs the text on standard input on the core, cycle by cycle
+  reference    Runs the text on standard input, one step at a time
+  check        Assembles the text on standard input
+  picture      Draws some cycles of a run of the text on standard input
+  log          Writes a run of the text on standard input as a log for pipeline viewers (Konata)
+  states       Writes the hardware in some cycles of a run of the text on standard input, as lines of JSON
+  page         Makes a page of some cycles of a run of the text on standard input, to step through in a browser
+  explain      Says in sentences how a run of the text on standard input went
+  profile      Writes a table of what each line of the text on standard input cost in a run
+  compare      Runs one program on several machines, and compares their totals
+  sensitivity  Says which key of the machine would help the text on standard input
+  help         Print this message or the help of the given subcommand(s)
 
 Options:
   -h, --help     Print help
@@ -233,6 +234,34 @@ Exit status:
   5  out of memory
 ";
 
+const HELP_OF_SENSITIVITY: &str =
+    "Says which key of the machine would help the text on standard input
+
+Usage: rv_sim sensitivity [OPTIONS]
+
+Options:
+      --limit <N>         The most cycles of each run, 1 to 1000000 [default: 100000]
+      --also <KEY=VALUE>  Tries a value of your own for a key of the description too, four at most
+  -h, --help              Print help
+
+Reads a job from standard input and runs it on its machine and on machines that differ in one key:
+each size and width twice as large, each latency and cost half as long, a kind pipelined, the other
+recovery, the other predictors, and all widths at once, each within its key's range, as in:
+  rv_sim sensitivity < FILE
+  rv_sim sensitivity --also rob=64 --also predictor.kind=not_taken < FILE
+
+Writes a line for the machine as it is and one for each other, the fewest cycles first, its cells with
+a tab between two: the key, its value and the one tried, the cycles, how many thousandths of the cycles
+that is more or less, and why the run ended.
+
+Exit status:
+  0  the table was written; its column stop says how each run ended
+  1  the job was refused
+  2  wrong usage
+  4  standard input or output failed
+  5  out of memory
+";
+
 const FROM_TOO_LATE: &str =
     "error: invalid value '1000000' for '--from <N>': 1000000 is not in 0..=999999
 
@@ -256,7 +285,7 @@ For more information, try '--help'.
 ";
 
 const NO_COMMAND: &str = "error: 'rv_sim' requires a subcommand but one was not provided
-  [subcommands: run, reference, check, picture, log, states, page, explain, profile, compare, help]
+  [subcommands: run, reference, check, picture, log, states, page, explain, profile, compare, sensitivity, help]
 
 Usage: rv_sim <COMMAND>
 
@@ -328,7 +357,7 @@ fn each_is_shown(
 
 #[test]
 fn help_and_version_have_their_texts(rt: HostRuntime) -> Result<(), Fail> {
-    const CASES: [(&[&str], &str); 14] = [
+    const CASES: [(&[&str], &str); 15] = [
         (&["rv_sim", "--help"], HELP),
         (&["rv_sim", "help"], HELP),
         (&["rv_sim", "run", "-h"], HELP_OF_RUN),
@@ -342,6 +371,7 @@ fn help_and_version_have_their_texts(rt: HostRuntime) -> Result<(), Fail> {
         (&["rv_sim", "explain", "--help"], HELP_OF_EXPLAIN),
         (&["rv_sim", "profile", "--help"], HELP_OF_PROFILE),
         (&["rv_sim", "compare", "--help"], HELP_OF_COMPARE),
+        (&["rv_sim", "sensitivity", "--help"], HELP_OF_SENSITIVITY),
         (&["rv_sim", "--version"], VERSION),
     ];
     each_is_shown(&rt, rt.alloc(), &CASES, 0)
