@@ -1,0 +1,3 @@
+mod Nothing
+pub mod OnePath
+mod Pathing

@@ -1,0 +1,15 @@
+use Rattle.rv_path.proofs.OnePath.{one_path}
+use Rattle.rv_path.proofs.written.write_path.Goals as goal
+
+-- whatever was written
+pub returns-in_default-clause-one_path : goal.returns-in_default-clause-one_path
+returns-in_default-clause-one_path g c = one_path c.args.arrivals.now c.args.limit
+
+pub returns-in_default-run_accounted-clause-one_path : goal.returns-in_default-run_accounted-clause-one_path
+returns-in_default-run_accounted-clause-one_path g c = one_path c.args.arrivals.now c.args.limit
+
+pub returns-in-Ok-write_ranked-clause-one_path : goal.returns-in-Ok-write_ranked-clause-one_path
+returns-in-Ok-write_ranked-clause-one_path g c = one_path c.args.arrivals.now c.args.limit
+
+pub returns-clause-one_path : goal.returns-clause-one_path
+returns-clause-one_path g c = one_path c.args.arrivals.now c.args.limit

@@ -1,0 +1,99 @@
+-- Who holds the port of the cache and the units after a cycle.
+use Rattle.std.specs.Prelude.{ℕ, ◌+◌, ◌==◌, ◌&&◌, ◌||◌, not, nat_le, nat_lt, Bool, true, false, if◌then◌else◌, List, [], ◌∷◌, ◌++◌, filter, Option, Some, None}
+use Rattle.std.specs.Option.{option_or, unwrap_or}
+use Rattle.rv_isa.specs.Instruction.{kind_of_word}
+use Rattle.rv_isa.specs.PerKind.{at_kind}
+use Rattle.rv_isa.specs.declared.{issues.Issue.Issue, operations.Kind.Kind, values.Values.Values}
+use Rattle.rv_passage.specs.Result.{issued_in}
+use Rattle.rv_passage.specs.declared.passage.Passage.{Passage}
+use Rattle.rv_path.specs.Event.{Reached}
+use Rattle.rv_path.specs.Leaving.{lines_event}
+use Rattle.rv_path.specs.Lookup.{first_of}
+use Rattle.rv_path.specs.Setting.{Setting, after_port, last_left, waits}
+use Rattle.rv_path.specs.Sought.{is_at}
+use Rattle.rv_path.specs.declared.{before.Before.Before, before.DrainHold.DrainHold, before.Facts.Facts, before.Holder.Holder, before.Left.Left, before.PortHold.PortHold, before.UnitHold.UnitHold, leaving.Leaving.Leaving, way.Journey.Journey, way.Way.Way}
+use Rattle.rv_path.specs.declared.before.Holder.TheVariants as holder
+use Rattle.rv_path.specs.declared.cause.Cause.TheVariants as cause
+use Rattle.rv_path.specs.declared.sought.Sought.TheVariants as sought
+
+-- the port was taken in the cycle: it is held beyond it, and was not so before
+abbrev pub is_taken : Setting → Facts → Bool
+is_taken s facts = nat_lt s.number facts.port_free && not (facts.port_free == s.before.facts.port_free)
+
+-- a drain ends in a cycle
+abbrev pub ends_at : ℕ → Option ℕ → Bool
+ends_at cycle None = false
+ends_at cycle (Some end) = end == cycle
+
+-- a drain is under way after the cycle that was not before: no two end in one cycle
+abbrev pub is_begun : Setting → Option ℕ → Bool
+is_begun s None = false
+is_begun s (Some end) = not (ends_at end s.before.facts.drain_end)
+
+-- the store that begins to drain retired in the cycle, where none waited before
+abbrev pub at_its_commit : Setting → Leaving → Option Reached
+at_its_commit s leaving = if s.before.facts.is_store_waiting then None else leaving.store
+
+-- the event by which a store begins to drain
+abbrev pub drain_event : Setting → Leaving → Reached
+drain_event s leaving =
+    unwrap_or (option_or (at_its_commit s leaving) (after_port s)) (waits s cause.Other (last_left s.before.left))
+
+-- the drain that begins in the cycle takes the port
+abbrev pub drains : Setting → Facts → Bool
+drains s facts = is_taken s facts && is_begun s facts.drain_end
+
+-- who drained last
+abbrev pub drain_now : Setting → Leaving → Facts → Option DrainHold
+drain_now s leaving facts =
+    if drains s facts then Some (record { until = facts.port_free; event = drain_event s leaving }) else s.before.drain
+
+-- a load holds the port from its issue on
+abbrev pub load_hold : ℕ → Option Journey → Option PortHold
+load_hold until None = None
+load_hold until (Some load) =
+    Some (record { until = until; event = load.way.issue; holder = holder.Load; number = load.row.number })
+
+-- the oldest instruction writes lines back
+abbrev pub lines_hold : Setting → Leaving → ℕ → Option Journey → Option PortHold
+lines_hold s leaving until None = None
+lines_hold s leaving until (Some head) =
+    Some (record { until = until; event = lines_event s leaving head.row head.way; holder = holder.Lines; number = head.row.number })
+
+-- who took the port in the cycle: a drain, a load, or the lines of the oldest instruction
+abbrev pub taken_by : Setting → Leaving → List Way → Facts → Option PortHold
+taken_by s leaving ways facts =
+    if is_begun s facts.drain_end
+    then Some (record { until = facts.port_free; event = drain_event s leaving; holder = holder.Drain; number = 0 })
+    else option_or (load_hold facts.port_free (first_of (sought.LoadUntil s.number facts.port_free) s.rows ways))
+    (lines_hold s leaving facts.port_free (first_of sought.Entry s.rows ways))
+
+-- who holds the port, or held it last
+abbrev pub port_now : Setting → Leaving → List Way → Facts → Option PortHold
+port_now s leaving ways facts = if is_taken s facts then taken_by s leaving ways facts else s.before.port
+
+-- a hold goes on after the cycle
+abbrev pub goes_beyond : ℕ → UnitHold → Bool
+goes_beyond number hold = nat_lt number hold.until
+
+-- an instruction was issued in the cycle to a unit of a kind that is not pipelined
+abbrev pub hold_of_kind : ℕ → Values → Passage → Way → Option Issue → Kind → List UnitHold
+hold_of_kind number values p w None kind = []
+hold_of_kind number values p w (Some issue) kind =
+    if issue.cycle == number && not ((at_kind kind values.kinds).pipelined)
+    then record { kind = kind; until = issue.cycle + issue.cost; number = p.number; event = w.issue } ∷ []
+    else []
+
+unfoldable pub hold_of : ℕ → Values → Passage → Way → Option Kind → List UnitHold
+hold_of number values p w None = []
+hold_of number values p w (Some kind) = hold_of_kind number values p w p.issue kind
+
+-- those that begin in the cycle
+abbrev pub new_holds : ℕ → Values → List Passage → List Way → List UnitHold
+new_holds number values [] ways = []
+new_holds number values (p ∷ ps) [] = []
+new_holds number values (p ∷ ps) (w ∷ ws) = hold_of number values p w (kind_of_word p.instruction) ++ new_holds number values ps ws
+
+-- who holds units after the cycle
+abbrev pub holds_now : Setting → List Way → List UnitHold
+holds_now s ways = filter (goes_beyond s.number) s.holds ++ new_holds s.number s.values s.rows ways

@@ -1,0 +1,131 @@
+-- The events by which instructions are issued, and their results broadcast.
+use Rattle.std.specs.Prelude.{ℕ, ◌+◌, ◌==◌, ◌&&◌, nat_lt, Bool, if◌then◌else◌, List, [], ◌∷◌, count_by, Option, Some, None}
+use Rattle.std.specs.Option.{option_or, unwrap_or}
+use Rattle.rv_isa.specs.Instruction.{is_load, kind_of_word}
+use Rattle.rv_isa.specs.PerKind.{at_kind, is_same}
+use Rattle.rv_isa.specs.declared.{issues.Issue.Issue, operations.Kind.Kind}
+use Rattle.rv_passage.specs.Result.{issued_in, ready_in}
+use Rattle.rv_passage.specs.declared.{passage.Passage.Passage, producers.Producer.Producer}
+use Rattle.rv_path.specs.Cause.{busy_of, execution_of}
+use Rattle.rv_path.specs.Event.{Reached, settled}
+use Rattle.rv_path.specs.Lookup.{first_of, last_of}
+use Rattle.rv_path.specs.Setting.{Setting, after_port, is_hold_of, port_ended, waits}
+use Rattle.rv_path.specs.Sought.{is_at, is_just_before, is_sought}
+use Rattle.rv_path.specs.Way.{with_broadcast, with_issue}
+use Rattle.rv_path.specs.declared.{before.UnitHold.UnitHold, cause.Cause.Cause, way.Journey.Journey, way.Way.Way}
+use Rattle.rv_path.specs.declared.before.Holder.TheVariants as holder
+use Rattle.rv_path.specs.declared.cause.Cause.TheVariants as cause
+use Rattle.rv_path.specs.declared.sought.Sought.TheVariants as sought
+
+-- an event that waited for the broadcast of an instruction
+abbrev pub after_broadcast : Setting → Cause → Option Journey → Option Reached
+after_broadcast s cause None = None
+after_broadcast s cause (Some journey) = Some (waits s cause journey.way.broadcast)
+
+-- an operand was broadcast in the cycle just before
+abbrev pub after_producer : Setting → Option Producer → Option Reached
+after_producer s None = None
+after_producer s (Some producer) =
+    if is_just_before s.number producer.broadcast
+    then after_broadcast s cause.Operand (first_of (sought.Number producer.number) s.rows s.ways)
+    else None
+
+-- of the first two that the instruction waits for
+abbrev pub after_operands : Setting → Passage → Option Reached
+after_operands s p = option_or (after_producer s p.producers.first) (after_producer s p.producers.second)
+
+-- the address of an older store was broadcast then
+abbrev pub after_older_store : Setting → Passage → Option Journey → Option Reached
+after_older_store s p None = None
+after_older_store s p (Some store) =
+    if nat_lt store.row.number p.number then Some (waits s cause.StoreAddress store.way.broadcast) else None
+
+abbrev pub after_stores_known : Setting → Passage → Option Reached
+after_stores_known s p =
+    if is_load p.instruction then after_older_store s p (first_of (sought.StoreBefore s.number) s.rows s.ways) else None
+
+-- a hold of a unit of a kind that ended when the cycle began
+abbrev pub has_ended : Setting → Kind → UnitHold → Bool
+has_ended s kind hold = is_same hold.kind kind && hold.until == s.number
+
+-- the one of the oldest of two instructions
+abbrev pub older_hold : UnitHold → Option UnitHold → UnitHold
+older_hold hold None = hold
+older_hold hold (Some other) = if nat_lt other.number hold.number then other else hold
+
+-- the hold that ended then, of the oldest instruction
+abbrev pub hold_among : Setting → Kind → List UnitHold → Option UnitHold
+hold_among s kind [] = None
+hold_among s kind (hold ∷ holds) =
+    if has_ended s kind hold then Some (older_hold hold (hold_among s kind holds)) else hold_among s kind holds
+
+abbrev pub after_hold_of : Setting → Kind → Option UnitHold → Option Reached
+after_hold_of s kind None = None
+after_hold_of s kind (Some hold) = Some (waits s (busy_of kind) hold.event)
+
+-- the last that was issued in the cycle just before took the last of the units
+abbrev pub after_issue : Setting → Kind → Option Journey → Option Reached
+after_issue s kind None = None
+after_issue s kind (Some journey) = Some (waits s (busy_of kind) journey.way.issue)
+
+abbrev pub after_issues : Setting → Kind → Option Reached
+after_issues s kind =
+    if count_by (is_sought (sought.IssuedBefore kind s.number)) s.rows == (at_kind kind s.values.kinds).units
+    then after_issue s kind (last_of (sought.IssuedBefore kind s.number) s.rows s.ways)
+    else None
+
+-- the units of a kind were held by others
+abbrev pub after_units : Setting → Kind → Option Reached
+after_units s kind =
+    if (at_kind kind s.values.kinds).pipelined then after_issues s kind else after_hold_of s kind (hold_among s kind s.holds)
+
+abbrev pub after_units_of : Setting → Option Kind → Option Reached
+after_units_of s None = None
+after_units_of s (Some kind) = after_units s kind
+
+-- what an instruction waited for after its dispatch, of these the first
+abbrev pub issue_after : Setting → Passage → Option Reached
+issue_after s p =
+    option_or (after_operands s p) (option_or (after_stores_known s p) (option_or (after_units_of s (kind_of_word p.instruction)) (after_port s)))
+
+-- the event by which an instruction is issued
+abbrev pub issue_event : Setting → Passage → Way → Reached
+issue_event s p w =
+    if is_just_before s.number p.dispatched then settled (waits s cause.DispatchToIssue w.dispatch)
+    else settled (unwrap_or (issue_after s p) (waits s cause.Other w.dispatch))
+
+-- the execution of a load, by whether it held the port, and what it cost
+abbrev pub load_cause : Setting → Passage → Option Issue → Cause
+load_cause s p None = cause.LoadMiss
+load_cause s p (Some issue) = if issue.cost == s.values.cache.hit then cause.LoadHit else cause.LoadMiss
+
+abbrev pub execution_cause_of : Setting → Passage → Option Kind → Cause
+execution_cause_of s p None = cause.Other
+execution_cause_of s p (Some kind) = execution_of kind
+
+-- what kept a result from its issue on
+abbrev pub execution_cause : Setting → Passage → Cause
+execution_cause s p =
+    if is_load p.instruction then (if is_hold_of holder.Load p.number (port_ended s) then load_cause s p p.issue else cause.LoadForwarded)
+    else execution_cause_of s p (kind_of_word p.instruction)
+
+-- as many results as the bus is wide went first
+abbrev pub after_bus : Setting → Option Reached
+after_bus s =
+    if count_by (is_sought (sought.BroadcastBefore s.number)) s.rows == s.values.bus_width
+    then after_broadcast s cause.BusFull (last_of (sought.BroadcastBefore s.number) s.rows s.ways)
+    else None
+
+-- the event by which a result is broadcast
+abbrev pub broadcast_event : Setting → Passage → Way → Reached
+broadcast_event s p w =
+    if is_at s.number (ready_in p) then settled (waits s (execution_cause s p) w.issue)
+    else settled (unwrap_or (after_bus s) (waits s cause.Other w.issue))
+
+-- an instruction is issued, if that is so in the cycle
+abbrev pub if_issued : Setting → Passage → Way → Way
+if_issued s p w = if is_at s.number (issued_in p) then with_issue (issue_event s p w) w else w
+
+-- and its result is broadcast
+abbrev pub if_broadcast : Setting → Passage → Way → Way
+if_broadcast s p w = if is_at s.number p.broadcast then with_broadcast (broadcast_event s p w) w else w

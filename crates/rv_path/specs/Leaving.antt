@@ -1,0 +1,120 @@
+-- The instructions that leave the hardware in a cycle, and the lines that the oldest one writes back.
+use Rattle.std.specs.Prelude.{ℕ, ◌==◌, ◌&&◌, Bool, true, false, if◌then◌else◌, List, [], ◌∷◌, Option, Some, None}
+use Rattle.std.specs.Option.{option_or, unwrap_or}
+use Rattle.std.specs.List.{list_any}
+use Rattle.rv_hardware.specs.Step.{is_interrupt}
+use Rattle.rv_hardware.specs.declared.step.Step.{Step}
+use Rattle.rv_isa.specs.Instruction.{is_fence_i, is_store}
+use Rattle.rv_passage.specs.declared.passage.{Ending.Ending, Passage.Passage}
+use Rattle.rv_passage.specs.declared.passage.Ending.TheVariants.{InFlight, Retired, Trapped, Squashed}
+use Rattle.rv_path.specs.Event.{Reached, first_event, settled}
+use Rattle.rv_path.specs.Setting.{Setting, after_stores, is_hold_of, last_left, left_before, port_ended, waits}
+use Rattle.rv_path.specs.Sought.{is_before, is_end, is_just_before, is_sought}
+use Rattle.rv_path.specs.declared.{before.Left.Left, before.PortHold.PortHold, leaving.Leaving.Leaving, way.Way.Way}
+use Rattle.rv_path.specs.declared.before.Holder.TheVariants as holder
+use Rattle.rv_path.specs.declared.cause.Cause.TheVariants as cause
+use Rattle.rv_path.specs.declared.sought.Sought.TheVariants as sought
+
+-- the cycle in which its result was known: that of its broadcast, or of its dispatch where it uses no unit
+abbrev pub known_in : Passage → Option ℕ
+known_in p = option_or p.broadcast p.dispatched
+
+-- a FENCE.I that its own lines kept
+abbrev pub own_lines : Setting → Option PortHold → Option Reached
+own_lines s None = None
+own_lines s (Some hold) = Some (waits s cause.LinesWritten hold.event)
+
+abbrev pub after_own_lines : Setting → Passage → Option Reached
+after_own_lines s p = if is_hold_of holder.Lines p.number (port_ended s) then own_lines s (port_ended s) else None
+
+-- the first to leave in a cycle, where others left in the cycle before
+abbrev pub after_left : Setting → Left → Reached
+after_left s left =
+    if left.count == s.values.commit_width then waits s cause.CommitWidth left.event else waits s cause.CommitInOrder left.event
+
+abbrev pub after_left_before : Setting → Option Left → Option Reached
+after_left_before s None = None
+after_left_before s (Some left) = Some (after_left s left)
+
+-- what the first to leave in a cycle waited for last: a FENCE.I for its lines and the older stores, any other for the older instructions
+abbrev pub first_to_leave : Setting → Passage → Option Reached
+first_to_leave s p =
+    if is_fence_i p.instruction then option_or (after_own_lines s p) (after_stores s) else after_left_before s (left_before s)
+
+-- one leaves after others of the same cycle, or is the first
+abbrev pub leaves_after : Setting → Option Reached → Passage → Way → Reached
+leaves_after s (Some event) p w = event
+leaves_after s None p w = settled (unwrap_or (first_to_leave s p) (waits s cause.Other w.dispatch))
+
+-- the event by which an instruction leaves the hardware, after the one before it in the cycle
+abbrev pub leaving_event : Setting → Option Reached → Passage → Way → Reached
+leaving_event s earlier p w =
+    if is_just_before s.number (known_in p) then settled (waits s cause.Commit w.broadcast) else leaves_after s earlier p w
+
+-- it retired
+abbrev pub is_retirement : Ending → Bool
+is_retirement InFlight = false
+is_retirement (Retired order cycle written next) = true
+is_retirement (Trapped cycle cause) = false
+is_retirement (Squashed cycle) = false
+
+-- a store retired
+abbrev pub is_retired_store : Passage → Bool
+is_retired_store p = is_retirement p.ending && is_store p.instruction
+
+-- the events of those that left so far: of the first, the last, and the first store
+abbrev pub none_left : Leaving
+none_left = record { first = None; last = None; store = None }
+
+-- one more
+abbrev pub with_event : Reached → Passage → Leaving → Leaving
+with_event event p leaving = record {
+  first = option_or leaving.first (Some event);
+  last = Some event;
+  store = if is_retired_store p then option_or leaving.store (Some event) else leaving.store;
+}
+
+-- one more instruction, if it left
+abbrev pub with_row : Setting → Passage → Way → Leaving → Leaving
+with_row s p w leaving = if is_end p.ending then with_event (leaving_event s leaving.last p w) p leaving else leaving
+
+-- some more
+abbrev pub with_rows : Setting → List Passage → List Way → Leaving → Leaving
+with_rows s [] ways leaving = leaving
+with_rows s (p ∷ ps) [] leaving = leaving
+with_rows s (p ∷ ps) (w ∷ ws) leaving = with_rows s ps ws (with_row s p w leaving)
+
+-- all that leave in the cycle
+abbrev pub leaving_of : Setting → Leaving
+leaving_of s = with_rows s s.rows s.ways none_left
+
+-- an interrupt came so long after the last step
+abbrev pub interrupt_after : Setting → Option Left → Reached
+interrupt_after s None = first_event s.elapsed
+interrupt_after s (Some left) = settled (waits s cause.UntilInterrupt left.event)
+
+abbrev pub interrupt_event : Setting → Reached
+interrupt_event s = interrupt_after s s.before.left
+
+-- an interrupt is among the steps of the cycle
+abbrev pub is_interrupted : List Step → Bool
+is_interrupted steps = list_any is_interrupt steps
+
+-- the last event that left, where some left in the cycle
+abbrev pub left_by : Setting → ℕ → Option Reached → Option Left
+left_by s count None = s.before.left
+left_by s count (Some event) = Some (record { cycle = s.number; count = count; event = event })
+
+-- what left last after the cycle; with an interrupt no instruction leaves
+abbrev pub left_now : Setting → Bool → Leaving → ℕ → Option Left
+left_now s interrupted leaving count =
+    if interrupted then left_by s 0 (Some (interrupt_event s)) else left_by s count leaving.last
+
+-- The oldest instruction begins to write lines back: when it is the oldest, and the older stores and the port let it.
+abbrev pub lines_after : Setting → Option Reached → Passage → Way → Reached
+lines_after s (Some event) p w = event
+lines_after s None p w = unwrap_or (after_stores s) (waits s cause.Other (settled w.dispatch))
+
+abbrev pub lines_event : Setting → Leaving → Passage → Way → Reached
+lines_event s leaving p w =
+    if is_just_before s.number p.dispatched then waits s cause.Commit (settled w.dispatch) else lines_after s leaving.last p w

@@ -1,0 +1,16 @@
+pub mod Cause
+pub mod Event
+pub mod Way
+pub mod Sought
+pub mod Lookup
+pub mod Before
+pub mod Setting
+pub mod Leaving
+pub mod Issuing
+pub mod Moving
+pub mod Fetching
+pub mod Holding
+pub mod Path
+pub mod Keeping
+pub mod Text
+pub mod Run

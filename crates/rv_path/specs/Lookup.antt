@@ -1,0 +1,22 @@
+-- The instructions of a cycle with their events, and those that are looked for.
+use Rattle.std.specs.Prelude.{ℕ, if◌then◌else◌, List, [], ◌∷◌, Option, Some, None}
+use Rattle.std.specs.Option.{option_or}
+use Rattle.rv_passage.specs.declared.passage.Passage.{Passage}
+use Rattle.rv_path.specs.Sought.{is_sought}
+use Rattle.rv_path.specs.declared.{sought.Sought.Sought, way.Journey.Journey, way.Way.Way}
+
+-- an instruction with its events, if it is looked for
+abbrev pub sought_of : Sought → Passage → Way → Option Journey
+sought_of sought p w = if is_sought sought p then Some (record { row = p; way = w }) else None
+
+-- the first that is looked for, of those with their events
+abbrev pub first_of : Sought → List Passage → List Way → Option Journey
+first_of sought [] ways = None
+first_of sought (p ∷ ps) [] = None
+first_of sought (p ∷ ps) (w ∷ ws) = if is_sought sought p then Some (record { row = p; way = w }) else first_of sought ps ws
+
+-- the last one
+abbrev pub last_of : Sought → List Passage → List Way → Option Journey
+last_of sought [] ways = None
+last_of sought (p ∷ ps) [] = None
+last_of sought (p ∷ ps) (w ∷ ws) = option_or (last_of sought ps ws) (sought_of sought p w)

@@ -1,0 +1,94 @@
+-- What stands when a cycle begins, with what its instructions came to by its end; and what several events of it may have waited for.
+use Rattle.std.specs.Prelude.{ℕ, ◌+◌, ◌==◌, ◌&&◌, not, Bool, false, if◌then◌else◌, List, [], ◌∷◌, Option, Some, None}
+use Rattle.std.specs.Option.{option_or}
+use Rattle.rv_isa.specs.PerKind.{is_same}
+use Rattle.rv_isa.specs.declared.{operations.Kind.Kind, values.Values.Values}
+use Rattle.rv_passage.specs.declared.passage.Passage.{Passage}
+use Rattle.rv_path.specs.Before.{is_same_holder, port_cause}
+use Rattle.rv_path.specs.Event.{Reached, nothing_yet, waited_for}
+use Rattle.rv_path.specs.declared.{before.Before.Before, before.DrainHold.DrainHold, before.Holder.Holder, before.Left.Left, before.PortHold.PortHold, before.UnitHold.UnitHold, cause.Cause.Cause, scene.Scene.Scene, way.Way.Way}
+use Rattle.rv_path.specs.declared.before.Holder.TheVariants as holder
+use Rattle.rv_path.specs.declared.cause.Cause.TheVariants as cause
+
+-- The number of the cycle, and how many there were before it; what the description says; the instructions as they stand at its end, with
+-- their events before it; who holds units that are not pipelined; and all else that is known when it begins.
+pub record Setting : Type 0 where
+  pub number : ℕ
+  pub elapsed : ℕ
+  pub values : Values
+  pub rows : List Passage
+  pub ways : List Way
+  pub holds : List UnitHold
+  pub before : Before
+
+-- that of a scene
+abbrev pub setting_of : Scene → Setting
+setting_of scene = record {
+  number = scene.number;
+  elapsed = scene.elapsed;
+  values = scene.values.now;
+  rows = scene.rows.now;
+  ways = scene.ways.now;
+  holds = scene.holds.now;
+  before = scene.before.now;
+}
+
+-- an event of the cycle that waited last for another one, and why
+abbrev pub waits : Setting → Cause → Reached → Reached
+waits s cause event = waited_for s.elapsed cause event
+
+-- the hold of the port, if it ended when the cycle began
+abbrev pub hold_ended : Setting → Option PortHold → Option PortHold
+hold_ended s None = None
+hold_ended s (Some hold) = if hold.until == s.number then Some hold else None
+
+abbrev pub port_ended : Setting → Option PortHold
+port_ended s = hold_ended s s.before.port
+
+-- an event that waited for the port
+abbrev pub after_hold : Setting → Option PortHold → Option Reached
+after_hold s None = None
+after_hold s (Some hold) = Some (waits s (port_cause hold.holder) hold.event)
+
+-- that came when the port was free again
+abbrev pub after_port : Setting → Option Reached
+after_port s = after_hold s (port_ended s)
+
+-- a hold is that of an instruction, as a load or by its lines
+abbrev pub is_hold_of : Holder → ℕ → Option PortHold → Bool
+is_hold_of holder number None = false
+is_hold_of holder number (Some hold) = is_same_holder hold.holder holder && hold.number == number
+
+-- the instructions that left the hardware in the cycle just before, if some did
+abbrev pub left_just_before : Setting → Option Left → Option Left
+left_just_before s None = None
+left_just_before s (Some left) = if left.cycle + 1 == s.number && not (left.count == 0) then Some left else None
+
+abbrev pub left_before : Setting → Option Left
+left_before s = left_just_before s s.before.left
+
+-- an event that waited for the older ones to leave
+abbrev pub after_leaving : Setting → Option Left → Option Reached
+after_leaving s None = None
+after_leaving s (Some left) = Some (waits s cause.CommitInOrder left.event)
+
+-- the store that drained until some cycle
+abbrev pub after_drain_at : Setting → Cause → ℕ → Option DrainHold → Option Reached
+after_drain_at s cause cycle None = None
+after_drain_at s cause cycle (Some drain) = if drain.until == cycle then Some (waits s cause drain.event) else None
+
+-- one that drained until the cycle just before
+abbrev pub after_drain_before : Setting → Option DrainHold → Option Reached
+after_drain_before s None = None
+after_drain_before s (Some drain) = if drain.until + 1 == s.number then Some (waits s cause.PortStore drain.event) else None
+
+-- What a FENCE.I waits for that is the oldest: the older stores, which leave the queue after the commit of a cycle, then the port, and
+-- before both to be the oldest.
+abbrev pub after_stores : Setting → Option Reached
+after_stores s =
+    option_or (after_drain_before s s.before.drain) (option_or (after_port s) (after_leaving s (left_before s)))
+
+-- the event that was the last one to leave, where there is one
+abbrev pub last_left : Option Left → Reached
+last_left None = nothing_yet
+last_left (Some left) = left.event

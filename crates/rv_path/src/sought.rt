@@ -1,0 +1,210 @@
+ghost use Rattle.std.specs.Prelude.{◌≡◌, count_by};
+ghost use Rattle.rv_isa.specs.Instruction.{is_fence_i, is_load, is_serialising, is_store, kind_of_word};
+ghost use Rattle.rv_passage.specs.Result.{ready_in};
+ghost use Rattle.rv_path.specs.Lookup.{first_of, last_of};
+ghost use Rattle.rv_path.specs.Sought.{is_at, is_before, is_end, is_just_before, is_sought, uses};
+
+use crate::way::{Journey, Way};
+use rv_isa::{Instr, Kind, kind};
+use rv_passage::{Ending, Passage};
+
+/// What is looked for among the instructions of a cycle.
+#[derive(Clone, Copy)]
+pub(crate) enum Sought {
+    Any,
+    /// In flight at the end of the cycle.
+    InFlight,
+    /// In the reorder buffer at the end of the cycle.
+    Entry,
+    /// Retired or trapped in the cycle.
+    Ended,
+    /// The one of a number.
+    Number(u64),
+    /// Fetched in the cycle just before.
+    FetchedBefore(u64),
+    /// Dispatched in the cycle just before.
+    DispatchedBefore(u64),
+    /// Dispatched in a cycle before: it was in the reorder buffer when the cycle began.
+    Buffered(u64),
+    /// It was in a station of the kind when the cycle began.
+    Stationed(Kind, u64),
+    /// Issued to a unit of the kind in the cycle.
+    IssuedIn(Kind, u64),
+    /// Issued to one in the cycle just before.
+    IssuedBefore(Kind, u64),
+    /// A load that was issued in the cycle, and executes until another one.
+    LoadUntil(u64, u64),
+    /// Broadcast in the cycle just before.
+    BroadcastBefore(u64),
+    /// A store that was broadcast in the cycle just before.
+    StoreBefore(u64),
+}
+
+pub(crate) fn is_at(cycle: u64, stamp: Option<u64>) -> bool
+    ensures { result ≡ is_at cycle stamp }
+{
+    match stamp {
+        Some(stamp) => stamp == cycle,
+        None => false,
+    }
+}
+
+/// Whether a stamp is that of the cycle just before.
+pub(crate) fn is_just_before(cycle: u64, stamp: Option<u64>) -> bool
+    ensures { result ≡ is_just_before cycle stamp }
+{
+    match stamp {
+        Some(stamp) => u128::from(stamp) + 1 == u128::from(cycle),
+        None => false,
+    }
+}
+
+fn is_before(cycle: u64, stamp: Option<u64>) -> bool
+    ensures { result ≡ is_before cycle stamp }
+{
+    match stamp {
+        Some(stamp) => stamp < cycle,
+        None => false,
+    }
+}
+
+/// Whether the execution of an instruction is over in a cycle, and not before.
+pub(crate) fn is_ready_at(cycle: u64, row: &Passage) -> bool
+    ensures { result ≡ is_at cycle (ready_in row.now) }
+{
+    match row.ready() {
+        Some(ready) => ready == u128::from(cycle),
+        None => false,
+    }
+}
+
+pub(crate) fn kind_of(instruction: &Option<Instr>) -> Option<Kind>
+    ensures { result ≡ kind_of_word instruction.now }
+{
+    kind(instruction.as_ref()?)
+}
+
+pub(crate) fn is_load(instruction: &Option<Instr>) -> bool
+    ensures { result ≡ is_load instruction.now }
+{
+    matches!(instruction, Some(Instr::Load { .. }))
+}
+
+pub(crate) fn is_store(instruction: &Option<Instr>) -> bool
+    ensures { result ≡ is_store instruction.now }
+{
+    matches!(instruction, Some(Instr::Store { .. }))
+}
+
+pub(crate) fn is_fence_i(instruction: &Option<Instr>) -> bool
+    ensures { result ≡ is_fence_i instruction.now }
+{
+    matches!(instruction, Some(Instr::FenceI))
+}
+
+pub(crate) fn is_serialising(instruction: &Option<Instr>) -> bool
+    ensures { result ≡ is_serialising instruction.now }
+{
+    matches!(
+        instruction,
+        Some(Instr::FenceI | Instr::Csr { .. } | Instr::Mret)
+    )
+}
+
+fn is_end(ending: Ending) -> bool
+    ensures { result ≡ is_end ending }
+{
+    matches!(ending, Ending::Retired { .. } | Ending::Trapped { .. })
+}
+
+fn uses(kind: Kind, row: &Passage) -> bool
+    ensures { result ≡ uses kind row.now }
+{
+    match kind_of(&row.instruction) {
+        Some(other) => kind == other,
+        None => false,
+    }
+}
+
+/// Whether an instruction is one that is looked for.
+pub(crate) fn is_sought(sought: Sought, row: &Passage) -> bool
+    ensures { result ≡ is_sought sought row.now }
+{
+    match sought {
+        Sought::Any => true,
+        Sought::InFlight => row.is_in_flight(),
+        Sought::Entry => row.is_in_flight() && row.dispatched.is_some(),
+        Sought::Ended => is_end(row.ending),
+        Sought::Number(number) => row.number == number,
+        Sought::FetchedBefore(cycle) => u128::from(row.fetched) + 1 == u128::from(cycle),
+        Sought::DispatchedBefore(cycle) => is_just_before(cycle, row.dispatched),
+        Sought::Buffered(cycle) => is_before(cycle, row.dispatched),
+        Sought::Stationed(kind, cycle) => {
+            uses(kind, row) && is_before(cycle, row.dispatched) && !is_before(cycle, row.issued())
+        }
+        Sought::IssuedIn(kind, cycle) => uses(kind, row) && is_at(cycle, row.issued()),
+        Sought::IssuedBefore(kind, cycle) => uses(kind, row) && is_just_before(cycle, row.issued()),
+        Sought::LoadUntil(cycle, end) => {
+            is_load(&row.instruction) && is_at(cycle, row.issued()) && is_ready_at(end, row)
+        }
+        Sought::BroadcastBefore(cycle) => is_just_before(cycle, row.broadcast),
+        Sought::StoreBefore(cycle) => {
+            is_store(&row.instruction) && is_just_before(cycle, row.broadcast)
+        }
+    }
+}
+
+/// How many instructions are looked for.
+pub(crate) fn count(sought: Sought, rows: &[Passage]) -> usize
+    ensures { result ≡ count_by (is_sought sought) rows.now }
+{
+    let mut found = 0;
+    for row in rows {
+        if is_sought(sought, row) {
+            found += 1;
+        }
+    }
+    found
+}
+
+/// The first instruction that is looked for, of those with their events.
+#[tactic(auto, using(crate::proofs::Nothing::first_of_nothing))]
+pub(crate) fn first_of(sought: Sought, rows: &[Passage], ways: &[Way]) -> Option<Journey>
+    ensures { result ≡ first_of sought rows.now ways.now }
+{
+    let [row, other_rows @ ..] = rows else {
+        return None;
+    };
+    let [way, other_ways @ ..] = ways else {
+        return None;
+    };
+    if is_sought(sought, row) {
+        Some(Journey {
+            row: *row,
+            way: *way,
+        })
+    } else {
+        first_of(sought, other_rows, other_ways)
+    }
+}
+
+/// The last one.
+#[tactic(auto, using(crate::proofs::Nothing::last_of_nothing))]
+pub(crate) fn last_of(sought: Sought, rows: &[Passage], ways: &[Way]) -> Option<Journey>
+    ensures { result ≡ last_of sought rows.now ways.now }
+{
+    let [row, other_rows @ ..] = rows else {
+        return None;
+    };
+    let [way, other_ways @ ..] = ways else {
+        return None;
+    };
+    match last_of(sought, other_rows, other_ways) {
+        Some(journey) => Some(journey),
+        None if is_sought(sought, row) => Some(Journey {
+            row: *row,
+            way: *way,
+        }),
+        None => None,
+    }
+}
