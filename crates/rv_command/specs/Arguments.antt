@@ -131,6 +131,7 @@ program_arguments = with_commands bare_arguments (
     told_arguments (codes "page") ∷
     flagged_arguments (codes "explain") (codes "figures") ∷
     limited_arguments (codes "profile") ∷
+    limited_arguments (codes "path") ∷
     compare_arguments ∷
     sensitivity_arguments ∷
     []

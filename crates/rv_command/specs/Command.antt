@@ -11,7 +11,7 @@ use Rattle.rv_command.specs.Also.{also_in}
 use Rattle.rv_command.specs.Arguments.{last_cycle, most_cycles_shown, most_cycles_told, most_steps, program_arguments}
 use Rattle.rv_command.specs.Shown.{columns_in}
 use Rattle.rv_command.specs.declared.command.Command.{Command}
-use Rattle.rv_command.specs.declared.command.Command.TheVariants.{Run, Reference, Check, Picture, Log, States, Page, Explain, Profile, Compare, Sensitivity}
+use Rattle.rv_command.specs.declared.command.Command.TheVariants.{Run, Reference, Check, Picture, Log, States, Page, Explain, Profile, Path, Compare, Sensitivity}
 
 -- the limit of a run is 1 to 1,000,000
 abbrev pub IsLegalLimit : ℕ → Type 0
@@ -36,6 +36,7 @@ HasLegalNumbers (States from limit) = IsLegalStretch from limit
 HasLegalNumbers (Page from limit) = IsLegalStretch from limit
 HasLegalNumbers (Explain figures limit) = IsLegalLimit limit
 HasLegalNumbers (Profile limit) = IsLegalLimit limit
+HasLegalNumbers (Path limit) = IsLegalLimit limit
 HasLegalNumbers (Compare shown limit) = IsLegalLimit limit
 HasLegalNumbers (Sensitivity also limit) = IsLegalLimit limit
 
@@ -111,7 +112,8 @@ abbrev pub limited_named : Text → List Row → Option Command
 limited_named name rows =
     if bytes_eq name (codes "reference") then option_map Reference (limit_in rows)
     else (if bytes_eq name (codes "log") then option_map Log (limit_in rows)
-    else (if bytes_eq name (codes "profile") then option_map Profile (limit_in rows) else None))
+    else (if bytes_eq name (codes "profile") then option_map Profile (limit_in rows)
+    else (if bytes_eq name (codes "path") then option_map Path (limit_in rows) else None)))
 
 -- the command of a subcommand with its matches
 abbrev pub command_named : Text × List Row → Option Command
@@ -125,8 +127,9 @@ command_named given =
     else (if bytes_eq given.0 (codes "page") then page_in given.1
     else (if bytes_eq given.0 (codes "explain") then explain_in given.1
     else (if bytes_eq given.0 (codes "profile") then option_map Profile (limit_in given.1)
+    else (if bytes_eq given.0 (codes "path") then option_map Path (limit_in given.1)
     else (if bytes_eq given.0 (codes "compare") then compare_in given.1
-    else (if bytes_eq given.0 (codes "sensitivity") then sensitivity_in given.1 else None))))))))))
+    else (if bytes_eq given.0 (codes "sensitivity") then sensitivity_in given.1 else None)))))))))))
 
 -- the command that the words ask for, where they fit the program's arguments
 abbrev pub command_of : List Text → Option Command

@@ -291,6 +291,7 @@ pub(crate) fn parser<'a>(alloc: Global) -> Result<Command<'a>, AllocError>
         flagged_command(alloc, "explain", "figures", &help::EXPLAIN),
     );
     let program = with_command(program, limited_command(alloc, "profile", &help::PROFILE));
+    let program = with_command(program, limited_command(alloc, "path", &help::PATH));
     let program = with_command(program, compare_command(alloc));
     with_command(program, sensitivity_command(alloc))
 }

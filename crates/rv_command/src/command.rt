@@ -81,6 +81,10 @@ pub enum Command {
     Profile {
         limit: u64,
     },
+    /// Write which causes have the cycles of the critical path of a run of a job on the core, of at most so many cycles.
+    Path {
+        limit: u64,
+    },
     /// Compare machines by the totals of one program's run on each, of at most so many cycles, with registers and words of
     /// memory at their ends.
     Compare {
@@ -208,6 +212,7 @@ fn limited_given(name: &str, given: &ArgMatches) -> Option<Command>
         "reference" => Some(Command::Reference { limit }),
         "log" => Some(Command::Log { limit }),
         "profile" => Some(Command::Profile { limit }),
+        "path" => Some(Command::Path { limit }),
         _ => None,
     }
 }

@@ -162,6 +162,14 @@ pub(crate) static PROFILE: LimitedHelp = LimitedHelp {
     limit: CYCLES,
 };
 
+pub(crate) static PATH: LimitedHelp = LimitedHelp {
+    texts: CommandHelp {
+        about: "Writes which causes have the cycles of the critical path of a run of the text on standard input",
+        ending: ending_of_run!("rv_sim path < FILE"),
+    },
+    limit: CYCLES,
+};
+
 pub(crate) static COMPARE: LimitedHelp = LimitedHelp {
     texts: CommandHelp {
         about: "Runs one program on several machines, and compares their totals",

@@ -8,11 +8,12 @@ use Rattle.rv_log.proofs.OneLog.{one_log}
 use Rattle.rv_picture.proofs.OnePicture.{one_picture}
 use Rattle.rv_picture.specs.declared.picture.RunEnd.{RunEnd}
 use Rattle.rv_profile.proofs.OneProfile.{one_profile}
+use Rattle.rv_path.proofs.OnePath.{one_path}
 use Rattle.rv_states.proofs.OneText.{one_text}
 use Rattle.rv_program.specs.CoreReport.{IsAtMostOne, hardware_of}
 use Rattle.rv_program.specs.RunView.{IsViewOf, limit_of}
 use Rattle.rv_program.specs.declared.run_view.RunView.{RunView}
-use Rattle.rv_program.specs.declared.run_view.RunView.TheVariants.{Picture, Log, States, Explanation, Profile}
+use Rattle.rv_program.specs.declared.run_view.RunView.TheVariants.{Picture, Log, States, Explanation, Profile, Path}
 
 -- a view whose run ended by itself, and not before it
 whole : {ended ended' : RunEnd} → ended.stop ≡ ended'.stop → ended.over ≡ None → ended'.over ≡ None → ended ≡ ended'
@@ -32,4 +33,7 @@ one_view_of listed predictor (Explanation figures limit) within ended ended' tex
     (whole same.0 is.shows.1 is'.shows.1, same.1)
 one_view_of listed predictor (Profile limit) within ended ended' text text' is is' =
     let same = one_profile listed.job.arrivals limit listed.job.description listed.listing (hardware_of listed.job) predictor is.end is'.end ended.stop ended'.stop text text' (omega (arith, within)) is.shows.0 is'.shows.0 in
+    (whole same.0 is.shows.1 is'.shows.1, same.1)
+one_view_of listed predictor (Path limit) within ended ended' text text' is is' =
+    let same = one_path listed.job.arrivals limit (hardware_of listed.job) predictor is.end is'.end ended.stop ended'.stop text text' (omega (arith, within)) is.shows.0 is'.shows.0 in
     (whole same.0 is.shows.1 is'.shows.1, same.1)

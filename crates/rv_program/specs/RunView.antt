@@ -9,11 +9,12 @@ use Rattle.rv_log.specs.Log.{IsLog}
 use Rattle.rv_picture.specs.Picture.{IsPicture}
 use Rattle.rv_picture.specs.declared.picture.RunEnd.{RunEnd}
 use Rattle.rv_profile.specs.Run.{IsProfile}
+use Rattle.rv_path.specs.Run.{IsPath}
 use Rattle.rv_states.specs.States.{IsStates}
 use Rattle.rv_text.specs.declared.output.TextError.{TextError}
 use Rattle.rv_program.specs.CoreReport.{core_of}
 use Rattle.rv_program.specs.declared.run_view.RunView.{RunView}
-use Rattle.rv_program.specs.declared.run_view.RunView.TheVariants.{Picture, Log, States, Explanation, Profile}
+use Rattle.rv_program.specs.declared.run_view.RunView.TheVariants.{Picture, Log, States, Explanation, Profile, Path}
 
 -- how the run of any view but a picture ended: a picture alone says that its run ended before its cycles
 abbrev pub whole_run : Result Stop TextError → Result RunEnd TextError
@@ -32,6 +33,7 @@ IsShown (Explanation figures limit) listed old new ended text =
     IsExplanation listed.job.arrivals limit figures listed.job.description listed.listing old new ended.stop text × (ended.over ≡ None)
 IsShown (Profile limit) listed old new ended text =
     IsProfile listed.job.arrivals limit listed.job.description listed.listing old new ended.stop text × (ended.over ≡ None)
+IsShown (Path limit) listed old new ended text = IsPath listed.job.arrivals limit old new ended.stop text × (ended.over ≡ None)
 
 -- the most cycles of a view's run
 abbrev pub limit_of : RunView → ℕ
@@ -40,6 +42,7 @@ limit_of (Log limit) = limit
 limit_of (States stretch) = stretch.limit
 limit_of (Explanation figures limit) = limit
 limit_of (Profile limit) = limit
+limit_of (Path limit) = limit
 
 -- A text is what a view shows of the run of the described hardware that a predictor guides, from reset with the job's image; and that is
 -- how the run ended.

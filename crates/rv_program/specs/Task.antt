@@ -107,6 +107,7 @@ Asks (command.States from limit) input task = AsksForView (view.States (stretch_
 Asks (command.Page from limit) input task = AsksForView (view.States (stretch_of Page from limit)) input task
 Asks (command.Explain figures limit) input task = AsksForView (view.Explanation (figures_of figures) limit) input task
 Asks (command.Profile limit) input task = AsksForView (view.Profile limit) input task
+Asks (command.Path limit) input task = AsksForView (view.Path limit) input task
 Asks (command.Compare shown limit) input (Compare comparison options) = IsComparisonOf input comparison × (options ≡ table_options shown limit)
 Asks (command.Sensitivity also limit) input task = AsksForNeighbours also limit input task
 Asks _ input _ = ⊥
@@ -122,6 +123,7 @@ Refuses (command.States from limit) input error = RefusesJob input error
 Refuses (command.Page from limit) input error = RefusesJob input error
 Refuses (command.Explain figures limit) input error = RefusesJob input error
 Refuses (command.Profile limit) input error = RefusesJob input error
+Refuses (command.Path limit) input error = RefusesJob input error
 Refuses (command.Compare shown limit) input error = RefusesComparison input error
 Refuses (command.Sensitivity also limit) input error = RefusesJob input error
 

@@ -18,6 +18,7 @@ use rv_job::{ListedJob, SimError};
 use rv_log::write_log;
 use rv_picture::{RunEnd, View, write_picture};
 use rv_profile::write_profile;
+use rv_path::write_path;
 use rv_states::{Form, write_states};
 use rv_text::TextError;
 use std::alloc::Global;
@@ -49,6 +50,8 @@ pub enum RunView {
     Explanation { figures: Figures, limit: u64 },
     /// A table of what became of the instructions at each address in at most so many cycles.
     Profile { limit: u64 },
+    /// The critical path of at most so many cycles.
+    Path { limit: u64 },
 }
 
 // How the run of any view but a picture ended.
@@ -103,6 +106,9 @@ fn write_view<W: Write>(
             *figures,
             listing,
             writer,
+        )),
+        RunView::Path { limit } => whole_run(write_path(
+            alloc, pipeline, predictor, arrivals, *limit, writer,
         )),
         RunView::Profile { limit } => whole_run(write_profile(
             alloc,

@@ -237,6 +237,7 @@ fn read_task(alloc: Global, command: &Command, input: &[u8]) -> Result<Task, Sim
             read_view(alloc, RunView::Explanation { figures, limit }, input)
         }
         Command::Profile { limit } => read_view(alloc, RunView::Profile { limit: *limit }, input),
+        Command::Path { limit } => read_view(alloc, RunView::Path { limit: *limit }, input),
         Command::Compare { shown, limit } => {
             let comparison = read_comparison(alloc, input)?;
             let options = table_options(shown, *limit);

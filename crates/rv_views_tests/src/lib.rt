@@ -13,6 +13,8 @@ mod machine;
 #[cfg(test)]
 mod passage;
 #[cfg(test)]
+mod path;
+#[cfg(test)]
 mod picture;
 #[cfg(test)]
 mod profile;

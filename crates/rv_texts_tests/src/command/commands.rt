@@ -189,7 +189,7 @@ fn has_a_limit_alone(rt: &impl Abort, alloc: Global, name: &str) -> Result<(), F
 fn a_log_and_a_profile_have_a_limit_and_an_explanation_its_figures_too(
     rt: HostRuntime,
 ) -> Result<(), Fail> {
-    const CASES: [(&[&str], Command); 6] = [
+    const CASES: [(&[&str], Command); 8] = [
         (&["rv_sim", "log"], Command::Log { limit: 100_000 }),
         (
             &["rv_sim", "log", "--limit", "7"],
@@ -214,8 +214,13 @@ fn a_log_and_a_profile_have_a_limit_and_an_explanation_its_figures_too(
             &["rv_sim", "profile", "--limit", "6"],
             Command::Profile { limit: 6 },
         ),
+        (&["rv_sim", "path"], Command::Path { limit: 100_000 }),
+        (
+            &["rv_sim", "path", "--limit", "5"],
+            Command::Path { limit: 5 },
+        ),
     ];
-    const NAMES: [&str; 4] = ["log", "explain", "profile", "compare"];
+    const NAMES: [&str; 5] = ["log", "explain", "profile", "path", "compare"];
     let alloc = rt.alloc();
     for (texts, command) in &CASES {
         is_taken(&rt, alloc, texts, *command)?;

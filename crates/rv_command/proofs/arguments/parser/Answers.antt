@@ -11,5 +11,6 @@ returns c =
     let with_page = c.with_command-program-7.ensures.arguments _ _ with_states c.told_command-2.ensures.arguments in
     let with_explain = c.with_command-program-8.ensures.arguments _ _ with_page c.flagged_command-2.ensures.arguments in
     let with_profile = c.with_command-program-9.ensures.arguments _ _ with_explain c.limited_command-3.ensures.arguments in
-    let with_compare = c.with_command-program-10.ensures.arguments _ _ with_profile c.compare_command.ensures.arguments in
+    let with_path = c.with_command-program-10.ensures.arguments _ _ with_profile c.limited_command-4.ensures.arguments in
+    let with_compare = c.with_command-program-11.ensures.arguments _ _ with_path c.compare_command.ensures.arguments in
     record { arguments = c.with_command.ensures.arguments _ _ with_compare c.sensitivity_command.ensures.arguments }

@@ -1,6 +1,6 @@
 use Rattle.std.proofs.Common.{refl}
 use Rattle.rv_program.specs.RunView.{IsShown}
-use Rattle.rv_program.specs.declared.run_view.RunView.TheVariants.{Log, States, Explanation, Profile}
+use Rattle.rv_program.specs.declared.run_view.RunView.TheVariants.{Log, States, Explanation, Profile, Path}
 use Rattle.rv_program.proofs.Viewed.{shown_whole}
 use Rattle.rv_program.proofs.run_view.write_view.Goals as goal
 
@@ -23,3 +23,8 @@ pub returns-in-Profile : goal.returns-in-Profile
 returns-in-Profile g c =
     rw c.in-Profile.is
     (shown_whole (IsShown (Profile c.in-Profile.limit) c.args.listed.now _ _) c.write_profile.result _ _ c.write_profile.ensures.written c.whole_run-in-Profile.ensures (λ stop text is. (is, refl)))
+
+pub returns-in-Path : goal.returns-in-Path
+returns-in-Path g c =
+    rw c.in-Path.is
+    (shown_whole (IsShown (Path c.in-Path.limit) c.args.listed.now _ _) c.write_path.result _ _ c.write_path.ensures.written c.whole_run-in-Path.ensures (λ stop text is. (is, refl)))

@@ -1,0 +1,92 @@
+use crate::machine::{described, narrow, no_arrivals, pipeline};
+use rv_front::NotTaken;
+use rv_isa::Values;
+use rv_path::write_path;
+use std::alloc::Global;
+use std::process::Abort;
+
+// The path of a program's run.
+fn path_of(rt: &impl Abort, alloc: Global, values: Values, program: &[u8]) -> Vec<u8> {
+    let arrivals = no_arrivals(rt, alloc);
+    let mut pipeline = pipeline(rt, alloc, &described(rt, values), program);
+    let mut output = Vec::new(alloc);
+    write_path(
+        alloc,
+        &mut pipeline,
+        &mut NotTaken,
+        &arrivals,
+        100,
+        &mut output,
+    )
+    .expect(rt, "room");
+    output
+}
+
+// addi x1,x0,1; addi x2,x1,1; ebreak: the first addition is broadcast in cycle 3, the second is issued in 4 and retires in 6, and
+// the breakpoint traps in 7.
+const CHAIN: [u8; 12] = [
+    0x93, 0x00, 0x10, 0x00, 0x13, 0x81, 0x10, 0x00, 0x73, 0x00, 0x10, 0x00,
+];
+
+const CHAIN_PATH: &[u8] = b"\
+cycles 8\n\
+before the first event 0 0.0 %\n\
+after the last step 1 12.5 %\n\
+execution: alu 2 25.0 %\n\
+front end 1 12.5 %\n\
+dispatch to issue 1 12.5 %\n\
+operand 1 12.5 %\n\
+commit 1 12.5 %\n\
+commit width 1 12.5 %\n";
+
+#[test]
+fn an_operand_is_waited_for(rt: HostRuntime) {
+    let output = path_of(&rt, rt.alloc(), narrow(), &CHAIN);
+    assert_eq!(&rt; output.as_slice(), CHAIN_PATH);
+}
+
+// beq x0,x0,8; addi x4,x0,1; ebreak: the branch retires in cycle 4, and the breakpoint is fetched in that cycle, dispatched in 5
+// and traps in 6.
+const BRANCH: [u8; 12] = [
+    0x63, 0x04, 0x00, 0x00, 0x13, 0x02, 0x10, 0x00, 0x73, 0x00, 0x10, 0x00,
+];
+
+const BRANCH_PATH: &[u8] = b"\
+cycles 7\n\
+before the first event 0 0.0 %\n\
+after the last step 1 14.2 %\n\
+refill: wrong prediction 2 28.5 %\n\
+front end 1 14.2 %\n\
+dispatch to issue 1 14.2 %\n\
+execution: alu 1 14.2 %\n\
+commit 1 14.2 %\n";
+
+#[test]
+fn what_follows_a_wrong_prediction_is_a_refill(rt: HostRuntime) {
+    let output = path_of(&rt, rt.alloc(), narrow(), &BRANCH);
+    assert_eq!(&rt; output.as_slice(), BRANCH_PATH);
+}
+
+// addi x1,x0,1; addi x2,x0,2; ebreak: both additions are issued in cycle 2, the first is broadcast in 3 and the second in 4, and the
+// breakpoint traps in 5, in which the second retires.
+const PAIR: [u8; 12] = [
+    0x93, 0x00, 0x10, 0x00, 0x13, 0x01, 0x20, 0x00, 0x73, 0x00, 0x10, 0x00,
+];
+
+const PAIR_PATH: &[u8] = b"\
+cycles 6\n\
+before the first event 0 0.0 %\n\
+after the last step 1 16.6 %\n\
+front end 1 16.6 %\n\
+dispatch to issue 1 16.6 %\n\
+execution: alu 1 16.6 %\n\
+common data bus full 1 16.6 %\n\
+commit 1 16.6 %\n";
+
+#[test]
+fn a_result_waits_for_a_full_bus(rt: HostRuntime) {
+    let mut values = Values::standard();
+    values.bus_width = 1;
+    let output = path_of(&rt, rt.alloc(), values, &PAIR);
+    assert_eq!(&rt; output.as_slice(), PAIR_PATH);
+}
