@@ -1,3 +1,4 @@
 mod Nothing
 pub mod OnePath
 mod Pathing
+mod Within

@@ -1,5 +1,6 @@
 -- A path that follows a run: no cycle yet, one cycle more, and the end.
 use Rattle.std.proofs.Common.{◌≡◌, ◌∙◌, ℕ, ◌-◌, List, [], ◌∷◌, ◌++◌, length, replicate, ap, sym}
+use Rattle.std.specs.Prelude.{sum}
 use Rattle.std.proofs.lemmas.List.Sums.{fold-append}
 use Rattle.rv_isa.specs.declared.lines.Arrival.{Arrival}
 use Rattle.rv_arch.specs.declared.outcome.Stop.{Stop}
@@ -22,6 +23,7 @@ use Rattle.rv_path.specs.Keeping.{IsOnPath, known_of_path}
 use Rattle.rv_path.specs.Path.{Known, account_of, end_of, known_after, known_at, known_in, known_of, setting_in}
 use Rattle.rv_path.specs.Run.{IsAccounted}
 use Rattle.rv_path.specs.Way.{way_from}
+use Rattle.rv_path.proofs.Within.{end_within}
 use Rattle.rv_path.specs.declared.path.Path.{Path}
 
 -- no cycle yet
@@ -50,12 +52,13 @@ pathing_on {seen = seen} {cycle = cycle} next path path' on followed =
 -- the account of the run
 pub accounted : {arrivals : List Arrival} {limit : ℕ} {old new : GuidedHardware} {moments : List Moment} {stop : Stop} {progress : Progress} (path : Path) (account : List ℕ)
     → IsOnPath path (watched arrivals old moments new) → IsEndedRun arrivals limit old moments new stop → progress ≡ progress_of (reports_of moments)
-    → account ≡ (end_of progress.cycles path.before).account → IsAccounted arrivals limit old new stop progress.cycles account
-accounted {moments = moments} path account on run counted account_is =
+    → account ≡ (end_of progress.cycles path.before).account → sum account ≡ (end_of progress.cycles path.before).cycle → IsAccounted arrivals limit old new stop progress.cycles account
+accounted {old = old} {moments = moments} path account on run counted account_is adds_up =
     let cycles = ap (λ (p : Progress). p.cycles) counted ∙ length-reports_of moments in
     record {
       moments = moments;
       run = run;
       cycles_are = cycles;
       account_is = account_is ∙ (λ i. (end_of (cycles i) ((ap (λ (k : Known). k.before) on.known) i)).account);
+      adds_up = adds_up ∙ (λ i. (end_of (cycles i) ((ap (λ (k : Known). k.before) on.known) i)).cycle) ∙ end_within old.hardware moments ∙ sym cycles;
     }

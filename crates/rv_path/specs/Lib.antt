@@ -11,6 +11,7 @@ pub mod Moving
 pub mod Fetching
 pub mod Holding
 pub mod Path
+pub mod Within
 pub mod Keeping
 pub mod Text
 pub mod Run

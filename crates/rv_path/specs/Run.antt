@@ -1,5 +1,5 @@
 -- The path of a run.
-use Rattle.std.specs.Prelude.{◌≡◌, ℕ, ◌+◌, ◌^◌, ◌≤◌, List, length}
+use Rattle.std.specs.Prelude.{◌≡◌, ℕ, ◌+◌, ◌^◌, ◌≤◌, List, length, sum}
 use Rattle.rv_isa.specs.declared.lines.Arrival.{Arrival}
 use Rattle.rv_arch.specs.declared.outcome.Stop.{Stop}
 use Rattle.rv_front.specs.Predictors.{guide_of}
@@ -11,12 +11,13 @@ use Rattle.rv_passage.specs.EndedRun.{IsEndedRun}
 use Rattle.rv_path.specs.Path.{account_of}
 use Rattle.rv_path.specs.Text.{path_text}
 
--- so many cycles are those of a run that ended for a reason, and so many of them each cause has on its path
+-- so many cycles are those of a run that ended for a reason, and so many of them each cause has on its path, which are all of them
 pub record IsAccounted (arrivals : List Arrival) (limit : ℕ) (old new : GuidedHardware) (stop : Stop) (cycles : ℕ) (account : List ℕ) : Type 0 where
   pub moments : List Moment
   pub run : IsEndedRun arrivals limit old moments new stop
   pub cycles_are : cycles ≡ length moments
   pub account_is : account ≡ account_of old.hardware moments
+  pub adds_up : sum account ≡ cycles
 
 -- a text is that of the path of a run that ended for a reason
 pub record IsPath (arrivals : List Arrival) (limit : ℕ) (old new : GuidedHardware) (stop : Stop) (text : List ℕ) : Type 0 where

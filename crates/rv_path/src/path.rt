@@ -1,4 +1,4 @@
-ghost use Rattle.std.specs.Prelude.{◌≡◌, ◌+◌, ◌-◌, ◌<◌, ◌^◌, ◌≤◌, ◌++◌, [], length, replicate, vec_capacity, IfOk, filter};
+ghost use Rattle.std.specs.Prelude.{◌≡◌, ◌+◌, ◌-◌, ◌<◌, ◌^◌, ◌≤◌, ◌++◌, [], length, replicate, vec_capacity, IfOk, filter, sum};
 ghost use Rattle.rv_path.specs.Event.{nothing_yet};
 ghost use Rattle.rv_path.specs.Fetching.{fetch_event};
 ghost use Rattle.rv_path.specs.Holding.{goes_beyond, new_holds};
@@ -207,7 +207,8 @@ impl Path {
 
     /// How many of the cycles of a run each cause has on the path, after the last of so many.
     pub(crate) fn account(&self, cycles: u64) -> [u64; CAUSES]
-        ensures { result ≡ (end_of cycles self.now.before).account }
+        ensures account { result ≡ (end_of cycles self.now.before).account }
+        ensures adds_up { sum result ≡ (end_of cycles self.now.before).cycle }
     {
         last_left(&self.before.left)
             .waited(cycles, Cause::AfterLast)

@@ -1,5 +1,6 @@
 ghost use Rattle.rv_hardware.specs.Guided.{guided};
 ghost use Rattle.rv_path.specs.Run.{HasOnePath, IsPath};
+ghost use Rattle.rv_path.specs.Within.{ComesInTime};
 ghost use Rattle.rv_text.specs.IsText.{IsText};
 
 use crate::running::run_accounted;
@@ -37,6 +38,8 @@ pub fn write_path<W: Write>(
     ensures written { IsText (IsPath arrivals.now limit (guided pipeline.old (known predictor.old)) (guided pipeline.new (known predictor.new))) result (W.contents writer.old) (W.contents writer.new) }
     // With a described predictor the path is a function of what it is the path of.
     ensures one_path { HasOnePath arrivals.now limit }
+    // No event waited for one that came after it: all that is known of a run lies within its cycles.
+    ensures in_time { ComesInTime }
 {
     let Ok(mut shares) = Vec::with_capacity(alloc, MOST_RANKED) else {
         return Err(TextError::Memory);

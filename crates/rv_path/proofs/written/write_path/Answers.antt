@@ -1,4 +1,5 @@
 use Rattle.rv_path.proofs.OnePath.{one_path}
+use Rattle.rv_path.proofs.Within.{comes_in_time}
 use Rattle.rv_path.proofs.written.write_path.Goals as goal
 
 -- whatever was written
@@ -13,3 +14,15 @@ returns-in-Ok-write_ranked-clause-one_path g c = one_path c.args.arrivals.now c.
 
 pub returns-clause-one_path : goal.returns-clause-one_path
 returns-clause-one_path g c = one_path c.args.arrivals.now c.args.limit
+
+pub returns-in_default-clause-in_time : goal.returns-in_default-clause-in_time
+returns-in_default-clause-in_time g c = comes_in_time
+
+pub returns-in_default-run_accounted-clause-in_time : goal.returns-in_default-run_accounted-clause-in_time
+returns-in_default-run_accounted-clause-in_time g c = comes_in_time
+
+pub returns-in-Ok-write_ranked-clause-in_time : goal.returns-in-Ok-write_ranked-clause-in_time
+returns-in-Ok-write_ranked-clause-in_time g c = comes_in_time
+
+pub returns-clause-in_time : goal.returns-clause-in_time
+returns-clause-in_time g c = comes_in_time
