@@ -8,7 +8,7 @@ use Rattle.rv_path.specs.Lookup.{first_of, last_of}
 use Rattle.rv_path.specs.Moving.{moved_after}
 use Rattle.rv_path.specs.Path.{still_in_flight}
 use Rattle.rv_path.specs.Setting.{Setting}
-use Rattle.rv_path.specs.declared.{before.UnitHold.UnitHold, leaving.Leaving.Leaving, sought.Sought.Sought, way.Journey.Journey, way.Way.Way}
+use Rattle.rv_path.specs.declared.{leaving.Leaving.Leaving, sought.Sought.Sought, way.Journey.Journey, way.Way.Way}
 
 pub first_of_nothing : (sought : Sought) (rows : List Passage) (ways : List Way) → length ways < 1 → first_of sought rows ways ≡ None
 first_of_nothing sought [] ways none = refl

@@ -1,5 +1,5 @@
 -- A path that follows a run: no cycle yet, one cycle more, and the end.
-use Rattle.std.proofs.Common.{◌≡◌, ◌∙◌, ℕ, ◌-◌, List, [], ◌∷◌, ◌++◌, length, replicate, ap, sym}
+use Rattle.std.proofs.Common.{◌≡◌, ◌∙◌, ℕ, ◌-◌, List, [], ◌∷◌, length, replicate, ap, sym}
 use Rattle.std.specs.Prelude.{sum}
 use Rattle.std.proofs.lemmas.List.Sums.{fold-append}
 use Rattle.rv_isa.specs.declared.lines.Arrival.{Arrival}
@@ -11,8 +11,7 @@ use Rattle.rv_core.specs.declared.outcome.Progress.{Progress}
 use Rattle.rv_hardware.specs.Guided.{GuidedHardware}
 use Rattle.rv_hardware.specs.History.{Moment, reports_of}
 use Rattle.rv_passage.specs.EndedRun.{IsEndedRun}
-use Rattle.rv_passage.specs.Table.{Passages, still_open, table_at}
-use Rattle.rv_passage.specs.Walk.{walk}
+use Rattle.rv_passage.specs.Table.{table_at}
 use Rattle.rv_passage.specs.declared.passage.Passage.{Passage}
 use Rattle.rv_passage.proofs.EndedRun.{length-reports_of}
 use Rattle.rv_view.specs.Viewing.{IsNextCycle, cycle_shown, cycles_seen}
@@ -20,7 +19,7 @@ use Rattle.rv_view.specs.declared.shown_cycle.ShownCycle.{ShownCycle}
 use Rattle.rv_view.proofs.EndedView.{cycles_seen-push}
 use Rattle.rv_path.specs.Event.{nothing_yet}
 use Rattle.rv_path.specs.Keeping.{IsOnPath, known_of_path}
-use Rattle.rv_path.specs.Path.{Known, account_of, end_of, known_after, known_at, known_in, known_of, setting_in}
+use Rattle.rv_path.specs.Path.{Known, end_of, known_after, known_at, known_in, known_of, setting_in}
 use Rattle.rv_path.specs.Run.{IsAccounted}
 use Rattle.rv_path.specs.Way.{way_from}
 use Rattle.rv_path.proofs.Within.{end_within}

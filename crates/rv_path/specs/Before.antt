@@ -1,5 +1,5 @@
 -- What is known of the hardware when a cycle begins, and who holds its port.
-use Rattle.std.specs.Prelude.{ℕ, ◌||◌, Bool, true, false, length, List, [], ◌∷◌, Option, Some, None, slice_get}
+use Rattle.std.specs.Prelude.{◌||◌, Bool, true, false, length, List, Option, Some, None, slice_get}
 use Rattle.rv_core.specs.Ties.{queue_of}
 use Rattle.rv_hardware.specs.Draining.{drain_end}
 use Rattle.rv_hardware.specs.Hardware.{Hardware}

@@ -1,8 +1,7 @@
 -- The event by which the words of a cycle are fetched.
-use Rattle.std.specs.Prelude.{ℕ, ◌+◌, ◌-◌, ◌%◌, ◌^◌, ◌==◌, ◌&&◌, not, nat_le, Bool, true, false, if◌then◌else◌, List, [], ◌∷◌, length, count_by, Option, Some, None, slice_get}
+use Rattle.std.specs.Prelude.{◌+◌, ◌-◌, ◌%◌, ◌^◌, ◌==◌, ◌&&◌, not, nat_le, Bool, false, if◌then◌else◌, List, length, count_by, Option, Some, None, slice_get}
 use Rattle.std.specs.Option.{option_or, unwrap_or}
 use Rattle.rv_isa.specs.Instruction.{is_branch_or_jump, is_serialising}
-use Rattle.rv_isa.specs.declared.values.Recovery.{Recovery}
 use Rattle.rv_hardware.specs.Broadcast.{mends_early}
 use Rattle.rv_hardware.specs.Hardware.{Hardware}
 use Rattle.rv_passage.specs.Prediction.{differ, next_of}

@@ -1,17 +1,15 @@
 -- Who holds the port of the cache and the units after a cycle.
-use Rattle.std.specs.Prelude.{ℕ, ◌+◌, ◌==◌, ◌&&◌, ◌||◌, not, nat_le, nat_lt, Bool, true, false, if◌then◌else◌, List, [], ◌∷◌, ◌++◌, filter, Option, Some, None}
+use Rattle.std.specs.Prelude.{ℕ, ◌+◌, ◌==◌, ◌&&◌, not, nat_lt, Bool, false, if◌then◌else◌, List, [], ◌∷◌, ◌++◌, filter, Option, Some, None}
 use Rattle.std.specs.Option.{option_or, unwrap_or}
 use Rattle.rv_isa.specs.Instruction.{kind_of_word}
 use Rattle.rv_isa.specs.PerKind.{at_kind}
 use Rattle.rv_isa.specs.declared.{issues.Issue.Issue, operations.Kind.Kind, values.Values.Values}
-use Rattle.rv_passage.specs.Result.{issued_in}
 use Rattle.rv_passage.specs.declared.passage.Passage.{Passage}
 use Rattle.rv_path.specs.Event.{Reached}
 use Rattle.rv_path.specs.Leaving.{lines_event}
 use Rattle.rv_path.specs.Lookup.{first_of}
 use Rattle.rv_path.specs.Setting.{Setting, after_port, last_left, waits}
-use Rattle.rv_path.specs.Sought.{is_at}
-use Rattle.rv_path.specs.declared.{before.Before.Before, before.DrainHold.DrainHold, before.Facts.Facts, before.Holder.Holder, before.Left.Left, before.PortHold.PortHold, before.UnitHold.UnitHold, leaving.Leaving.Leaving, way.Journey.Journey, way.Way.Way}
+use Rattle.rv_path.specs.declared.{before.DrainHold.DrainHold, before.Facts.Facts, before.PortHold.PortHold, before.UnitHold.UnitHold, leaving.Leaving.Leaving, way.Journey.Journey, way.Way.Way}
 use Rattle.rv_path.specs.declared.before.Holder.TheVariants as holder
 use Rattle.rv_path.specs.declared.cause.Cause.TheVariants as cause
 use Rattle.rv_path.specs.declared.sought.Sought.TheVariants as sought

@@ -1,5 +1,5 @@
 -- The events by which instructions are issued, and their results broadcast.
-use Rattle.std.specs.Prelude.{ℕ, ◌+◌, ◌==◌, ◌&&◌, nat_lt, Bool, if◌then◌else◌, List, [], ◌∷◌, count_by, Option, Some, None}
+use Rattle.std.specs.Prelude.{◌==◌, ◌&&◌, nat_lt, Bool, if◌then◌else◌, List, [], ◌∷◌, count_by, Option, Some, None}
 use Rattle.std.specs.Option.{option_or, unwrap_or}
 use Rattle.rv_isa.specs.Instruction.{is_load, kind_of_word}
 use Rattle.rv_isa.specs.PerKind.{at_kind, is_same}

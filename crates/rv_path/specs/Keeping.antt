@@ -1,9 +1,6 @@
 -- What is kept of the path while a run goes on.
-use Rattle.std.specs.Prelude.{◌≡◌, ℕ, ◌+◌, ◌≤◌, length, vec_capacity}
+use Rattle.std.specs.Prelude.{◌≡◌, ◌+◌, ◌≤◌, length, vec_capacity}
 use Rattle.rv_core.specs.Watching.{Watched}
-use Rattle.rv_hardware.specs.History.{reports_of}
-use Rattle.rv_passage.specs.Table.{Passages, still_open}
-use Rattle.rv_passage.specs.Walk.{passages_after}
 use Rattle.rv_view.specs.Viewing.{cycles_seen}
 use Rattle.rv_path.specs.Path.{Known, known_of}
 use Rattle.rv_path.specs.declared.path.Path.{Path}

@@ -8,12 +8,11 @@ use Rattle.rv_isa.specs.Instruction.{is_fence_i, is_store}
 use Rattle.rv_passage.specs.declared.passage.{Ending.Ending, Passage.Passage}
 use Rattle.rv_passage.specs.declared.passage.Ending.TheVariants.{InFlight, Retired, Trapped, Squashed}
 use Rattle.rv_path.specs.Event.{Reached, first_event, settled}
-use Rattle.rv_path.specs.Setting.{Setting, after_stores, is_hold_of, last_left, left_before, port_ended, waits}
-use Rattle.rv_path.specs.Sought.{is_before, is_end, is_just_before, is_sought}
+use Rattle.rv_path.specs.Setting.{Setting, after_stores, is_hold_of, left_before, port_ended, waits}
+use Rattle.rv_path.specs.Sought.{is_end, is_just_before}
 use Rattle.rv_path.specs.declared.{before.Left.Left, before.PortHold.PortHold, leaving.Leaving.Leaving, way.Way.Way}
 use Rattle.rv_path.specs.declared.before.Holder.TheVariants as holder
 use Rattle.rv_path.specs.declared.cause.Cause.TheVariants as cause
-use Rattle.rv_path.specs.declared.sought.Sought.TheVariants as sought
 
 -- the cycle in which its result was known: that of its broadcast, or of its dispatch where it uses no unit
 abbrev pub known_in : Passage → Option ℕ

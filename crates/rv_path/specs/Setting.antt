@@ -1,13 +1,11 @@
 -- What stands when a cycle begins, with what its instructions came to by its end; and what several events of it may have waited for.
-use Rattle.std.specs.Prelude.{ℕ, ◌+◌, ◌==◌, ◌&&◌, not, Bool, false, if◌then◌else◌, List, [], ◌∷◌, Option, Some, None}
+use Rattle.std.specs.Prelude.{ℕ, ◌+◌, ◌==◌, ◌&&◌, not, Bool, false, if◌then◌else◌, List, Option, Some, None}
 use Rattle.std.specs.Option.{option_or}
-use Rattle.rv_isa.specs.PerKind.{is_same}
-use Rattle.rv_isa.specs.declared.{operations.Kind.Kind, values.Values.Values}
+use Rattle.rv_isa.specs.declared.{values.Values.Values}
 use Rattle.rv_passage.specs.declared.passage.Passage.{Passage}
 use Rattle.rv_path.specs.Before.{is_same_holder, port_cause}
 use Rattle.rv_path.specs.Event.{Reached, nothing_yet, waited_for}
 use Rattle.rv_path.specs.declared.{before.Before.Before, before.DrainHold.DrainHold, before.Holder.Holder, before.Left.Left, before.PortHold.PortHold, before.UnitHold.UnitHold, cause.Cause.Cause, scene.Scene.Scene, way.Way.Way}
-use Rattle.rv_path.specs.declared.before.Holder.TheVariants as holder
 use Rattle.rv_path.specs.declared.cause.Cause.TheVariants as cause
 
 -- The number of the cycle, and how many there were before it; what the description says; the instructions as they stand at its end, with
