@@ -24,6 +24,8 @@ explained arrivals limit figures values listing old new stop progress fetched ta
   moments = told.moments;
   run = told.run;
   text_is = λ i. explanation figures listing stop new.hardware (told.counted i) (told.fetched_are i) (told.kept i);
+  places_add_up = told.places_add_up;
+  places_are_lost_for = told.places_are_lost_for;
 }
 
 -- no more cycles left the words of RAM at the head than there were

@@ -29,6 +29,7 @@ use Rattle.rv_sentences.specs.Kinds.{kept_after, kept_of}
 use Rattle.rv_sentences.specs.LastStore.{last_store_to, stores_in, stores_of}
 use Rattle.rv_sentences.specs.Load.{retired_load_cost}
 use Rattle.rv_explain.specs.Tale.{HasRoom, tale_after, tale_of}
+use Rattle.rv_sentences.specs.Places.{all_places, places_in, places_of}
 use Rattle.rv_sentences.specs.Unit.{arrivals_after, arrivals_by, none_came, unit_wait_in, unit_waits}
 use Rattle.rv_sentences.specs.Wait.{CanGrow, both_waits, bus_wait, bus_waits}
 use Rattle.rv_sentences.specs.WordCount.{count_at}
@@ -43,6 +44,7 @@ use Rattle.rv_sentences.proofs.LastStores.{stores_of-push, with_stores_of}
 use Rattle.rv_sentences.proofs.InterruptsGrow.{by_line-push, lines_counted}
 use Rattle.rv_sentences.proofs.KindsGrow.{kept-push, kept_counted}
 use Rattle.rv_sentences.proofs.OutcomesGrow.{can_take, outcomes-left}
+use Rattle.rv_sentences.proofs.PlacesGrow.{places_of-push}
 use Rattle.rv_sentences.proofs.Works.{branch_words-left, loads-left, mispredicted_words-left, work-left}
 
 kept_after-push : (es : List Exception) (o : Option Exception) → kept_after o (kept_of es) ≡ kept_of (es ++ cons_option o [])
@@ -122,7 +124,7 @@ unit_waits-append came (step ∷ some) more =
 module _ (values : Values) where
   -- one more cycle
   pub tale-push : {arrivals : List Arrival} {old now : GuidedHardware} {moments : List Moment} (moment : Moment) (rows left : List Passage) → History arrivals old moments now
-      → tale_after now.hardware.registers moment.report.steps (drain_in arrivals now.hardware) moment.after rows (tale_of values arrivals old.hardware moments left)
+      → tale_after now.hardware.registers moment.report.steps (places_in now.hardware moment) (drain_in arrivals now.hardware) moment.after rows (tale_of values arrivals old.hardware moments left)
       ≡ tale_of values arrivals old.hardware (moments ++ moment ∷ []) (filter has_left rows ++ left)
   tale-push {arrivals = arrivals} {old = old} {now = now} {moments = moments} moment rows left passes =
       let steps = shown_steps-push moments moment in
@@ -131,6 +133,7 @@ module _ (values : Values) where
       let stores = with_stores_of values (stores_in now.hardware.registers moment.report.steps) (stores_of old.hardware moments) in
       let stored = sym (stores_of-push moment passes) in
       let retired = sym (ap (count_by is_retirement) steps ∙ sum_by-append (λ (step : Step). cond (is_retirement step) 1 0) (steps_of (reports_of moments)) moment.report.steps) in
+      let places = sym (places_of-push moment passes) in
       let dispatches = sym (ap (λ (all : List Step). dispatched_after all none_dispatched) steps ∙ dispatched_after-append (steps_of (reports_of moments)) moment.report.steps none_dispatched) in
       let bus = sym (ap bus_waits steps ∙ bus_waits-append (steps_of (reports_of moments)) moment.report.steps) in
       let units = sym (ap (unit_waits none_came) steps ∙ unit_waits-append none_came (steps_of (reports_of moments)) moment.report.steps) in
@@ -147,6 +150,7 @@ module _ (values : Values) where
         retired = retired i;
         exceptions = exceptions i;
         interrupts = interrupts i;
+        places = places i;
         dispatches = dispatches i;
         bus = bus i;
         units = units i;
@@ -164,12 +168,13 @@ module _ (values : Values) where
 
   -- the steps of one more cycle can be counted
   pub has_room : (arrivals : List Arrival) (h : Hardware) (moments : List Moment) (left : List Passage) (more rows : ℕ) → length (steps_of (reports_of moments)) ≤ 8 * 2 ^ 40 → length moments ≤ 2 ^ 40
-      → length left ≤ 576 * 2 ^ 40 → more ≤ 8 → rows ≤ 576 → CanGrow (bus_waits (steps_of (reports_of moments))) more → CanGrow (unit_waits none_came (steps_of (reports_of moments))) more
+      → all_places (places_of h moments) ≤ 8 * 2 ^ 40 + 256 → length left ≤ 576 * 2 ^ 40 → more ≤ 8 → rows ≤ 576 → CanGrow (bus_waits (steps_of (reports_of moments))) more → CanGrow (unit_waits none_came (steps_of (reports_of moments))) more
       → HasRoom (tale_of values arrivals h moments left) more rows
-  has_room arrivals h moments left more rows few within fewer little some bus_grows units_grow = record {
+  has_room arrivals h moments left more rows few within placed fewer little some bus_grows units_grow = record {
     dispatches = omega (arith, dispatched_after-le (steps_of (reports_of moments)) none_dispatched, few, little);
     bus = bus_grows;
     units = units_grow;
+    places = omega (arith, placed);
     retired = omega (arith, count_by-le-length is_retirement (steps_of (reports_of moments)), few, little);
     exceptions = kept_counted (exceptions_of moments) (omega (arith, length-filter_map exception_of_cycle moments, within));
     interrupts = lines_counted (interruptions_of moments) (omega (arith, length-filter_map interruption_of_cycle moments, within));

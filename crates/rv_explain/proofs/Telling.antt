@@ -1,5 +1,6 @@
 -- A run that is told as its cycles come: what was kept so far, one cycle more, and the end.
 use Rattle.std.proofs.Common.{◌≡◌, ◌∙◌, ℕ, ◌+◌, ◌*◌, ◌^◌, ◌<◌, ◌≤◌, List, [], ◌∷◌, ◌++◌, length, length-append, Option, sym, ap, subst, arith}
+use Rattle.std.proofs.lemmas.Nat.{mul-le}
 use Rattle.rv_isa.specs.declared.lines.Arrival.{Arrival}
 use Rattle.rv_isa.specs.PerKind.{by_kind}
 use Rattle.rv_isa.specs.declared.values.Values.{Values}
@@ -11,7 +12,8 @@ use Rattle.rv_core.proofs.Shown.{cycle_counts, moments_counted, shown_steps-push
 use Rattle.rv_hardware.specs.Draining.{drain_end}
 use Rattle.rv_hardware.specs.Guided.{GuidedHardware}
 use Rattle.rv_hardware.specs.History.{Moment, reports_of}
-use Rattle.rv_hardware.specs.Run.{steps_of}
+use Rattle.rv_hardware.specs.Run.{Reachable, steps_of}
+use Rattle.rv_hardware.proofs.Always.Sound.{sound}
 use Rattle.rv_hardware.proofs.AnyPrediction.{any_cycle}
 use Rattle.rv_passage.specs.EndedRun.{IsEndedRun}
 use Rattle.rv_passage.specs.Followed.{HasOpen}
@@ -24,9 +26,14 @@ use Rattle.rv_counts.proofs.Left.{left-push, some_left-push}
 use Rattle.rv_sentences.specs.Drain.{begun, drain_in}
 use Rattle.rv_explain.specs.Explanation.{IsTold}
 use Rattle.rv_explain.specs.Tale.{HasRoom, IsTelling, tale_after, tale_of}
+use Rattle.rv_sentences.specs.Places.{cycle_places, cycle_total, dispatched_in, places_in}
 use Rattle.rv_sentences.specs.Wait.{CanGrow}
+use Rattle.rv_sentences.specs.declared.places.CyclePlaces.{CyclePlaces}
 use Rattle.rv_explain.specs.declared.tale.Tale.{Tale}
 use Rattle.rv_sentences.proofs.DrainBegins.{begun_in_cycle}
+use Rattle.rv_sentences.proofs.LossReasons.{lost_for}
+use Rattle.rv_sentences.proofs.PlacesGrow.{add_up-push, add_up_nothing, places_counted}
+use Rattle.rv_sentences.proofs.PlacesOfCycle.{ArePlaced, placed}
 use Rattle.rv_explain.proofs.Tales.{has_room, tale-push}
 use Rattle.rv_view.specs.Viewing.{IsNextCycle}
 use Rattle.rv_view.specs.declared.shown_cycle.ShownCycle.{ShownCycle}
@@ -36,9 +43,9 @@ nothing_grows : (more : ℕ) → 0 + more ≤ 2 ^ 44 → CanGrow (by_kind (λ ki
 nothing_grows more few = record { alu = omega (arith, few); mul = omega (arith, few); div = omega (arith, few); mem = omega (arith, few) }
 
 -- no cycle yet
-pub telling_nothing : (values : Values) (arrivals : List Arrival) (h : GuidedHardware) (tale : Tale) (registers : List ℕ) (end : Option ℕ) → tale ≡ tale_of values arrivals h.hardware [] []
-    → registers ≡ h.hardware.registers → end ≡ drain_end h.hardware → IsTelling tale tale registers end (watched arrivals h [] h)
-telling_nothing values arrivals h tale registers end untold registers_are end_is =
+pub telling_nothing : (values : Values) (arrivals : List Arrival) (h : GuidedHardware) (tale : Tale) (registers : List ℕ) (end : Option ℕ) (in_flight : ℕ) → tale ≡ tale_of values arrivals h.hardware [] []
+    → registers ≡ h.hardware.registers → end ≡ drain_end h.hardware → in_flight ≡ length h.hardware.rob.entries → in_flight ≤ 256 → IsTelling tale tale registers end in_flight (watched arrivals h [] h)
+telling_nothing values arrivals h tale registers end in_flight untold registers_are end_is in_flight_is few =
     record {
       values = values;
       some_left = omega arith;
@@ -48,10 +55,34 @@ telling_nothing values arrivals h tale registers end untold registers_are end_is
       units_grow = λ more few. subst (λ (t : Tale). CanGrow t.units more) (sym untold) (nothing_grows more few);
       registers_are = registers_are;
       end_is = end_is;
+      in_flight_is = in_flight_is;
+      few_in_flight = few;
+      few_before = omega (arith, in_flight_is, few);
+      places_add_up = add_up_nothing h.hardware;
     }
 
 -- one more cycle
-module _ {seen : Watched} {cycle : ShownCycle} (next : IsNextCycle seen cycle) {first tale : Tale} {registers : List ℕ} {end : Option ℕ} (telling : IsTelling first tale registers end seen) where
+module _ {seen : Watched} {cycle : ShownCycle} (next : IsNextCycle seen cycle) {first tale : Tale} {registers : List ℕ} {end : Option ℕ} {in_flight : ℕ} (telling : IsTelling first tale registers end in_flight seen) where
+  abbrev moment : Moment
+  moment = record { report = next.shown.report; after = cycle.pipeline.now }
+
+  -- its places add up
+  placed_now : ArePlaced seen.now.hardware next.shown.report cycle.pipeline.now
+  placed_now = placed next.shown.reached (any_cycle next.shown.cycled.cycle)
+
+  abbrev pub places_now : CyclePlaces
+  places_now = cycle_places cycle.number in_flight cycle.steps.now (dispatched_in cycle.number cycle.pipeline.now) cycle.pipeline.now
+
+  places_are : places_now ≡ places_in seen.now.hardware moment
+  places_are =
+      let dispatched : dispatched_in cycle.number cycle.pipeline.now ≡ next.shown.report.dispatched =
+      ap (λ number. dispatched_in number cycle.pipeline.now) next.shown.number ∙ placed_now.dispatched in
+      λ i. cycle_places (next.shown.number i) (telling.in_flight_is i) (next.shown.steps_are i) (dispatched i) cycle.pipeline.now
+
+  -- those of a cycle are few
+  pub few_places : cycle_total places_now ≤ 264
+  few_places = omega (arith, ap cycle_total places_are, placed_now.add_up, placed_now.wide, telling.in_flight_is, telling.few_in_flight)
+
   -- its steps and passages can be counted
   pub room : HasRoom tale (length cycle.steps.now) (length cycle.rows.now)
   room =
@@ -62,24 +93,26 @@ module _ {seen : Watched} {cycle : ShownCycle} (next : IsNextCycle seen cycle) {
       let few_steps : length (steps_of (reports_of seen.moments)) ≤ 8 * 2 ^ 40 = omega (arith, shown.few_before, counted, shown.number, shown.counted) in
       subst (λ (t : Tale). HasRoom t more rows) (sym (telling.told telling.values telling.untold))
       (has_room telling.values seen.arrivals seen.first.hardware seen.moments (left_after seen.first.hardware seen.moments) more rows (omega (arith, shown.few_before, counted, shown.number, shown.counted))
-      (omega (arith, length-reports_of seen.moments, counted, shown.number, shown.counted)) (omega (arith, telling.some_left, shown.number, shown.counted)) shown.few next.few
+      (omega (arith, length-reports_of seen.moments, counted, shown.number, shown.counted))
+      (omega (arith, places_counted seen.first.hardware seen.moments seen.now.hardware telling.places_add_up (omega (arith, ap (λ (v : Values). v.dispatch_width) placed_now.values, placed_now.wide)) telling.few_before, length-reports_of seen.moments, counted, shown.number, shown.counted))
+      (omega (arith, telling.some_left, shown.number, shown.counted)) shown.few next.few
       (subst (λ (t : Tale). CanGrow t.bus more) (telling.told telling.values telling.untold) (telling.bus_grows more (omega (arith, few_steps, shown.few))))
       (subst (λ (t : Tale). CanGrow t.units more) (telling.told telling.values telling.untold) (telling.units_grow more (omega (arith, few_steps, shown.few)))))
 
   -- and are told
-  pub telling_on : (drain : Option ℕ) (tale' : Tale) (registers' : List ℕ) (end' : Option ℕ) → drain ≡ begun cycle.number end end'
-      → tale' ≡ tale_after registers cycle.steps.now drain cycle.pipeline.now cycle.rows.now tale
+  pub telling_on : (drain : Option ℕ) (tale' : Tale) (registers' : List ℕ) (end' : Option ℕ) (in_flight' : ℕ) (places : CyclePlaces) → places ≡ places_now → drain ≡ begun cycle.number end end'
+      → tale' ≡ tale_after registers cycle.steps.now places drain cycle.pipeline.now cycle.rows.now tale
       → ((more : ℕ) → CanGrow tale.bus (more + length cycle.steps.now) → CanGrow tale'.bus more)
       → ((more : ℕ) → CanGrow tale.units (more + length cycle.steps.now) → CanGrow tale'.units more) → registers' ≡ cycle.pipeline.now.registers → end' ≡ drain_end cycle.pipeline.now
-      → IsTelling first tale' registers' end' (with_shown seen next.shown)
-  telling_on drain tale' registers' end' drain_is added bus_grows units_grow registers_are end_is =
+      → in_flight' ≡ length cycle.pipeline.now.rob.entries → in_flight' ≤ 256 → IsTelling first tale' registers' end' in_flight' (with_shown seen next.shown)
+  telling_on drain tale' registers' end' in_flight' places places_is drain_is added bus_grows units_grow registers_are end_is in_flight_is few =
       let shown = next.shown in
       let steps = cycle.steps.now in
       let after = cycle.pipeline.now in
       let rows = cycle.rows.now in
       let drain_now : drain ≡ drain_in seen.arrivals seen.now.hardware =
       drain_is ∙ (λ i. begun (shown.number i) (telling.end_is i) (end_is i)) ∙ begun_in_cycle shown.reached (any_cycle shown.cycled.cycle) in
-      let moment : Moment = record { report = shown.report; after = after } in
+      let placed_as : places ≡ places_in seen.now.hardware moment = places_is ∙ places_are in
       let all_steps : length (steps_of (reports_of (seen.moments ++ moment ∷ []))) ≡ length (steps_of (reports_of seen.moments)) + length shown.report.steps =
       ap length (shown_steps-push seen.moments moment) ∙ length-append (steps_of (reports_of seen.moments)) shown.report.steps in
       let left = left_after seen.first.hardware seen.moments in
@@ -88,20 +121,32 @@ module _ {seen : Watched} {cycle : ShownCycle} (next : IsNextCycle seen cycle) {
         some_left = some_left-push shown.passes moment next.rows_are next.few (cycle_counts shown.cycled) telling.some_left;
         untold = telling.untold;
         told = λ by is.
-            added ∙ (λ i. tale_after (telling.registers_are i) (shown.steps_are i) (drain_now i) after rows (telling.told by is i)) ∙
+            added ∙ (λ i. tale_after (telling.registers_are i) (shown.steps_are i) (placed_as i) (drain_now i) after rows (telling.told by is i)) ∙
             tale-push by moment rows left shown.passes ∙
             ap (tale_of by seen.arrivals seen.first.hardware (seen.moments ++ moment ∷ [])) (sym (left-push shown.passes moment next.rows_are));
         bus_grows = λ more few. bus_grows more (telling.bus_grows (more + length steps) (omega (arith, few, all_steps, ap length shown.steps_are)));
         units_grow = λ more few. units_grow more (telling.units_grow (more + length steps) (omega (arith, few, all_steps, ap length shown.steps_are)));
         registers_are = registers_are;
         end_is = end_is;
+        in_flight_is = in_flight_is;
+        few_in_flight = few;
+        few_before = telling.few_before;
+        places_add_up = add_up-push moment shown.passes placed_now telling.places_add_up;
       }
 
 -- the end of a run, at which a table has what is in flight
-module _ {arrivals : List Arrival} {old new : GuidedHardware} {moments : List Moment} {first tale : Tale} {registers : List ℕ} {end : Option ℕ} {table : Table}
-    (telling : IsTelling first tale registers end (watched arrivals old moments new)) (kept : HasOpen old.hardware moments new.hardware table) where
+module _ {arrivals : List Arrival} {old new : GuidedHardware} {moments : List Moment} {first tale : Tale} {registers : List ℕ} {end : Option ℕ} {in_flight : ℕ} {table : Table}
+    (telling : IsTelling first tale registers end in_flight (watched arrivals old moments new)) (kept : HasOpen old.hardware moments new.hardware table) where
   left_are : tale.work.left ≡ length (left_after old.hardware moments)
   left_are = ap (λ (t : Tale). t.work.left) (telling.told telling.values telling.untold)
+
+  -- so can the places of all its cycles
+  pub places_of_all : {limit : ℕ} {stop : Stop} {progress : Progress} → IsEndedRun arrivals limit old moments new stop → progress ≡ progress_of (reports_of moments)
+      → new.hardware.cycle ≤ 2 ^ 40 → Reachable new.hardware → progress.cycles * new.hardware.values.dispatch_width < 2 ^ 64
+  places_of_all {progress = progress} run counted within reached =
+      let few : progress.cycles ≤ 2 ^ 40 = omega (arith, ap (λ (p : Progress). p.cycles) counted, moments_counted run.passes, within) in
+      let wide : new.hardware.values.dispatch_width ≤ 8 = (sound reached).sizes.legal.pipeline.dispatch_width.1 in
+      omega (arith, mul-le progress.cycles new.hardware.values.dispatch_width (2 ^ 40) 8 few wide)
 
   -- all that was fetched can be counted
   pub fetched_counted : (rows : List Passage) → rows ≡ (passages_of table).rows → new.hardware.cycle ≤ 2 ^ 40 → tale.work.left + length rows < 2 ^ 64
@@ -110,8 +155,8 @@ module _ {arrivals : List Arrival} {old new : GuidedHardware} {moments : List Mo
   -- what was kept of the run
   pub told_to_the_end : {limit : ℕ} {values : Values} {stop : Stop} {progress : Progress} → IsEndedRun arrivals limit old moments new stop
       → progress ≡ progress_of (reports_of moments) → first ≡ tale_of values arrivals old.hardware [] [] → (rows : List Passage) → rows ≡ (passages_of table).rows
-      → IsTold arrivals limit values old new stop progress (tale.work.left + length rows) tale
-  told_to_the_end {values = values} run counted untold rows rows_are =
+      → progress.cycles * new.hardware.values.dispatch_width < 2 ^ 64 → Reachable old.hardware → new.hardware.cycle ≤ 2 ^ 40 → IsTold arrivals limit values old new stop progress (tale.work.left + length rows) tale
+  told_to_the_end {values = values} run counted untold rows rows_are few reached within =
       let open_rows : rows ≡ (passages_after still_open old.hardware moments).rows = rows_are ∙ ap (λ (t : Passages). t.rows) kept.followed.passages in
       record {
         moments = moments;
@@ -119,4 +164,7 @@ module _ {arrivals : List Arrival} {old new : GuidedHardware} {moments : List Mo
         counted = counted;
         fetched_are = omega (arith, left_are, ap length open_rows, length-append (passages_after still_open old.hardware moments).rows (left_after old.hardware moments));
         kept = telling.told values untold;
+        places_add_up = telling.places_add_up;
+        places_are_lost_for = lost_for reached run.passes within;
+        few = few;
       }

@@ -10,7 +10,7 @@ use Rattle.rv_sentences.specs.declared.{exception.Exception.Exception, interrupt
 use Rattle.rv_explain.specs.declared.figures.Figures.{Figures}
 use Rattle.rv_explain.specs.declared.figures.Figures.TheVariants.{Always, UnlessCrashed}
 
--- an address stands right behind the last line of some code: the word before it has a line, and its own has none
+-- an address stands right after the last line of some code: the word before it has a line, and its own has none
 abbrev pub is_behind_code : Listed → ℕ → Bool
 is_behind_code listing address = is_some (line_at listing (address - 4)) && is_none (line_at listing address)
 

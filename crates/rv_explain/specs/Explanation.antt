@@ -1,5 +1,5 @@
 -- What a run came to, in sentences.
-use Rattle.std.specs.Prelude.{◌≡◌, ℕ, ◌+◌, ◌^◌, ◌≤◌, List, ◌++◌, codes, length, Option, Some, None}
+use Rattle.std.specs.Prelude.{◌≡◌, ℕ, ◌+◌, ◌*◌, ◌^◌, ◌<◌, ◌≤◌, List, ◌++◌, codes, length, Option, Some, None}
 use Rattle.rv_isa.specs.declared.{lines.Arrival.Arrival, values.Values.Values}
 use Rattle.rv_arch.specs.declared.outcome.Stop.{Stop}
 use Rattle.rv_core.specs.Progress.{progress_of}
@@ -21,13 +21,15 @@ use Rattle.rv_hardware.specs.History.{Moment, reports_of}
 use Rattle.rv_sentences.specs.Hotspot.{hotspots_text}
 use Rattle.rv_sentences.specs.Interrupt.{interrupts_text}
 use Rattle.rv_sentences.specs.Load.{load_text}
+use Rattle.rv_sentences.specs.PlaceLines.{places_text}
+use Rattle.rv_sentences.specs.Places.{AddUp, AreLostFor}
 use Rattle.rv_sentences.specs.Stack.{count_text, stall_text}
 use Rattle.rv_explain.specs.Tale.{tale_of_run}
 use Rattle.rv_sentences.specs.Wait.{waits_text}
 use Rattle.rv_sentences.specs.Work.{work_text}
 use Rattle.rv_sentences.specs.Worst.{worst_text}
 use Rattle.rv_explain.specs.declared.{figures.Figures.Figures, tale.Tale.Tale}
-use Rattle.rv_sentences.specs.declared.exception.Exception.{Exception}
+use Rattle.rv_sentences.specs.declared.{exception.Exception.Exception, places.Places.Places}
 
 -- a run that ended, how many words were fetched in it or before it, and what was kept of it
 pub record IsTold (arrivals : List Arrival) (limit : ℕ) (values : Values) (old new : GuidedHardware) (stop : Stop) (progress : Progress) (fetched : ℕ) (tale : Tale) : Type 0 where
@@ -36,12 +38,19 @@ pub record IsTold (arrivals : List Arrival) (limit : ℕ) (values : Values) (old
   pub counted : progress ≡ progress_of (reports_of moments)
   pub fetched_are : fetched ≡ length (passages_of_run old.hardware moments)
   pub kept : tale ≡ tale_of_run values arrivals old.hardware moments
+  pub places_add_up : AddUp old.hardware moments new.hardware
+  pub places_are_lost_for : AreLostFor arrivals old.hardware moments
+  pub few : progress.cycles * new.hardware.values.dispatch_width < 2 ^ 64
 
 -- the cycles, and those to each instruction
 unfoldable pub cycle_text : Progress → ℕ → List ℕ
 cycle_text progress retired =
     count_text progress.cycles retired ++
     (line_of (codes "cycles per instruction") (ratio_text progress.cycles retired) ++ stall_text progress.cycles progress.busy progress.stalls)
+
+-- what became of the places for dispatch
+unfoldable pub lead_text : Hardware → Progress → Places → List ℕ
+lead_text h progress places = places_text progress.cycles h.values.dispatch_width (length h.rob.entries) places
 
 -- what results and instructions waited for, and what the accesses to memory cost
 unfoldable pub waited_text : Tale → List ℕ
@@ -56,12 +65,13 @@ cost_text listing progress fetched tale =
     (work_text fetched tale.work ++ (worst_text listing tale.branches tale.mispredicted ++ (waited_text tale ++
     hotspots_text listing progress.cycles tale.heads tale.outcomes))))
 
--- how a run ended, its exceptions and interrupts, and where its cycles went, by how many words were fetched among others
+-- how a run ended, its exceptions and interrupts, what became of its places for dispatch, and where its cycles went, by how many words
+-- were fetched among others
 unfoldable pub whole_text : Listed → Stop → Hardware → Progress → ℕ → Tale → List ℕ
 whole_text listing stop h progress fetched tale =
     ending_text listing stop h tale.last_stores ++ (first_passed_text listing tale.exceptions.all ++
     (exceptions_text listing tale.exceptions.all tale.exceptions.kinds ++ (interrupts_text listing tale.interrupts ++
-    cost_text listing progress fetched tale)))
+    (lead_text h progress tale.places ++ cost_text listing progress fetched tale))))
 
 -- the sentences on a run, or on the crash that stands alone
 unfoldable pub told_text : Option Exception → Listed → Stop → Hardware → Progress → ℕ → Tale → List ℕ
@@ -79,11 +89,14 @@ abbrev pub explanation_of : Figures → Values → List Arrival → Listed → H
 explanation_of figures values arrivals listing first moments after stop =
     explanation figures listing stop after (progress_of (reports_of moments)) (length (passages_of_run first moments)) (tale_of_run values arrivals first moments)
 
--- a text explains a run that ended for a reason
+-- a text explains a run that ended for a reason; what it says of the places for dispatch adds up, and each is lost for what ended the
+-- dispatch phase of its cycle
 pub record IsExplanation (arrivals : List Arrival) (limit : ℕ) (figures : Figures) (values : Values) (listing : Listed) (old new : GuidedHardware) (stop : Stop) (text : List ℕ) : Type 0 where
   pub moments : List Moment
   pub run : IsEndedRun arrivals limit old moments new stop
   pub text_is : text ≡ explanation_of figures values arrivals listing old.hardware moments new.hardware stop
+  pub places_add_up : AddUp old.hardware moments new.hardware
+  pub places_are_lost_for : AreLostFor arrivals old.hardware moments
 
 -- of hardware that a described predictor guides there is one explanation, whatever it leaves
 abbrev pub HasOneExplanation : List Arrival → ℕ → Figures → Values → Listed → Type 0

@@ -23,12 +23,14 @@ use Rattle.rv_sentences.specs.Kinds.{IsCountable, kept_after, kept_of}
 use Rattle.rv_sentences.specs.LastStore.{last_store_to, stores_in, stores_of, with_stores}
 use Rattle.rv_sentences.specs.Load.{loads_of}
 use Rattle.rv_sentences.specs.Outcome.{CanTake, outcomes_at, with_passages}
+use Rattle.rv_sentences.specs.Places.{AddUp, all_places, places_of, with_cycle}
 use Rattle.rv_sentences.specs.Unit.{arrivals_after, none_came, unit_waits}
 use Rattle.rv_sentences.specs.Wait.{CanGrow, both_waits, bus_waits}
 use Rattle.rv_sentences.specs.WordCount.{count_at, with_all, with_one}
 use Rattle.rv_sentences.specs.WordNotes.{notes_of}
 use Rattle.rv_sentences.specs.Work.{both_work, word_in, work_of}
 use Rattle.rv_explain.specs.declared.tale.Tale.{Tale}
+use Rattle.rv_sentences.specs.declared.places.CyclePlaces.{CyclePlaces}
 use Rattle.rv_sentences.specs.declared.work.Class.TheVariants.{Branch, Mispredicted}
 
 -- what is kept of some cycles that began with such hardware, by the arrivals at the interrupt lines, and of the instructions that
@@ -38,6 +40,7 @@ tale_of values arrivals h moments left = record {
   retired = count_by is_retirement (steps_of (reports_of moments));
   exceptions = kept_of (exceptions_of moments);
   interrupts = by_line (interruptions_of moments);
+  places = places_of h moments;
   dispatches = dispatched_after (steps_of (reports_of moments)) none_dispatched;
   bus = bus_waits (steps_of (reports_of moments));
   units = unit_waits none_came (steps_of (reports_of moments));
@@ -57,13 +60,14 @@ tale_of values arrivals h moments left = record {
 abbrev pub tale_of_run : Values → List Arrival → Hardware → List Moment → Tale
 tale_of_run values arrivals h moments = tale_of values arrivals h moments (left_after h moments)
 
--- what is kept with one more cycle: its steps, by the registers before them, the drain that began in it, the hardware that it
--- left, and the passages at its end
-abbrev pub tale_after : List ℕ → List Step → Option ℕ → Hardware → List Passage → Tale → Tale
-tale_after registers steps drain after rows tale = record {
+-- what is kept with one more cycle: its steps, by the registers before them, its places, the drain that began in it, the hardware
+-- that it left, and the passages at its end
+abbrev pub tale_after : List ℕ → List Step → CyclePlaces → Option ℕ → Hardware → List Passage → Tale → Tale
+tale_after registers steps places drain after rows tale = record {
   retired = tale.retired + count_by is_retirement steps;
   exceptions = kept_after (exception_in after steps) tale.exceptions;
   interrupts = interrupts_after (interruption_in steps) tale.interrupts;
+  places = with_cycle places tale.places;
   dispatches = dispatched_after steps tale.dispatches;
   bus = both_waits tale.bus (bus_waits steps);
   units = both_waits tale.units (unit_waits tale.came steps);
@@ -79,9 +83,9 @@ tale_after registers steps drain after rows tale = record {
   outcomes = with_passages tale.costs (filter has_left rows) tale.outcomes;
 }
 
--- what is kept of the cycles that were seen, of those values by which nothing was kept at first; with the registers and the end of
--- the drain under way after them
-pub record IsTelling (first tale : Tale) (registers : List ℕ) (end : Option ℕ) (seen : Watched) : Type 0 where
+-- what is kept of the cycles that were seen, of those values by which nothing was kept at first; with the registers, the end of
+-- the drain under way, and how many instructions are in the reorder buffer after them
+pub record IsTelling (first tale : Tale) (registers : List ℕ) (end : Option ℕ) (in_flight : ℕ) (seen : Watched) : Type 0 where
   pub values : Values
   pub some_left : length (left_after seen.first.hardware seen.moments) ≤ 576 * seen.now.hardware.cycle
   pub untold : first ≡ tale_of_run values seen.arrivals seen.first.hardware []
@@ -90,10 +94,15 @@ pub record IsTelling (first tale : Tale) (registers : List ℕ) (end : Option �
   pub units_grow : (more : ℕ) → length (steps_of (reports_of seen.moments)) + more ≤ 2 ^ 44 → CanGrow tale.units more
   pub registers_are : registers ≡ seen.now.hardware.registers
   pub end_is : end ≡ drain_end seen.now.hardware
+  pub in_flight_is : in_flight ≡ length seen.now.hardware.rob.entries
+  pub few_in_flight : in_flight ≤ 256
+  pub few_before : length seen.first.hardware.rob.entries ≤ 256
+  pub places_add_up : AddUp seen.first.hardware seen.moments seen.now.hardware
 
 -- no count of a cycle with so many steps more, and so many passages at its end, comes to 2^64
 pub record HasRoom (tale : Tale) (more rows : ℕ) : Type 0 where
   pub retired : tale.retired + more < 2 ^ 64
+  pub places : all_places tale.places + 264 < 2 ^ 64
   pub dispatches : tale.dispatches.cycles + more < 2 ^ 64
   pub bus : CanGrow tale.bus more
   pub units : CanGrow tale.units more

@@ -9,7 +9,7 @@ use rv_source::Listing;
 use rv_text::Sink;
 use std::io::Write;
 
-// Whether an address stands right behind the last line of some code.
+// Whether an address stands right after the last line of some code.
 fn is_behind_code(listing: &Listing, address: u32) -> bool
     ensures { result ≡ is_behind_code listing.now address }
 {

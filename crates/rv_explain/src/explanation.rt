@@ -1,5 +1,5 @@
-ghost use Rattle.std.specs.Prelude.{◌≡◌, ◌≤◌, ◌<◌, ◌^◌, Err, List, [], sum, IfOk};
-ghost use Rattle.rv_explain.specs.Explanation.{HasOneExplanation, IsExplanation, cost_text, cycle_text, explanation, told_text, waited_text, whole_text};
+ghost use Rattle.std.specs.Prelude.{◌≡◌, ◌*◌, ◌≤◌, ◌<◌, ◌^◌, Err, List, [], sum, IfOk};
+ghost use Rattle.rv_explain.specs.Explanation.{HasOneExplanation, IsExplanation, cost_text, cycle_text, explanation, lead_text, told_text, waited_text, whole_text};
 ghost use Rattle.rv_hardware.specs.Guided.{guided};
 ghost use Rattle.rv_hardware.specs.Hardware.{Hardware};
 ghost use Rattle.rv_isa.specs.declared.lines.Arrival.{Arrival};
@@ -10,6 +10,7 @@ ghost use Rattle.rv_text.specs.Said.{Says};
 ghost use Rattle.rv_text.specs.Written.{IsWritten};
 
 use crate::crash::{lone_crash, write_crash, write_first_passed};
+use crate::cycle_places::in_flight;
 use crate::ending::write_ending;
 use crate::figures::Figures;
 use crate::running::run_told;
@@ -19,8 +20,9 @@ use rv_core::{Pipeline, Progress};
 use rv_front::Predictor;
 use rv_isa::{Arrivals, Description};
 use rv_sentences::{
-    Exception, write_counts, write_dispatches, write_drains, write_exceptions, write_hotspots,
-    write_interrupts, write_loads, write_stalls, write_waits, write_work, write_worst,
+    Exception, Places, write_counts, write_dispatches, write_drains, write_exceptions,
+    write_hotspots, write_interrupts, write_loads, write_places, write_stalls, write_waits,
+    write_work, write_worst,
 };
 use rv_source::Listing;
 use rv_text::{Field, ReportError, Sink, TextError, Value};
@@ -78,6 +80,26 @@ fn write_waited<W: Write>(out: &mut Sink<'_, W>, tale: &Tale)
     write_drains(out, &tale.drains);
 }
 
+// What became of the places for dispatch.
+fn write_lead<W: Write>(
+    out: &mut Sink<'_, W>,
+    pipeline: &Pipeline,
+    progress: &Progress,
+    places: &Places,
+)
+    requires places { progress.now.cycles * pipeline.now.values.dispatch_width < 2 ^ 64 }
+    ensures { Says W.contents out.old out.new (lead_text pipeline.now progress.now places.now) }
+{
+    let width = u64::from(pipeline.values().dispatch_width);
+    write_places(
+        out,
+        progress.cycles,
+        width,
+        in_flight(pipeline) as u64,
+        places,
+    );
+}
+
 // Where the cycles went.
 fn write_costs<W: Write>(
     out: &mut Sink<'_, W>,
@@ -118,12 +140,14 @@ fn write_whole<W: Write>(
     requires heads { sum tale.old.heads.words ≤ progress.now.cycles }
     requires branches { sum tale.old.branches.words < 2 ^ 64 }
     requires mispredicted { sum tale.old.mispredicted.words < 2 ^ 64 }
+    requires places { progress.now.cycles * pipeline.now.values.dispatch_width < 2 ^ 64 }
     ensures { Says W.contents out.old out.new (whole_text listing.now stop pipeline.now progress.now fetched tale.old) }
 {
     write_ending(out, listing, stop, pipeline, &tale.last_stores);
     write_first_passed(out, listing, tale.exceptions.all());
     write_exceptions(out, listing, &tale.exceptions);
     write_interrupts(out, listing, &tale.interrupts);
+    write_lead(out, pipeline, progress, &tale.places);
     write_costs(out, listing, progress, fetched, tale);
 }
 
@@ -142,6 +166,7 @@ fn write_sentences<W: Write>(
     requires heads { sum tale.old.heads.words ≤ progress.now.cycles }
     requires branches { sum tale.old.branches.words < 2 ^ 64 }
     requires mispredicted { sum tale.old.mispredicted.words < 2 ^ 64 }
+    requires places { progress.now.cycles * pipeline.now.values.dispatch_width < 2 ^ 64 }
     ensures { Says W.contents out.old out.new (told_text crash listing.now stop pipeline.now progress.now fetched tale.old) }
 {
     match crash {
@@ -165,6 +190,7 @@ fn write_told<W: Write>(
     requires heads { sum tale.old.heads.words ≤ progress.now.cycles }
     requires branches { sum tale.old.branches.words < 2 ^ 64 }
     requires mispredicted { sum tale.old.mispredicted.words < 2 ^ 64 }
+    requires places { progress.now.cycles * pipeline.now.values.dispatch_width < 2 ^ 64 }
     ensures { IsWritten result (W.contents writer.old) (W.contents writer.new) (explanation figures listing.now stop pipeline.now progress.now fetched tale.old) }
 {
     let crash = lone_crash(figures, stop, tale.exceptions.all());
@@ -177,7 +203,8 @@ fn write_told<W: Write>(
 
 /// Runs a pipeline that a predictor guides, each cycle with the lines of its number, up to a breakpoint, a stale word,
 /// exhaustion or so many cycles, and then writes what the run came to, in plain sentences: how it ended, where and why,
-/// and for a stale word the last store to it; its exceptions and interrupts; where the cycles went; how many dispatched
+/// and for a stale word the last store to it; its exceptions and interrupts; what became of the places
+/// for dispatch; where the cycles went; how many dispatched
 /// only what did not retire; how many words were fetched and how many of them squashed; how many branches and jumps
 /// retired, and how many of them were mispredicted, with the three lines that most of those come from; what results
 /// waited for the bus, and instructions for a unit; what its loads and the drains of its stores cost; and the five

@@ -4,6 +4,7 @@ ghost use Rattle.rv_explain.specs.Tale.{tale_of};
 ghost use Rattle.rv_hardware.specs.Guided.{guided};
 ghost use Rattle.rv_view.specs.Following.{FollowsFrom};
 
+use crate::cycle_places::{cycle_places, in_flight};
 use crate::tale::Tale;
 use rv_arch::Stop;
 use rv_core::{Pipeline, Progress};
@@ -32,6 +33,8 @@ struct Teller {
     tale: Tale,
     registers: [u32; 32],
     drain_end: Option<u64>,
+    /// How many instructions are in the reorder buffer.
+    in_flight: usize,
 }
 
 impl View for Teller {
@@ -40,7 +43,7 @@ impl View for Teller {
 
     type Refusal = Infallible;
 
-    ghost has_seen = { λ start teller seen. IsTelling start.tale teller.tale teller.registers teller.drain_end seen };
+    ghost has_seen = { λ start teller seen. IsTelling start.tale teller.tale teller.registers teller.drain_end teller.in_flight seen };
 
     ghost text = { λ _ _ _. [] };
 
@@ -55,9 +58,11 @@ impl View for Teller {
     fn see<W: Write>(&mut self, cycle: &ShownCycle<'_>, _: &mut Sink<'_, W>) {
         let drain_end = cycle.pipeline.drain_end();
         let drain = begun(cycle.number, self.drain_end, drain_end);
+        let places = cycle_places(cycle.number, self.in_flight, cycle.steps, cycle.pipeline);
         self.tale.add(
             &mut self.registers,
             cycle.steps,
+            &places,
             drain,
             cycle.pipeline,
             cycle.rows,
@@ -65,6 +70,7 @@ impl View for Teller {
         let registers = cycle.pipeline.observe().regs;
         self.registers = registers;
         self.drain_end = drain_end;
+        self.in_flight = in_flight(cycle.pipeline);
     }
 }
 
@@ -82,12 +88,16 @@ pub(crate) fn run_told(
     requires untold { tale ≡ tale_of description.now arrivals.now pipeline.old [] [] }
     ensures { IsTold arrivals.now limit description.now (guided pipeline.old (known predictor.old)) (guided pipeline.new (known predictor.new)) result.stop result.progress result.fetched result.tale }
 {
+    // What is in the pipeline a reset and cycles led to.
+    let _ = pipeline.cycles_done();
     let registers = pipeline.observe().regs;
     let drain_end = pipeline.drain_end();
+    let in_flight = in_flight(pipeline);
     let teller = Teller {
         tale,
         registers,
         drain_end,
+        in_flight,
     };
     let Viewed {
         view,
@@ -107,6 +117,8 @@ pub(crate) fn run_told(
     );
     // It counts so many cycles at most, and so what was fetched is counted.
     let _ = pipeline.is_exhausted();
+    // Of hardware that a reset and cycles lead to, the dispatch width is as described.
+    let _ = pipeline.cycles_done();
     let Teller { tale, .. } = view;
     let fetched = tale.work.left + table.rows().len() as u64;
     match stop {

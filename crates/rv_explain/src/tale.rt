@@ -1,8 +1,8 @@
-ghost use Rattle.std.specs.Prelude.{◌≡◌, ◌+◌, ℕ, List, [], count_by, length, IfOk};
+ghost use Rattle.std.specs.Prelude.{◌≡◌, ◌+◌, ◌≤◌, ℕ, List, [], length, IfOk};
 ghost use Rattle.rv_hardware.specs.Hardware.{Hardware};
-ghost use Rattle.rv_hardware.specs.Step.{is_retirement};
 ghost use Rattle.rv_isa.specs.declared.lines.Arrival.{Arrival};
 ghost use Rattle.rv_explain.specs.Tale.{HasRoom, tale_after, tale_of};
+ghost use Rattle.rv_sentences.specs.Places.{cycle_total};
 ghost use Rattle.rv_sentences.specs.Wait.{CanGrow};
 
 use crate::head::head_word;
@@ -13,9 +13,9 @@ use rv_hardware::Step;
 use rv_isa::{Description, PerKind};
 use rv_passage::{Passage, up_to_youngest_left};
 use rv_sentences::{
-    Accesses, Class, Dispatches, Exceptions, Interrupts, Outcomes, WordNotes, Work, add_drain,
-    add_loads, add_unit_waits, add_waits, count_left, count_one, count_words, interruption_in,
-    no_waits, note_stores,
+    Accesses, Class, CyclePlaces, Dispatches, Exceptions, Interrupts, Outcomes, Places, WordNotes,
+    Work, add_drain, add_loads, add_unit_waits, add_waits, count_left, count_one, count_retired,
+    count_words, interruption_in, no_waits, note_stores,
 };
 use std::alloc::{AllocError, Global};
 
@@ -25,6 +25,8 @@ pub(crate) struct Tale {
     pub(crate) retired: u64,
     pub(crate) exceptions: Exceptions,
     pub(crate) interrupts: Interrupts,
+    /// What became of the places of its cycles.
+    pub(crate) places: Places,
     pub(crate) dispatches: Dispatches,
     /// What results waited for the bus.
     pub(crate) bus: PerKind<u128>,
@@ -48,18 +50,6 @@ pub(crate) struct Tale {
     pub(crate) outcomes: WordNotes<Outcomes>,
 }
 
-fn count_retired(steps: &[Step]) -> usize
-    ensures { result ≡ count_by is_retirement steps.now }
-{
-    let mut retired = 0;
-    for step in steps {
-        if matches!(step, Step::Retired(_)) {
-            retired += 1;
-        }
-    }
-    retired
-}
-
 impl Tale {
     /// What is kept of no cycle. The only error is out of memory.
     pub(crate) fn new(alloc: Global, description: &Description) -> Result<Tale, AllocError>
@@ -69,6 +59,7 @@ impl Tale {
             retired: 0,
             exceptions: Exceptions::new(alloc)?,
             interrupts: Interrupts::new(),
+            places: Places::NONE,
             dispatches: Dispatches::NONE,
             bus: no_waits(),
             units: no_waits(),
@@ -85,18 +76,20 @@ impl Tale {
         })
     }
 
-    /// Keeps what the core's last cycle shows, by its steps, the registers before them, what the drain costs that began in it, and
-    /// the passages at its end.
+    /// Keeps what the core's last cycle shows, by its steps, the registers before them, its places, what the drain costs that began
+    /// in it, and the passages at its end.
     pub(crate) fn add(
         &mut self,
         registers: &mut [u32; 32],
         steps: &[Step],
+        places: &CyclePlaces,
         drain: Option<u64>,
         pipeline: &Pipeline,
         rows: &[Passage],
     )
         requires room { HasRoom self.old (length steps.now) (length rows.now) }
-        ensures kept { self.new ≡ tale_after registers.old steps.now drain pipeline.now rows.now self.old }
+        requires few { cycle_total places.now ≤ 264 }
+        ensures kept { self.new ≡ tale_after registers.old steps.now places.now drain pipeline.now rows.now self.old }
         ensures bus_grows { (more : ℕ) → CanGrow self.old.bus (more + length steps.now) → CanGrow self.new.bus more }
         ensures units_grow { (more : ℕ) → CanGrow self.old.units (more + length steps.now) → CanGrow self.new.units more }
     {
@@ -105,6 +98,7 @@ impl Tale {
         self.retired += count_retired(steps) as u64;
         self.exceptions.note(exception_in(steps, pipeline));
         self.interrupts.note(interruption_in(steps));
+        self.places.add(places);
         self.dispatches.add(steps);
         add_waits(&mut self.bus, steps);
         add_unit_waits(&mut self.units, &mut self.came, steps);

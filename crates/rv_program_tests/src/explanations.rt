@@ -2,6 +2,7 @@ mod accesses;
 mod crashes;
 mod endings;
 mod exceptions;
+mod places;
 mod predictions;
 mod slowest;
 mod waits;
@@ -31,6 +32,11 @@ ebreak
 const SENTENCES: &[u8] = b"\
 The run ended at a breakpoint, at 80000004, line 2: ebreak
 No exception came before that.
+Where the 10 places for dispatch went, 2 in each cycle:
+squashed by traps                     4   40.0%  ####################
+lost: fetch gave no word              4   40.0%  ####################
+retired                               1   10.0%  #####
+trapped                               1   10.0%  #####
 cycles 5, retired instructions 1
 cycles per instruction 5.000
 busy            3   60.0%  ##############################

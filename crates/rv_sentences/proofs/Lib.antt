@@ -7,6 +7,8 @@ mod Growing
 pub mod LastStores
 pub mod InterruptsGrow
 mod Joined
+mod LargestFirst
+pub mod LossReasons
 pub mod KindsGrow
 mod Options
 mod SeriesGrows
@@ -15,3 +17,6 @@ mod WordTable
 pub mod Works
 mod WorstLines
 pub mod OutcomesGrow
+pub mod PlacesGrow
+pub mod PlacesOfCycle
+pub mod SoughtCounts

@@ -1,5 +1,5 @@
-//! What `explain` counts of a run and how it is written in plain sentences, but for the run itself: exceptions and interrupts, where the
-//! cycles went, what became of the fetched words and of the predictions, what loads, drains, bus and units cost, and the lines that cost
+//! What `explain` counts of a run and how it is written in plain sentences, but for the run itself: exceptions and interrupts, what became
+//! of the places for dispatch, where the cycles went, what became of the fetched words and of the predictions, what loads, drains, bus and units cost, and the lines that cost
 //! the most. Each text is a function of the counts and of the listing of the program.
 #![tactic(auto)]
 
@@ -10,6 +10,7 @@ mod exception;
 mod exceptions;
 mod greatest_lines;
 mod hotspots;
+mod in_flight;
 mod interrupt_lines;
 mod interruption;
 mod interrupts;
@@ -19,6 +20,9 @@ mod lines;
 mod loads;
 mod outcomes;
 mod place;
+mod place_lines;
+mod place_uses;
+mod places;
 mod series;
 mod spot;
 mod stack;
@@ -36,6 +40,7 @@ pub use drains::{add_drain, begun, write_drains};
 pub use exception::Exception;
 pub use exceptions::write_first;
 pub use hotspots::write_hotspots;
+pub use in_flight::{Sought, count_sought, kind_of_word};
 pub use interrupt_lines::write_interrupts;
 pub use interruption::Interruption;
 pub use interrupts::{Interrupts, interruption_in};
@@ -44,6 +49,9 @@ pub use kinds::Exceptions;
 pub use loads::{add_loads, write_loads};
 pub use outcomes::{Outcomes, count_left};
 pub use place::write_place;
+pub use place_lines::write_places;
+pub use place_uses::{count_retired, count_traps, flush_of, is_serialising};
+pub use places::{CyclePlaces, Flush, Loss, Lost, Places, Squashed};
 pub use series::Series;
 pub use stack::{write_counts, write_stalls};
 pub use stores::note_stores;

@@ -90,8 +90,8 @@ pub fn count_by_line(counts: &mut WordNotes<u64>, listing: &Listing)
     join_lines(counts.words.as_mut_slice(), counts.first, listing);
 }
 
-// The greatest of some counts, and its first place.
-fn first_greatest(counts: &[u64]) -> Greatest
+/// The greatest of some counts, and its first place.
+pub fn first_greatest(counts: &[u64]) -> Greatest
     ensures { result ≡ first_greatest counts.now }
 {
     let mut greatest = Greatest { place: 0, count: 0 };
@@ -111,8 +111,8 @@ fn first_greatest(counts: &[u64]) -> Greatest
     greatest
 }
 
-// Takes the count from a place, if there is one.
-fn clear(counts: &mut [u64], place: usize)
+/// Takes the count from a place, if there is one.
+pub fn clear(counts: &mut [u64], place: usize)
     ensures { counts.new ≡ slice_set counts.old place 0 }
 {
     if place < counts.len() {

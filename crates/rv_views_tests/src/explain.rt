@@ -19,6 +19,12 @@ No handler was set (the address in mtvec was 0), and the program went on at 0000
 Exceptions by cause and place:
       1 in cycle 4: Environment call from M-mode, at 80000004, line 2: ecall
       7 in cycles 6 to 18: Instruction access fault, at 00000000, which no line of the program fills
+Where the 40 places for dispatch went, 2 in each cycle:
+lost: fetch gave no word             26   65.0%  #################################
+trapped                               8   20.0%  ##########
+squashed by traps                     4   10.0%  #####
+retired                               1    2.5%  #
+in flight at the end                  1    2.5%  #
 cycles 20, retired instructions 1
 cycles per instruction 20.000
 busy           11   55.0%  ############################

@@ -35,7 +35,7 @@ The first exception came in cycle 4: Illegal instruction, mtval 00000000, at 800
 No handler was set (the address in mtvec was 0), and the program went on at 00000000
 ";
     is_told_by(&rt, rt.alloc(), "addi x1,x0,5\n", lines);
-    // Data stand behind the code, in the next sixteen bytes.
+    // Data stand after the code, in the next sixteen bytes.
     is_told_by(&rt, rt.alloc(), "addi x1,x0,5\n.data\n.word 7\n", lines);
 }
 

@@ -13,6 +13,7 @@ write_told-written-requires g c =
       heads = heads_counted _ c.args.limit c.args.description.now _ _ told.stop told.progress told.fetched told.tale c.run_told-told.ensures;
       branches = omega (arith, branches_counted _ c.args.limit c.args.description.now _ _ told.stop told.progress told.fetched told.tale c.run_told-told.ensures);
       mispredicted = omega (arith, mispredicted_counted _ c.args.limit c.args.description.now _ _ told.stop told.progress told.fetched told.tale c.run_told-told.ensures);
+      places = c.run_told-told.ensures.few;
     }
 
 pub returns-in-Ok-written-clause-written : goal.returns-in-Ok-written-clause-written

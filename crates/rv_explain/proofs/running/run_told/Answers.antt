@@ -1,11 +1,12 @@
 use Rattle.std.proofs.Common.{arith}
 use Rattle.rv_view.proofs.EndedView.{ended_by}
-use Rattle.rv_explain.proofs.Telling.{fetched_counted, telling_nothing, told_to_the_end}
+use Rattle.rv_explain.proofs.Telling.{fetched_counted, places_of_all, telling_nothing, told_to_the_end}
 use Rattle.rv_explain.proofs.running.run_told.Goals as goal
 
 pub run_view-view-requires-clause-ready : goal.run_view-view-requires-clause-ready
 run_view-view-requires-clause-ready g c =
-    telling_nothing c.args.description.now c.args.arrivals.now _ c.args.tale c.observe.result.regs c.drain_end-drain_end.result c.requires.untold c.observe.ensures.registers c.drain_end-drain_end.ensures
+    telling_nothing c.args.description.now c.args.arrivals.now _ c.args.tale c.observe.result.regs c.drain_end-drain_end.result c.in_flight-in_flight.result c.requires.untold c.observe.ensures.registers c.drain_end-drain_end.ensures
+    c.in_flight-in_flight.ensures.counted c.in_flight-in_flight.ensures.few
 
 pub overflow_add-fetched : goal.overflow_add-fetched
 overflow_add-fetched g c =
@@ -15,4 +16,6 @@ overflow_add-fetched g c =
 pub returns : goal.returns
 returns g c =
     let run = c.run_view-view.ensures in
-    told_to_the_end run.viewed.sees run.viewed.kept (ended_by run c.in-Ok.stop c.in-Ok.is) run.counted c.requires.untold c.rows.result.now c.rows.ensures
+    let ends = ended_by run c.in-Ok.stop c.in-Ok.is in
+    told_to_the_end run.viewed.sees run.viewed.kept ends run.counted c.requires.untold c.rows.result.now c.rows.ensures
+    (places_of_all run.viewed.sees run.viewed.kept ends run.counted c.is_exhausted.ensures.within c.cycles_done-2.ensures.reached) c.cycles_done.ensures.reached c.is_exhausted.ensures.within

@@ -3,6 +3,7 @@ use Rattle.rv_counts.specs.Load.{costs_of}
 use Rattle.rv_sentences.specs.Dispatch.{none_dispatched}
 use Rattle.rv_sentences.specs.Drain.{drains_by}
 use Rattle.rv_sentences.specs.Load.{loads_of}
+use Rattle.rv_sentences.specs.Places.{no_places}
 use Rattle.rv_sentences.specs.Unit.{none_came}
 use Rattle.rv_sentences.specs.Work.{work_of}
 use Rattle.rv_explain.proofs.tale.Tale.new.Goals as goal
@@ -12,6 +13,7 @@ returns c arrivals h = λ i. record {
   retired = 0;
   exceptions = c.in_ok-new.ensures i;
   interrupts = c.new-2.ensures i;
+  places = no_places;
   dispatches = none_dispatched;
   bus = c.no_waits.ensures i;
   units = c.no_waits-2.ensures i;

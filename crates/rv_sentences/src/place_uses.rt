@@ -1,0 +1,73 @@
+ghost use Rattle.std.specs.Prelude.{◌≡◌, count_by};
+ghost use Rattle.rv_hardware.specs.Step.{is_retirement, is_trap};
+ghost use Rattle.rv_isa.specs.Instruction.{is_serialising};
+ghost use Rattle.rv_sentences.specs.Places.{flush_by, flush_of};
+
+use crate::places::Flush;
+use rv_decode::decode;
+use rv_hardware::Step;
+use rv_isa::Instr;
+
+/// How many instructions trapped in some steps.
+pub fn count_traps(steps: &[Step]) -> usize
+    ensures { result ≡ count_by is_trap steps.now }
+{
+    let mut traps = 0;
+    for step in steps {
+        if matches!(step, Step::Trap { .. }) {
+            traps += 1;
+        }
+    }
+    traps
+}
+
+/// How many instructions retired in some steps.
+pub fn count_retired(steps: &[Step]) -> usize
+    ensures { result ≡ count_by is_retirement steps.now }
+{
+    let mut retired = 0;
+    for step in steps {
+        if matches!(step, Step::Retired(_)) {
+            retired += 1;
+        }
+    }
+    retired
+}
+
+/// Whether an instruction waits to be the oldest, with nothing younger in flight beside it.
+pub fn is_serialising(instruction: Option<Instr>) -> bool
+    ensures { result ≡ is_serialising instruction }
+{
+    matches!(
+        instruction,
+        Some(Instr::FenceI | Instr::Csr { .. } | Instr::Mret)
+    )
+}
+
+// What squashes the instructions after a step.
+fn flush_by(step: &Step) -> Flush
+    ensures { result ≡ flush_by step.now }
+{
+    match *step {
+        Step::Retired(row) => {
+            if is_serialising(decode(row.word)) {
+                Flush::Serialising
+            } else {
+                Flush::Prediction
+            }
+        }
+        Step::Trap { .. } => Flush::Trap,
+        Step::Interrupt { .. } => Flush::Interrupt,
+    }
+}
+
+/// What squashes instructions in a cycle with some steps.
+pub fn flush_of(steps: &[Step]) -> Flush
+    ensures { result ≡ flush_of steps.now }
+{
+    match steps {
+        [] => Flush::Prediction,
+        [step] => flush_by(step),
+        [_, rest @ ..] => flush_of(rest),
+    }
+}

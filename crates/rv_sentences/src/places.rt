@@ -1,0 +1,154 @@
+ghost use Rattle.std.specs.Prelude.{◌≡◌, ◌+◌, ◌<◌, ◌^◌};
+ghost use Rattle.rv_sentences.specs.Places.{all_places, cycle_total, no_places, with_cycle, with_lost, with_squashed};
+
+use rv_isa::{Kind, PerKind};
+
+/// What squashes instructions.
+#[derive(Clone, Copy)]
+pub enum Flush {
+    /// A wrong prediction of a branch or a jump.
+    Prediction,
+    /// A serialising instruction that retires.
+    Serialising,
+    Trap,
+    Interrupt,
+}
+
+/// Why a place is lost: what the next instruction waits for.
+#[derive(Clone, Copy)]
+pub enum Loss {
+    /// There is none: fetch gave no word.
+    Fetch,
+    /// A serialising instruction is in flight.
+    Serial,
+    /// The reorder buffer is full.
+    Rob,
+    /// The stations of its kind are full.
+    Station(Kind),
+    /// The store queue is full, for a store.
+    Store,
+}
+
+/// The places of a cycle, in which instructions can be dispatched, and what left the reorder buffer in it.
+#[derive(Clone, Copy)]
+pub struct CyclePlaces {
+    /// The instructions that retired in it.
+    pub retired: u64,
+    /// Those that trapped in it.
+    pub trapped: u64,
+    /// Those that were squashed in it after their dispatch.
+    pub squashed: u64,
+    /// By what they were.
+    pub flush: Flush,
+    /// Its places in which nothing was dispatched.
+    pub lost: u64,
+    /// Why.
+    pub loss: Loss,
+}
+
+/// Instructions that were squashed after their dispatch, by what squashed them.
+#[derive(Clone, Copy)]
+pub struct Squashed {
+    pub predictions: u64,
+    pub serialising: u64,
+    pub traps: u64,
+    pub interrupts: u64,
+}
+
+/// Places in which nothing was dispatched, by the reason.
+#[derive(Clone, Copy)]
+pub struct Lost {
+    pub fetch: u64,
+    pub serial: u64,
+    pub rob: u64,
+    pub stations: PerKind<u64>,
+    pub store: u64,
+}
+
+/// What became of the places of some cycles.
+#[derive(Clone, Copy)]
+pub struct Places {
+    pub retired: u64,
+    pub trapped: u64,
+    pub squashed: Squashed,
+    pub lost: Lost,
+}
+
+impl Squashed {
+    fn add(&mut self, flush: Flush, count: u64)
+        requires predictions { self.old.predictions + count < 2 ^ 64 }
+        requires serialising { self.old.serialising + count < 2 ^ 64 }
+        requires traps { self.old.traps + count < 2 ^ 64 }
+        requires interrupts { self.old.interrupts + count < 2 ^ 64 }
+        ensures { self.new ≡ with_squashed flush count self.old }
+    {
+        match flush {
+            Flush::Prediction => self.predictions += count,
+            Flush::Serialising => self.serialising += count,
+            Flush::Trap => self.traps += count,
+            Flush::Interrupt => self.interrupts += count,
+        }
+    }
+}
+
+impl Lost {
+    fn add(&mut self, loss: Loss, count: u64)
+        requires fetch { self.old.fetch + count < 2 ^ 64 }
+        requires serial { self.old.serial + count < 2 ^ 64 }
+        requires rob { self.old.rob + count < 2 ^ 64 }
+        requires alu { self.old.stations.alu + count < 2 ^ 64 }
+        requires mul { self.old.stations.mul + count < 2 ^ 64 }
+        requires div { self.old.stations.div + count < 2 ^ 64 }
+        requires mem { self.old.stations.mem + count < 2 ^ 64 }
+        requires store { self.old.store + count < 2 ^ 64 }
+        ensures { self.new ≡ with_lost loss count self.old }
+    {
+        match loss {
+            Loss::Fetch => self.fetch += count,
+            Loss::Serial => self.serial += count,
+            Loss::Rob => self.rob += count,
+            Loss::Station(Kind::Alu) => self.stations.alu += count,
+            Loss::Station(Kind::Mul) => self.stations.mul += count,
+            Loss::Station(Kind::Div) => self.stations.div += count,
+            Loss::Station(Kind::Mem) => self.stations.mem += count,
+            Loss::Store => self.store += count,
+        }
+    }
+}
+
+impl Places {
+    /// Of no cycle.
+    pub const NONE: Places = Places {
+        retired: 0,
+        trapped: 0,
+        squashed: Squashed {
+            predictions: 0,
+            serialising: 0,
+            traps: 0,
+            interrupts: 0,
+        },
+        lost: Lost {
+            fetch: 0,
+            serial: 0,
+            rob: 0,
+            stations: PerKind {
+                alu: 0,
+                mul: 0,
+                div: 0,
+                mem: 0,
+            },
+            store: 0,
+        },
+    };
+
+    /// Adds those of one more cycle.
+    pub fn add(&mut self, cycle: &CyclePlaces)
+        requires room { all_places self.old + cycle_total cycle.now < 2 ^ 64 }
+        ensures { self.new ≡ with_cycle cycle.now self.old }
+    {
+        self.retired += cycle.retired;
+        self.trapped += cycle.trapped;
+        self.squashed.add(cycle.flush, cycle.squashed);
+        self.lost.add(cycle.loss, cycle.lost);
+    }
+}
