@@ -5,6 +5,7 @@
     run.stop, run.cycles, run.registers["a0"], run.steps[0].commit
     run.frame(hexadecimal=True)                             # the trace for pandas
     rv_sim.profile(text), rv_sim.states(text, cycles=20)    # rows, and the hardware's states, as dictionaries
+    rv_sim.path(text), rv_sim.sensitivity(text)             # what holds the run back, and which key of the machine would help
 
 The program is the one that the environment variable RV_SIM names, else `rv_sim` on the path, else the one of the repository that this
 file stands in. A description is a TOML text or a dictionary of keys; arrivals are a TOML text.
@@ -180,6 +181,22 @@ def explain(assembly, description=None, *, arrivals=None, limit=None):
 def profile(assembly, description=None, *, arrivals=None, limit=None):
     """The rows of `profile`, as dictionaries: numbers as numbers, None where the table has a hyphen or nothing; the statement is a text."""
     return numbers(read_table(call(["profile", *limit_words(limit)], job(assembly, description, arrivals))))
+
+
+def path(assembly, description=None, *, arrivals=None, limit=None):
+    """How many cycles of the run each cause has on its critical path, by the names that `path` prints, in its order. They add up to the
+    cycles of the run."""
+    _, *lines = call(["path", *limit_words(limit)], job(assembly, description, arrivals)).splitlines()
+    causes = (re.fullmatch(r"(.*) (\d+) (?:\d+\.\d|-) %", line).groups() for line in lines)
+    return {cause: int(cycles) for cause, cycles in causes}
+
+
+def sensitivity(assembly, description=None, *, arrivals=None, limit=None, also=None):
+    """The rows of `sensitivity`, as dictionaries: the machine as it is, and those with one key changed, that with the fewest cycles first.
+    `also` has values of one's own by their keys, four at most. What was changed, and from what to what, are texts."""
+    words = [*limit_words(limit), *(it for key, value in (also or {}).items() for it in ("--also", f"{key}={value}"))]
+    rows = read_table(call(["sensitivity", *words], job(assembly, description, arrivals)))
+    return [{**row, "cycles": int(row["cycles"]), "change": int(row["change"])} for row in rows]
 
 
 def states(assembly, description=None, *, arrivals=None, first=None, cycles=None):

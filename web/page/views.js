@@ -6,6 +6,8 @@ const TEXT = { name: "text", label: "as text", isSwitch: true, value: false };
 
 const KONATA = "For the pipeline viewer Konata: save it, and open the file there.";
 const ONE_AT_A_TIME = "The same program on the machine that takes one instruction after the other; limit and arrivals count steps.";
+const CRITICAL = "Each event waited last for one other event: walking back from the last one, each cycle of the run has one cause.";
+const NEIGHBOURS = "The job on machines that differ from its own in one key; the change is in thousandths of the cycles.";
 const TRACE = "R retired, T trap, N interrupt; F, D, I, B, C: the cycles of fetch, dispatch, issue, broadcast and commit.";
 
 const VIEWS = [
@@ -16,6 +18,8 @@ const VIEWS = [
   { name: "compare", title: "Compare", command: "compare", limit: true, input: comparedInput, show: showComparison, file: "compare.tsv" },
   { name: "explain", title: "Explain", command: "explain", limit: true, show: showText, file: "explain.txt" },
   { name: "profile", title: "Profile", command: "profile", limit: true, show: showTable, file: "profile.tsv" },
+  { name: "path", title: "Path", command: "path", limit: true, show: showText, file: "path.txt", note: CRITICAL },
+  { name: "sensitivity", title: "What would help", command: "sensitivity", limit: true, show: showTable, file: "sensitivity.tsv", note: NEIGHBOURS },
   { name: "trace", title: "Trace", command: "run", words: ["--trace"], limit: true, show: showText, file: "trace.txt", note: TRACE },
   { name: "log", title: "Log", command: "log", limit: true, show: showText, file: "run.kanata", note: KONATA },
   { name: "reference", title: "Reference", command: "reference", limit: true, show: showText, file: "reference.txt", note: ONE_AT_A_TIME },
