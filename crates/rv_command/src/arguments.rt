@@ -1,7 +1,7 @@
 //! The arguments of the program, as `clap` is given them.
 ghost use Rattle.std.specs.Prelude.{◌≡◌, false, IfOk};
 ghost use Rattle.clap.specs.Words.{App, Rule, new_app, rule_of, with_rule, with_subcommand};
-ghost use Rattle.rv_command.specs.Arguments.{IsParserOf, check_arguments, compare_arguments, cycles_rule, flag_rule, flagged_arguments, from_rule, limit_rule};
+ghost use Rattle.rv_command.specs.Arguments.{IsParserOf, check_arguments, compare_arguments, flag_rule, flagged_arguments, from_rule, limit_rule};
 ghost use Rattle.rv_command.specs.Arguments.{also_rule, limited_arguments, number_rule, picture_arguments, program_arguments, sensitivity_arguments, show_rule};
 ghost use Rattle.rv_command.specs.Arguments.{bare_arguments, bare_picture_arguments, told_arguments, told_from_arguments};
 

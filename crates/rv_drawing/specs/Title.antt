@@ -1,7 +1,6 @@
 -- The tip of a row: what was predicted after a branch or a jump, and whether that was wrong, or the cause of a trap.
 use Rattle.std.specs.Prelude.{ℕ, Bool, true, false, List, [], ◌++◌, codes, decimal, Option, Some, None}
 use Rattle.rv_isa.specs.Cause.{code_of}
-use Rattle.rv_isa.specs.declared.causes.Cause.{Cause}
 use Rattle.rv_passage.specs.Prediction.{correction_of, prediction_of}
 use Rattle.rv_passage.specs.declared.passage.{Ending.Ending, Passage.Passage}
 use Rattle.rv_passage.specs.declared.passage.Ending.TheVariants.{InFlight, Retired, Trapped, Squashed}

@@ -1,4 +1,4 @@
-ghost use Rattle.std.specs.Prelude.{◌≡◌, ◌+◌, ◌≤◌, ◌<◌, ◌^◌, decimal};
+ghost use Rattle.std.specs.Prelude.{◌+◌, ◌<◌, ◌^◌, decimal};
 ghost use Rattle.std.specs.List.{flat_map};
 ghost use Rattle.rv_drawing.specs.Places.{column_x, row_y};
 ghost use Rattle.rv_drawing.specs.SvgMarks.{line_down, tenth_mark, tenth_at, number_at, numbers, numbers_again, interrupt_mark, interrupt_in};

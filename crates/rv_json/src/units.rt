@@ -1,4 +1,4 @@
-ghost use Rattle.std.specs.Prelude.{◌≡◌, codes, map};
+ghost use Rattle.std.specs.Prelude.{codes, map};
 ghost use Rattle.rv_json.specs.Json.{also, array, begins};
 ghost use Rattle.rv_json.specs.Units.{start_json, units_json};
 ghost use Rattle.rv_text.specs.Said.{Says};

@@ -1,4 +1,4 @@
-ghost use Rattle.std.specs.Prelude.{◌≡◌, ◌++◌, codes, decimal};
+ghost use Rattle.std.specs.Prelude.{◌++◌, codes, decimal};
 ghost use Rattle.rv_log.specs.Details.{written_text, cause_text, ending_text, cost_text, details_line, predicted_text, prediction_text};
 ghost use Rattle.rv_text.specs.Said.{Says};
 

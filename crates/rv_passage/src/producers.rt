@@ -53,7 +53,6 @@ fn follow_in(producer: &mut Option<Producer>, older: &[Passage])
 }
 
 impl Producers {
-    ghost use Rattle.rv_passage.specs.Passage.{nothing_awaited};
     ghost use Rattle.rv_passage.specs.Producers.{all_followed_in};
 
     /// No result is waited for.
@@ -188,7 +187,7 @@ fn producers_among(older: &[Passage], instruction: &Option<Instr>) -> Producers
 impl Passage {
     ghost use Rattle.rv_rob.specs.Entry.{issue_of};
     ghost use Rattle.rv_passage.specs.Passage.{broadcast_of, is_in_flight, of_entry, of_fetched};
-    ghost use Rattle.rv_passage.specs.Producers.{producers_now, standing_at};
+    ghost use Rattle.rv_passage.specs.Producers.{standing_at};
 
     // It is dispatched after the older ones.
     #[inline(never)]

@@ -1,5 +1,5 @@
 ghost use Rattle.std.specs.Prelude.{◌≡◌, ◌<◌};
-ghost use Rattle.rv_path.specs.Cause.{busy_of, cause_name, execution_of, inner_causes, place_of};
+ghost use Rattle.rv_path.specs.Cause.{busy_of, cause_name, execution_of, place_of};
 
 use rv_isa::Kind;
 

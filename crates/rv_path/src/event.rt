@@ -1,5 +1,5 @@
 ghost use Rattle.std.specs.Prelude.{◌≡◌, sum};
-ghost use Rattle.rv_path.specs.Event.{first_event, nothing_yet, refilling, settled, waited_for};
+ghost use Rattle.rv_path.specs.Event.{first_event, refilling, settled, waited_for};
 
 use crate::cause::{CAUSES, Cause};
 use std::marker::Model;

@@ -1,7 +1,7 @@
 ghost use Rattle.std.specs.Prelude.{◌≡◌, ◌+◌, ◌<◌, ◌^◌, ◌≤◌, ◌++◌, filter, length, vec_capacity};
 ghost use Rattle.std.specs.Option.{option_to_list};
 ghost use Rattle.rv_isa.specs.Instruction.{kind_of_word};
-ghost use Rattle.rv_path.specs.Holding.{at_its_commit, drain_event, drain_now, drains, ends_at, goes_beyond, hold_of, is_begun, is_taken, lines_hold, load_hold, new_holds, port_now, taken_by};
+ghost use Rattle.rv_path.specs.Holding.{at_its_commit, drain_event, drain_now, ends_at, goes_beyond, hold_of, is_begun, is_taken, lines_hold, load_hold, new_holds, port_now, taken_by};
 ghost use Rattle.rv_path.specs.Setting.{setting_of};
 
 use crate::before::{DrainHold, Facts, Holder, PortHold, UnitHold};

@@ -1,5 +1,4 @@
 ghost use Rattle.std.specs.Prelude.{◌≡◌};
-ghost use Rattle.rv_isa.specs.Instruction.{kind_of_word};
 ghost use Rattle.rv_path.specs.Issuing.{after_broadcast, after_bus, after_issues, after_operands, after_producer, after_stores_known, after_units, after_units_of, broadcast_event, execution_cause, has_ended, hold_among, if_broadcast, if_issued, issue_after, issue_event, older_hold};
 ghost use Rattle.rv_path.specs.Setting.{setting_of};
 

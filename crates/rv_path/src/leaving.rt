@@ -1,5 +1,5 @@
 ghost use Rattle.std.specs.Prelude.{◌≡◌};
-ghost use Rattle.rv_path.specs.Leaving.{interrupt_event, is_interrupted, is_retired_store, leaving_event, leaving_of, left_now, lines_event, none_left, with_event, with_row, with_rows};
+ghost use Rattle.rv_path.specs.Leaving.{interrupt_event, is_interrupted, is_retired_store, leaving_event, leaving_of, left_now, lines_event, with_event, with_row, with_rows};
 ghost use Rattle.rv_path.specs.Leaving.{after_own_lines, after_left, first_to_leave, known_in, leaves_after, left_by};
 ghost use Rattle.rv_path.specs.Setting.{setting_of};
 

@@ -118,7 +118,7 @@ fn push_in_flight(rows: &[Passage], ways: &[Way], out: &mut Vec<Way>)
 
 impl Path {
     ghost use Rattle.rv_path.specs.Keeping.{HasRoom, known_of_path};
-    ghost use Rattle.rv_path.specs.Path.{Known, known_at, known_in, setting_in};
+    ghost use Rattle.rv_path.specs.Path.{known_at, known_in, setting_in};
 
     /// That of a pipeline in which so many instructions are in flight, before the first cycle. The only error is out of memory.
     pub(crate) fn begin(

@@ -1,7 +1,6 @@
-ghost use Rattle.std.specs.Prelude.{◌≡◌, ◌+◌, ◌++◌, [], codes, get_or, map};
+ghost use Rattle.std.specs.Prelude.{◌≡◌, ◌+◌, [], get_or, map};
 ghost use Rattle.std.specs.List.{enumerate_from, flat_map};
 ghost use Rattle.rv_report.specs.Comparison.{count_values, event_values, last_cells, loss_values, name_and_stop, name_text, row_of, table_head, table_of, table_row};
-ghost use Rattle.rv_report.specs.State.{stop_text};
 ghost use Rattle.rv_text.specs.ReadField.{cell_text};
 ghost use Rattle.rv_text.specs.Said.{Says};
 ghost use Rattle.rv_text.specs.Written.{IsWritten};

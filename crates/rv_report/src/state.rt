@@ -1,4 +1,4 @@
-ghost use Rattle.std.specs.Prelude.{◌≡◌, ◌++◌, codes};
+ghost use Rattle.std.specs.Prelude.{◌≡◌};
 ghost use Rattle.rv_isa.specs.Csr.{row_of};
 ghost use Rattle.rv_arch.specs.Csr.{value_of};
 ghost use Rattle.rv_report.specs.State.{stop_line, stop_text, register_line, register_lines, csr_lines, state_lines};

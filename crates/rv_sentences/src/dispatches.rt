@@ -1,5 +1,5 @@
 ghost use Rattle.std.specs.Prelude.{◌≡◌, ◌+◌, ◌-◌, ◌<◌, ◌^◌, length};
-ghost use Rattle.rv_sentences.specs.Dispatch.{dispatched_after, dispatched_with, dispatches_text, is_last, none_dispatched};
+ghost use Rattle.rv_sentences.specs.Dispatch.{dispatched_after, dispatched_with, dispatches_text, is_last};
 ghost use Rattle.rv_text.specs.Said.{Says};
 
 use rv_hardware::Step;

@@ -1,6 +1,6 @@
-ghost use Rattle.std.specs.Prelude.{◌≡◌, ◌+◌, ◌<◌, ◌^◌, None, [], IfOk, IfSome, map, length};
+ghost use Rattle.std.specs.Prelude.{◌≡◌, ◌+◌, ◌<◌, ◌^◌, None, [], IfOk, map};
 ghost use Rattle.std.specs.List.{All, list_any};
-ghost use Rattle.rv_sentences.specs.Kinds.{IsCountable, belongs, is_alike, kept_after, kept_of, kept_with, kind_with};
+ghost use Rattle.rv_sentences.specs.Kinds.{IsCountable, belongs, kept_after, kept_of, kept_with, kind_with};
 
 use crate::exception::Exception;
 use crate::series::{Series, with_event};

@@ -1,9 +1,9 @@
 ghost use Rattle.std.specs.Prelude.{◌≡◌, ◌+◌, ◌<◌, ◌^◌, IfSome, filter, length};
 ghost use Rattle.rv_counts.specs.Counts.{one_more};
-ghost use Rattle.rv_counts.specs.Load.{is_hit, is_miss};
+ghost use Rattle.rv_counts.specs.Load.{is_miss};
 ghost use Rattle.rv_counts.specs.Passing.{has_left};
 ghost use Rattle.rv_sentences.specs.Load.{retired_load_cost};
-ghost use Rattle.rv_sentences.specs.Outcome.{CanCount, CanTake, is_write_back, nothing_came, outcomes_with, with_passages};
+ghost use Rattle.rv_sentences.specs.Outcome.{CanCount, CanTake, is_write_back, outcomes_with, with_passages};
 ghost use Rattle.rv_sentences.specs.WordNotes.{note_at, with_change};
 
 use crate::loads::{is_quick, retired_load_cost};

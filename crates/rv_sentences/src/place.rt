@@ -1,4 +1,4 @@
-ghost use Rattle.std.specs.Prelude.{◌≡◌, take};
+ghost use Rattle.std.specs.Prelude.{take};
 ghost use Rattle.rv_sentences.specs.Place.{address_text, line_text, number_text, place_text};
 ghost use Rattle.rv_source.specs.Listing.{line_at};
 ghost use Rattle.rv_text.specs.Plain.{plain_text};

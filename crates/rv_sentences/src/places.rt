@@ -1,5 +1,5 @@
 ghost use Rattle.std.specs.Prelude.{◌≡◌, ◌+◌, ◌<◌, ◌^◌};
-ghost use Rattle.rv_sentences.specs.Places.{all_places, cycle_total, no_places, with_cycle, with_lost, with_squashed};
+ghost use Rattle.rv_sentences.specs.Places.{all_places, cycle_total, with_cycle, with_lost, with_squashed};
 
 use rv_isa::{Kind, PerKind};
 

@@ -1,8 +1,6 @@
-ghost use Rattle.std.specs.Prelude.{◌≡◌, ◌+◌, ◌<◌, ◌^◌, ℕ, [], ◌∷◌, length};
+ghost use Rattle.std.specs.Prelude.{◌≡◌, ◌+◌, ◌<◌, ℕ, [], length};
 ghost use Rattle.rv_sentences.specs.Unit.{arrivals_after, arrivals_by, arrivals_with, arrived, came_in, issue_wait, latest, row_wait, unit_waits, unit_wait_in};
 ghost use Rattle.rv_sentences.specs.Wait.{CanGrow, both_waits};
-ghost use Rattle.rv_isa.specs.Operands.{sources_of};
-ghost use Rattle.std.specs.List.{slice_get};
 
 use crate::waits::{add_wait, unit_of};
 use rv_decode::decode;

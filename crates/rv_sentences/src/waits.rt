@@ -1,4 +1,4 @@
-ghost use Rattle.std.specs.Prelude.{◌≡◌, ◌+◌, ◌<◌, ◌^◌, ℕ, [], ◌∷◌, length};
+ghost use Rattle.std.specs.Prelude.{◌≡◌, ◌+◌, ◌<◌, ℕ, [], ◌∷◌, length};
 ghost use Rattle.std.specs.Option.{option_and_then};
 ghost use Rattle.rv_isa.specs.Operands.{kind_of};
 ghost use Rattle.rv_sentences.specs.Wait.{CanGrow, both_waits, bus_waits, if_kind, wait_of, waits_text, with_wait};

@@ -1,4 +1,4 @@
-ghost use Rattle.std.specs.Prelude.{◌≡◌, ◌+◌, ◌<◌, ◌≤◌, ◌++◌, if◌then◌else◌, length, option_copied, slice_get, Some};
+ghost use Rattle.std.specs.Prelude.{◌≡◌, ◌+◌, ◌<◌, ◌≤◌, if◌then◌else◌, length, option_copied, slice_get, Some};
 ghost use Rattle.rv_core.specs.Ties.{operand_by};
 ghost use Rattle.rv_hardware.specs.InFlight.{broadcast_of, writes};
 ghost use Rattle.rv_states.specs.Operands.{both_text, operand_text, operands_of, operands_text, status_at};

@@ -1,6 +1,5 @@
-ghost use Rattle.std.specs.Prelude.{◌≡◌, ◌+◌, ◌<◌, ◌≤◌, [], get_or, length, map, slice_index, None};
-ghost use Rattle.std.specs.List.{flat_map, slice_index_or};
-ghost use Rattle.rv_front.specs.Tables.{Tables};
+ghost use Rattle.std.specs.Prelude.{◌≡◌, ◌+◌, ◌<◌, ◌≤◌, [], get_or, length, map, None};
+ghost use Rattle.std.specs.List.{flat_map};
 ghost use Rattle.rv_hardware.specs.Lessons.{first_pc, lesson_of, lessons_of};
 ghost use Rattle.rv_hardware.specs.Step.{pc_of};
 ghost use Rattle.rv_json.specs.Json.{values_from};

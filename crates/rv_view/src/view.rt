@@ -4,7 +4,7 @@ use std::io::Write;
 
 /// What is shown a run, cycle by cycle, with what becomes of its instructions, and says its text of them.
 pub trait View: Drop {
-    ghost use Rattle.std.specs.Prelude.{◌≡◌, List, [], IfOk};
+    ghost use Rattle.std.specs.Prelude.{◌≡◌, [], IfOk};
     ghost use Rattle.rv_hardware.specs.Hardware.{Hardware};
     ghost use Rattle.rv_view.specs.Viewing.{HasSeenStill, IsShownNext, SaysNext, Saying, SeesNext, Seeing};
 
