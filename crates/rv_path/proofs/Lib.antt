@@ -2,3 +2,5 @@ mod Nothing
 pub mod OnePath
 mod Pathing
 mod Within
+mod WithinCycle
+mod WithinLists

@@ -1,0 +1,130 @@
+-- Events that come within some cycles: of lists, of what is found among them, and of more cycles.
+use Rattle.std.proofs.Common.{◌≡◌, ℕ, zero, suc, ◌+◌, ◌-◌, ◌≤◌, List, [], ◌∷◌, ◌++◌, length, filter, replicate, Option, Some, None, subst, arith, length-append}
+use Rattle.std.specs.Prelude.{Bool, true, false, if◌then◌else◌, IfSome, slice_get, ◌==◌, not, ◌&&◌, nat_le, nat_lt, count_by}
+use Rattle.std.specs.List.{fold}
+use Rattle.std.specs.Option.{option_or, unwrap_or}
+use Rattle.rv_hardware.specs.Hardware.{Hardware}
+use Rattle.rv_hardware.specs.History.{Moment}
+use Rattle.rv_hardware.specs.declared.step.Step.{Step}
+use Rattle.rv_isa.specs.Instruction.{is_fence_i, is_load, kind_of_word}
+use Rattle.rv_isa.specs.PerKind.{at_kind}
+use Rattle.rv_isa.specs.declared.{issues.Issue.Issue, operations.Kind.Kind}
+use Rattle.rv_passage.specs.Passage.{is_in_flight}
+use Rattle.rv_passage.specs.Table.{still_open, table_at}
+use Rattle.rv_passage.specs.Walk.{Standing, next_cycle, standing_after, standing_at, walk, walk_from}
+use Rattle.rv_passage.specs.declared.passage.{Passage.Passage}
+use Rattle.rv_passage.specs.Result.{issued_in, ready_in}
+use Rattle.rv_passage.specs.declared.producers.Producer.{Producer}
+use Rattle.rv_rob.specs.ReorderBuffer.{youngest}
+use Rattle.rv_rob.specs.declared.entry.Entry.{Entry}
+use Rattle.rv_path.specs.Before.{facts_of}
+use Rattle.rv_path.specs.Event.{Reached, first_event, nothing_yet, refilling, settled}
+use Rattle.rv_path.specs.Fetching.{after_flush, after_mend, after_redirection, after_room, after_word, anew_by, fetch_event, flush_of, goes_on, is_jump, is_mended, mend_of, room_of}
+use Rattle.rv_path.specs.Holding.{at_its_commit, drain_event, drain_now, drains, goes_beyond, hold_of, hold_of_kind, is_begun, is_taken, lines_hold, load_hold, new_holds, port_now}
+use Rattle.rv_path.specs.Issuing.{has_ended, after_broadcast, after_bus, after_hold_of, after_issue, after_older_store, after_operands, after_producer, after_stores_known, after_units, after_units_of, broadcast_event, hold_among, if_broadcast, if_issued, issue_after, issue_event, older_hold}
+use Rattle.rv_path.specs.Leaving.{after_left, after_left_before, after_own_lines, first_to_leave, interrupt_after, interrupt_event, is_interrupted, is_retired_store, known_in as finished_in, leaves_after, leaving_event, leaving_of, left_by, left_now, lines_after, lines_event, none_left, own_lines, with_event, with_row, with_rows}
+use Rattle.rv_path.specs.Lookup.{first_of, last_of, sought_of}
+use Rattle.rv_path.specs.Moving.{all_moved, behind, dispatch_event, if_dispatched, issue_of, moved, moved_after, room_by_drain, room_by_issue, room_by_leaving, room_for}
+use Rattle.rv_path.specs.Path.{Known, end_of, known_after, known_at, known_in, known_of, setting_in, still_in_flight, way_if, with_fetched}
+use Rattle.rv_path.specs.Setting.{Setting, after_drain_at, after_drain_before, after_hold, after_leaving, after_port, after_stores, hold_ended, is_hold_of, last_left, left_before, left_just_before, port_ended, waits}
+use Rattle.rv_path.specs.Sought.{is_at, is_end, is_just_before, is_sought}
+use Rattle.rv_path.specs.Way.{way_from}
+use Rattle.rv_path.specs.Within.{AreHoldsWithin, AreWaysWithin, AreWithin, ComesInTime, IsBeforeWithin, IsWayWithin}
+use Rattle.rv_path.specs.declared.{before.DrainHold.DrainHold, before.Facts.Facts, before.Left.Left, before.PortHold.PortHold, before.UnitHold.UnitHold, cause.Cause.Cause, leaving.Leaving.Leaving, sought.Sought.Sought, way.Journey.Journey, way.Way.Way}
+use Rattle.rv_path.specs.declared.before.Holder.TheVariants as holder
+use Rattle.rv_path.specs.declared.cause.Cause.TheVariants as cause
+use Rattle.rv_path.specs.declared.sought.Sought.TheVariants as sought
+
+-- what holds of both holds of either
+pub if_with : {X : Type 0} (Q : X → Type 0) (b : Bool) {x y : X} → Q x → Q y → Q (if b then x else y)
+if_with Q true x y = x
+if_with Q false x y = y
+
+pub or_with : {X : Type 0} (Q : X → Type 0) (a b : Option X) → IfSome a Q → IfSome b Q → IfSome (option_or a b) Q
+or_with Q None b a-is b-is = b-is
+or_with Q (Some a) b a-is b-is = a-is
+
+pub unwrap_with : {X : Type 0} (Q : X → Type 0) (o : Option X) (d : X) → IfSome o Q → Q d → Q (unwrap_or o d)
+unwrap_with Q None d o-is d-is = d-is
+unwrap_with Q (Some x) d o-is d-is = o-is
+
+-- those that are found have their events among all
+pub sought_within : (cycles : ℕ) (sought : Sought) (p : Passage) (w : Way) → IsWayWithin cycles w → IfSome (sought_of sought p w) (λ (j : Journey). IsWayWithin cycles j.way)
+sought_within cycles sought p w within =
+    if_with (λ (o : Option Journey). IfSome o (λ (j : Journey). IsWayWithin cycles j.way)) (is_sought sought p) within tt
+
+pub first_within : (cycles : ℕ) (sought : Sought) (ps : List Passage) (ws : List Way) → AreWaysWithin cycles ws → IfSome (first_of sought ps ws) (λ (j : Journey). IsWayWithin cycles j.way)
+first_within cycles sought [] ws within = tt
+first_within cycles sought (p ∷ ps) [] within = tt
+first_within cycles sought (p ∷ ps) (w ∷ ws) within =
+    if_with (λ (o : Option Journey). IfSome o (λ (j : Journey). IsWayWithin cycles j.way)) (is_sought sought p) within.0 (first_within cycles sought ps ws within.1)
+
+pub last_within : (cycles : ℕ) (sought : Sought) (ps : List Passage) (ws : List Way) → AreWaysWithin cycles ws → IfSome (last_of sought ps ws) (λ (j : Journey). IsWayWithin cycles j.way)
+last_within cycles sought [] ws within = tt
+last_within cycles sought (p ∷ ps) [] within = tt
+last_within cycles sought (p ∷ ps) (w ∷ ws) within =
+    or_with (λ (j : Journey). IsWayWithin cycles j.way) (last_of sought ps ws) (sought_of sought p w) (last_within cycles sought ps ws within.1) (sought_within cycles sought p w within.0)
+
+pub get_within : (cycles : ℕ) (ws : List Way) (place : ℕ) → AreWaysWithin cycles ws → IfSome (slice_get ws place) (IsWayWithin cycles)
+get_within cycles [] place within = tt
+get_within cycles (w ∷ ws) zero within = within.0
+get_within cycles (w ∷ ws) (suc place) within = get_within cycles ws place within.1
+
+pub append_within : (cycles : ℕ) (ws vs : List Way) → AreWaysWithin cycles ws → AreWaysWithin cycles vs → AreWaysWithin cycles (ws ++ vs)
+append_within cycles [] vs ws-are vs-are = vs-are
+append_within cycles (w ∷ ws) vs ws-are vs-are = (ws-are.0, append_within cycles ws vs ws-are.1 vs-are)
+
+pub replicate_within : (cycles count : ℕ) (w : Way) → IsWayWithin cycles w → AreWaysWithin cycles (replicate count w)
+replicate_within cycles zero w within = tt
+replicate_within cycles (suc count) w within = (within, replicate_within cycles count w within)
+
+pub in_flight_within : (cycles : ℕ) (ps : List Passage) (ws : List Way) → AreWaysWithin cycles ws → AreWaysWithin cycles (still_in_flight ps ws)
+in_flight_within cycles [] ws within = tt
+in_flight_within cycles (p ∷ ps) [] within = tt
+in_flight_within cycles (p ∷ ps) (w ∷ ws) within =
+    append_within cycles (way_if (is_in_flight p) w) (still_in_flight ps ws)
+    (if_with (AreWaysWithin cycles) (is_in_flight p) (within.0, tt) tt) (in_flight_within cycles ps ws within.1)
+
+pub holds_append : (cycles : ℕ) (hs gs : List UnitHold) → AreHoldsWithin cycles hs → AreHoldsWithin cycles gs → AreHoldsWithin cycles (hs ++ gs)
+holds_append cycles [] gs hs-are gs-are = gs-are
+holds_append cycles (h ∷ hs) gs hs-are gs-are = (hs-are.0, holds_append cycles hs gs hs-are.1 gs-are)
+
+pub holds_filter : (cycles : ℕ) (test : UnitHold → Bool) (hs : List UnitHold) → AreHoldsWithin cycles hs → AreHoldsWithin cycles (filter test hs)
+holds_filter cycles test [] within = tt
+holds_filter cycles test (h ∷ hs) within =
+    if_with (AreHoldsWithin cycles) (test h) (within.0, holds_filter cycles test hs within.1) (holds_filter cycles test hs within.1)
+
+-- what lies within some cycles lies within one more
+pub way_later : (cycles more : ℕ) (w : Way) → cycles ≤ more → IsWayWithin cycles w → IsWayWithin more w
+way_later cycles more w along within = record {
+  fetch = omega (arith, along, within.fetch);
+  dispatch = omega (arith, along, within.dispatch);
+  issue = omega (arith, along, within.issue);
+  broadcast = omega (arith, along, within.broadcast);
+}
+
+pub ways_later : (cycles more : ℕ) (ws : List Way) → cycles ≤ more → AreWaysWithin cycles ws → AreWaysWithin more ws
+ways_later cycles more [] along within = tt
+ways_later cycles more (w ∷ ws) along within = (way_later cycles more w along within.0, ways_later cycles more ws along within.1)
+
+pub holds_later : (cycles more : ℕ) (hs : List UnitHold) → cycles ≤ more → AreHoldsWithin cycles hs → AreHoldsWithin more hs
+holds_later cycles more [] along within = tt
+holds_later cycles more (h ∷ hs) along within = (omega (arith, along, within.0), holds_later cycles more hs along within.1)
+
+pub some_later : {X : Type 0} (at : X → ℕ) (cycles more : ℕ) (o : Option X) → cycles ≤ more → IfSome o (λ x. at x ≤ cycles) → IfSome o (λ x. at x ≤ more)
+some_later at cycles more None along within = tt
+some_later at cycles more (Some x) along within = omega (arith, along, within)
+
+pub within_later : (cycles more : ℕ) (known : Known) → cycles ≤ more → AreWithin cycles known → AreWithin more known
+within_later cycles more known along within = record {
+  ways = ways_later cycles more known.ways along within.ways;
+  holds = holds_later cycles more known.holds along within.holds;
+  before = record {
+    left = some_later (λ (l : Left). l.event.cycle) cycles more known.before.left along within.before.left;
+    port = some_later (λ (h : PortHold). h.event.cycle) cycles more known.before.port along within.before.port;
+    drain = some_later (λ (d : DrainHold). d.event.cycle) cycles more known.before.drain along within.before.drain;
+  };
+}
+
+pub first_event_within : (cycles : ℕ) → (first_event cycles).cycle ≤ cycles
+first_event_within cycles = omega arith
