@@ -28,6 +28,8 @@ class Browser:
         here, theirs = os.pipe(), os.pipe()
         words = [path or find_browser(), "--headless", "--no-sandbox", "--disable-gpu", "--no-first-run", f"--hide-scrollbars={str(not scrollbars).lower()}",
                  "--disable-dev-shm-usage", "--disable-component-update", "--disable-background-networking",
+                 # (a trial follows more links in a second than a person)
+                 "--disable-ipc-flooding-protection",
                  f"--user-data-dir={self.profile.name}", "--remote-debugging-pipe", "about:blank"]
         shell = f'exec "$@" 3<&{here[0]} 4>&{theirs[1]}'
         self.process = subprocess.Popen(["bash", "-c", shell, "browser", *words], pass_fds=(here[0], theirs[1]), stderr=subprocess.DEVNULL)
