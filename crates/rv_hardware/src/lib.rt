@@ -6,4 +6,4 @@ mod report;
 mod step;
 
 pub use report::{Stall, StallCounts};
-pub use step::{Execution, Row, Step};
+pub use step::{Execution, Row, Step, first_pc};

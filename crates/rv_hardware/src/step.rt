@@ -1,4 +1,5 @@
 ghost use Rattle.std.specs.Prelude.{◌≡◌};
+ghost use Rattle.rv_hardware.specs.Lessons.{first_pc};
 
 use rv_isa::{Cause, Reg};
 
@@ -53,7 +54,7 @@ pub enum Step {
 }
 
 impl Step {
-    ghost use Rattle.rv_hardware.specs.Step.{stamp_of, is_breakpoint};
+    ghost use Rattle.rv_hardware.specs.Step.{is_breakpoint, pc_of, stamp_of};
 
     /// The cycle of the step: that of its retirement, trap or interrupt.
     pub fn stamp(&self) -> u64
@@ -62,6 +63,16 @@ impl Step {
         match *self {
             Step::Retired(row) => row.retired,
             Step::Trap { cycle, .. } | Step::Interrupt { cycle, .. } => cycle,
+        }
+    }
+
+    /// The address of its instruction, or of that before which an interrupt was taken.
+    pub fn pc(&self) -> u32
+        ensures { result ≡ pc_of self.now }
+    {
+        match *self {
+            Step::Retired(row) => row.pc,
+            Step::Trap { pc, .. } | Step::Interrupt { pc, .. } => pc,
         }
     }
 
@@ -76,6 +87,16 @@ impl Step {
                 ..
             }
         )
+    }
+}
+
+/// Where the program goes on before some steps: at the first of them, or, where there is none, at `next`.
+pub fn first_pc(steps: &[Step], next: u32) -> u32
+    ensures { result ≡ first_pc steps.now next }
+{
+    match steps {
+        [first, ..] => first.pc(),
+        [] => next,
     }
 }
 

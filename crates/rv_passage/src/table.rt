@@ -1,6 +1,5 @@
 ghost use Rattle.std.specs.Prelude.{◌≡◌, ◌+◌, ◌≤◌, ◌<◌, ◌^◌, ◌++◌, [], ◌∷◌, drop, filter, length, vec_capacity, IfOk};
 ghost use Rattle.rv_hardware.specs.Lessons.{first_pc};
-ghost use Rattle.rv_hardware.specs.Step.{pc_of};
 ghost use Rattle.rv_passage.specs.Passage.{in_buffers, is_in_flight, numbered, trapped_by};
 
 use crate::in_flight::{MOST_IN_FLIGHT, count_in_flight, present_at};
@@ -19,17 +18,8 @@ fn first_pc(steps: &[Step], place: usize, next: u32) -> u32
     ensures { result ≡ first_pc (drop place steps.now) next }
 {
     match steps.get(place) {
-        Some(step) => pc_of(step),
+        Some(step) => step.pc(),
         None => next,
-    }
-}
-
-fn pc_of(step: &Step) -> u32
-    ensures { result ≡ pc_of step.now }
-{
-    match *step {
-        Step::Retired(row) => row.pc,
-        Step::Trap { pc, .. } | Step::Interrupt { pc, .. } => pc,
     }
 }
 

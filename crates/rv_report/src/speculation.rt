@@ -1,7 +1,5 @@
 ghost use Rattle.std.specs.Prelude.{◌≡◌, ◌+◌, ◌≤◌, ◌<◌, [], ◌∷◌, ◌++◌, ◌==◌, if◌then◌else◌, Some, drop, length, map, slice_get, take, vec_capacity, IfOk};
 ghost use Rattle.circular_buffer.specs.Buffer.{buffer};
-ghost use Rattle.rv_hardware.specs.Lessons.{first_pc};
-ghost use Rattle.rv_hardware.specs.Step.{pc_of};
 ghost use Rattle.rv_hardware.specs.declared.step.Row.{Row as RowOf};
 ghost use Rattle.rv_hardware.specs.declared.step.Step.TheVariants.{Retired};
 ghost use Rattle.rv_passage.specs.Passage.{in_buffers};
@@ -11,7 +9,7 @@ ghost use Rattle.rv_report.specs.Speculation.{CanCount, fetched_by, is_wrong, pr
 
 use circular_buffer::HeapCircularBuffer;
 use rv_front::{Fetched, Front};
-use rv_hardware::Step;
+use rv_hardware::{Step, first_pc};
 use rv_isa::Instr;
 use rv_passage::{MOST_IN_FLIGHT, Passage, Table};
 use rv_rob::Rob;
@@ -42,25 +40,6 @@ impl Model for Speculation {
     ghost use Rattle.std.specs.Prelude.{◌≡◌, ◌≤◌, vec_capacity};
 
     ghost invariant = { λ s. (s.predictions.capacity ≡ 288) × (32 ≤ vec_capacity s.latest) };
-}
-
-fn pc_of(step: &Step) -> u32
-    ensures { result ≡ pc_of step.now }
-{
-    match *step {
-        Step::Retired(row) => row.pc,
-        Step::Trap { pc, .. } | Step::Interrupt { pc, .. } => pc,
-    }
-}
-
-// Where the program goes on before some steps, after the last of which it goes on at `next`.
-fn first_pc(steps: &[Step], next: u32) -> u32
-    ensures { result ≡ first_pc steps.now next }
-{
-    match steps {
-        [first, ..] => pc_of(first),
-        [] => next,
-    }
 }
 
 // Over any type, since at optional pcs the checker has no proof for `push_back`.

@@ -1,36 +1,16 @@
 ghost use Rattle.std.specs.Prelude.{◌≡◌, ◌+◌, ◌<◌, ◌≤◌, [], get_or, length, map, None};
 ghost use Rattle.std.specs.List.{flat_map};
-ghost use Rattle.rv_hardware.specs.Lessons.{first_pc, lesson_of, lessons_of};
-ghost use Rattle.rv_hardware.specs.Step.{pc_of};
+ghost use Rattle.rv_hardware.specs.Lessons.{lesson_of, lessons_of};
 ghost use Rattle.rv_json.specs.Json.{values_from};
 ghost use Rattle.rv_states.specs.Predictor.{after_lessons, asked_in, asked_text, learned_text, place_at, place_in, place_line, place_lines, place_taught, predictor_lines, predictor_text, uses_tables};
 ghost use Rattle.rv_text.specs.Said.{Says};
 
 use rv_core::Pipeline;
 use rv_front::{Bimodal, DescribedPredictor, Fetched, Flow, Front, Predictor};
-use rv_hardware::Step;
+use rv_hardware::{Step, first_pc};
 use rv_json::{write_asked, write_comma, write_key, write_place};
 use rv_text::Sink;
 use std::io::Write;
-
-fn pc_of(step: &Step) -> u32
-    ensures { result ≡ pc_of step.now }
-{
-    match *step {
-        Step::Retired(row) => row.pc,
-        Step::Trap { pc, .. } | Step::Interrupt { pc, .. } => pc,
-    }
-}
-
-// Where the program goes on before some steps: at the first of them, or, where there is none, at `next`.
-fn first_pc(steps: &[Step], next: u32) -> u32
-    ensures { result ≡ first_pc steps.now next }
-{
-    match steps {
-        [first, ..] => pc_of(first),
-        [] => next,
-    }
-}
 
 // Teaches a predictor what a step teaches, after which the program goes on at `next`.
 fn teach_step(predictor: &mut DescribedPredictor, step: &Step, next: u32)
