@@ -56,6 +56,6 @@ refused_alone number program machine (Description error) refused = refused
 refused_alone number program machine (Described place error) refused = refused
 refused_alone number program machine (Arrivals error) refused = refused
 refused_alone number program machine (Assembly error) refused = refused
-refused_alone number program machine ImageDoesNotFit refused = refused
+refused_alone number program machine (ImageDoesNotFit bytes ram) refused = refused
 refused_alone number program machine Memory refused = refused
 refused_alone number program machine WriteFailed refused = refused

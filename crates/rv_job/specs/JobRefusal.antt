@@ -17,4 +17,5 @@ pub data RefusesJob (text : List ℕ) : SimError → Type 0 where
   assembly : {error : SimError} {machine : Values} {changes : List Arrival} → HasLegalLength text → Describes text machine →
       Lists text changes → RefusesAssembly machine.ram_base (parts_of text).assembly error → RefusesJob text error
   unfit : {machine : Values} {changes : List Arrival} {image : Image} → HasLegalLength text → Describes text machine →
-      Lists text changes → Assembles text machine image → (Fits machine image → ⊥) → RefusesJob text ImageDoesNotFit
+      Lists text changes → Assembles text machine image → (Fits machine image → ⊥) →
+      RefusesJob text (ImageDoesNotFit (length image.bytes) machine.ram_size)

@@ -26,8 +26,11 @@ pub enum SimError {
     Arrivals(ArrivalsError),
     /// The first fault of the assembly.
     Assembly(AsmError),
-    /// The image is longer than the RAM that is described, or its start is no multiple of 4.
-    ImageDoesNotFit,
+    /// The image is longer than the RAM that is described, or its start is no multiple of 4: how many bytes each has.
+    ImageDoesNotFit {
+        bytes: usize,
+        ram: u32,
+    },
     /// The same of one of several descriptions that are compared, with its number, from 1.
     DoesNotFit {
         number: usize,
@@ -51,7 +54,7 @@ impl SimError {
             SimError::Described { .. } => "description ",
             SimError::Arrivals(_) => "arrivals",
             SimError::Assembly(_) => "assembly",
-            SimError::ImageDoesNotFit => "image does not fit",
+            SimError::ImageDoesNotFit { .. } => "image does not fit",
             SimError::DoesNotFit { .. } => "image does not fit description ",
             SimError::Memory => "memory",
             SimError::WriteFailed => "output",

@@ -122,7 +122,7 @@ pub(crate) fn fault_status(error: SimError) -> u8
         | SimError::Described { .. }
         | SimError::Arrivals(_)
         | SimError::Assembly(_)
-        | SimError::ImageDoesNotFit
+        | SimError::ImageDoesNotFit { .. }
         | SimError::DoesNotFit { .. } => 1,
         SimError::WriteFailed => 4,
         SimError::Memory => 5,

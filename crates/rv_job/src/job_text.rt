@@ -100,7 +100,7 @@ pub(crate) fn read_unassembled(alloc: Global, text: &[u8]) -> Result<Unassembled
     }
 }
 
-/// The job of an image, if it fits. Fails by `ImageDoesNotFit`.
+/// The job of an image, if it fits. Fails by `ImageDoesNotFit` with the sizes of the image and the RAM.
 pub(crate) fn job_of(
     description: Description,
     arrivals: Arrivals,
@@ -121,7 +121,10 @@ pub(crate) fn job_of(
             image,
         })
     } else {
-        Err(SimError::ImageDoesNotFit)
+        Err(SimError::ImageDoesNotFit {
+            bytes: image.bytes.len(),
+            ram: values.ram_size,
+        })
     }
 }
 

@@ -4,4 +4,3 @@ pub mod Faulty
 pub mod Named
 pub mod Passed
 pub mod OutOfRange
-pub mod Spelled

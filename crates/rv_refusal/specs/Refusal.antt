@@ -35,5 +35,5 @@ refusal_text text (Arrivals error) = arrivals_lines (parts_of text) error
 refusal_text text (Assembly error) =
     let assembly = (parts_of text).assembly in
     assembly_text (lines_before text assembly) assembly error
-refusal_text text ImageDoesNotFit = unfit_lines text
+refusal_text text (ImageDoesNotFit bytes ram) = unfit_lines bytes ram
 refusal_text text _ = []

@@ -33,7 +33,7 @@ fn add_refusal(
             let assembly = cut_into_parts(text).assembly;
             add_assembly(alloc, out, lines_before(text, assembly), assembly, error)
         }
-        SimError::ImageDoesNotFit => add_unfit(alloc, out, text),
+        SimError::ImageDoesNotFit { bytes, ram } => add_unfit(out, bytes, ram),
         _ => Ok(()),
     }
 }

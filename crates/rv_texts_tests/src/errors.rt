@@ -82,7 +82,10 @@ fn an_error_of_a_job_prints_what_failed(rt: HostRuntime) {
         ),
         (SimError::Arrivals(ArrivalsError::NotToml), "arrivals"),
         (SimError::Assembly(ASSEMBLY), "assembly"),
-        (SimError::ImageDoesNotFit, "image does not fit"),
+        (
+            SimError::ImageDoesNotFit { bytes: 5, ram: 4 },
+            "image does not fit",
+        ),
         (
             SimError::DoesNotFit { number: 7 },
             "image does not fit description 7",

@@ -58,7 +58,11 @@ fn each_fault_is_told_in_its_own_words_with_its_status(rt: HostRuntime) {
             "error: assembly line 7: BadRegister\n",
             1,
         ),
-        (SimError::ImageDoesNotFit, "error: image does not fit\n", 1),
+        (
+            SimError::ImageDoesNotFit { bytes: 5, ram: 4 },
+            "error: image does not fit\n",
+            1,
+        ),
         (
             SimError::DoesNotFit { number: 12 },
             "error: image does not fit description 12\n",
