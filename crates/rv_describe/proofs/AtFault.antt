@@ -1,7 +1,7 @@
 -- An entry that is read with a fault has a field with it.
 use Rattle.std.proofs.Common.{◌≡◌, ℕ, ℤ, Bool, false, List, Option, Some, None, option_map}
 use Rattle.rv_isa.specs.declared.lines.Line.{Line}
-use Rattle.rv_describe.specs.Entries.{arrival_with, cycle_of, level_of, line_named, reading_with}
+use Rattle.rv_describe.specs.Entry.{arrival_with, cycle_of, level_of, line_named, reading_with}
 use Rattle.rv_describe.specs.Fault.{choice_fault, is_fault}
 use Rattle.rv_describe.specs.declared.faults.ValueFault.{ValueFault}
 

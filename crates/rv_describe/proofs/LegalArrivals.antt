@@ -7,7 +7,8 @@ use Rattle.std.proofs.lemmas.List.Sorted.{IsNonDecreasingBy-from_all_adjacent}
 use Rattle.toml.specs.Data.{Data}
 use Rattle.rv_isa.specs.Arrivals.{IsLegalArrivals}
 use Rattle.rv_isa.specs.declared.lines.Arrival.{Arrival}
-use Rattle.rv_describe.specs.Entries.{arrival_of, arrivals_of, first_fall}
+use Rattle.rv_describe.specs.Entries.{arrivals_of, first_fall}
+use Rattle.rv_describe.specs.Entry.{arrival_of}
 
 -- no cycle is below the one before
 adjacent : (number before : ℕ) (arrivals : List Arrival) → first_fall number before arrivals ≡ None → (k : ℕ) (d : Arrival) → k + 1 < length arrivals → (get_or arrivals k d).cycle ≤ (get_or arrivals (k + 1) d).cycle

@@ -1,15 +1,11 @@
 -- Walks over a list's images are walks over the list.
-use Rattle.std.proofs.Common.{◌≡◌, ◌||◌, Bool, cond, ◌+◌, List, [], ◌∷◌, map, Option, refl, ap}
-use Rattle.std.specs.List.{cons_option, filter_map, list_any, prefix_len}
+use Rattle.std.proofs.Common.{◌≡◌, ◌||◌, Bool, List, [], ◌∷◌, map, Option, refl, ap}
+use Rattle.std.specs.List.{cons_option, filter_map, list_any}
 
 module _ {A B : Type 0} (view : A → B) where
   pub list_any-map : (test : B → Bool) (items : List A) → list_any test (map view items) ≡ list_any (λ item. test (view item)) items
   list_any-map test [] = refl
   list_any-map test (item ∷ later) = ap (λ rest. test (view item) || rest) (list_any-map test later)
-
-  pub prefix_len-map : (test : B → Bool) (items : List A) → prefix_len test (map view items) ≡ prefix_len (λ item. test (view item)) items
-  prefix_len-map test [] = refl
-  prefix_len-map test (item ∷ later) = ap (λ rest. cond (test (view item)) (1 + rest) 0) (prefix_len-map test later)
 
   pub filter_map-map : {C : Type 0} (read : B → Option C) (items : List A) → filter_map read (map view items) ≡ filter_map (λ item. read (view item)) items
   filter_map-map read [] = refl

@@ -23,7 +23,7 @@ entries_in (Some value) = option_map item_list (as_array value)
 unfoldable pub table_meaning : Members → Result (List Arrival) ArrivalsError
 table_meaning table =
     if has_other_name (codes "arrival" ∷ []) table then Err UnknownKey
-    else option_map_or entries_meaning (entries_in (get_member (codes "arrival") table)) (Err (WrongKind 1))
+    else option_map_or entries_meaning (entries_in (get_member (codes "arrival") table)) (Err (WrongKind 1 None))
 
 -- what bytes list: the arrivals in order, or the fault
 unfoldable pub listed_arrivals : List ℕ → Result (List Arrival) ArrivalsError

@@ -17,15 +17,15 @@ description_fault_name described.Memory = codes "Memory"
 unfoldable pub arrivals_kind : ArrivalsError → List ℕ
 arrivals_kind listed.NotToml = codes "NotToml"
 arrivals_kind listed.UnknownKey = codes "UnknownKey"
-arrivals_kind (listed.WrongKind entry) = codes "WrongKind "
-arrivals_kind (listed.OutOfRange entry) = codes "OutOfRange "
+arrivals_kind (listed.WrongKind entry field) = codes "WrongKind "
+arrivals_kind (listed.OutOfRange entry field) = codes "OutOfRange "
 arrivals_kind (listed.Unsorted entry) = codes "Unsorted "
 arrivals_kind listed.Memory = codes "Memory"
 
 -- the number of the entry that a fault of arrivals names
 unfoldable pub number_text : ArrivalsError → List ℕ
-number_text (listed.WrongKind entry) = decimal entry
-number_text (listed.OutOfRange entry) = decimal entry
+number_text (listed.WrongKind entry field) = decimal entry
+number_text (listed.OutOfRange entry field) = decimal entry
 number_text (listed.Unsorted entry) = decimal entry
 number_text _ = []
 

@@ -2,6 +2,7 @@ pub mod ArrivalList
 pub mod Description
 pub mod Document
 pub mod Entries
+pub mod Entry
 pub mod Fault
 pub mod FaultName
 pub mod Field

@@ -47,6 +47,9 @@ fn read_table(alloc: Global, table: &Table) -> Result<Arrivals, ArrivalsError>
     };
     match value.as_array() {
         Some(entries) => read_entries(alloc, entries.as_slice()),
-        None => Err(ArrivalsError::WrongKind { entry: 1 }),
+        None => Err(ArrivalsError::WrongKind {
+            entry: 1,
+            field: None,
+        }),
     }
 }

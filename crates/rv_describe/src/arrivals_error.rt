@@ -1,7 +1,8 @@
 ghost use Rattle.std.specs.Prelude.{◌≡◌};
-ghost use Rattle.rv_describe.specs.Entries.{entry_of};
+ghost use Rattle.rv_describe.specs.Entries.{entry_of, field_of};
 ghost use Rattle.rv_describe.specs.FaultName.{arrivals_kind};
 
+use crate::field::Field;
 use std::error::Error;
 use std::fmt;
 
@@ -13,12 +14,12 @@ pub enum ArrivalsError {
     NotToml,
     /// A name beside `arrival`, or a field beside `cycle`, `line` and `level`.
     UnknownKey,
-    /// An entry that is no table, lacks `cycle` or `line`, or has a field of another type. Entry 1
-    /// where `arrival` is no array.
-    WrongKind { entry: usize },
-    /// An entry whose cycle, line or level is not one of those allowed, or that stands after the
-    /// 100,000th.
-    OutOfRange { entry: usize },
+    /// An entry that is no table, lacks `cycle` or `line`, or has a field of another type, and the first such field. Entry 1 and no
+    /// field where `arrival` is no array.
+    WrongKind { entry: usize, field: Option<Field> },
+    /// An entry whose cycle, line or level is not one of those allowed, and the first such field; or the one after the 100,000th,
+    /// and no field.
+    OutOfRange { entry: usize, field: Option<Field> },
     /// An entry with a cycle below that of the one before.
     Unsorted { entry: usize },
     /// Memory was refused.
@@ -31,10 +32,22 @@ impl ArrivalsError {
         ensures { result ≡ entry_of self }
     {
         match self {
-            ArrivalsError::WrongKind { entry }
-            | ArrivalsError::OutOfRange { entry }
+            ArrivalsError::WrongKind { entry, .. }
+            | ArrivalsError::OutOfRange { entry, .. }
             | ArrivalsError::Unsorted { entry } => entry,
             _ => 0,
+        }
+    }
+
+    /// The field at fault of that entry, and `cycle` where the cycles fall. `None` where no field is at fault but the list.
+    pub fn field(self) -> Option<Field>
+        ensures { result ≡ field_of self }
+    {
+        match self {
+            ArrivalsError::WrongKind { field, .. } | ArrivalsError::OutOfRange { field, .. } =>
+                field,
+            ArrivalsError::Unsorted { .. } => Some(Field::Cycle),
+            _ => None,
         }
     }
 
@@ -63,8 +76,8 @@ impl fmt::Display for ArrivalsError {
     #[tactic(auto, unfolding(crate::specs::FaultName::number_text))]
     fn fmt<W: fmt::Write>(&self, f: &mut fmt::Formatter<W>) -> fmt::Result {
         match self {
-            ArrivalsError::WrongKind { entry }
-            | ArrivalsError::OutOfRange { entry }
+            ArrivalsError::WrongKind { entry, .. }
+            | ArrivalsError::OutOfRange { entry, .. }
             | ArrivalsError::Unsorted { entry } => write!(f, "{}{entry}", self.kind()),
             _ => f.write_str(self.kind()),
         }

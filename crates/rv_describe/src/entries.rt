@@ -1,12 +1,13 @@
 ghost use Rattle.std.specs.Prelude.{◌≡◌, ◌≢◌, IfOk, IfSome, map, take};
-ghost use Rattle.std.specs.List.{filter_map, list_any, position};
+ghost use Rattle.std.specs.List.{filter_map, list_any};
 ghost use Rattle.toml.specs.View.{view};
-ghost use Rattle.rv_describe.specs.Entries.{arrival_of, entries_meaning, entry_fault, first_fall, has_unknown_field, reading_of};
-ghost use Rattle.rv_describe.specs.Fault.{choice_fault, is_fault};
+ghost use Rattle.rv_describe.specs.Entries.{entries_meaning, entry_fault, first_fall, first_with};
+ghost use Rattle.rv_describe.specs.Entry.{arrival_of, has_unknown_field};
 
 use crate::arrivals_error::ArrivalsError;
 use crate::entry::{arrival_of, has_unknown_field, reading_of};
 use crate::faults::{ValueFault, choice_fault, is_fault};
+use crate::field::{Field, field_with};
 use rv_isa::{Arrival, Arrivals, MOST_ARRIVALS};
 use std::alloc::{AllocError, Global};
 use toml::Value;
@@ -23,6 +24,7 @@ pub fn read_entries(alloc: Global, entries: &[Value]) -> Result<Arrivals, Arriva
     if entries.len() > MOST_ARRIVALS {
         return Err(ArrivalsError::OutOfRange {
             entry: MOST_ARRIVALS + 1,
+            field: None,
         });
     }
     let Ok(arrivals) = collect_arrivals(alloc, entries) else {
@@ -41,11 +43,11 @@ fn entry_fault(entries: &[Value]) -> Option<ArrivalsError>
     if has_unknown_fields(entries) {
         return Some(ArrivalsError::UnknownKey);
     }
-    if let Some(index) = first_with(entries, ValueFault::WrongKind) {
-        return Some(ArrivalsError::WrongKind { entry: index + 1 });
+    if let Some((entry, field)) = first_with(entries, ValueFault::WrongKind) {
+        return Some(ArrivalsError::WrongKind { entry, field });
     }
-    if let Some(index) = first_with(foremost(entries), ValueFault::OutOfRange) {
-        return Some(ArrivalsError::OutOfRange { entry: index + 1 });
+    if let Some((entry, field)) = first_with(foremost(entries), ValueFault::OutOfRange) {
+        return Some(ArrivalsError::OutOfRange { entry, field });
     }
     None
 }
@@ -68,13 +70,13 @@ fn has_unknown_fields(entries: &[Value]) -> bool
     entries.iter().any(has_unknown_field)
 }
 
-// The index of the first entry with a fault in its fields.
-fn first_with(entries: &[Value], fault: ValueFault) -> Option<usize>
-    ensures { result ≡ position (λ entry. is_fault (choice_fault (reading_of (view entry))) fault) entries.now }
+// The first entry with a fault in its fields, from 1, and the first of these fields.
+fn first_with(entries: &[Value], fault: ValueFault) -> Option<(usize, Option<Field>)>
+    ensures { result ≡ first_with fault 1 (map view entries.now) }
 {
     for (index, entry) in entries.iter().enumerate() {
         if is_fault(choice_fault(reading_of(entry)), fault) {
-            return Some(index);
+            return Some((index + 1, field_with(fault, entry)));
         }
     }
     None

@@ -21,5 +21,5 @@ pub use arrivals_error::ArrivalsError;
 pub use description::read_description;
 pub use description_error::DescriptionError;
 pub use document::is_toml;
-pub use field::{Field, field_at_fault};
+pub use field::Field;
 pub use rv_isa::key_name;

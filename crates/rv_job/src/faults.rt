@@ -62,8 +62,8 @@ fn write_arrivals_fault<W: Write>(out: &mut Sink<'_, W>, error: ArrivalsError)
 {
     let kind = error.kind().as_bytes();
     match error {
-        ArrivalsError::WrongKind { entry }
-        | ArrivalsError::OutOfRange { entry }
+        ArrivalsError::WrongKind { entry, .. }
+        | ArrivalsError::OutOfRange { entry, .. }
         | ArrivalsError::Unsorted { entry } => {
             let mut buffer = Buffer::new();
             let number = buffer.format(entry).as_bytes();

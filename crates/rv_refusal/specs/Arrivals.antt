@@ -1,8 +1,7 @@
 -- Why a list of arrivals is refused.
 use Rattle.std.specs.Prelude.{ℕ, ◌+◌, ◌==◌, List, [], ◌∷◌, ◌++◌, codes, decimal, if◌then◌else◌, Option}
 use Rattle.std.specs.{Option.option_map_or, Option.option_or}
-use Rattle.rv_describe.specs.Entries.{entry_of}
-use Rattle.rv_describe.specs.Field.{field_at_fault}
+use Rattle.rv_describe.specs.Entries.{entry_of, field_of}
 use Rattle.rv_describe.specs.declared.{arrivals_error.ArrivalsError.ArrivalsError, field.Field.Field}
 use Rattle.rv_describe.specs.declared.arrivals_error.ArrivalsError.TheVariants.{NotToml, UnknownKey, Memory}
 use Rattle.rv_describe.specs.declared.field.Field.TheVariants.{Cycle, Line, Level}
@@ -53,7 +52,7 @@ field_lines before part entry field =
 -- why arrivals are refused by an entry: by the first field with this fault, or by the list
 unfoldable pub entry_lines : ℕ → List ℕ → ArrivalsError → List ℕ
 entry_lines before part error =
-    option_map_or (field_lines before part (entry_of error)) (field_at_fault error part) (codes "expected: at most 100000 entries [[arrival]]\n")
+    option_map_or (field_lines before part (entry_of error)) (field_of error) (codes "expected: at most 100000 entries [[arrival]]\n")
 
 -- the names that a list of arrivals may have
 unfoldable pub arrival_names : List (List ℕ)

@@ -12,7 +12,7 @@ use crate::place::add_line_place;
 use crate::text::{add_all, add_number, add_text};
 use crate::toml_fault::add_no_toml;
 use itoa::Buffer;
-use rv_describe::{ArrivalsError, Field, field_at_fault};
+use rv_describe::{ArrivalsError, Field};
 use rv_job::Parts;
 use std::alloc::{AllocError, Global};
 
@@ -120,7 +120,6 @@ fn add_field_lines(
 // Appends why arrivals are refused by an entry: by the first field with this fault, or by the list.
 #[tactic(auto, unfolding(crate::specs::Arrivals::entry_lines))]
 fn add_entry_lines(
-    alloc: Global,
     out: &mut Vec<u8>,
     before: usize,
     part: &[u8],
@@ -128,7 +127,7 @@ fn add_entry_lines(
 ) -> Result<(), AllocError>
     ensures { OnOk result (out.new.items ≡ out.old.items ++ entry_lines before part.now error) }
 {
-    match field_at_fault(alloc, part, error)? {
+    match error.field() {
         Some(field) => add_field_lines(out, before, part, error.entry(), field),
         None => add_text(out, b"expected: at most 100000 entries [[arrival]]\n"),
     }
@@ -202,7 +201,7 @@ fn add_part(
         ArrivalsError::Memory => Ok(()),
         ArrivalsError::WrongKind { .. }
         | ArrivalsError::OutOfRange { .. }
-        | ArrivalsError::Unsorted { .. } => add_entry_lines(alloc, out, before, part, error),
+        | ArrivalsError::Unsorted { .. } => add_entry_lines(out, before, part, error),
     }
 }
 

@@ -3,7 +3,6 @@
 mod arrivals;
 mod bounds;
 mod faults;
-mod fields;
 mod readings;
 
 use rv_describe::{DescriptionError, key_name, read_description};

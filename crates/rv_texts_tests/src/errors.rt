@@ -54,8 +54,20 @@ fn a_fault_of_arrivals_prints_its_name_and_entry(rt: HostRuntime) {
     const CASES: [(ArrivalsError, &str); 6] = [
         (ArrivalsError::NotToml, "NotToml"),
         (ArrivalsError::UnknownKey, "UnknownKey"),
-        (ArrivalsError::WrongKind { entry: 12 }, "WrongKind 12"),
-        (ArrivalsError::OutOfRange { entry: 3 }, "OutOfRange 3"),
+        (
+            ArrivalsError::WrongKind {
+                entry: 12,
+                field: None,
+            },
+            "WrongKind 12",
+        ),
+        (
+            ArrivalsError::OutOfRange {
+                entry: 3,
+                field: None,
+            },
+            "OutOfRange 3",
+        ),
         (ArrivalsError::Unsorted { entry: 2 }, "Unsorted 2"),
         (ArrivalsError::Memory, "Memory"),
     ];

@@ -1,9 +1,25 @@
 use rv_describe::ArrivalsError::{NotToml, OutOfRange, UnknownKey, Unsorted, WrongKind};
-use rv_describe::{ArrivalsError, read_arrivals};
+use rv_describe::{ArrivalsError, Field, read_arrivals};
 use rv_isa::{Arrivals, Lines};
 use std::alloc::Global;
 use std::process::Abort;
 use std::test::Fail;
+
+const CYCLE: Option<Field> = Some(Field::Cycle);
+
+const LINE: Option<Field> = Some(Field::Line);
+
+const LEVEL: Option<Field> = Some(Field::Level);
+
+// A wrong type of a field of an entry.
+fn kind(entry: usize, field: Option<Field>) -> ArrivalsError {
+    WrongKind { entry, field }
+}
+
+// A value of a field of an entry that is not allowed.
+fn range(entry: usize, field: Option<Field>) -> ArrivalsError {
+    OutOfRange { entry, field }
+}
 
 // The fault of a text, if it has one.
 fn fault_of(alloc: Global, text: &str) -> Option<ArrivalsError> {
@@ -41,39 +57,37 @@ fn expect_second_fault(
 fn the_first_fault_is_named(rt: HostRuntime) {
     const FALLING: &str =
         "[[arrival]]\ncycle = 5\nline = 'timer'\n[[arrival]]\ncycle = 4\nline = 'timer'";
-    const CASES: [(&str, ArrivalsError); 8] = [
+    let cases = [
         (FALLING, Unsorted { entry: 2 }),
-        ("[[arrival]]", WrongKind { entry: 1 }),
-        ("arrival = 3", WrongKind { entry: 1 }),
-        ("arrival = [3]", WrongKind { entry: 1 }),
-        ("[arrival]\nlevel = 1", WrongKind { entry: 1 }),
+        ("[[arrival]]", kind(1, CYCLE)),
+        ("arrival = 3", kind(1, None)),
+        ("arrival = [3]", kind(1, CYCLE)),
+        ("[arrival]\nlevel = 1", kind(1, None)),
         ("arrivals = []", UnknownKey),
         ("arrival = 3\nrob = 16", UnknownKey),
         ("arrival", NotToml),
     ];
-    expect_faults(&rt, rt.alloc(), &CASES);
+    expect_faults(&rt, rt.alloc(), &cases);
 }
 
 #[test]
 fn a_fault_of_the_second_entry(rt: HostRuntime) -> Result<(), Fail> {
-    const KIND: ArrivalsError = WrongKind { entry: 2 };
-    const RANGE: ArrivalsError = OutOfRange { entry: 2 };
-    const CASES: [(&str, ArrivalsError); 13] = [
+    let cases = [
         ("cycle = 1, line = 'timer', levels = 1", UnknownKey),
-        ("line = 'timer'", KIND),
-        ("cycle = 1", KIND),
-        ("cycle = '1', line = 'timer'", KIND),
-        ("cycle = 1.0, line = 'timer'", KIND),
-        ("cycle = 1, line = 7", KIND),
-        ("cycle = 1, line = 'timer', level = true", KIND),
-        ("cycle = 1, line = 'timer', level = 2", RANGE),
-        ("cycle = 1, line = 'timer', level = -1", RANGE),
-        ("cycle = 1, line = 'x'", RANGE),
-        ("cycle = -1, line = 'timer'", RANGE),
-        ("cycle = 1000001, line = 'timer'", RANGE),
+        ("line = 'timer'", kind(2, CYCLE)),
+        ("cycle = 1", kind(2, LINE)),
+        ("cycle = '1', line = 'timer'", kind(2, CYCLE)),
+        ("cycle = 1.0, line = 'timer'", kind(2, CYCLE)),
+        ("cycle = 1, line = 7", kind(2, LINE)),
+        ("cycle = 1, line = 'timer', level = true", kind(2, LEVEL)),
+        ("cycle = 1, line = 'timer', level = 2", range(2, LEVEL)),
+        ("cycle = 1, line = 'timer', level = -1", range(2, LEVEL)),
+        ("cycle = 1, line = 'x'", range(2, LINE)),
+        ("cycle = -1, line = 'timer'", range(2, CYCLE)),
+        ("cycle = 1000001, line = 'timer'", range(2, CYCLE)),
         ("cycle = 0, line = 'timer'", Unsorted { entry: 2 }),
     ];
-    for (fields, fault) in &CASES {
+    for (fields, fault) in &cases {
         expect_second_fault(&rt, rt.alloc(), fields, *fault)?;
     }
     Ok(())
@@ -85,16 +99,29 @@ fn lower_faults_of_later_entries_come_first(rt: HostRuntime) {
     const KIND: &str = "arrival = [{cycle=9,line='x'}, 7]";
     const RANGE: &str =
         "arrival = [{cycle=9,line='timer'}, {cycle=8,line='timer'}, {cycle=9,line='x'}]";
-    const CASES: [(&str, ArrivalsError); 3] = [
+    let cases = [
         (FIELD, UnknownKey),
-        (KIND, WrongKind { entry: 2 }),
-        (RANGE, OutOfRange { entry: 3 }),
+        (KIND, kind(2, CYCLE)),
+        (RANGE, range(3, LINE)),
     ];
-    expect_faults(&rt, rt.alloc(), &CASES);
+    expect_faults(&rt, rt.alloc(), &cases);
+}
+
+#[test]
+fn the_first_field_with_the_fault_is_named(rt: HostRuntime) {
+    let cases = [
+        (
+            "arrival = [{cycle=1000001,line=3,level=true}]",
+            kind(1, LINE),
+        ),
+        ("arrival = [{cycle=1,line='x',level=2}]", range(1, LINE)),
+        ("arrival = [{cycle=1000001,line='x'}]", range(1, CYCLE)),
+    ];
+    expect_faults(&rt, rt.alloc(), &cases);
 }
 
 // A list of an entry so many times between a first text and a last one.
-pub(crate) fn long_list(
+fn long_list(
     alloc: Global,
     first: &str,
     entry: &str,
@@ -134,7 +161,7 @@ fn a_list_may_have_a_hundred_thousand_entries(rt: HostRuntime) -> Result<(), Fai
 // The fault names the entry after the last one that there may be. Before it comes neither a falling cycle nor a value after that entry.
 #[test]
 fn a_list_has_at_most_a_hundred_thousand_entries(rt: HostRuntime) -> Result<(), Fail> {
-    let fault = Some(OutOfRange { entry: 100_001 });
+    let fault = Some(range(100_001, None));
     let first = "{cycle=8,line='timer'},";
     let last = "{cycle=7,line='x'}";
     assert_eq!(rt; fault_of_list(rt.alloc(), first, ENTRY, last)?, fault);
@@ -143,7 +170,7 @@ fn a_list_has_at_most_a_hundred_thousand_entries(rt: HostRuntime) -> Result<(), 
 
 #[test]
 fn a_legal_entry_too_many_is_out_of_range(rt: HostRuntime) -> Result<(), Fail> {
-    let fault = Some(OutOfRange { entry: 100_001 });
+    let fault = Some(range(100_001, None));
     let last = "{cycle=7,line='timer'}";
     assert_eq!(rt; fault_of_list(rt.alloc(), "", ENTRY, last)?, fault);
     Ok(())
@@ -152,7 +179,7 @@ fn a_legal_entry_too_many_is_out_of_range(rt: HostRuntime) -> Result<(), Fail> {
 #[test]
 fn a_wrong_type_of_an_entry_too_many_comes_first(rt: HostRuntime) -> Result<(), Fail> {
     let fault = fault_of_list(rt.alloc(), "", "{cycle=7,line=''},", "7")?;
-    assert_eq!(rt; fault, Some(WrongKind { entry: 100_001 }));
+    assert_eq!(rt; fault, Some(kind(100_001, CYCLE)));
     Ok(())
 }
 
@@ -164,16 +191,18 @@ fn an_unknown_field_of_an_entry_too_many_comes_first(rt: HostRuntime) -> Result<
 }
 
 #[test]
-fn the_entry_of_a_fault(rt: HostRuntime) {
-    const FAULTS: [(ArrivalsError, usize); 5] = [
-        (WrongKind { entry: 2 }, 2),
-        (OutOfRange { entry: 100_001 }, 100_001),
-        (Unsorted { entry: 3 }, 3),
-        (NotToml, 0),
-        (UnknownKey, 0),
+fn the_entry_and_the_field_of_a_fault(rt: HostRuntime) {
+    let faults = [
+        (kind(2, LEVEL), 2, LEVEL),
+        (kind(1, None), 1, None),
+        (range(100_001, None), 100_001, None),
+        (Unsorted { entry: 3 }, 3, CYCLE),
+        (NotToml, 0, None),
+        (UnknownKey, 0, None),
     ];
-    for (fault, entry) in &FAULTS {
+    for (fault, entry, field) in &faults {
         assert_eq!(rt; fault.entry(), *entry);
+        assert_eq!(rt; fault.field(), *field);
     }
 }
 

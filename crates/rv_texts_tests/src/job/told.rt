@@ -46,7 +46,10 @@ fn each_fault_is_told_in_its_own_words_with_its_status(rt: HostRuntime) {
             1,
         ),
         (
-            SimError::Arrivals(ArrivalsError::WrongKind { entry: 3 }),
+            SimError::Arrivals(ArrivalsError::WrongKind {
+                entry: 3,
+                field: None,
+            }),
             "error: arrivals: WrongKind 3\n",
             1,
         ),

@@ -3,7 +3,8 @@ use Rattle.std.proofs.lemmas.Bool.Decides.{nat_tests}
 use Rattle.std.proofs.lemmas.List.{length-map}
 use Rattle.toml.specs.View.{view}
 use Rattle.toml.specs.declared.value.Value.{Value}
-use Rattle.rv_describe.specs.Entries.{arrival_of, arrivals_of, entries_meaning, first_fall}
+use Rattle.rv_describe.specs.Entries.{arrivals_of, entries_meaning, first_fall}
+use Rattle.rv_describe.specs.Entry.{arrival_of}
 use Rattle.rv_describe.proofs.LegalArrivals.{legal}
 use Rattle.rv_describe.proofs.Mapped.{filter_map-map}
 use Rattle.rv_describe.proofs.entries.read_entries.Goals as goal
