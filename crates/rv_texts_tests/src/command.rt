@@ -1,4 +1,5 @@
 mod commands;
+mod options;
 mod usage;
 
 use rv_command::parse_words;

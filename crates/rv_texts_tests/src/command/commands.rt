@@ -1,7 +1,5 @@
 use super::{refused, words};
-use rv_command::{Command, Shown, ShownColumns, parse_words};
-use rv_isa::{PredictorKind, Recovery, Reg};
-use rv_sensitivity::{KeyValue, Setting, Settings};
+use rv_command::{Command, parse_words};
 use std::alloc::Global;
 use std::process::Abort;
 use std::test::Fail;
@@ -14,12 +12,16 @@ fn has_status(rt: &impl Abort, alloc: Global, texts: &[&str], status: i32) -> Re
 }
 
 // The words are refused as a fault of usage.
-fn is_refused(rt: &impl Abort, alloc: Global, texts: &[&str]) -> Result<(), Fail> {
+pub(super) fn is_refused(rt: &impl Abort, alloc: Global, texts: &[&str]) -> Result<(), Fail> {
     has_status(rt, alloc, texts, 2)
 }
 
 // Each of the words is refused as a fault of usage.
-fn each_is_refused(rt: &impl Abort, alloc: Global, refused: &[&[&str]]) -> Result<(), Fail> {
+pub(super) fn each_is_refused(
+    rt: &impl Abort,
+    alloc: Global,
+    refused: &[&[&str]],
+) -> Result<(), Fail> {
     for texts in refused {
         is_refused(rt, alloc, texts)?;
     }
@@ -27,7 +29,12 @@ fn each_is_refused(rt: &impl Abort, alloc: Global, refused: &[&[&str]]) -> Resul
 }
 
 // The words ask for the command.
-fn is_taken(rt: &impl Abort, alloc: Global, texts: &[&str], command: Command) -> Result<(), Fail> {
+pub(super) fn is_taken(
+    rt: &impl Abort,
+    alloc: Global,
+    texts: &[&str],
+    command: Command,
+) -> Result<(), Fail> {
     let given = words(alloc, texts)?;
     let taken = parse_words(alloc, given.as_slice()).ok();
     assert!(rt; taken == Some(command), "{texts:?}");
@@ -175,7 +182,7 @@ fn states_and_page_tell_of_two_hundred_cycles_unless_others_are_asked_for(
 }
 
 // The command has no other limit and no other word.
-fn has_a_limit_alone(rt: &impl Abort, alloc: Global, name: &str) -> Result<(), Fail> {
+pub(super) fn has_a_limit_alone(rt: &impl Abort, alloc: Global, name: &str) -> Result<(), Fail> {
     let refused: [&[&str]; 4] = [
         &["rv_sim", name, "--limit", "0"],
         &["rv_sim", name, "--limit", "1000001"],
@@ -268,154 +275,5 @@ fn a_limit_stands_after_an_equals_sign_or_a_space_and_once(rt: HostRuntime) -> R
     for texts in &TAKEN {
         is_taken(&rt, alloc, texts, Command::Reference { limit: 7 })?;
     }
-    each_is_refused(&rt, alloc, &REFUSED)
-}
-
-const NOTHING_SHOWN: ShownColumns = ShownColumns {
-    first: None,
-    second: None,
-    third: None,
-    fourth: None,
-};
-
-#[test]
-fn a_comparison_shows_four_registers_and_words_at_most(rt: HostRuntime) -> Result<(), Fail> {
-    const REFUSED: [&[&str]; 6] = [
-        &["rv_sim", "compare", "--show", "a8"],
-        &["rv_sim", "compare", "--show", "0x80001002"],
-        &["rv_sim", "compare", "--show", "a0 "],
-        &["rv_sim", "compare", "--show", ""],
-        &["rv_sim", "compare", "--show"],
-        &[
-            "rv_sim",
-            "compare",
-            "--show=a0",
-            "--show=a1",
-            "--show=a2",
-            "--show=a3",
-            "--show=a4",
-        ],
-    ];
-    let alloc = rt.alloc();
-    let bare = Command::Compare {
-        shown: NOTHING_SHOWN,
-        limit: 9,
-    };
-    is_taken(&rt, alloc, &["rv_sim", "compare", "--limit", "9"], bare)?;
-    let shown = ShownColumns {
-        first: Some(Shown::Register(Reg::new(10).expect(&rt, "a register"))),
-        second: Some(Shown::Word(0x8000_1000)),
-        third: Some(Shown::Register(Reg::new(31).expect(&rt, "a register"))),
-        fourth: Some(Shown::Word(16)),
-    };
-    let words = &[
-        "rv_sim",
-        "compare",
-        "--show",
-        "a0",
-        "--show=0x80001000",
-        "--show",
-        "x31",
-        "--show",
-        "16",
-    ];
-    let whole = Command::Compare {
-        shown,
-        limit: 100_000,
-    };
-    is_taken(&rt, alloc, words, whole)?;
-    each_is_refused(&rt, alloc, &REFUSED)
-}
-
-const NOTHING_SET: Settings = Settings {
-    first: None,
-    second: None,
-    third: None,
-    fourth: None,
-};
-
-// The changes of a user's own are refused.
-fn also_is_refused(rt: &impl Abort, alloc: Global, texts: &[&str]) -> Result<(), Fail> {
-    for text in texts {
-        is_refused(rt, alloc, &["rv_sim", "sensitivity", "--also", text])?;
-    }
-    Ok(())
-}
-
-#[test]
-fn a_machine_is_tried_with_four_values_of_a_users_own_at_most(rt: HostRuntime) -> Result<(), Fail> {
-    const NO_VALUES: [&str; 16] = [
-        "rob",
-        "rob=",
-        "=64",
-        "",
-        "rib=64",
-        "Rob=64",
-        "rob =64",
-        "rob=64=64",
-        "rob=0",
-        "rob=257",
-        "rob=true",
-        "cache.line=48",
-        "ram_size=8192",
-        "report.dump_words=1",
-        "div.pipelined=yes",
-        "predictor.kind=perceptron",
-    ];
-    const REFUSED: [&[&str]; 4] = [
-        &["rv_sim", "sensitivity", "--also"],
-        &["rv_sim", "sensitivity", "--show", "a0"],
-        &["rv_sim", "sensitivity", "--also=rob=1", "--also=rob=2"],
-        &[
-            "rv_sim",
-            "sensitivity",
-            "--also=rob=1",
-            "--also=fetch_width=1",
-            "--also=bus_width=1",
-            "--also=commit_width=1",
-            "--also=store_queue=1",
-        ],
-    ];
-    let alloc = rt.alloc();
-    let bare = Command::Sensitivity {
-        also: NOTHING_SET,
-        limit: 9,
-    };
-    is_taken(&rt, alloc, &["rv_sim", "sensitivity", "--limit", "9"], bare)?;
-    let also = Settings {
-        first: Some(Setting {
-            index: 8,
-            value: KeyValue::Number(256),
-        }),
-        second: Some(Setting {
-            index: 23,
-            value: KeyValue::Truth(true),
-        }),
-        third: Some(Setting {
-            index: 11,
-            value: KeyValue::Recovery(Recovery::Early),
-        }),
-        fourth: Some(Setting {
-            index: 34,
-            value: KeyValue::Predictor(PredictorKind::NotTaken),
-        }),
-    };
-    let words = &[
-        "rv_sim",
-        "sensitivity",
-        "--also",
-        "rob=0x100",
-        "--also=div.pipelined=true",
-        "--also",
-        "recovery=early",
-        "--also=predictor.kind=not_taken",
-    ];
-    let whole = Command::Sensitivity {
-        also,
-        limit: 100_000,
-    };
-    is_taken(&rt, alloc, words, whole)?;
-    also_is_refused(&rt, alloc, &NO_VALUES)?;
-    has_a_limit_alone(&rt, alloc, "sensitivity")?;
     each_is_refused(&rt, alloc, &REFUSED)
 }
