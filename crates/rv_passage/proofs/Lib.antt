@@ -1,6 +1,7 @@
 pub mod InFlight
 mod YoungestLeft
 mod Moving
+pub mod Numbers
 mod Dropped
 mod Youngest
 pub mod Walk

@@ -1,5 +1,6 @@
 pub mod Left
 pub mod Names
+pub mod Numbers
 pub mod Passage
 pub mod Prediction
 pub mod Producers

@@ -1,9 +1,11 @@
-ghost use Rattle.std.specs.Prelude.{◌≡◌, ◌≤◌, ◌<◌, Some, length, option_copied, slice_get};
-ghost use Rattle.rv_passage.specs.Passage.{in_buffers};
-ghost use Rattle.rv_passage.specs.Table.{AreShort};
+ghost use Rattle.std.specs.Prelude.{◌≡◌, ◌≤◌, ◌<◌, Some, drop, is_some, length, option_copied, slice_get};
+ghost use Rattle.std.specs.Option.{option_map, option_to_list};
+ghost use Rattle.rv_passage.specs.Numbers.{kept_through};
+ghost use Rattle.rv_passage.specs.Passage.{in_buffers, of_entry, of_fetched};
+ghost use Rattle.rv_passage.specs.Table.{AreShort, next_before};
 
 use crate::passage::Passage;
-use rv_front::Front;
+use rv_front::{Fetched, Front};
 use rv_rob::{Entry, Rob};
 
 /// The most instructions that can be in flight: the longest reorder buffer's and the longest fetch buffer's.
@@ -44,4 +46,48 @@ pub(crate) fn present_at(rob: &Rob, front: &Front, place: usize) -> Passage
             None => unreachable!(),
         }
     }
+}
+
+// Whether an entry is there, and was fetched before a cycle.
+fn is_entry_before(entry: Option<&Entry>, cycle: u64) -> bool
+    ensures { result ≡ is_some (next_before cycle (option_to_list (option_map of_entry (option_copied entry.entry)))) }
+{
+    match entry {
+        Some(entry) => entry.fetched < cycle,
+        None => false,
+    }
+}
+
+// The same of a word in the fetch buffer.
+fn is_word_before(fetched: Option<&Fetched>, cycle: u64) -> bool
+    ensures { result ≡ is_some (next_before cycle (option_to_list (option_map of_fetched (option_copied fetched.entry)))) }
+{
+    match fetched {
+        Some(fetched) => fetched.cycle < cycle,
+        None => false,
+    }
+}
+
+// The same of the one at a place of those in flight.
+fn is_before(rob: &Rob, front: &Front, place: usize, cycle: u64) -> bool
+    ensures { result ≡ is_some (next_before cycle (drop place (in_buffers rob.now front.now))) }
+{
+    let dispatched = rob.len();
+    if place < dispatched {
+        is_entry_before(entry_at(rob, place), cycle)
+    } else {
+        is_word_before(front.get(place - dispatched), cycle)
+    }
+}
+
+// How many of so many instructions in flight before a cycle go on through it.
+pub(crate) fn count_kept(rob: &Rob, front: &Front, cycle: u64, count: usize) -> usize
+    ensures { result ≡ kept_through cycle (in_buffers rob.now front.now) count }
+{
+    for place in 0..count {
+        if !is_before(rob, front, place, cycle) {
+            return place;
+        }
+    }
+    count
 }

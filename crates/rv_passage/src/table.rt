@@ -1,8 +1,8 @@
-ghost use Rattle.std.specs.Prelude.{◌≡◌, ◌+◌, ◌≤◌, ◌<◌, ◌^◌, ◌++◌, [], ◌∷◌, drop, filter, length, vec_capacity, IfOk};
+ghost use Rattle.std.specs.Prelude.{◌≡◌, ◌+◌, ◌≤◌, ◌<◌, ◌^◌, ◌++◌, [], ◌∷◌, drop, filter, length, take, vec_capacity, IfOk};
 ghost use Rattle.rv_hardware.specs.Lessons.{first_pc};
 ghost use Rattle.rv_passage.specs.Passage.{in_buffers, is_in_flight, numbered, trapped_by};
 
-use crate::in_flight::{MOST_IN_FLIGHT, count_in_flight, present_at};
+use crate::in_flight::{MOST_IN_FLIGHT, count_in_flight, count_kept, present_at};
 use crate::kept::{move_kept_on, retire_kept, trap_kept};
 use crate::passage::Passage;
 use crate::put::put_last;
@@ -37,6 +37,7 @@ pub struct Table {
 }
 
 impl Table {
+    ghost use Rattle.rv_passage.specs.Numbers.{numbers_of};
     ghost use Rattle.rv_passage.specs.Table.{AreMovedOn, AreShort, CanCount, HasRoom, after_steps, numbered_from, passages_of, still_open, table_from, with_oldest, with_step, with_steps, without_squashed};
 
     /// A table that begins with what is in flight in two buffers, numbered from 0. It has room for two cycles.
@@ -127,6 +128,40 @@ impl Table {
         self.take_steps(steps, pc);
         let fetched = self.move_rows_on(cycle, rob, front);
         self.append_fetched(fetched, rob, front);
+    }
+
+    /// Notes of a cycle that had these steps, and led to these buffers and to a pc, by their numbers which instructions are in flight
+    /// at its end; what else it says of those may be what an earlier cycle left. Forgets the others. Asks for no memory.
+    pub fn follow_numbers(&mut self, cycle: u64, steps: &[Step], rob: &Rob, front: &Front, pc: u32)
+        requires short { AreShort rob.now front.now }
+        requires room { HasRoom self.old }
+        requires countable { CanCount (passages_of self.old) }
+        requires few { length steps.now ≤ 8 }
+        ensures followed { numbers_of (passages_of self.new) ≡ numbers_of (still_open (after_steps cycle steps.now rob.now front.now pc (passages_of self.old))) }
+        ensures rows { vec_capacity self.new.rows ≡ vec_capacity self.old.rows }
+        ensures interrupts { vec_capacity self.new.interrupts ≡ vec_capacity self.old.interrupts }
+        ensures fetched { self.new.fetched ≤ self.old.fetched + 288 }
+        ensures retired { self.new.retired ≤ self.old.retired + 8 }
+        ensures open { length (passages_of self.new).rows ≤ 288 }
+        ensures quiet { length (passages_of self.new).interrupts ≡ 0 }
+    {
+        self.take_steps(steps, pc);
+        self.drop_ended();
+        self.clear_space();
+        let kept = count_kept(rob, front, cycle, self.rows().len());
+        self.keep(kept);
+        self.append_fetched(kept, rob, front);
+    }
+
+    // Forgets all but so many of the oldest.
+    fn keep(&mut self, count: usize)
+        requires { count ≤ length (passages_of self.old).rows }
+        ensures rows { (passages_of self.new).rows ≡ take count (passages_of self.old).rows }
+        ensures len { length self.new.rows.items ≤ length self.old.rows.items }
+        ensures others { (self.new.interrupts ≡ self.old.interrupts) × (self.new.fetched ≡ self.old.fetched) × (self.new.retired ≡ self.old.retired) }
+        ensures capacity { vec_capacity self.new.rows ≡ vec_capacity self.old.rows }
+    {
+        self.rows.truncate(self.dropped + count);
     }
 
     // Moves the rows to the front where there is no room after them for a cycle.

@@ -3,6 +3,7 @@ use Rattle.std.specs.Prelude.{◌≡◌, ℕ, ◌+◌, ◌≤◌, List, length, 
 use Rattle.rv_hardware.specs.Hardware.{Hardware}
 use Rattle.rv_hardware.specs.declared.step.Step.{Step}
 use Rattle.rv_passage.specs.Followed.{IsRoomy}
+use Rattle.rv_passage.specs.Numbers.{numbers_of}
 use Rattle.rv_passage.specs.Table.{after_cycle, passages_of, still_open, table_at}
 use Rattle.rv_passage.specs.declared.table.Table.{Table}
 use Rattle.rv_view.specs.declared.following.Following.{Following}
@@ -26,3 +27,14 @@ pub record IsFollowedOn (cycle : ℕ) (steps : List Step) (after : Hardware) (ol
   pub fetched : new.fetched ≤ old.fetched + 288
   pub retired : new.retired ≤ old.retired + 8
   pub few : length (still_open (passages_of new)).rows ≤ 288
+
+-- A table that knows by their numbers which instructions are in flight after a cycle with these steps, which left the hardware; its room is no
+-- less, and at most so much is counted.
+pub record IsNumberedOn (cycle : ℕ) (steps : List Step) (after : Hardware) (old new : Table) : Type 0 where
+  pub followed : numbers_of (passages_of new) ≡ numbers_of (still_open (after_cycle cycle steps after (passages_of old)))
+  pub rows : vec_capacity old.rows ≤ vec_capacity new.rows
+  pub interrupts : vec_capacity old.interrupts ≤ vec_capacity new.interrupts
+  pub fetched : new.fetched ≤ old.fetched + 288
+  pub retired : new.retired ≤ old.retired + 8
+  pub few : length (passages_of new).rows ≤ 288
+  pub quiet : length (passages_of new).interrupts ≡ 0

@@ -1,6 +1,6 @@
 ghost use Rattle.std.specs.Prelude.{◌≡◌, ◌≤◌, IfOk, length};
 ghost use Rattle.rv_passage.specs.Table.{CanCount, HasRoom, passages_of};
-ghost use Rattle.rv_view.specs.Following.{BeginsAt, FollowsFrom, IsFollowedOn};
+ghost use Rattle.rv_view.specs.Following.{BeginsAt, FollowsFrom, IsFollowedOn, IsNumberedOn};
 
 use rv_core::Pipeline;
 use rv_hardware::Step;
@@ -53,6 +53,26 @@ pub fn follow(table: &mut Table, cycle: u64, steps: &[Step], pipeline: &Pipeline
     let _ = pipeline.cycles_done();
     let pc = pipeline.observe().pc;
     table.follow(
+        cycle,
+        steps,
+        pipeline.reorder_buffer(),
+        pipeline.front(),
+        pc,
+    );
+}
+
+/// Notes of such a cycle by their numbers alone which instructions are in flight at its end, for cycles that are not shown: what else
+/// the table says of them may be what an earlier cycle left. The next cycle that `follow` follows gives that too. Asks for no memory.
+pub fn follow_numbers(table: &mut Table, cycle: u64, steps: &[Step], pipeline: &Pipeline)
+    requires room { HasRoom table.old }
+    requires countable { CanCount (passages_of table.old) }
+    requires few { length steps.now ≤ 8 }
+    ensures { IsNumberedOn cycle steps.now pipeline.now table.old table.new }
+{
+    // Of hardware that a reset and cycles lead to, the buffers are as long as described.
+    let _ = pipeline.cycles_done();
+    let pc = pipeline.observe().pc;
+    table.follow_numbers(
         cycle,
         steps,
         pipeline.reorder_buffer(),
