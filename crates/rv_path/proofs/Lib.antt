@@ -1,3 +1,5 @@
+mod Brought
+mod Forgotten
 mod Nothing
 pub mod OnePath
 mod Pathing

@@ -5,10 +5,9 @@ use Rattle.rv_passage.specs.declared.passage.Passage.{Passage}
 use Rattle.rv_path.specs.Holding.{new_holds}
 use Rattle.rv_path.specs.Leaving.{with_rows}
 use Rattle.rv_path.specs.Lookup.{first_of, last_of}
-use Rattle.rv_path.specs.Moving.{moved_after}
 use Rattle.rv_path.specs.Path.{still_in_flight}
 use Rattle.rv_path.specs.Setting.{Setting}
-use Rattle.rv_path.specs.declared.{leaving.Leaving.Leaving, sought.Sought.Sought, way.Journey.Journey, way.Way.Way}
+use Rattle.rv_path.specs.declared.{leaving.Leaving.Leaving, sought.Sought.Sought, way.Way.Way}
 
 pub first_of_nothing : (sought : Sought) (rows : List Passage) (ways : List Way) → length ways < 1 → first_of sought rows ways ≡ None
 first_of_nothing sought [] ways none = refl
@@ -24,11 +23,6 @@ pub with_rows_nothing : (s : Setting) (rows : List Passage) (ways : List Way) (l
 with_rows_nothing s [] ways leaving none = refl
 with_rows_nothing s (p ∷ ps) [] leaving none = refl
 with_rows_nothing s (p ∷ ps) (w ∷ ws) leaving none = absurd (omega (arith, none))
-
-pub moved_nothing : (s : Setting) (leaving : Leaving) (last : Option Journey) (rows : List Passage) (ways : List Way) → length ways < 1 → moved_after s leaving last rows ways ≡ []
-moved_nothing s leaving last [] ways none = refl
-moved_nothing s leaving last (p ∷ ps) [] none = refl
-moved_nothing s leaving last (p ∷ ps) (w ∷ ws) none = absurd (omega (arith, none))
 
 pub new_holds_nothing : (number : ℕ) (values : Values) (rows : List Passage) (ways : List Way) → length ways < 1 → new_holds number values rows ways ≡ []
 new_holds_nothing number values [] ways none = refl

@@ -1,5 +1,5 @@
 -- A path that follows a run: no cycle yet, one cycle more, and the end.
-use Rattle.std.proofs.Common.{◌≡◌, ◌∙◌, ℕ, ◌-◌, List, [], ◌∷◌, length, replicate, ap, sym}
+use Rattle.std.proofs.Common.{◌≡◌, ◌∙◌, ℕ, ◌-◌, List, [], ◌∷◌, drop, length, replicate, ap, sym}
 use Rattle.std.specs.Prelude.{sum}
 use Rattle.std.proofs.lemmas.List.Sums.{fold-append}
 use Rattle.rv_isa.specs.declared.lines.Arrival.{Arrival}
@@ -27,14 +27,14 @@ use Rattle.rv_path.specs.declared.path.Path.{Path}
 
 -- no cycle yet
 pub pathing_nothing : (arrivals : List Arrival) (h : GuidedHardware) (path : Path) (rows : List Passage) → rows ≡ (table_at h.hardware).rows
-    → path.ways.items ≡ replicate (length rows) (way_from nothing_yet) → path.holds.items ≡ [] → path.before ≡ (known_at h.hardware).before → IsOnPath path (watched arrivals h [] h)
+    → drop path.dropped path.ways.items ≡ replicate (length rows) (way_from nothing_yet) → path.holds.items ≡ [] → path.before ≡ (known_at h.hardware).before → IsOnPath path (watched arrivals h [] h)
 pathing_nothing arrivals h path rows rows_are ways holds before = record {
   known = λ i. record { ways = (ways ∙ ap (λ (ps : List Passage). replicate (length ps) (way_from nothing_yet)) rows_are) i; holds = holds i; before = before i };
 }
 
 -- one more cycle
 pub pathing_on : {seen : Watched} {cycle : ShownCycle} (next : IsNextCycle seen cycle) (path path' : Path) → IsOnPath path seen
-    → known_of_path path' ≡ known_in (setting_in cycle.number (cycle.progress.now.cycles - 1) cycle.rows.now cycle.pipeline.now (known_of_path path)) cycle.steps.now cycle.pipeline.now
+    → known_of_path path' ≡ known_in (setting_in cycle.number (cycle.progress.now.cycles - 1) cycle.rows.now cycle.pipeline.now (known_of_path path)) (known_of_path path).ways cycle.steps.now cycle.pipeline.now
     → IsOnPath path' (with_shown seen next.shown)
 pathing_on {seen = seen} {cycle = cycle} next path path' on followed =
     let shown = next.shown in
@@ -43,7 +43,7 @@ pathing_on {seen = seen} {cycle = cycle} next path path' on followed =
     record {
       known =
           followed
-          ∙ (λ i. known_in (setting_in (shown.number i) ((ap (λ (p : Progress). p.cycles - 1) shown.progress_is) i) (next.rows_are i) after (on.known i)) (shown.steps_are i) after)
+          ∙ (λ i. known_in (setting_in (shown.number i) ((ap (λ (p : Progress). p.cycles - 1) shown.progress_is) i) (next.rows_are i) after (on.known i)) (on.known i).ways (shown.steps_are i) after)
           ∙ sym (fold-append known_after (known_at first) (cycles_seen seen) (cycle_shown seen shown ∷ []))
           ∙ ap (known_of first) (sym (cycles_seen-push seen shown));
     }

@@ -25,7 +25,7 @@ walk_within standing known (moment ∷ moments) within =
     let s = setting_in cycle.number (length cycle.reports - 1) cycle.passages.rows cycle.after known in
     let elapsed : length standing.reports ≤ s.elapsed = omega (arith, one) in
     let known_now = within_later (length standing.reports) s.elapsed known elapsed within in
-    let after = known_within s known_now.ways known_now.holds known_now.before cycle.report.steps cycle.after in
+    let after = known_within s known_now.holds known_now.before known.ways cycle.report.steps cycle.after known_now.ways in
     let next = within_later s.elapsed (length cycle.reports) (known_after known cycle) (omega arith) after in
     within_later (length cycle.reports + length moments) (length standing.reports + length (moment ∷ moments)) (fold known_after (known_after known cycle) (walk_from still_open (standing_after still_open cycle) moments)) (omega (arith, one))
     (walk_within (standing_after still_open cycle) (known_after known cycle) moments next)
@@ -33,7 +33,7 @@ walk_within standing known (moment ∷ moments) within =
 pub comes_in_time : ComesInTime
 comes_in_time first moments =
     let so_far : 0 + length moments ≡ length moments = omega arith in
-    let begins : IsWayWithin 0 (way_from nothing_yet) = record { fetch = omega arith; dispatch = omega arith; issue = omega arith; broadcast = omega arith } in
+    let begins : IsWayWithin 0 (way_from nothing_yet) = record { fetch = omega arith; dispatch = tt; issue = tt; broadcast = tt } in
     subst (λ cycles. AreWithin cycles (known_of first (walk still_open first moments))) so_far
     (walk_within (standing_at first) (known_at first) moments (record {
       ways = replicate_within 0 (length (table_at first).rows) (way_from nothing_yet) begins;

@@ -1,15 +1,15 @@
 -- Events that come within some cycles: of lists, of what is found among them, and of more cycles.
 use Rattle.std.proofs.Common.{ℕ, zero, suc, ◌≤◌, List, [], ◌∷◌, ◌++◌, filter, replicate, Option, Some, None, arith}
-use Rattle.std.specs.Prelude.{Bool, true, false, if◌then◌else◌, IfSome, slice_get}
+use Rattle.std.specs.Prelude.{Bool, true, false, if◌then◌else◌, IfSome, ◌-◌, ◌==◌, slice_get, slice_set}
 use Rattle.std.specs.Option.{option_or, unwrap_or}
 use Rattle.rv_passage.specs.Passage.{is_in_flight}
 use Rattle.rv_passage.specs.declared.passage.{Passage.Passage}
-use Rattle.rv_path.specs.Event.{first_event}
-use Rattle.rv_path.specs.Lookup.{first_of, last_of, sought_of}
+use Rattle.rv_path.specs.Event.{Reached, first_event}
+use Rattle.rv_path.specs.Lookup.{Journey, first_of, journey_of, last_of, one_before, sought_of}
 use Rattle.rv_path.specs.Path.{Known, still_in_flight, way_if}
 use Rattle.rv_path.specs.Sought.{is_sought}
 use Rattle.rv_path.specs.Within.{AreHoldsWithin, AreWaysWithin, AreWithin, IsWayWithin}
-use Rattle.rv_path.specs.declared.{before.DrainHold.DrainHold, before.Left.Left, before.PortHold.PortHold, before.UnitHold.UnitHold, sought.Sought.Sought, way.Journey.Journey, way.Way.Way}
+use Rattle.rv_path.specs.declared.{before.DrainHold.DrainHold, before.Left.Left, before.PortHold.PortHold, before.UnitHold.UnitHold, sought.Sought.Sought, way.Way.Way}
 
 -- what holds of both holds of either
 pub if_with : {X : Type 0} (Q : X → Type 0) (b : Bool) {x y : X} → Q x → Q y → Q (if b then x else y)
@@ -70,13 +70,34 @@ holds_filter cycles test [] within = tt
 holds_filter cycles test (h ∷ hs) within =
     if_with (AreHoldsWithin cycles) (test h) (within.0, holds_filter cycles test hs within.1) (holds_filter cycles test hs within.1)
 
+-- the one before a place is among them
+journey_within : (cycles : ℕ) (p : Option Passage) (w : Option Way) → IfSome w (IsWayWithin cycles) → IfSome (journey_of p w) (λ (j : Journey). IsWayWithin cycles j.way)
+journey_within cycles None w within = tt
+journey_within cycles (Some p) None within = tt
+journey_within cycles (Some p) (Some w) within = within
+
+pub one_before_within : (cycles place : ℕ) (ps : List Passage) (ws : List Way) → AreWaysWithin cycles ws → IfSome (one_before place ps ws) (λ (j : Journey). IsWayWithin cycles j.way)
+one_before_within cycles place ps ws within =
+    if_with (λ (o : Option Journey). IfSome o (λ (j : Journey). IsWayWithin cycles j.way)) (place == 0) tt
+    (journey_within cycles (slice_get ps (place - 1)) (slice_get ws (place - 1)) (get_within cycles ws (place - 1) within))
+
+-- and where one is put in another's place, all still are
+pub set_within : (cycles : ℕ) (ws : List Way) (place : ℕ) (w : Way) → AreWaysWithin cycles ws → IsWayWithin cycles w → AreWaysWithin cycles (slice_set ws place w)
+set_within cycles [] place w ws-are w-is = tt
+set_within cycles (v ∷ ws) zero w ws-are w-is = (w-is, ws-are.1)
+set_within cycles (v ∷ ws) (suc place) w ws-are w-is = (ws-are.0, set_within cycles ws place w ws-are.1 w-is)
+
 -- what lies within some cycles lies within one more
+pub some_later : {X : Type 0} (at : X → ℕ) (cycles more : ℕ) (o : Option X) → cycles ≤ more → IfSome o (λ x. at x ≤ cycles) → IfSome o (λ x. at x ≤ more)
+some_later at cycles more None along within = tt
+some_later at cycles more (Some x) along within = omega (arith, along, within)
+
 pub way_later : (cycles more : ℕ) (w : Way) → cycles ≤ more → IsWayWithin cycles w → IsWayWithin more w
 way_later cycles more w along within = record {
   fetch = omega (arith, along, within.fetch);
-  dispatch = omega (arith, along, within.dispatch);
-  issue = omega (arith, along, within.issue);
-  broadcast = omega (arith, along, within.broadcast);
+  dispatch = some_later (λ (e : Reached). e.cycle) cycles more w.dispatch along within.dispatch;
+  issue = some_later (λ (e : Reached). e.cycle) cycles more w.issue along within.issue;
+  broadcast = some_later (λ (e : Reached). e.cycle) cycles more w.broadcast along within.broadcast;
 }
 
 pub ways_later : (cycles more : ℕ) (ws : List Way) → cycles ≤ more → AreWaysWithin cycles ws → AreWaysWithin more ws
@@ -86,10 +107,6 @@ ways_later cycles more (w ∷ ws) along within = (way_later cycles more w along 
 pub holds_later : (cycles more : ℕ) (hs : List UnitHold) → cycles ≤ more → AreHoldsWithin cycles hs → AreHoldsWithin more hs
 holds_later cycles more [] along within = tt
 holds_later cycles more (h ∷ hs) along within = (omega (arith, along, within.0), holds_later cycles more hs along within.1)
-
-pub some_later : {X : Type 0} (at : X → ℕ) (cycles more : ℕ) (o : Option X) → cycles ≤ more → IfSome o (λ x. at x ≤ cycles) → IfSome o (λ x. at x ≤ more)
-some_later at cycles more None along within = tt
-some_later at cycles more (Some x) along within = omega (arith, along, within)
 
 pub within_later : (cycles more : ℕ) (known : Known) → cycles ≤ more → AreWithin cycles known → AreWithin more known
 within_later cycles more known along within = record {

@@ -3,7 +3,7 @@ use Rattle.std.specs.Prelude.{ℕ, ◌+◌, ◌-◌, List, replicate, slice_set,
 use Rattle.std.specs.List.{slice_index_or}
 use Rattle.std.specs.Option.{unwrap_or}
 use Rattle.rv_path.specs.Cause.{place_of}
-use Rattle.rv_path.specs.declared.cause.Cause.{Cause}
+use Rattle.rv_path.specs.declared.{cause.Cause.Cause, event.Wait.Wait}
 use Rattle.rv_path.specs.declared.cause.Cause.TheVariants as cause
 
 -- the cycles of the run before it, how many of them each cause has, and why the fetch began anew, from there to the first issue or commit
@@ -24,6 +24,19 @@ waited_for cycle cause event = record {
   account = with_cycles (unwrap_or event.refill cause) (cycle - event.cycle) event.account;
   refill = event.refill;
 }
+
+-- The same by the cause that has the cycles between the two, and why the fetch began anew then.
+abbrev pub by_wait : Wait → Option Cause → Reached → Reached
+by_wait wait refill event = record {
+  cycle = event.cycle + (wait.cycle - event.cycle);
+  account = with_cycles wait.cause (wait.cycle - event.cycle) event.account;
+  refill = refill;
+}
+
+-- an event that waited for another one, or is that one again
+abbrev pub reached_by : Reached → Option Wait → Option Cause → Reached
+reached_by event None refill = record event { refill = refill }
+reached_by event (Some wait) refill = by_wait wait refill event
 
 -- no more of it is a refill
 abbrev pub settled : Reached → Reached

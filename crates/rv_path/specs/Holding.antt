@@ -7,9 +7,10 @@ use Rattle.rv_isa.specs.declared.{issues.Issue.Issue, operations.Kind.Kind, valu
 use Rattle.rv_passage.specs.declared.passage.Passage.{Passage}
 use Rattle.rv_path.specs.Event.{Reached}
 use Rattle.rv_path.specs.Leaving.{lines_event}
-use Rattle.rv_path.specs.Lookup.{first_of}
+use Rattle.rv_path.specs.Lookup.{Journey, first_of}
 use Rattle.rv_path.specs.Setting.{Setting, after_port, last_left, waits}
-use Rattle.rv_path.specs.declared.{before.DrainHold.DrainHold, before.Facts.Facts, before.PortHold.PortHold, before.UnitHold.UnitHold, leaving.Leaving.Leaving, way.Journey.Journey, way.Way.Way}
+use Rattle.rv_path.specs.declared.{before.DrainHold.DrainHold, before.Facts.Facts, before.PortHold.PortHold, before.UnitHold.UnitHold, leaving.Leaving.Leaving, way.Way.Way}
+use Rattle.rv_path.specs.Way.{issued_by}
 use Rattle.rv_path.specs.declared.before.Holder.TheVariants as holder
 use Rattle.rv_path.specs.declared.cause.Cause.TheVariants as cause
 use Rattle.rv_path.specs.declared.sought.Sought.TheVariants as sought
@@ -41,16 +42,15 @@ drain_event s leaving =
 abbrev pub drains : Setting → Facts → Bool
 drains s facts = is_taken s facts && is_begun s facts.drain_end
 
--- who drained last
-abbrev pub drain_now : Setting → Leaving → Facts → Option DrainHold
-drain_now s leaving facts =
-    if drains s facts then Some (record { until = facts.port_free; event = drain_event s leaving }) else s.before.drain
+abbrev pub drain_begun : Setting → Leaving → Facts → Option DrainHold
+drain_begun s leaving facts =
+    if drains s facts then Some (record { until = facts.port_free; event = drain_event s leaving }) else None
 
 -- a load holds the port from its issue on
 abbrev pub load_hold : ℕ → Option Journey → Option PortHold
 load_hold until None = None
 load_hold until (Some load) =
-    Some (record { until = until; event = load.way.issue; holder = holder.Load; number = load.row.number })
+    Some (record { until = until; event = issued_by load.way; holder = holder.Load; number = load.row.number })
 
 -- the oldest instruction writes lines back
 abbrev pub lines_hold : Setting → Leaving → ℕ → Option Journey → Option PortHold
@@ -58,39 +58,39 @@ lines_hold s leaving until None = None
 lines_hold s leaving until (Some head) =
     Some (record { until = until; event = lines_event s leaving head.row head.way; holder = holder.Lines; number = head.row.number })
 
--- who took the port in the cycle: a drain, a load, or the lines of the oldest instruction
-abbrev pub taken_by : Setting → Leaving → List Way → Facts → Option PortHold
-taken_by s leaving ways facts =
+-- who takes the port in the cycle, if it is taken: a drain, a load, or the lines of the oldest instruction
+abbrev pub taken_by : Setting → List Way → Leaving → Facts → Option PortHold
+taken_by s ways leaving facts =
     if is_begun s facts.drain_end
     then Some (record { until = facts.port_free; event = drain_event s leaving; holder = holder.Drain; number = 0 })
     else option_or (load_hold facts.port_free (first_of (sought.LoadUntil s.number facts.port_free) s.rows ways))
     (lines_hold s leaving facts.port_free (first_of sought.Entry s.rows ways))
 
--- who holds the port, or held it last
-abbrev pub port_now : Setting → Leaving → List Way → Facts → Option PortHold
-port_now s leaving ways facts = if is_taken s facts then taken_by s leaving ways facts else s.before.port
+abbrev pub port_taken : Setting → List Way → Leaving → Facts → Option PortHold
+port_taken s ways leaving facts = if is_taken s facts then taken_by s ways leaving facts else None
 
 -- a hold goes on after the cycle
 abbrev pub goes_beyond : ℕ → UnitHold → Bool
 goes_beyond number hold = nat_lt number hold.until
 
--- an instruction was issued in the cycle to a unit of a kind that is not pipelined
-abbrev pub hold_of_kind : ℕ → Values → Passage → Way → Option Issue → Kind → List UnitHold
-hold_of_kind number values p w None kind = []
-hold_of_kind number values p w (Some issue) kind =
-    if issue.cycle == number && not ((at_kind kind values.kinds).pipelined)
-    then record { kind = kind; until = issue.cycle + issue.cost; number = p.number; event = w.issue } ∷ []
-    else []
+-- an instruction was issued to a unit of a kind that is not pipelined
+abbrev pub hold_of_kind : Values → Passage → Way → Issue → Option Kind → List UnitHold
+hold_of_kind values p w issue None = []
+hold_of_kind values p w issue (Some kind) =
+    if (at_kind kind values.kinds).pipelined then []
+    else record { kind = kind; until = issue.cycle + issue.cost; number = p.number; event = issued_by w } ∷ []
 
-unfoldable pub hold_of : ℕ → Values → Passage → Way → Option Kind → List UnitHold
+-- in the cycle
+unfoldable pub hold_of : ℕ → Values → Passage → Way → Option Issue → List UnitHold
 hold_of number values p w None = []
-hold_of number values p w (Some kind) = hold_of_kind number values p w p.issue kind
+hold_of number values p w (Some issue) =
+    if issue.cycle == number then hold_of_kind values p w issue (kind_of_word p.instruction) else []
 
 -- those that begin in the cycle
 abbrev pub new_holds : ℕ → Values → List Passage → List Way → List UnitHold
 new_holds number values [] ways = []
 new_holds number values (p ∷ ps) [] = []
-new_holds number values (p ∷ ps) (w ∷ ws) = hold_of number values p w (kind_of_word p.instruction) ++ new_holds number values ps ws
+new_holds number values (p ∷ ps) (w ∷ ws) = hold_of number values p w p.issue ++ new_holds number values ps ws
 
 -- who holds units after the cycle
 abbrev pub holds_now : Setting → List Way → List UnitHold

@@ -1,17 +1,71 @@
 -- What is kept of the path while a run goes on.
-use Rattle.std.specs.Prelude.{◌≡◌, ◌+◌, ◌≤◌, length, vec_capacity}
+use Rattle.std.specs.Prelude.{◌≡◌, ℕ, ◌+◌, ◌-◌, ◌≤◌, if◌then◌else◌, List, [], ◌∷◌, ◌++◌, drop, filter, length, replicate, vec_capacity, Option, Some, None}
+use Rattle.std.specs.List.{list_all}
+use Rattle.std.specs.Option.{option_or}
+use Rattle.rv_isa.specs.declared.values.Values.{Values}
+use Rattle.rv_passage.specs.Passage.{is_in_flight}
+use Rattle.rv_passage.specs.declared.passage.Passage.{Passage}
 use Rattle.rv_core.specs.Watching.{Watched}
 use Rattle.rv_view.specs.Viewing.{cycles_seen}
-use Rattle.rv_path.specs.Path.{Known, known_of}
-use Rattle.rv_path.specs.declared.path.Path.{Path}
+use Rattle.rv_path.specs.Event.{Reached}
+use Rattle.rv_hardware.specs.Hardware.{Hardware}
+use Rattle.rv_hardware.specs.declared.step.Step.{Step}
+use Rattle.rv_path.specs.Fetching.{fetch_event}
+use Rattle.rv_path.specs.Holding.{goes_beyond, new_holds}
+use Rattle.rv_path.specs.Leaving.{is_interrupted, leaving_of}
+use Rattle.rv_path.specs.Moving.{all_moved}
+use Rattle.rv_path.specs.Path.{Known, before_next, fetched_ways, known_of, still_in_flight}
+use Rattle.rv_path.specs.Setting.{Setting}
+use Rattle.rv_path.specs.Way.{way_from}
+use Rattle.rv_path.specs.declared.{before.Before.Before, path.Path.Path, seeing.Seen.Seen, way.Way.Way}
 
 -- what a path has of the cycles so far
 abbrev pub known_of_path : Path → Known
-known_of_path path = record { ways = path.ways.items; holds = path.holds.items; before = path.before }
+known_of_path path = record { ways = drop path.dropped path.ways.items; holds = path.holds.items; before = path.before }
+
+-- so many words that one event fetched, if some were
+abbrev pub ways_by : Option Reached → ℕ → List Way
+ways_by None count = []
+ways_by (Some event) count = replicate count (way_from event)
+
+-- what is known beside, with what a cycle brings
+abbrev pub before_with : Seen → Before → Before
+before_with seen before = record {
+  left = option_or seen.left before.left;
+  port = option_or seen.port before.port;
+  drain = option_or seen.drain before.drain;
+  facts = seen.facts;
+}
+
+-- what a cycle brings, where the events of the instructions that were in flight before it stand so after it
+pub record IsSeen (s : Setting) (steps : List Step) (after : Hardware) (old ways : List Way) (seen : Seen) : Type 0 where
+  pub moved : ways ≡ all_moved s (leaving_of s old) old
+  pub before : before_with seen s.before ≡ before_next s ways steps after (leaving_of s old)
+  pub fetched :
+      ways_by seen.fetch (length s.rows - length ways)
+      ≡ fetched_ways s ways (fetch_event s ways (is_interrupted steps) (leaving_of s old) after)
+
+-- what is known after a cycle that brought this, where the events of what was in flight before it stand so
+abbrev pub known_seen : ℕ → Values → List Passage → Seen → Known → Known
+known_seen number values rows seen known = record {
+  ways = still_in_flight rows (known.ways ++ ways_by seen.fetch (length rows - length known.ways));
+  holds = filter (goes_beyond number) known.holds ++ new_holds number values rows known.ways;
+  before = before_with seen known.before;
+}
+
+-- how many left the hardware, if all of those are older than all that did not
+abbrev pub one_more : Option ℕ → Option ℕ
+one_more None = None
+one_more (Some count) = Some (1 + count)
+
+abbrev pub forgotten_in : List Passage → Option ℕ
+forgotten_in [] = Some 0
+forgotten_in (p ∷ ps) =
+    if is_in_flight p then (if list_all is_in_flight ps then Some 0 else None) else one_more (forgotten_in ps)
 
 -- room for what a cycle may add
 pub record HasRoom (path : Path) : Type 0 where
-  pub ways : 576 ≤ vec_capacity path.ways
+  pub ways : length path.ways.items + 576 ≤ vec_capacity path.ways
   pub next : 576 ≤ vec_capacity path.next
   pub holds : length path.holds.items + 576 ≤ vec_capacity path.holds
 

@@ -1,18 +1,22 @@
 -- The instructions that leave the hardware in a cycle, and the lines that the oldest one writes back.
-use Rattle.std.specs.Prelude.{ℕ, ◌==◌, ◌&&◌, Bool, true, false, if◌then◌else◌, List, [], ◌∷◌, Option, Some, None}
+use Rattle.std.specs.Prelude.{ℕ, ◌==◌, ◌&&◌, not, Bool, true, false, if◌then◌else◌, List, [], ◌∷◌, count_by, Option, Some, None}
 use Rattle.std.specs.Option.{option_or, unwrap_or}
 use Rattle.std.specs.List.{list_any}
 use Rattle.rv_hardware.specs.Step.{is_interrupt}
 use Rattle.rv_hardware.specs.declared.step.Step.{Step}
-use Rattle.rv_isa.specs.Instruction.{is_fence_i, is_store}
+use Rattle.rv_hardware.specs.Broadcast.{mends_early}
+use Rattle.rv_isa.specs.Instruction.{is_branch_or_jump, is_fence_i, is_serialising, is_store}
+use Rattle.rv_passage.specs.Prediction.{differ, next_of}
 use Rattle.rv_passage.specs.declared.passage.{Ending.Ending, Passage.Passage}
 use Rattle.rv_passage.specs.declared.passage.Ending.TheVariants.{InFlight, Retired, Trapped, Squashed}
 use Rattle.rv_path.specs.Event.{Reached, first_event, settled}
 use Rattle.rv_path.specs.Setting.{Setting, after_stores, is_hold_of, left_before, port_ended, waits}
-use Rattle.rv_path.specs.Sought.{is_end, is_just_before}
-use Rattle.rv_path.specs.declared.{before.Left.Left, before.PortHold.PortHold, leaving.Leaving.Leaving, way.Way.Way}
+use Rattle.rv_path.specs.Sought.{is_end, is_just_before, is_sought}
+use Rattle.rv_path.specs.Way.{broadcast_by, dispatched_by}
+use Rattle.rv_path.specs.declared.{before.Left.Left, before.PortHold.PortHold, cause.Cause.Cause, leaving.Leaving.Leaving, way.Way.Way}
 use Rattle.rv_path.specs.declared.before.Holder.TheVariants as holder
 use Rattle.rv_path.specs.declared.cause.Cause.TheVariants as cause
+use Rattle.rv_path.specs.declared.sought.Sought.TheVariants as sought
 
 -- the cycle in which its result was known: that of its broadcast, or of its dispatch where it uses no unit
 abbrev pub known_in : Passage → Option ℕ
@@ -43,12 +47,12 @@ first_to_leave s p =
 -- one leaves after others of the same cycle, or is the first
 abbrev pub leaves_after : Setting → Option Reached → Passage → Way → Reached
 leaves_after s (Some event) p w = event
-leaves_after s None p w = settled (unwrap_or (first_to_leave s p) (waits s cause.Other w.dispatch))
+leaves_after s None p w = settled (unwrap_or (first_to_leave s p) (waits s cause.Other (dispatched_by w)))
 
 -- the event by which an instruction leaves the hardware, after the one before it in the cycle
 abbrev pub leaving_event : Setting → Option Reached → Passage → Way → Reached
 leaving_event s earlier p w =
-    if is_just_before s.number (known_in p) then settled (waits s cause.Commit w.broadcast) else leaves_after s earlier p w
+    if is_just_before s.number (known_in p) then settled (waits s cause.Commit (broadcast_by w)) else leaves_after s earlier p w
 
 -- it retired
 abbrev pub is_retirement : Ending → Bool
@@ -61,21 +65,36 @@ is_retirement (Squashed cycle) = false
 abbrev pub is_retired_store : Passage → Bool
 is_retired_store p = is_retirement p.ending && is_store p.instruction
 
--- the events of those that left so far: of the first, the last, and the first store
+-- an instruction retired whose successor was predicted wrongly, and that was not mended at its broadcast
+abbrev pub flushes_late : Setting → Passage → Bool
+flushes_late s p =
+    differ p.predicted (next_of p.ending) && not (mends_early s.values.recovery && is_branch_or_jump p.instruction)
+
+-- why the fetch begins anew where an instruction leaves, if it does
+abbrev pub cause_of_flush : Setting → Passage → Ending → Option Cause
+cause_of_flush s p InFlight = None
+cause_of_flush s p (Squashed cycle) = None
+cause_of_flush s p (Trapped cycle why) = Some cause.RefillTrap
+cause_of_flush s p (Retired order cycle written next) =
+    if is_serialising p.instruction then Some cause.RefillSerialising
+    else (if flushes_late s p then Some cause.RefillPrediction else None)
+
+-- the events of those that left so far: of the first, the last, and the first store, and whether the fetch begins anew
 abbrev pub none_left : Leaving
-none_left = record { first = None; last = None; store = None }
+none_left = record { first = None; last = None; store = None; refill = None }
 
 -- one more
-abbrev pub with_event : Reached → Passage → Leaving → Leaving
-with_event event p leaving = record {
+abbrev pub with_event : Setting → Reached → Passage → Leaving → Leaving
+with_event s event p leaving = record {
   first = option_or leaving.first (Some event);
   last = Some event;
   store = if is_retired_store p then option_or leaving.store (Some event) else leaving.store;
+  refill = cause_of_flush s p p.ending;
 }
 
 -- one more instruction, if it left
 abbrev pub with_row : Setting → Passage → Way → Leaving → Leaving
-with_row s p w leaving = if is_end p.ending then with_event (leaving_event s leaving.last p w) p leaving else leaving
+with_row s p w leaving = if is_end p.ending then with_event s (leaving_event s leaving.last p w) p leaving else leaving
 
 -- some more
 abbrev pub with_rows : Setting → List Passage → List Way → Leaving → Leaving
@@ -84,8 +103,8 @@ with_rows s (p ∷ ps) [] leaving = leaving
 with_rows s (p ∷ ps) (w ∷ ws) leaving = with_rows s ps ws (with_row s p w leaving)
 
 -- all that leave in the cycle
-abbrev pub leaving_of : Setting → Leaving
-leaving_of s = with_rows s s.rows s.ways none_left
+abbrev pub leaving_of : Setting → List Way → Leaving
+leaving_of s ways = with_rows s s.rows ways none_left
 
 -- an interrupt came so long after the last step
 abbrev pub interrupt_after : Setting → Option Left → Reached
@@ -99,21 +118,21 @@ interrupt_event s = interrupt_after s s.before.left
 abbrev pub is_interrupted : List Step → Bool
 is_interrupted steps = list_any is_interrupt steps
 
--- the last event that left, where some left in the cycle
+-- so many left in the cycle, the last by this event
 abbrev pub left_by : Setting → ℕ → Option Reached → Option Left
-left_by s count None = s.before.left
+left_by s count None = None
 left_by s count (Some event) = Some (record { cycle = s.number; count = count; event = event })
 
--- what left last after the cycle; with an interrupt no instruction leaves
-abbrev pub left_now : Setting → Bool → Leaving → ℕ → Option Left
-left_now s interrupted leaving count =
-    if interrupted then left_by s 0 (Some (interrupt_event s)) else left_by s count leaving.last
+-- what left in the cycle; with an interrupt no instruction does
+abbrev pub newly_left : Setting → Bool → Leaving → Option Left
+newly_left s interrupted leaving =
+    if interrupted then left_by s 0 (Some (interrupt_event s)) else left_by s (count_by (is_sought sought.Ended) s.rows) leaving.last
 
 -- The oldest instruction begins to write lines back: when it is the oldest, and the older stores and the port let it.
 abbrev pub lines_after : Setting → Option Reached → Passage → Way → Reached
 lines_after s (Some event) p w = event
-lines_after s None p w = unwrap_or (after_stores s) (waits s cause.Other (settled w.dispatch))
+lines_after s None p w = unwrap_or (after_stores s) (waits s cause.Other (settled (dispatched_by w)))
 
 abbrev pub lines_event : Setting → Leaving → Passage → Way → Reached
 lines_event s leaving p w =
-    if is_just_before s.number p.dispatched then waits s cause.Commit (settled w.dispatch) else lines_after s leaving.last p w
+    if is_just_before s.number p.dispatched then waits s cause.Commit (settled (dispatched_by w)) else lines_after s leaving.last p w

@@ -5,17 +5,16 @@ use Rattle.rv_isa.specs.declared.{values.Values.Values}
 use Rattle.rv_passage.specs.declared.passage.Passage.{Passage}
 use Rattle.rv_path.specs.Before.{is_same_holder, port_cause}
 use Rattle.rv_path.specs.Event.{Reached, nothing_yet, waited_for}
-use Rattle.rv_path.specs.declared.{before.Before.Before, before.DrainHold.DrainHold, before.Holder.Holder, before.Left.Left, before.PortHold.PortHold, before.UnitHold.UnitHold, cause.Cause.Cause, scene.Scene.Scene, way.Way.Way}
+use Rattle.rv_path.specs.declared.{before.Before.Before, before.DrainHold.DrainHold, before.Holder.Holder, before.Left.Left, before.PortHold.PortHold, before.UnitHold.UnitHold, cause.Cause.Cause, scene.Scene.Scene}
 use Rattle.rv_path.specs.declared.cause.Cause.TheVariants as cause
 
--- The number of the cycle, and how many there were before it; what the description says; the instructions as they stand at its end, with
--- their events before it; who holds units that are not pipelined; and all else that is known when it begins.
+-- The number of the cycle, and how many there were before it; what the description says; the instructions as they stand at its end; who
+-- holds units that are not pipelined; and all else that is known when the cycle begins. Their events stand beside it, as they come.
 pub record Setting : Type 0 where
   pub number : ℕ
   pub elapsed : ℕ
   pub values : Values
   pub rows : List Passage
-  pub ways : List Way
   pub holds : List UnitHold
   pub before : Before
 
@@ -26,7 +25,6 @@ setting_of scene = record {
   elapsed = scene.elapsed;
   values = scene.values.now;
   rows = scene.rows.now;
-  ways = scene.ways.now;
   holds = scene.holds.now;
   before = scene.before.now;
 }

@@ -10,9 +10,9 @@ use Rattle.rv_path.specs.declared.{before.Before.Before, before.UnitHold.UnitHol
 -- the events of an instruction come within so many cycles
 pub record IsWayWithin (cycles : ℕ) (way : Way) : Type 0 where
   pub fetch : way.fetch.cycle ≤ cycles
-  pub dispatch : way.dispatch.cycle ≤ cycles
-  pub issue : way.issue.cycle ≤ cycles
-  pub broadcast : way.broadcast.cycle ≤ cycles
+  pub dispatch : IfSome way.dispatch (λ event. event.cycle ≤ cycles)
+  pub issue : IfSome way.issue (λ event. event.cycle ≤ cycles)
+  pub broadcast : IfSome way.broadcast (λ event. event.cycle ≤ cycles)
 
 -- those of several
 abbrev pub AreWaysWithin : ℕ → List Way → Type 0

@@ -1,5 +1,5 @@
 ghost use Rattle.std.specs.Prelude.{◌≡◌, sum};
-ghost use Rattle.rv_path.specs.Event.{first_event, refilling, settled, waited_for};
+ghost use Rattle.rv_path.specs.Event.{by_wait, nothing_yet, reached_by, refilling, settled, waited_for};
 
 use crate::cause::{CAUSES, Cause};
 use std::marker::Model;
@@ -43,45 +43,127 @@ impl Event {
         self.account
     }
 
-    /// An event of a cycle that waited last for this one, and why.
-    pub(crate) fn waited(&self, cycle: u64, cause: Cause) -> Event
-        ensures { result ≡ waited_for cycle cause self.now }
+    // An event that waited for this one until a cycle, on account of a cause.
+    fn by_wait(&self, wait: Wait, refill: Option<Cause>) -> Event
+        ensures { result ≡ by_wait wait refill self.now }
     {
-        let cycles = cycle.saturating_sub(self.cycle);
-        let place = self.refill.unwrap_or(cause).place();
+        let cycles = wait.cycle.saturating_sub(self.cycle);
         let mut account = self.account;
-        account[place] += cycles;
+        account[wait.cause.place()] += cycles;
         Event {
             cycle: self.cycle + cycles,
             account,
-            refill: self.refill,
+            refill,
+        }
+    }
+
+    // An event that waited for this one, or is this one again.
+    fn reached_by(&self, wait: Option<Wait>, refill: Option<Cause>) -> Event
+        ensures { result ≡ reached_by self.now wait refill }
+    {
+        match wait {
+            Some(wait) => self.by_wait(wait, refill),
+            None => Event { refill, ..*self },
+        }
+    }
+
+    /// The fetch began anew with this one, for a cause, and waited until a cycle.
+    pub(crate) fn anew(&self, cycle: u64, cause: Cause) -> Event
+        ensures { result ≡ waited_for cycle cause (refilling cause self.now) }
+    {
+        self.by_wait(Wait { cycle, cause }, Some(cause))
+    }
+}
+
+/// Until which cycle an event waited, and the cause that has these cycles.
+#[derive(Clone, Copy)]
+struct Wait {
+    cycle: u64,
+    cause: Cause,
+}
+
+/// An event of a cycle, by the one that it waited for last, or is again, where that is not the beginning of the run.
+#[derive(Drop)]
+pub(crate) struct Waited<'a> {
+    before: Option<&'a Event>,
+    wait: Option<Wait>,
+    refill: Option<Cause>,
+}
+
+impl<'a> Model for Waited<'a> {
+    ghost use Rattle.std.specs.Prelude.{option_copied};
+    ghost use Rattle.std.specs.Option.{unwrap_or};
+    ghost use Rattle.rv_path.specs.Event.{Reached, nothing_yet, reached_by};
+
+    ghost Value = { Reached };
+
+    ghost view = { λ waited. reached_by (unwrap_or (option_copied waited.before) nothing_yet) waited.wait waited.refill };
+}
+
+impl<'a> Waited<'a> {
+    /// An event again.
+    pub(crate) fn again(before: &'a Event) -> Waited<'a>
+        ensures { result ≡ before.now }
+    {
+        Waited {
+            before: Some(before),
+            wait: None,
+            refill: before.refill,
+        }
+    }
+
+    /// One that waited last for another one until a cycle, and why.
+    pub(crate) fn after(before: &'a Event, cycle: u64, cause: Cause) -> Waited<'a>
+        ensures { result ≡ waited_for cycle cause before.now }
+    {
+        let cause = before.refill.unwrap_or(cause);
+        Waited {
+            before: Some(before),
+            wait: Some(Wait { cycle, cause }),
+            refill: before.refill,
+        }
+    }
+
+    /// One that waited last for another one, no more of which is a refill.
+    pub(crate) fn after_settled(before: &'a Event, cycle: u64, cause: Cause) -> Waited<'a>
+        ensures { result ≡ waited_for cycle cause (settled before.now) }
+    {
+        Waited {
+            before: Some(before),
+            wait: Some(Wait { cycle, cause }),
+            refill: None,
+        }
+    }
+
+    /// One that waited for none but the beginning of the run.
+    pub(crate) fn after_begin(cycle: u64, cause: Cause) -> Waited<'a>
+        ensures { result ≡ waited_for cycle cause nothing_yet }
+    {
+        Waited {
+            before: None,
+            wait: Some(Wait { cycle, cause }),
+            refill: None,
         }
     }
 
     /// The same one, no more of which is a refill.
-    pub(crate) fn settled(&self) -> Event
-        ensures { result ≡ settled self.now }
+    pub(crate) fn settled(self) -> Waited<'a>
+        ensures { result ≡ settled self.entry }
     {
-        Event {
+        Waited {
+            before: self.before,
+            wait: self.wait,
             refill: None,
-            ..*self
         }
     }
 
-    /// The same one, with which the fetch began anew.
-    pub(crate) fn refilling(&self, cause: Cause) -> Event
-        ensures { result ≡ refilling cause self.now }
+    /// The event.
+    pub(crate) fn event(&self) -> Event
+        ensures { result ≡ self.now }
     {
-        Event {
-            refill: Some(cause),
-            ..*self
+        match self.before {
+            Some(before) => before.reached_by(self.wait, self.refill),
+            None => Event::BEGIN.reached_by(self.wait, self.refill),
         }
-    }
-
-    /// An event of a cycle that waited for none.
-    pub(crate) fn first(cycle: u64) -> Event
-        ensures { result ≡ first_event cycle }
-    {
-        Event::BEGIN.waited(cycle, Cause::BeforeFirst)
     }
 }

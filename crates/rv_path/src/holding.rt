@@ -1,17 +1,16 @@
 ghost use Rattle.std.specs.Prelude.{◌≡◌, ◌+◌, ◌<◌, ◌^◌, ◌≤◌, ◌++◌, filter, length, vec_capacity};
 ghost use Rattle.std.specs.Option.{option_to_list};
-ghost use Rattle.rv_isa.specs.Instruction.{kind_of_word};
-ghost use Rattle.rv_path.specs.Holding.{at_its_commit, drain_event, drain_now, ends_at, goes_beyond, hold_of, is_begun, is_taken, lines_hold, load_hold, new_holds, port_now, taken_by};
+ghost use Rattle.rv_path.specs.Holding.{at_its_commit, drain_begun, drain_event, ends_at, goes_beyond, hold_of, hold_of_kind, is_begun, is_taken, lines_hold, load_hold, new_holds, port_taken, taken_by};
 ghost use Rattle.rv_path.specs.Setting.{setting_of};
 
 use crate::before::{DrainHold, Facts, Holder, PortHold, UnitHold};
 use crate::cause::Cause;
-use crate::event::Event;
+use crate::event::Waited;
 use crate::leaving::{Leaving, lines_event};
-use crate::scene::{Scene, last_left};
+use crate::scene::{Scene, after_last_left};
 use crate::sought::{Sought, first_of, kind_of};
-use crate::way::{Journey, Way};
-use rv_isa::Values;
+use crate::way::{Found, Way};
+use rv_isa::{Issue, Kind, Values};
 use rv_passage::Passage;
 
 // Whether the port was taken in the cycle.
@@ -40,52 +39,54 @@ fn is_begun(scene: &Scene<'_>, end: Option<u64>) -> bool
     }
 }
 
-fn at_its_commit(scene: &Scene<'_>, leaving: &Leaving) -> Option<Event>
+fn at_its_commit<'a>(scene: &Scene<'_>, leaving: &'a Leaving) -> Option<Waited<'a>>
     ensures { result ≡ at_its_commit (setting_of scene.now) leaving.now }
 {
     if scene.before.facts.is_store_waiting {
-        None
-    } else {
-        leaving.store
+        return None;
+    }
+    match &leaving.store {
+        Some(event) => Some(Waited::again(event)),
+        None => None,
     }
 }
 
 // The event by which a store begins to drain.
-fn drain_event(scene: &Scene<'_>, leaving: &Leaving) -> Event
+fn drain_event<'a>(scene: &'a Scene<'_>, leaving: &'a Leaving) -> Waited<'a>
     ensures { result ≡ drain_event (setting_of scene.now) leaving.now }
 {
     if let Some(event) = at_its_commit(scene, leaving) {
         return event;
     }
-    match scene.after_port() {
-        Some(event) => event,
-        None => scene.waits(Cause::Other, &last_left(&scene.before.left)),
+    if let Some(event) = scene.after_port() {
+        return event;
     }
+    after_last_left(&scene.before.left, scene.elapsed, Cause::Other)
 }
 
-/// The store that drained last, after the cycle.
-pub(crate) fn drain_now(scene: &Scene<'_>, leaving: &Leaving, facts: &Facts) -> Option<DrainHold>
-    ensures { result ≡ drain_now (setting_of scene.now) leaving.now facts.now }
+/// The store that begins to drain in the cycle.
+pub(crate) fn drain_begun(scene: &Scene<'_>, leaving: &Leaving, facts: &Facts) -> Option<DrainHold>
+    ensures { result ≡ drain_begun (setting_of scene.now) leaving.now facts.now }
 {
     if is_taken(scene, facts) && is_begun(scene, facts.drain_end) {
         Some(DrainHold {
             until: facts.port_free,
-            event: drain_event(scene, leaving),
+            event: drain_event(scene, leaving).event(),
         })
     } else {
-        scene.before.drain
+        None
     }
 }
 
-fn load_hold(until: u64, load: &Option<Journey>) -> Option<PortHold>
-    ensures { result ≡ load_hold until load.now }
+fn load_hold(until: u64, load: Option<Found<'_>>) -> Option<PortHold>
+    ensures { result ≡ load_hold until load.entry }
 {
     match load {
         Some(load) => Some(PortHold {
             until,
-            event: load.way.issue,
+            event: *load.way().issued(),
             holder: Holder::Load,
-            number: load.row.number,
+            number: load.row().number,
         }),
         None => None,
     }
@@ -95,59 +96,59 @@ fn lines_hold(
     scene: &Scene<'_>,
     leaving: &Leaving,
     until: u64,
-    head: &Option<Journey>,
+    head: Option<Found<'_>>,
 ) -> Option<PortHold>
-    ensures { result ≡ lines_hold (setting_of scene.now) leaving.now until head.now }
+    ensures { result ≡ lines_hold (setting_of scene.now) leaving.now until head.entry }
 {
     match head {
         Some(head) => Some(PortHold {
             until,
-            event: lines_event(scene, leaving, &head.row, &head.way),
+            event: lines_event(scene, leaving, head.row(), head.way()).event(),
             holder: Holder::Lines,
-            number: head.row.number,
+            number: head.row().number,
         }),
         None => None,
     }
 }
 
-// Who took the port in the cycle.
-fn taken_by(scene: &Scene<'_>, leaving: &Leaving, ways: &[Way], facts: &Facts) -> Option<PortHold>
-    ensures { result ≡ taken_by (setting_of scene.now) leaving.now ways.now facts.now }
+// Who takes the port in the cycle, where it is taken.
+fn taken_by(scene: &Scene<'_>, ways: &[Way], leaving: &Leaving, facts: &Facts) -> Option<PortHold>
+    ensures { result ≡ taken_by (setting_of scene.now) ways.now leaving.now facts.now }
 {
     let until = facts.port_free;
     if is_begun(scene, facts.drain_end) {
         return Some(PortHold {
             until,
-            event: drain_event(scene, leaving),
+            event: drain_event(scene, leaving).event(),
             holder: Holder::Drain,
             number: 0,
         });
     }
     let load = first_of(Sought::LoadUntil(scene.number, until), scene.rows, ways);
-    match load_hold(until, &load) {
+    match load_hold(until, load) {
         Some(hold) => Some(hold),
         None => lines_hold(
             scene,
             leaving,
             until,
-            &first_of(Sought::Entry, scene.rows, ways),
+            first_of(Sought::Entry, scene.rows, ways),
         ),
     }
 }
 
-/// Who holds the port after the cycle, or held it last.
-pub(crate) fn port_now(
+/// Who takes the port in the cycle.
+pub(crate) fn port_taken(
     scene: &Scene<'_>,
-    leaving: &Leaving,
     ways: &[Way],
+    leaving: &Leaving,
     facts: &Facts,
 ) -> Option<PortHold>
-    ensures { result ≡ port_now (setting_of scene.now) leaving.now ways.now facts.now }
+    ensures { result ≡ port_taken (setting_of scene.now) ways.now leaving.now facts.now }
 {
     if is_taken(scene, facts) {
-        taken_by(scene, leaving, ways, facts)
+        taken_by(scene, ways, leaving, facts)
     } else {
-        scene.before.port
+        None
     }
 }
 
@@ -158,20 +159,37 @@ fn goes_beyond(number: u64, hold: &UnitHold) -> bool
     number < hold.until
 }
 
+// The hold of a unit that an instruction that is issued begins, if it is not pipelined.
+fn hold_of_kind(
+    values: &Values,
+    row: &Passage,
+    way: &Way,
+    issue: Issue,
+    kind: Option<Kind>,
+) -> Option<UnitHold>
+    requires cycles { issue.cycle < 2 ^ 40 }
+    ensures { option_to_list result ≡ hold_of_kind values.now row.now way.now issue kind }
+{
+    match kind {
+        Some(kind) if !values.kinds.get(kind).pipelined => Some(UnitHold {
+            kind,
+            until: issue.cycle + u64::from(issue.cost),
+            number: row.number,
+            event: *way.issued(),
+        }),
+        _ => None,
+    }
+}
+
 // The hold of a unit that begins in a cycle with an instruction, if one does.
 #[tactic(auto, unfolding(crate::specs::Holding::hold_of))]
 fn hold_of(number: u64, values: &Values, row: &Passage, way: &Way) -> Option<UnitHold>
     requires cycles { number < 2 ^ 40 }
-    ensures { option_to_list result ≡ hold_of number values.now row.now way.now (kind_of_word row.now.instruction) }
+    ensures { option_to_list result ≡ hold_of number values.now row.now way.now row.now.issue }
 {
-    match (kind_of(&row.instruction), row.issue) {
-        (Some(kind), Some(issue)) if issue.cycle == number && !values.kinds.get(kind).pipelined => {
-            Some(UnitHold {
-                kind,
-                until: issue.cycle + u64::from(issue.cost),
-                number: row.number,
-                event: way.issue,
-            })
+    match row.issue {
+        Some(issue) if issue.cycle == number => {
+            hold_of_kind(values, row, way, issue, kind_of(&row.instruction))
         }
         _ => None,
     }

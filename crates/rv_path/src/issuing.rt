@@ -1,58 +1,70 @@
-ghost use Rattle.std.specs.Prelude.{◌≡◌};
-ghost use Rattle.rv_path.specs.Issuing.{after_broadcast, after_bus, after_issues, after_operands, after_producer, after_stores_known, after_units, after_units_of, broadcast_event, execution_cause, has_ended, hold_among, if_broadcast, if_issued, issue_after, issue_event, older_hold};
+ghost use Rattle.std.specs.Prelude.{◌≡◌, option_copied, slice_get};
+ghost use Rattle.rv_path.specs.Issuing.{after_broadcast, after_bus, after_issues, after_operands, after_producer, after_stores_known, after_units, after_units_of, broadcast_at, broadcast_event, execution_cause, has_ended, hold_among, issue_after, issued_at, issue_event, older_hold};
 ghost use Rattle.rv_path.specs.Setting.{setting_of};
 
 use crate::before::{Holder, UnitHold};
 use crate::cause::Cause;
-use crate::event::Event;
+use crate::event::Waited;
 use crate::scene::Scene;
 use crate::sought::{
     Sought, count, first_of, is_at, is_just_before, is_load, is_ready_at, kind_of, last_of,
 };
-use crate::way::{Journey, Way};
+use crate::way::{Found, Way};
 use rv_isa::Kind;
 use rv_passage::{Passage, Producer};
 
-fn after_broadcast(scene: &Scene<'_>, cause: Cause, journey: &Option<Journey>) -> Option<Event>
-    ensures { result ≡ after_broadcast (setting_of scene.now) cause journey.now }
+fn after_broadcast<'a>(
+    scene: &'a Scene<'_>,
+    cause: Cause,
+    found: Option<Found<'a>>,
+) -> Option<Waited<'a>>
+    ensures { result ≡ after_broadcast (setting_of scene.now) cause found.entry }
 {
-    match journey {
-        Some(journey) => Some(scene.waits(cause, &journey.way.broadcast)),
+    match found {
+        Some(found) => Some(scene.waits(cause, found.way().broadcast())),
         None => None,
     }
 }
 
-fn after_producer(scene: &Scene<'_>, producer: &Option<Producer>) -> Option<Event>
-    ensures { result ≡ after_producer (setting_of scene.now) producer.now }
+fn after_producer<'a>(
+    scene: &'a Scene<'_>,
+    ways: &'a [Way],
+    producer: &Option<Producer>,
+) -> Option<Waited<'a>>
+    ensures { result ≡ after_producer (setting_of scene.now) ways.now producer.now }
 {
     match producer {
         Some(producer) if is_just_before(scene.number, producer.broadcast) => after_broadcast(
             scene,
             Cause::Operand,
-            &first_of(Sought::Number(producer.number), scene.rows, scene.ways),
+            first_of(Sought::Number(producer.number), scene.rows, ways),
         ),
         _ => None,
     }
 }
 
-fn after_operands(scene: &Scene<'_>, row: &Passage) -> Option<Event>
-    ensures { result ≡ after_operands (setting_of scene.now) row.now }
+fn after_operands<'a>(scene: &'a Scene<'_>, ways: &'a [Way], row: &Passage) -> Option<Waited<'a>>
+    ensures { result ≡ after_operands (setting_of scene.now) ways.now row.now }
 {
-    match after_producer(scene, &row.producers.first) {
+    match after_producer(scene, ways, &row.producers.first) {
         Some(event) => Some(event),
-        None => after_producer(scene, &row.producers.second),
+        None => after_producer(scene, ways, &row.producers.second),
     }
 }
 
-fn after_stores_known(scene: &Scene<'_>, row: &Passage) -> Option<Event>
-    ensures { result ≡ after_stores_known (setting_of scene.now) row.now }
+fn after_stores_known<'a>(
+    scene: &'a Scene<'_>,
+    ways: &'a [Way],
+    row: &Passage,
+) -> Option<Waited<'a>>
+    ensures { result ≡ after_stores_known (setting_of scene.now) ways.now row.now }
 {
     if !is_load(&row.instruction) {
         return None;
     }
-    match first_of(Sought::StoreBefore(scene.number), scene.rows, scene.ways) {
-        Some(store) if store.row.number < row.number => {
-            Some(scene.waits(Cause::StoreAddress, &store.way.broadcast))
+    match first_of(Sought::StoreBefore(scene.number), scene.rows, ways) {
+        Some(store) if store.row().number < row.number => {
+            Some(scene.waits(Cause::StoreAddress, store.way().broadcast()))
         }
         _ => None,
     }
@@ -64,49 +76,49 @@ fn has_ended(scene: &Scene<'_>, kind: Kind, hold: &UnitHold) -> bool
     hold.kind == kind && hold.until == scene.number
 }
 
-fn older_hold(hold: &UnitHold, other: &Option<UnitHold>) -> UnitHold
-    ensures { result ≡ older_hold hold.now other.now }
+fn older_hold<'a>(hold: &'a UnitHold, other: Option<&'a UnitHold>) -> &'a UnitHold
+    ensures { result.now ≡ older_hold hold.now (option_copied other.entry) }
 {
     match other {
-        Some(other) if other.number < hold.number => *other,
-        _ => *hold,
+        Some(other) if other.number < hold.number => other,
+        _ => hold,
     }
 }
 
 // The hold of a unit of a kind that ended when the cycle began, of the oldest instruction.
-fn hold_among(scene: &Scene<'_>, kind: Kind, holds: &[UnitHold]) -> Option<UnitHold>
-    ensures { result ≡ hold_among (setting_of scene.now) kind holds.now }
+fn hold_among<'a>(scene: &Scene<'_>, kind: Kind, holds: &'a [UnitHold]) -> Option<&'a UnitHold>
+    ensures { option_copied result ≡ hold_among (setting_of scene.now) kind holds.now }
 {
     let [hold, others @ ..] = holds else {
         return None;
     };
     let other = hold_among(scene, kind, others);
     if has_ended(scene, kind, hold) {
-        Some(older_hold(hold, &other))
+        Some(older_hold(hold, other))
     } else {
         other
     }
 }
 
-fn after_issues(scene: &Scene<'_>, kind: Kind) -> Option<Event>
-    ensures { result ≡ after_issues (setting_of scene.now) kind }
+fn after_issues<'a>(scene: &'a Scene<'_>, ways: &'a [Way], kind: Kind) -> Option<Waited<'a>>
+    ensures { result ≡ after_issues (setting_of scene.now) ways.now kind }
 {
     let sought = Sought::IssuedBefore(kind, scene.number);
     if count(sought, scene.rows) != scene.values.kinds.get(kind).units as usize {
         return None;
     }
-    match last_of(sought, scene.rows, scene.ways) {
-        Some(journey) => Some(scene.waits(Cause::busy(kind), &journey.way.issue)),
+    match last_of(sought, scene.rows, ways) {
+        Some(found) => Some(scene.waits(Cause::busy(kind), found.way().issued())),
         None => None,
     }
 }
 
 // An instruction that waited for a unit.
-fn after_units(scene: &Scene<'_>, kind: Kind) -> Option<Event>
-    ensures { result ≡ after_units (setting_of scene.now) kind }
+fn after_units<'a>(scene: &'a Scene<'_>, ways: &'a [Way], kind: Kind) -> Option<Waited<'a>>
+    ensures { result ≡ after_units (setting_of scene.now) ways.now kind }
 {
     if scene.values.kinds.get(kind).pipelined {
-        return after_issues(scene, kind);
+        return after_issues(scene, ways, kind);
     }
     match hold_among(scene, kind, scene.holds) {
         Some(hold) => Some(scene.waits(Cause::busy(kind), &hold.event)),
@@ -114,40 +126,51 @@ fn after_units(scene: &Scene<'_>, kind: Kind) -> Option<Event>
     }
 }
 
-fn after_units_of(scene: &Scene<'_>, kind: Option<Kind>) -> Option<Event>
-    ensures { result ≡ after_units_of (setting_of scene.now) kind }
+fn after_units_of<'a>(
+    scene: &'a Scene<'_>,
+    ways: &'a [Way],
+    kind: Option<Kind>,
+) -> Option<Waited<'a>>
+    ensures { result ≡ after_units_of (setting_of scene.now) ways.now kind }
 {
     match kind {
-        Some(kind) => after_units(scene, kind),
+        Some(kind) => after_units(scene, ways, kind),
         None => None,
     }
 }
 
-fn issue_after(scene: &Scene<'_>, row: &Passage) -> Option<Event>
-    ensures { result ≡ issue_after (setting_of scene.now) row.now }
+fn issue_after<'a>(scene: &'a Scene<'_>, ways: &'a [Way], row: &Passage) -> Option<Waited<'a>>
+    ensures { result ≡ issue_after (setting_of scene.now) ways.now row.now }
 {
-    if let Some(event) = after_operands(scene, row) {
+    if let Some(event) = after_operands(scene, ways, row) {
         return Some(event);
     }
-    if let Some(event) = after_stores_known(scene, row) {
+    if let Some(event) = after_stores_known(scene, ways, row) {
         return Some(event);
     }
-    if let Some(event) = after_units_of(scene, kind_of(&row.instruction)) {
+    if let Some(event) = after_units_of(scene, ways, kind_of(&row.instruction)) {
         return Some(event);
     }
     scene.after_port()
 }
 
 /// The event by which an instruction is issued.
-pub(crate) fn issue_event(scene: &Scene<'_>, row: &Passage, way: &Way) -> Event
-    ensures { result ≡ issue_event (setting_of scene.now) row.now way.now }
+pub(crate) fn issue_event<'a>(
+    scene: &'a Scene<'_>,
+    ways: &'a [Way],
+    row: &Passage,
+    way: &'a Way,
+) -> Waited<'a>
+    ensures { result ≡ issue_event (setting_of scene.now) ways.now row.now way.now }
 {
     if is_just_before(scene.number, row.dispatched) {
-        return scene.waits(Cause::DispatchToIssue, &way.dispatch).settled();
+        return scene
+            .waits(Cause::DispatchToIssue, way.dispatched())
+            .settled();
     }
-    match issue_after(scene, row) {
+    match issue_after(scene, ways, row) {
         Some(event) => event.settled(),
-        None => scene.waits(Cause::Other, &way.dispatch).settled(),
+        None => scene.waits(Cause::Other, way.dispatched()).settled(),
     }
 }
 
@@ -170,53 +193,54 @@ fn execution_cause(scene: &Scene<'_>, row: &Passage) -> Cause
     }
 }
 
-fn after_bus(scene: &Scene<'_>) -> Option<Event>
-    ensures { result ≡ after_bus (setting_of scene.now) }
+fn after_bus<'a>(scene: &'a Scene<'_>, ways: &'a [Way]) -> Option<Waited<'a>>
+    ensures { result ≡ after_bus (setting_of scene.now) ways.now }
 {
     let sought = Sought::BroadcastBefore(scene.number);
     if count(sought, scene.rows) != scene.values.bus_width as usize {
         return None;
     }
-    after_broadcast(
-        scene,
-        Cause::BusFull,
-        &last_of(sought, scene.rows, scene.ways),
-    )
+    after_broadcast(scene, Cause::BusFull, last_of(sought, scene.rows, ways))
 }
 
 // The event by which a result is broadcast.
-fn broadcast_event(scene: &Scene<'_>, row: &Passage, way: &Way) -> Event
-    ensures { result ≡ broadcast_event (setting_of scene.now) row.now way.now }
+fn broadcast_event<'a>(
+    scene: &'a Scene<'_>,
+    ways: &'a [Way],
+    row: &Passage,
+    way: &'a Way,
+) -> Waited<'a>
+    ensures { result ≡ broadcast_event (setting_of scene.now) ways.now row.now way.now }
 {
     if is_ready_at(scene.number, row) {
         return scene
-            .waits(execution_cause(scene, row), &way.issue)
+            .waits(execution_cause(scene, row), way.issued())
             .settled();
     }
-    match after_bus(scene) {
+    match after_bus(scene, ways) {
         Some(event) => event.settled(),
-        None => scene.waits(Cause::Other, &way.issue).settled(),
+        None => scene.waits(Cause::Other, way.issued()).settled(),
     }
 }
 
-/// An instruction is issued, if that is so in the cycle.
-pub(crate) fn if_issued(scene: &Scene<'_>, row: &Passage, way: &Way) -> Way
-    ensures { result ≡ if_issued (setting_of scene.now) row.now way.now }
+/// An instruction is issued, where the events of all stand so.
+pub(crate) fn issue_at(scene: &Scene<'_>, row: &Passage, place: usize, ways: &mut [Way])
+    ensures { ways.new ≡ issued_at (setting_of scene.now) row.now place (slice_get ways.old place) ways.old }
 {
-    if is_at(scene.number, row.issued()) {
-        way.with_issue(issue_event(scene, row, way))
-    } else {
-        *way
-    }
+    let Some(way) = ways.get(place) else {
+        return;
+    };
+    let event = issue_event(scene, ways, row, way).event();
+    ways[place].issue = Some(event);
 }
 
-/// Its result is broadcast, if that is so in the cycle.
-pub(crate) fn if_broadcast(scene: &Scene<'_>, row: &Passage, way: &Way) -> Way
-    ensures { result ≡ if_broadcast (setting_of scene.now) row.now way.now }
+/// Its result is broadcast.
+pub(crate) fn broadcast_at(scene: &Scene<'_>, row: &Passage, place: usize, ways: &mut [Way])
+    ensures { ways.new ≡ broadcast_at (setting_of scene.now) row.now place (slice_get ways.old place) ways.old }
 {
-    if is_at(scene.number, row.broadcast) {
-        way.with_broadcast(broadcast_event(scene, row, way))
-    } else {
-        *way
-    }
+    let Some(way) = ways.get(place) else {
+        return;
+    };
+    let event = broadcast_event(scene, ways, row, way).event();
+    ways[place].broadcast = Some(event);
 }

@@ -1,15 +1,21 @@
 ghost use Rattle.std.specs.Prelude.{◌≡◌};
-ghost use Rattle.rv_path.specs.Leaving.{interrupt_event, is_interrupted, is_retired_store, leaving_event, leaving_of, left_now, lines_event, with_event, with_row, with_rows};
+ghost use Rattle.rv_path.specs.Leaving.{cause_of_flush, flushes_late, interrupt_event, is_interrupted, is_retired_store, leaving_event, leaving_of, lines_event, newly_left, with_event, with_row, with_rows};
 ghost use Rattle.rv_path.specs.Leaving.{after_own_lines, after_left, first_to_leave, known_in, leaves_after, left_by};
+ghost use Rattle.rv_isa.specs.Instruction.{is_branch_or_jump};
+ghost use Rattle.rv_hardware.specs.Broadcast.{mends_early};
+ghost use Rattle.rv_passage.specs.Prediction.{differ};
 ghost use Rattle.rv_path.specs.Setting.{setting_of};
 
 use crate::before::{Holder, Left};
 use crate::cause::Cause;
-use crate::event::Event;
+use crate::event::{Event, Waited};
 use crate::scene::Scene;
-use crate::sought::{Sought, is_fence_i, is_just_before, is_sought, is_store};
+use crate::sought::{
+    Sought, count, is_fence_i, is_just_before, is_serialising, is_sought, is_store,
+};
 use crate::way::Way;
 use rv_hardware::Step;
+use rv_isa::{Instr, Recovery};
 use rv_passage::{Ending, Passage};
 
 /// The events of the instructions that leave the hardware in a cycle.
@@ -19,6 +25,8 @@ pub(crate) struct Leaving {
     pub(crate) last: Option<Event>,
     /// That of the first store.
     pub(crate) store: Option<Event>,
+    /// Why the fetch begins anew at the last, if it does.
+    pub(crate) refill: Option<Cause>,
 }
 
 fn known_in(row: &Passage) -> Option<u64>
@@ -27,7 +35,7 @@ fn known_in(row: &Passage) -> Option<u64>
     row.broadcast.or(row.dispatched)
 }
 
-fn after_own_lines(scene: &Scene<'_>, row: &Passage) -> Option<Event>
+fn after_own_lines<'a>(scene: &'a Scene<'_>, row: &Passage) -> Option<Waited<'a>>
     ensures { result ≡ after_own_lines (setting_of scene.now) row.now }
 {
     if !scene.has_held(Holder::Lines, row.number) {
@@ -39,7 +47,7 @@ fn after_own_lines(scene: &Scene<'_>, row: &Passage) -> Option<Event>
     }
 }
 
-fn after_left(scene: &Scene<'_>, left: &Left) -> Event
+fn after_left<'a>(scene: &Scene<'_>, left: &'a Left) -> Waited<'a>
     ensures { result ≡ after_left (setting_of scene.now) left.now }
 {
     let cause = if left.count == scene.values.commit_width as usize {
@@ -50,7 +58,7 @@ fn after_left(scene: &Scene<'_>, left: &Left) -> Event
     scene.waits(cause, &left.event)
 }
 
-fn first_to_leave(scene: &Scene<'_>, row: &Passage) -> Option<Event>
+fn first_to_leave<'a>(scene: &'a Scene<'_>, row: &Passage) -> Option<Waited<'a>>
     ensures { result ≡ first_to_leave (setting_of scene.now) row.now }
 {
     if is_fence_i(&row.instruction) {
@@ -60,31 +68,41 @@ fn first_to_leave(scene: &Scene<'_>, row: &Passage) -> Option<Event>
         return scene.after_stores();
     }
     match scene.left_before() {
-        Some(left) => Some(after_left(scene, &left)),
+        Some(left) => Some(after_left(scene, left)),
         None => None,
     }
 }
 
-fn leaves_after(scene: &Scene<'_>, earlier: &Option<Event>, row: &Passage, way: &Way) -> Event
+fn leaves_after<'a>(
+    scene: &'a Scene<'_>,
+    earlier: &'a Option<Event>,
+    row: &Passage,
+    way: &'a Way,
+) -> Waited<'a>
     ensures { result ≡ leaves_after (setting_of scene.now) earlier.now row.now way.now }
 {
     if let Some(event) = earlier {
-        return *event;
+        return Waited::again(event);
     }
     match first_to_leave(scene, row) {
         Some(event) => event.settled(),
-        None => scene.waits(Cause::Other, &way.dispatch).settled(),
+        None => scene.waits(Cause::Other, way.dispatched()).settled(),
     }
 }
 
 // The event by which an instruction leaves the hardware, after the one before it in the cycle.
-fn leaving_event(scene: &Scene<'_>, earlier: &Option<Event>, row: &Passage, way: &Way) -> Event
-    ensures { result ≡ leaving_event (setting_of scene.now) earlier.now row.now way.now }
+fn leaving_event<'a>(
+    scene: &'a Scene<'_>,
+    earlier: &'a Leaving,
+    row: &Passage,
+    way: &'a Way,
+) -> Waited<'a>
+    ensures { result ≡ leaving_event (setting_of scene.now) earlier.now.last row.now way.now }
 {
     if is_just_before(scene.number, known_in(row)) {
-        scene.waits(Cause::Commit, &way.broadcast).settled()
+        scene.waits(Cause::Commit, way.broadcast()).settled()
     } else {
-        leaves_after(scene, earlier, row, way)
+        leaves_after(scene, &earlier.last, row, way)
     }
 }
 
@@ -94,69 +112,127 @@ fn is_retired_store(row: &Passage) -> bool
     matches!(row.ending, Ending::Retired { .. }) && is_store(&row.instruction)
 }
 
-impl Leaving {
-    const NONE: Leaving = Leaving {
-        first: None,
-        last: None,
-        store: None,
-    };
+/// Whether a wrong prediction is put right at its broadcast.
+pub(crate) fn mends_early(scene: &Scene<'_>) -> bool
+    ensures { result ≡ mends_early (setting_of scene.now).values.recovery }
+{
+    scene.values.recovery == Recovery::Early
+}
 
-    fn with_event(&self, event: Event, row: &Passage) -> Leaving
-        ensures { result ≡ with_event event row.now self.now }
-    {
-        let store = if is_retired_store(row) {
-            self.store.or(Some(event))
-        } else {
-            self.store
-        };
-        Leaving {
-            first: self.first.or(Some(event)),
-            last: Some(event),
-            store,
+fn is_branch_or_jump(instruction: &Option<Instr>) -> bool
+    ensures { result ≡ is_branch_or_jump instruction.now }
+{
+    matches!(
+        instruction,
+        Some(Instr::Jal { .. } | Instr::Jalr { .. } | Instr::Branch { .. })
+    )
+}
+
+/// Whether the prediction was another one.
+pub(crate) fn differ(predicted: Option<u32>, next: Option<u32>) -> bool
+    ensures { result ≡ differ predicted next }
+{
+    match (predicted, next) {
+        (Some(predicted), Some(next)) => next != predicted,
+        _ => false,
+    }
+}
+
+fn flushes_late(scene: &Scene<'_>, row: &Passage) -> bool
+    ensures { result ≡ flushes_late (setting_of scene.now) row.now }
+{
+    differ(row.predicted, row.ending.next())
+        && !(mends_early(scene) && is_branch_or_jump(&row.instruction))
+}
+
+// Why the fetch begins anew where an instruction leaves, if it does.
+fn cause_of_flush(scene: &Scene<'_>, row: &Passage) -> Option<Cause>
+    ensures { result ≡ cause_of_flush (setting_of scene.now) row.now row.now.ending }
+{
+    match row.ending {
+        Ending::InFlight | Ending::Squashed { .. } => None,
+        Ending::Trapped { .. } => Some(Cause::RefillTrap),
+        Ending::Retired { .. } => {
+            if is_serialising(&row.instruction) {
+                Some(Cause::RefillSerialising)
+            } else if flushes_late(scene, row) {
+                Some(Cause::RefillPrediction)
+            } else {
+                None
+            }
         }
+    }
+}
+
+impl Leaving {
+    // One more instruction leaves by an event.
+    fn add_event(&mut self, scene: &Scene<'_>, event: Event, row: &Passage)
+        ensures { self.new ≡ with_event (setting_of scene.now) event row.now self.old }
+    {
+        if is_retired_store(row) && self.store.is_none() {
+            self.store = Some(event);
+        }
+        if self.first.is_none() {
+            self.first = Some(event);
+        }
+        self.last = Some(event);
+        self.refill = cause_of_flush(scene, row);
+    }
+
+    // The event by which one more leaves.
+    fn next_event(&self, scene: &Scene<'_>, row: &Passage, way: &Way) -> Event
+        ensures { result ≡ leaving_event (setting_of scene.now) self.now.last row.now way.now }
+    {
+        leaving_event(scene, self, row, way).event()
     }
 
     // One more instruction, if it left.
-    fn with_row(&self, scene: &Scene<'_>, row: &Passage, way: &Way) -> Leaving
-        ensures { result ≡ with_row (setting_of scene.now) row.now way.now self.now }
+    fn add_row(&mut self, scene: &Scene<'_>, row: &Passage, way: &Way)
+        ensures { self.new ≡ with_row (setting_of scene.now) row.now way.now self.old }
     {
         if is_sought(Sought::Ended, row) {
-            self.with_event(leaving_event(scene, &self.last, row, way), row)
-        } else {
-            *self
+            let event = self.next_event(scene, row, way);
+            self.add_event(scene, event, row);
         }
     }
 
     #[tactic(auto, using(crate::proofs::Nothing::with_rows_nothing))]
-    fn with_rows(&self, scene: &Scene<'_>, rows: &[Passage], ways: &[Way]) -> Leaving
-        ensures { result ≡ with_rows (setting_of scene.now) rows.now ways.now self.now }
+    fn add_rows(&mut self, scene: &Scene<'_>, rows: &[Passage], ways: &[Way])
+        ensures { self.new ≡ with_rows (setting_of scene.now) rows.now ways.now self.old }
     {
         let [row, other_rows @ ..] = rows else {
-            return *self;
+            return;
         };
         let [way, other_ways @ ..] = ways else {
-            return *self;
+            return;
         };
-        let with_row = self.with_row(scene, row, way);
-        with_row.with_rows(scene, other_rows, other_ways)
+        self.add_row(scene, row, way);
+        self.add_rows(scene, other_rows, other_ways);
     }
 
     /// Those of a cycle.
-    pub(crate) fn of(scene: &Scene<'_>) -> Leaving
-        ensures { result ≡ leaving_of (setting_of scene.now) }
+    pub(crate) fn of(scene: &Scene<'_>, ways: &[Way]) -> Leaving
+        ensures { result ≡ leaving_of (setting_of scene.now) ways.now }
     {
-        Leaving::NONE.with_rows(scene, scene.rows, scene.ways)
+        let mut leaving = Leaving {
+            first: None,
+            last: None,
+            store: None,
+            refill: None,
+        };
+        leaving.add_rows(scene, scene.rows, ways);
+        leaving
     }
 }
 
 /// An interrupt, which came so long after the last step.
-pub(crate) fn interrupt_event(scene: &Scene<'_>) -> Event
+pub(crate) fn interrupt_event<'a>(scene: &'a Scene<'_>) -> Waited<'a>
     ensures { result ≡ interrupt_event (setting_of scene.now) }
 {
-    match scene.before.left {
-        Some(left) => scene.waits(Cause::UntilInterrupt, &left.event).settled(),
-        None => Event::first(scene.elapsed),
+    if let Some(left) = &scene.before.left {
+        return scene.waits(Cause::UntilInterrupt, &left.event).settled();
     }
+    scene.first()
 }
 
 /// Whether an interrupt was taken in a cycle.
@@ -170,7 +246,7 @@ pub(crate) fn is_interrupted(steps: &[Step]) -> bool
     }
 }
 
-// What left last after the cycle, where so many instructions left by this event.
+// What leaves in the cycle, where so many instructions leave, the last by this event.
 fn left_by(scene: &Scene<'_>, count: usize, event: Option<Event>) -> Option<Left>
     ensures { result ≡ left_by (setting_of scene.now) count event }
 {
@@ -180,38 +256,40 @@ fn left_by(scene: &Scene<'_>, count: usize, event: Option<Event>) -> Option<Left
             count,
             event,
         }),
-        None => scene.before.left,
+        None => None,
     }
 }
 
-/// What left last after the cycle.
-pub(crate) fn left_now(
-    scene: &Scene<'_>,
-    interrupted: bool,
-    leaving: &Leaving,
-    count: usize,
-) -> Option<Left>
-    ensures { result ≡ left_now (setting_of scene.now) interrupted leaving.now count }
+/// What leaves in the cycle.
+pub(crate) fn newly_left(scene: &Scene<'_>, interrupted: bool, leaving: &Leaving) -> Option<Left>
+    ensures { result ≡ newly_left (setting_of scene.now) interrupted leaving.now }
 {
     if interrupted {
-        left_by(scene, 0, Some(interrupt_event(scene)))
-    } else {
-        left_by(scene, count, leaving.last)
+        return left_by(scene, 0, Some(interrupt_event(scene).event()));
     }
+    if leaving.last.is_none() {
+        return None;
+    }
+    left_by(scene, count(Sought::Ended, scene.rows), leaving.last)
 }
 
 /// The oldest instruction begins to write lines back.
-pub(crate) fn lines_event(scene: &Scene<'_>, leaving: &Leaving, row: &Passage, way: &Way) -> Event
+pub(crate) fn lines_event<'a>(
+    scene: &'a Scene<'_>,
+    leaving: &'a Leaving,
+    row: &Passage,
+    way: &'a Way,
+) -> Waited<'a>
     ensures { result ≡ lines_event (setting_of scene.now) leaving.now row.now way.now }
 {
     if is_just_before(scene.number, row.dispatched) {
-        return scene.waits(Cause::Commit, &way.dispatch.settled());
+        return scene.waits_settled(Cause::Commit, way.dispatched());
     }
-    if let Some(event) = leaving.last {
-        return event;
+    if let Some(event) = &leaving.last {
+        return Waited::again(event);
     }
     match scene.after_stores() {
         Some(event) => event,
-        None => scene.waits(Cause::Other, &way.dispatch.settled()),
+        None => scene.waits_settled(Cause::Other, way.dispatched()),
     }
 }

@@ -6,6 +6,7 @@
 
 mod before;
 mod cause;
+mod ended;
 mod event;
 mod fetching;
 mod holding;
@@ -15,6 +16,7 @@ mod moving;
 mod path;
 mod running;
 mod scene;
+mod seeing;
 mod sought;
 mod text;
 mod way;

@@ -1,38 +1,44 @@
-ghost use Rattle.std.specs.Prelude.{◌≡◌, ◌+◌, ◌≤◌, ◌++◌, Some, length, vec_capacity};
-ghost use Rattle.rv_path.specs.Moving.{after_width, behind, dispatch_event, if_dispatched, issue_of, moved, moved_after, room_by_drain, room_by_issue, room_by_leaving, room_for};
+ghost use Rattle.std.specs.Prelude.{◌≡◌, slice_get};
+ghost use Rattle.rv_path.specs.Moving.{after_previous, after_width, all_moved, dispatch_event, dispatched_at, issue_of, moved_at, room_by_drain, room_by_issue, room_by_leaving, room_for};
 ghost use Rattle.rv_path.specs.Setting.{setting_of};
 
 use crate::cause::Cause;
-use crate::event::Event;
-use crate::issuing::{if_broadcast, if_issued, issue_event};
+use crate::event::Waited;
+use crate::issuing::{broadcast_at, issue_at};
 use crate::leaving::Leaving;
 use crate::scene::Scene;
-use crate::sought::{Sought, count, first_of, is_at, is_just_before, kind_of};
-use crate::way::{Journey, Way};
+use crate::sought::{Sought, count, first_of, is_at, is_just_before, kind_of, one_before};
+use crate::way::{Found, Way};
 use rv_isa::Kind;
 use rv_passage::Passage;
 
-fn room_by_leaving(scene: &Scene<'_>, leaving: &Leaving) -> Option<Event>
+fn room_by_leaving<'a>(scene: &Scene<'_>, leaving: &'a Leaving) -> Option<Waited<'a>>
     ensures { result ≡ room_by_leaving (setting_of scene.now) leaving.now }
 {
-    if count(Sought::Buffered(scene.number), scene.rows) == scene.values.rob as usize {
-        leaving.first
-    } else {
-        None
+    if count(Sought::Buffered(scene.number), scene.rows) != scene.values.rob as usize {
+        return None;
     }
-}
-
-fn issue_of(scene: &Scene<'_>, journey: &Option<Journey>) -> Option<Event>
-    ensures { result ≡ issue_of (setting_of scene.now) journey.now }
-{
-    match journey {
-        Some(journey) => Some(issue_event(scene, &journey.row, &journey.way)),
+    match &leaving.first {
+        Some(event) => Some(Waited::again(event)),
         None => None,
     }
 }
 
-fn room_by_issue(scene: &Scene<'_>, kind: Option<Kind>) -> Option<Event>
-    ensures { result ≡ room_by_issue (setting_of scene.now) kind }
+fn issue_of<'a>(found: Option<Found<'a>>) -> Option<Waited<'a>>
+    ensures { result ≡ issue_of found.entry }
+{
+    match found {
+        Some(found) => Some(Waited::again(found.way().issued())),
+        None => None,
+    }
+}
+
+fn room_by_issue<'a>(
+    scene: &'a Scene<'_>,
+    ways: &'a [Way],
+    kind: Option<Kind>,
+) -> Option<Waited<'a>>
+    ensures { result ≡ room_by_issue (setting_of scene.now) ways.now kind }
 {
     let Some(kind) = kind else {
         return None;
@@ -41,13 +47,10 @@ fn room_by_issue(scene: &Scene<'_>, kind: Option<Kind>) -> Option<Event>
     if stationed != scene.values.kinds.get(kind).stations as usize {
         return None;
     }
-    issue_of(
-        scene,
-        &first_of(Sought::IssuedIn(kind, scene.number), scene.rows, scene.ways),
-    )
+    issue_of(first_of(Sought::IssuedIn(kind, scene.number), scene.rows, ways))
 }
 
-fn room_by_drain(scene: &Scene<'_>) -> Option<Event>
+fn room_by_drain<'a>(scene: &'a Scene<'_>) -> Option<Waited<'a>>
     ensures { result ≡ room_by_drain (setting_of scene.now) }
 {
     if scene.before.facts.stores == scene.values.store_queue as usize {
@@ -57,133 +60,103 @@ fn room_by_drain(scene: &Scene<'_>) -> Option<Event>
     }
 }
 
-fn room_for(scene: &Scene<'_>, leaving: &Leaving, row: &Passage) -> Option<Event>
-    ensures { result ≡ room_for (setting_of scene.now) leaving.now row.now }
+fn room_for<'a>(
+    scene: &'a Scene<'_>,
+    ways: &'a [Way],
+    leaving: &'a Leaving,
+    row: &Passage,
+) -> Option<Waited<'a>>
+    ensures { result ≡ room_for (setting_of scene.now) ways.now leaving.now row.now }
 {
     if let Some(event) = room_by_leaving(scene, leaving) {
         return Some(event);
     }
-    if let Some(event) = room_by_issue(scene, kind_of(&row.instruction)) {
+    if let Some(event) = room_by_issue(scene, ways, kind_of(&row.instruction)) {
         return Some(event);
     }
     room_by_drain(scene)
 }
 
-fn after_width(scene: &Scene<'_>, last: &Journey) -> Option<Event>
+fn after_width<'a>(scene: &'a Scene<'_>, last: &Found<'a>) -> Option<Waited<'a>>
     ensures { result ≡ after_width (setting_of scene.now) last.now }
 {
     let sought = Sought::DispatchedBefore(scene.number);
-    if is_just_before(scene.number, last.row.dispatched)
+    if is_just_before(scene.number, last.row().dispatched)
         && count(sought, scene.rows) == scene.values.dispatch_width as usize
     {
-        Some(scene.waits(Cause::DispatchWidth, &last.way.dispatch))
+        Some(scene.waits(Cause::DispatchWidth, last.way().dispatched()))
     } else {
         None
     }
 }
 
-fn behind(scene: &Scene<'_>, last: &Option<Journey>) -> Option<Event>
-    ensures { result ≡ behind (setting_of scene.now) last.now }
+fn after_previous<'a>(scene: &'a Scene<'_>, last: Option<Found<'a>>) -> Option<Waited<'a>>
+    ensures { result ≡ after_previous (setting_of scene.now) last.entry }
 {
     match last {
-        Some(last) if is_at(scene.number, last.row.dispatched) => Some(last.way.dispatch),
-        Some(last) => after_width(scene, last),
+        Some(last) if is_at(scene.number, last.row().dispatched) => {
+            Some(Waited::again(last.way().dispatched()))
+        }
+        Some(last) => after_width(scene, &last),
         None => None,
     }
 }
 
 // The event by which a word is dispatched, after the one before it as that stands by then.
-fn dispatch_event(
-    scene: &Scene<'_>,
-    leaving: &Leaving,
-    last: &Option<Journey>,
+fn dispatch_event<'a>(
+    scene: &'a Scene<'_>,
+    ways: &'a [Way],
+    leaving: &'a Leaving,
     row: &Passage,
-    way: &Way,
-) -> Event
-    ensures { result ≡ dispatch_event (setting_of scene.now) leaving.now last.now row.now way.now }
+    place: usize,
+    way: &'a Way,
+) -> Waited<'a>
+    ensures { result ≡ dispatch_event (setting_of scene.now) ways.now leaving.now row.now place way.now }
 {
     if u128::from(row.fetched) + 1 == u128::from(scene.number) {
         return scene.waits(Cause::FrontEnd, &way.fetch);
     }
-    if let Some(event) = behind(scene, last) {
+    if let Some(event) = after_previous(scene, one_before(place, scene.rows, ways)) {
         return event;
     }
-    match room_for(scene, leaving, row) {
+    match room_for(scene, ways, leaving, row) {
         Some(event) => event,
         None => scene.waits(Cause::Other, &way.fetch),
     }
 }
 
-fn if_dispatched(
-    scene: &Scene<'_>,
-    leaving: &Leaving,
-    last: &Option<Journey>,
-    row: &Passage,
-    way: &Way,
-) -> Way
-    ensures { result ≡ if_dispatched (setting_of scene.now) leaving.now last.now row.now way.now }
+// A word is dispatched, where the events of all stand so.
+fn dispatch_at(scene: &Scene<'_>, leaving: &Leaving, row: &Passage, place: usize, ways: &mut [Way])
+    ensures { ways.new ≡ dispatched_at (setting_of scene.now) leaving.now row.now place (slice_get ways.old place) ways.old }
 {
+    let Some(way) = ways.get(place) else {
+        return;
+    };
+    let event = dispatch_event(scene, ways, leaving, row, place, way).event();
+    ways[place].dispatch = Some(event);
+}
+
+// What comes of the instruction at a place in the cycle, where the events of all stand so.
+fn move_at(scene: &Scene<'_>, leaving: &Leaving, place: usize, ways: &mut [Way])
+    ensures { ways.new ≡ moved_at (setting_of scene.now) leaving.now place ways.old }
+{
+    let Some(row) = scene.rows.get(place) else {
+        return;
+    };
     if is_at(scene.number, row.dispatched) {
-        way.with_dispatch(dispatch_event(scene, leaving, last, row, way))
-    } else {
-        *way
+        dispatch_at(scene, leaving, row, place, ways);
+    } else if is_at(scene.number, row.issued()) {
+        issue_at(scene, row, place, ways);
+    } else if is_at(scene.number, row.broadcast) {
+        broadcast_at(scene, row, place, ways);
     }
 }
 
-// The events of an instruction after the cycle.
-#[tactic(auto, unfolding(crate::specs::Moving::moved))]
-fn moved(
-    scene: &Scene<'_>,
-    leaving: &Leaving,
-    last: &Option<Journey>,
-    row: &Passage,
-    way: &Way,
-) -> Way
-    ensures { result ≡ moved (setting_of scene.now) leaving.now last.now row.now way.now }
+/// Adds the events of the cycle to those of the instructions that were in flight before it.
+pub(crate) fn move_all(scene: &Scene<'_>, leaving: &Leaving, ways: &mut [Way])
+    ensures { ways.new ≡ all_moved (setting_of scene.now) leaving.now ways.old }
 {
-    let issued = if_issued(scene, row, way);
-    let broadcast = if_broadcast(scene, row, &issued);
-    if_dispatched(scene, leaving, last, row, &broadcast)
-}
-
-fn journey_of(row: &Passage, way: &Way) -> Option<Journey>
-    ensures { result ≡ Some (record { row = row.now; way = way.now }) }
-{
-    Some(Journey {
-        row: *row,
-        way: *way,
-    })
-}
-
-/// Appends the events after the cycle of instructions that come after another one.
-#[tactic(auto, using(crate::proofs::Nothing::moved_nothing))]
-pub(crate) fn push_moved(
-    scene: &Scene<'_>,
-    leaving: &Leaving,
-    last: &Option<Journey>,
-    rows: &[Passage],
-    ways: &[Way],
-    out: &mut Vec<Way>,
-)
-    requires room { length out.old.items + length rows.now ≤ vec_capacity out.old }
-    ensures items { out.new.items ≡ out.old.items ++ moved_after (setting_of scene.now) leaving.now last.now rows.now ways.now }
-    ensures few { length out.new.items ≤ length out.old.items + length rows.now }
-    ensures capacity { vec_capacity out.old ≤ vec_capacity out.new }
-{
-    let [row, other_rows @ ..] = rows else {
-        return;
-    };
-    let [way, other_ways @ ..] = ways else {
-        return;
-    };
-    let way = moved(scene, leaving, last, row, way);
-    out.push(way).unwrap();
-    push_moved(
-        scene,
-        leaving,
-        &journey_of(row, &way),
-        other_rows,
-        other_ways,
-        out,
-    );
+    for place in 0..ways.len() {
+        move_at(scene, leaving, place, ways);
+    }
 }

@@ -1,28 +1,22 @@
-ghost use Rattle.std.specs.Prelude.{◌≡◌, ◌+◌, ◌-◌, ◌<◌, ◌^◌, ◌≤◌, ◌++◌, [], length, replicate, vec_capacity, IfOk, filter, sum};
+ghost use Rattle.std.specs.Prelude.{◌≡◌, ◌+◌, ◌-◌, ◌<◌, ◌^◌, ◌≤◌, ◌++◌, [], drop, filter, length, replicate, vec_capacity, IfOk, IfSome, sum};
 ghost use Rattle.rv_path.specs.Event.{nothing_yet};
-ghost use Rattle.rv_path.specs.Fetching.{fetch_event};
 ghost use Rattle.rv_path.specs.Holding.{goes_beyond, new_holds};
-ghost use Rattle.rv_path.specs.Leaving.{is_interrupted, leaving_of};
-ghost use Rattle.rv_path.specs.Moving.{all_moved};
-ghost use Rattle.rv_path.specs.Path.{before_next, end_of, still_in_flight, way_if};
-ghost use Rattle.rv_path.specs.Setting.{setting_of};
+ghost use Rattle.rv_path.specs.Path.{AreForgotten, end_of, still_in_flight};
 ghost use Rattle.rv_path.specs.Way.{way_from};
 
 use crate::before::{Before, Facts, UnitHold};
 use crate::cause::{CAUSES, Cause};
+use crate::ended::{count_ended, push_fetched, push_in_flight};
 use crate::event::Event;
-use crate::fetching::fetch_event;
-use crate::holding::{drain_now, drop_ended, port_now, push_holds};
-use crate::leaving::{Leaving, is_interrupted, left_now};
-use crate::moving::push_moved;
-use crate::scene::{Scene, last_left};
-use crate::sought::{Sought, count};
+use crate::holding::{drop_ended, push_holds};
+use crate::scene::{Scene, after_last_left};
+use crate::seeing::{Seen, see_kept};
 use crate::way::Way;
 use rv_core::Pipeline;
-use rv_hardware::Step;
 use rv_passage::Passage;
 use rv_view::ShownCycle;
 use std::alloc::{AllocError, Global};
+use std::mem::swap;
 
 /// The most instructions of a cycle: those that were in flight before it, and those that were fetched in it.
 const MOST_IN_CYCLE: usize = 576;
@@ -30,94 +24,19 @@ const MOST_IN_CYCLE: usize = 576;
 /// What is known of the path that leads to each event of a run, between two cycles.
 #[derive(Drop)]
 pub(crate) struct Path {
-    // The events of the instructions in flight, oldest first, and room for those of the next cycle.
+    // The events of the instructions in flight, oldest first. Those of the first `dropped` are forgotten: they lie there until their
+    // room is wanted, so that the others stay.
     ways: Vec<Way>,
+    dropped: usize,
+    // Room for the others then.
     next: Vec<Way>,
     holds: Vec<UnitHold>,
     before: Before,
-}
-
-// What is known after a cycle beside the holds of units, and the event by which words were fetched in it.
-#[derive(Clone, Copy)]
-struct Seen {
-    before: Before,
-    fetch: Event,
-}
-
-// Appends the events of the instructions that were in flight before a cycle as they stand after it, and answers all else that is
-// known then.
-fn see(scene: &Scene<'_>, steps: &[Step], pipeline: &Pipeline, next: &mut Vec<Way>) -> Seen
-    requires empty { next.old.items ≡ [] }
-    requires room { length scene.now.rows.now ≤ vec_capacity next.old }
-    ensures few { length next.new.items ≤ length scene.now.rows.now }
-    ensures moved { next.new.items ≡ all_moved (setting_of scene.now) (leaving_of (setting_of scene.now)) }
-    ensures capacity { vec_capacity next.old ≤ vec_capacity next.new }
-    ensures before { result.before ≡ before_next (setting_of scene.now) steps.now pipeline.now (leaving_of (setting_of scene.now)) next.new.items }
-    ensures fetch { result.fetch ≡ fetch_event (setting_of scene.now) (is_interrupted steps.now) (leaving_of (setting_of scene.now)) next.new.items pipeline.now }
-{
-    let leaving = Leaving::of(scene);
-    push_moved(scene, &leaving, &None, scene.rows, scene.ways, next);
-    let ways = next.as_slice();
-    let interrupted = is_interrupted(steps);
-    let facts = Facts::of(pipeline);
-    let before = Before {
-        left: left_now(
-            scene,
-            interrupted,
-            &leaving,
-            count(Sought::Ended, scene.rows),
-        ),
-        port: port_now(scene, &leaving, ways, &facts),
-        drain: drain_now(scene, &leaving, &facts),
-        facts,
-    };
-    let fetch = fetch_event(scene, interrupted, &leaving, ways, pipeline);
-    Seen { before, fetch }
-}
-
-// Appends so many that begin with one event.
-fn push_fetched(count: usize, event: Event, ways: &mut Vec<Way>)
-    requires room { length ways.old.items + count ≤ vec_capacity ways.old }
-    ensures items { ways.new.items ≡ ways.old.items ++ replicate count (way_from event) }
-    ensures capacity { vec_capacity ways.old ≤ vec_capacity ways.new }
-{
-    if count > 0 {
-        ways.push(Way::from(event)).unwrap();
-        push_fetched(count - 1, event, ways);
-    }
-}
-
-// Appends the events of an instruction, where something is so.
-fn push_if(is: bool, way: &Way, out: &mut Vec<Way>)
-    requires room { length out.old.items < vec_capacity out.old }
-    ensures items { out.new.items ≡ out.old.items ++ way_if is way.now }
-    ensures few { length out.new.items ≤ length out.old.items + 1 }
-    ensures capacity { vec_capacity out.old ≤ vec_capacity out.new }
-{
-    if is {
-        out.push(*way).unwrap();
-    }
-}
-
-// Appends the events of the instructions that are in flight.
-#[tactic(auto, using(crate::proofs::Nothing::in_flight_nothing))]
-fn push_in_flight(rows: &[Passage], ways: &[Way], out: &mut Vec<Way>)
-    requires room { length out.old.items + length rows.now ≤ vec_capacity out.old }
-    ensures items { out.new.items ≡ out.old.items ++ still_in_flight rows.now ways.now }
-    ensures capacity { vec_capacity out.old ≤ vec_capacity out.new }
-{
-    let [row, other_rows @ ..] = rows else {
-        return;
-    };
-    let [way, other_ways @ ..] = ways else {
-        return;
-    };
-    push_if(row.is_in_flight(), way, out);
-    push_in_flight(other_rows, other_ways, out);
+    ghost within: { dropped ≤ length ways.items },
 }
 
 impl Path {
-    ghost use Rattle.rv_path.specs.Keeping.{HasRoom, known_of_path};
+    ghost use Rattle.rv_path.specs.Keeping.{HasRoom, before_with, known_of_path, known_seen, ways_by};
     ghost use Rattle.rv_path.specs.Path.{known_at, known_in, setting_in};
 
     /// That of a pipeline in which so many instructions are in flight, before the first cycle. The only error is out of memory.
@@ -127,16 +46,17 @@ impl Path {
         in_flight: usize,
     ) -> Result<Path, AllocError>
         requires few { in_flight ≤ 576 }
-        ensures ways { IfOk result (λ path. path.ways.items ≡ replicate in_flight (way_from nothing_yet)) }
+        ensures ways { IfOk result (λ path. drop path.dropped path.ways.items ≡ replicate in_flight (way_from nothing_yet)) }
         ensures holds { IfOk result (λ path. path.holds.items ≡ []) }
         ensures before { IfOk result (λ path. path.before ≡ (known_at pipeline.now).before) }
     {
-        let mut ways = Vec::with_capacity(alloc, MOST_IN_CYCLE)?;
-        push_fetched(in_flight, Event::BEGIN, &mut ways);
-        let next = Vec::with_capacity(alloc, MOST_IN_CYCLE)?;
+        let mut ways = Vec::with_capacity(alloc, 2 * MOST_IN_CYCLE)?;
+        push_fetched(in_flight, &Some(Event::BEGIN), &mut ways);
+        let next = Vec::with_capacity(alloc, 2 * MOST_IN_CYCLE)?;
         let holds = Vec::with_capacity(alloc, MOST_IN_CYCLE)?;
         Ok(Path {
             ways,
+            dropped: 0,
             next,
             holds,
             before: Before {
@@ -163,46 +83,121 @@ impl Path {
         requires room { HasRoom self.old }
         requires few { length cycle.now.rows.now ≤ 576 }
         requires cycles { cycle.now.number < 2 ^ 40 }
-        ensures known { known_of_path self.new ≡ known_in (setting_in cycle.now.number (cycle.now.progress.now.cycles - 1) cycle.now.rows.now cycle.now.pipeline.now (known_of_path self.old)) cycle.now.steps.now cycle.now.pipeline.now }
+        ensures known { known_of_path self.new ≡ known_in (setting_in cycle.now.number (cycle.now.progress.now.cycles - 1) cycle.now.rows.now cycle.now.pipeline.now (known_of_path self.old)) (known_of_path self.old).ways cycle.now.steps.now cycle.now.pipeline.now }
     {
-        self.next.clear();
         let scene = Scene {
             number: cycle.number,
             elapsed: cycle.progress.cycles.saturating_sub(1),
             values: cycle.pipeline.values(),
             rows: cycle.rows,
-            ways: self.ways.as_slice(),
             holds: self.holds.as_slice(),
             before: &self.before,
         };
-        let seen = see(&scene, cycle.steps, cycle.pipeline, &mut self.next);
-        self.take(cycle, seen);
+        let seen = see_kept(
+            &scene,
+            cycle.steps,
+            cycle.pipeline,
+            self.dropped,
+            self.ways.as_mut_slice(),
+        );
+        self.take(cycle, &seen);
     }
 
     // What was seen of a cycle is known after it.
-    fn take(&mut self, cycle: &ShownCycle<'_>, seen: Seen)
+    fn take(&mut self, cycle: &ShownCycle<'_>, seen: &Seen)
         requires room { HasRoom self.old }
         requires few { length cycle.now.rows.now ≤ 576 }
-        requires moved { length self.old.next.items ≤ length cycle.now.rows.now }
         requires cycles { cycle.now.number < 2 ^ 40 }
-        ensures ways { self.new.ways.items ≡ still_in_flight cycle.now.rows.now (self.old.next.items ++ replicate (length cycle.now.rows.now - length self.old.next.items) (way_from seen.fetch)) }
-        ensures holds { self.new.holds.items ≡ filter (goes_beyond cycle.now.number) self.old.holds.items ++ new_holds cycle.now.number cycle.now.pipeline.now.values cycle.now.rows.now self.old.next.items }
-        ensures before { self.new.before ≡ seen.before }
+        ensures { known_of_path self.new ≡ known_seen cycle.now.number cycle.now.pipeline.now.values cycle.now.rows.now seen.now (known_of_path self.old) }
     {
-        let number = cycle.number;
-        drop_ended(number, &mut self.holds);
+        self.take_holds(cycle);
+        self.take_fetched(cycle.rows, seen);
+        self.take_before(seen);
+        self.drop_ended(cycle.rows);
+    }
+
+    // Who holds units after a cycle.
+    fn take_holds(&mut self, cycle: &ShownCycle<'_>)
+        requires room { length self.old.holds.items + length cycle.now.rows.now ≤ vec_capacity self.old.holds }
+        requires cycles { cycle.now.number < 2 ^ 40 }
+        ensures holds { self.new.holds.items ≡ filter (goes_beyond cycle.now.number) self.old.holds.items ++ new_holds cycle.now.number cycle.now.pipeline.now.values cycle.now.rows.now (drop self.old.dropped self.old.ways.items) }
+        ensures others { (self.new.ways ≡ self.old.ways) × (self.new.dropped ≡ self.old.dropped) × (self.new.next ≡ self.old.next) × (self.new.before ≡ self.old.before) }
+    {
+        drop_ended(cycle.number, &mut self.holds);
         push_holds(
-            number,
+            cycle.number,
             cycle.pipeline.values(),
             cycle.rows,
-            self.next.as_slice(),
+            &self.ways.as_slice()[self.dropped..],
             &mut self.holds,
         );
-        let fetched = cycle.rows.len().saturating_sub(self.next.len());
-        push_fetched(fetched, seen.fetch, &mut self.next);
-        self.ways.clear();
-        push_in_flight(cycle.rows, self.next.as_slice(), &mut self.ways);
-        self.before = seen.before;
+    }
+
+    // The words that were fetched in a cycle are in flight.
+    fn take_fetched(&mut self, rows: &[Passage], seen: &Seen)
+        requires room { length self.old.ways.items + length rows.now ≤ vec_capacity self.old.ways }
+        ensures ways { drop self.new.dropped self.new.ways.items ≡ drop self.old.dropped self.old.ways.items ++ ways_by seen.now.fetch (length rows.now - length (drop self.old.dropped self.old.ways.items)) }
+        ensures others { (self.new.holds ≡ self.old.holds) × (self.new.next ≡ self.old.next) × (self.new.before ≡ self.old.before) }
+    {
+        let fetched = rows.len().saturating_sub(self.ways.len() - self.dropped);
+        push_fetched(fetched, &seen.fetch, &mut self.ways);
+    }
+
+    // All else that is known after a cycle.
+    fn take_before(&mut self, seen: &Seen)
+        ensures before { self.new.before ≡ before_with seen.now self.old.before }
+        ensures others { (self.new.ways ≡ self.old.ways) × (self.new.dropped ≡ self.old.dropped) × (self.new.next ≡ self.old.next) × (self.new.holds ≡ self.old.holds) }
+    {
+        if seen.left.is_some() {
+            self.before.left = seen.left;
+        }
+        if seen.port.is_some() {
+            self.before.port = seen.port;
+        }
+        if seen.drain.is_some() {
+            self.before.drain = seen.drain;
+        }
+        self.before.facts = seen.facts;
+    }
+
+    // How many at the front are forgotten with those that left the hardware, if the others may stay where they are.
+    fn forgotten(&self, rows: &[Passage]) -> Option<usize>
+        ensures { IfSome result (AreForgotten rows.now (drop self.now.dropped self.now.ways.items)) }
+    {
+        if self.ways.len() - self.dropped != rows.len() {
+            return None;
+        }
+        if self.ways.capacity() - self.ways.len() < MOST_IN_CYCLE {
+            return None;
+        }
+        match count_ended(rows) {
+            Some(count) => Some(count),
+            None => None,
+        }
+    }
+
+    // Forgets the events of the instructions that left the hardware.
+    fn drop_ended(&mut self, rows: &[Passage])
+        requires room { length rows.now ≤ vec_capacity self.old.next }
+        ensures ways { drop self.new.dropped self.new.ways.items ≡ still_in_flight rows.now (drop self.old.dropped self.old.ways.items) }
+        ensures others { (self.new.holds ≡ self.old.holds) × (self.new.before ≡ self.old.before) }
+    {
+        match self.forgotten(rows) {
+            Some(count) => self.dropped += count,
+            None => self.move_to_next(rows),
+        }
+    }
+
+    // Moves the events of those that are in flight to where there is room.
+    fn move_to_next(&mut self, rows: &[Passage])
+        requires room { length rows.now ≤ vec_capacity self.old.next }
+        ensures ways { drop self.new.dropped self.new.ways.items ≡ still_in_flight rows.now (drop self.old.dropped self.old.ways.items) }
+        ensures others { (self.new.holds ≡ self.old.holds) × (self.new.before ≡ self.old.before) }
+    {
+        self.next.clear();
+        push_in_flight(rows, &self.ways.as_slice()[self.dropped..], &mut self.next);
+        swap(&mut self.ways, &mut self.next);
+        self.dropped = 0;
     }
 
     /// How many of the cycles of a run each cause has on the path, after the last of so many.
@@ -210,8 +205,8 @@ impl Path {
         ensures account { result ≡ (end_of cycles self.now.before).account }
         ensures adds_up { sum result ≡ (end_of cycles self.now.before).cycle }
     {
-        last_left(&self.before.left)
-            .waited(cycles, Cause::AfterLast)
+        after_last_left(&self.before.left, cycles, Cause::AfterLast)
+            .event()
             .account()
     }
 }

@@ -1,10 +1,10 @@
 ghost use Rattle.std.specs.Prelude.{◌≡◌, count_by};
 ghost use Rattle.rv_isa.specs.Instruction.{is_fence_i, is_load, is_serialising, is_store, kind_of_word};
 ghost use Rattle.rv_passage.specs.Result.{ready_in};
-ghost use Rattle.rv_path.specs.Lookup.{first_of, last_of};
+ghost use Rattle.rv_path.specs.Lookup.{first_of, last_of, one_before};
 ghost use Rattle.rv_path.specs.Sought.{is_at, is_before, is_end, is_just_before, is_sought, uses};
 
-use crate::way::{Journey, Way};
+use crate::way::{Found, Way};
 use rv_isa::{Instr, Kind, kind};
 use rv_passage::{Ending, Passage};
 
@@ -169,7 +169,11 @@ pub(crate) fn count(sought: Sought, rows: &[Passage]) -> usize
 
 /// The first instruction that is looked for, of those with their events.
 #[tactic(auto, using(crate::proofs::Nothing::first_of_nothing))]
-pub(crate) fn first_of(sought: Sought, rows: &[Passage], ways: &[Way]) -> Option<Journey>
+pub(crate) fn first_of<'a>(
+    sought: Sought,
+    rows: &'a [Passage],
+    ways: &'a [Way],
+) -> Option<Found<'a>>
     ensures { result ≡ first_of sought rows.now ways.now }
 {
     let [row, other_rows @ ..] = rows else {
@@ -179,18 +183,32 @@ pub(crate) fn first_of(sought: Sought, rows: &[Passage], ways: &[Way]) -> Option
         return None;
     };
     if is_sought(sought, row) {
-        Some(Journey {
-            row: *row,
-            way: *way,
-        })
+        Some(Found::new(row, way))
     } else {
         first_of(sought, other_rows, other_ways)
     }
 }
 
-/// The last one.
+/// The one before a place.
+pub(crate) fn one_before<'a>(
+    place: usize,
+    rows: &'a [Passage],
+    ways: &'a [Way],
+) -> Option<Found<'a>>
+    ensures { result ≡ one_before place rows.now ways.now }
+{
+    if place == 0 {
+        return None;
+    }
+    match (rows.get(place - 1), ways.get(place - 1)) {
+        (Some(row), Some(way)) => Some(Found::new(row, way)),
+        _ => None,
+    }
+}
+
+/// The last one that is looked for.
 #[tactic(auto, using(crate::proofs::Nothing::last_of_nothing))]
-pub(crate) fn last_of(sought: Sought, rows: &[Passage], ways: &[Way]) -> Option<Journey>
+pub(crate) fn last_of<'a>(sought: Sought, rows: &'a [Passage], ways: &'a [Way]) -> Option<Found<'a>>
     ensures { result ≡ last_of sought rows.now ways.now }
 {
     let [row, other_rows @ ..] = rows else {
@@ -200,11 +218,8 @@ pub(crate) fn last_of(sought: Sought, rows: &[Passage], ways: &[Way]) -> Option<
         return None;
     };
     match last_of(sought, other_rows, other_ways) {
-        Some(journey) => Some(journey),
-        None if is_sought(sought, row) => Some(Journey {
-            row: *row,
-            way: *way,
-        }),
+        Some(found) => Some(found),
+        None if is_sought(sought, row) => Some(Found::new(row, way)),
         None => None,
     }
 }

@@ -1,26 +1,20 @@
 use crate::event::Event;
 use rv_passage::Passage;
+use std::marker::Model;
 
 /// The events of an instruction so far. One that did not come yet stands for the latest before it, and so the broadcast of an
 /// instruction that uses no unit is its dispatch.
 #[derive(Clone, Copy)]
 pub(crate) struct Way {
     pub(crate) fetch: Event,
-    pub(crate) dispatch: Event,
-    pub(crate) issue: Event,
-    pub(crate) broadcast: Event,
-}
-
-/// An instruction with its events.
-#[derive(Clone, Copy)]
-pub(crate) struct Journey {
-    pub(crate) row: Passage,
-    pub(crate) way: Way,
+    pub(crate) dispatch: Option<Event>,
+    pub(crate) issue: Option<Event>,
+    pub(crate) broadcast: Option<Event>,
 }
 
 impl Way {
     ghost use Rattle.std.specs.Prelude.{◌≡◌};
-    ghost use Rattle.rv_path.specs.Way.{way_from, with_broadcast, with_dispatch, with_issue};
+    ghost use Rattle.rv_path.specs.Way.{broadcast_by, dispatched_by, issued_by, way_from};
 
     /// That of an instruction that was fetched by this event.
     pub(crate) fn from(fetch: Event) -> Way
@@ -28,43 +22,76 @@ impl Way {
     {
         Way {
             fetch,
-            dispatch: fetch,
-            issue: fetch,
-            broadcast: fetch,
+            dispatch: None,
+            issue: None,
+            broadcast: None,
         }
     }
 
-    /// It was dispatched.
-    pub(crate) fn with_dispatch(&self, event: Event) -> Way
-        ensures { result ≡ with_dispatch event self.now }
+    /// The event by which it was dispatched, or the latest before that.
+    pub(crate) fn dispatched(&self) -> &Event
+        ensures { result.now ≡ dispatched_by self.now }
     {
-        Way {
-            fetch: self.fetch,
-            dispatch: event,
-            issue: event,
-            broadcast: event,
+        match &self.dispatch {
+            Some(event) => event,
+            None => &self.fetch,
         }
     }
 
-    /// It was issued.
-    pub(crate) fn with_issue(&self, event: Event) -> Way
-        ensures { result ≡ with_issue event self.now }
+    /// By which it was issued, or the latest before that.
+    pub(crate) fn issued(&self) -> &Event
+        ensures { result.now ≡ issued_by self.now }
     {
-        Way {
-            fetch: self.fetch,
-            dispatch: self.dispatch,
-            issue: event,
-            broadcast: event,
+        match &self.issue {
+            Some(event) => event,
+            None => self.dispatched(),
         }
     }
 
-    /// Its result was broadcast.
-    pub(crate) fn with_broadcast(&self, event: Event) -> Way
-        ensures { result ≡ with_broadcast event self.now }
+    /// By which its result was broadcast, or the latest before that.
+    pub(crate) fn broadcast(&self) -> &Event
+        ensures { result.now ≡ broadcast_by self.now }
     {
-        Way {
-            broadcast: event,
-            ..*self
+        match &self.broadcast {
+            Some(event) => event,
+            None => self.issued(),
         }
+    }
+}
+
+/// An instruction that is found, with its events.
+#[derive(Drop)]
+pub(crate) struct Found<'a> {
+    row: &'a Passage,
+    way: &'a Way,
+}
+
+impl<'a> Model for Found<'a> {
+    ghost use Rattle.rv_path.specs.Lookup.{Journey};
+
+    ghost Value = { Journey };
+
+    ghost view = { λ found. record { row = found.row.now; way = found.way.now } };
+}
+
+impl<'a> Found<'a> {
+    ghost use Rattle.std.specs.Prelude.{◌≡◌};
+
+    pub(crate) fn new(row: &'a Passage, way: &'a Way) -> Found<'a>
+        ensures { result ≡ record { row = row.now; way = way.now } }
+    {
+        Found { row, way }
+    }
+
+    pub(crate) fn row(&self) -> &'a Passage
+        ensures { result.now ≡ self.now.row }
+    {
+        self.row
+    }
+
+    pub(crate) fn way(&self) -> &'a Way
+        ensures { result.now ≡ self.now.way }
+    {
+        self.way
     }
 }

@@ -1,8 +1,21 @@
-use Rattle.std.proofs.Common.{◌∙◌, ◌++◌}
-use Rattle.rv_path.specs.Holding.{new_holds}
+use Rattle.std.proofs.Common.{◌∙◌, ◌++◌, ◌-◌, ap, drop, length}
+use Rattle.rv_path.specs.Keeping.{before_with, ways_by}
+use Rattle.rv_path.specs.Path.{still_in_flight}
 use Rattle.rv_path.proofs.path.Path.take.Goals as goal
 
-pub returns-clause-holds : goal.returns-clause-holds
-returns-clause-holds c =
-    c.push_holds.ensures.items
-    ∙ (λ i. c.drop_ended.ensures.items i ++ new_holds c.args.cycle.now.number (c.values.ensures i) c.args.cycle.now.rows.now (c.as_slice.ensures.value i))
+pub returns : goal.returns
+returns c =
+    let rows = c.args.cycle.now.rows.now in
+    let seen = c.args.seen.now in
+    let held = c.take_holds.ensures in
+    let fetched = c.take_fetched.ensures in
+    let put = c.take_before.ensures in
+    let ended = c.drop_ended.ensures in
+    let ways =
+    ended.ways
+    ∙ (λ i. still_in_flight rows (drop (put.others.1 i) (put.others.0 i).items))
+    ∙ ap (still_in_flight rows) fetched.ways
+    ∙ (λ i. still_in_flight rows (drop (held.others.1 i) (held.others.0 i).items ++ ways_by seen.fetch (length rows - length (drop (held.others.1 i) (held.others.0 i).items)))) in
+    let holds = (λ i. (ended.others.0 i).items) ∙ (λ i. (put.others.3 i).items) ∙ (λ i. (fetched.others.0 i).items) ∙ held.holds in
+    let before = ended.others.1 ∙ put.before ∙ (λ i. before_with seen (fetched.others.2 i)) ∙ (λ i. before_with seen (held.others.3 i)) in
+    λ i. record { ways = ways i; holds = holds i; before = before i }

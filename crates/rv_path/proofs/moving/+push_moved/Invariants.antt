@@ -1,5 +1,0 @@
-use Rattle.std.proofs.Common.{length}
-use Rattle.rv_path.proofs.moving.+push_moved.Given as goal
-
-abbrev pub decreases-push_moved : goal.decreases-push_moved
-decreases-push_moved l = length l.rows.now
