@@ -29,7 +29,7 @@ use Rattle.rv_sentences.specs.Kinds.{kept_after, kept_of}
 use Rattle.rv_sentences.specs.LastStore.{last_store_to, stores_in, stores_of}
 use Rattle.rv_sentences.specs.Load.{retired_load_cost}
 use Rattle.rv_explain.specs.Tale.{HasRoom, tale_after, tale_of}
-use Rattle.rv_sentences.specs.Places.{all_places, places_in, places_of}
+use Rattle.rv_counts.specs.Places.{all_places, places_in, places_of}
 use Rattle.rv_sentences.specs.Unit.{arrivals_after, arrivals_by, none_came, unit_wait_in, unit_waits}
 use Rattle.rv_sentences.specs.Wait.{CanGrow, both_waits, bus_wait, bus_waits}
 use Rattle.rv_sentences.specs.WordCount.{count_at}
@@ -44,7 +44,7 @@ use Rattle.rv_sentences.proofs.LastStores.{stores_of-push, with_stores_of}
 use Rattle.rv_sentences.proofs.InterruptsGrow.{by_line-push, lines_counted}
 use Rattle.rv_sentences.proofs.KindsGrow.{kept-push, kept_counted}
 use Rattle.rv_sentences.proofs.OutcomesGrow.{can_take, outcomes-left}
-use Rattle.rv_sentences.proofs.PlacesGrow.{places_of-push}
+use Rattle.rv_counts.proofs.PlacesGrow.{places_of-push}
 use Rattle.rv_sentences.proofs.Works.{branch_words-left, loads-left, mispredicted_words-left, work-left}
 
 kept_after-push : (es : List Exception) (o : Option Exception) → kept_after o (kept_of es) ≡ kept_of (es ++ cons_option o [])

@@ -26,14 +26,14 @@ use Rattle.rv_counts.proofs.Left.{left-push, some_left-push}
 use Rattle.rv_sentences.specs.Drain.{begun, drain_in}
 use Rattle.rv_explain.specs.Explanation.{IsTold}
 use Rattle.rv_explain.specs.Tale.{HasRoom, IsTelling, tale_after, tale_of}
-use Rattle.rv_sentences.specs.Places.{cycle_places, cycle_total, dispatched_in, places_in}
+use Rattle.rv_counts.specs.Places.{cycle_total, places_by, places_in}
 use Rattle.rv_sentences.specs.Wait.{CanGrow}
-use Rattle.rv_sentences.specs.declared.places.CyclePlaces.{CyclePlaces}
+use Rattle.rv_counts.specs.declared.run_places.CyclePlaces.{CyclePlaces}
 use Rattle.rv_explain.specs.declared.tale.Tale.{Tale}
 use Rattle.rv_sentences.proofs.DrainBegins.{begun_in_cycle}
-use Rattle.rv_sentences.proofs.LossReasons.{lost_for}
-use Rattle.rv_sentences.proofs.PlacesGrow.{add_up-push, add_up_nothing, places_counted}
-use Rattle.rv_sentences.proofs.PlacesOfCycle.{ArePlaced, placed}
+use Rattle.rv_counts.proofs.LossReasons.{lost_for}
+use Rattle.rv_counts.proofs.PlacesGrow.{add_up-push, add_up_nothing, few_seen, places_counted, places_seen}
+use Rattle.rv_counts.proofs.PlacesOfCycle.{ArePlaced, placed}
 use Rattle.rv_explain.proofs.Tales.{has_room, tale-push}
 use Rattle.rv_view.specs.Viewing.{IsNextCycle}
 use Rattle.rv_view.specs.declared.shown_cycle.ShownCycle.{ShownCycle}
@@ -71,17 +71,14 @@ module _ {seen : Watched} {cycle : ShownCycle} (next : IsNextCycle seen cycle) {
   placed_now = placed next.shown.reached (any_cycle next.shown.cycled.cycle)
 
   abbrev pub places_now : CyclePlaces
-  places_now = cycle_places cycle.number in_flight cycle.steps.now (dispatched_in cycle.number cycle.pipeline.now) cycle.pipeline.now
+  places_now = places_by cycle.pipeline.now.values cycle.number in_flight cycle.steps.now cycle.pipeline.now.rob cycle.pipeline.now.front
 
   places_are : places_now ≡ places_in seen.now.hardware moment
-  places_are =
-      let dispatched : dispatched_in cycle.number cycle.pipeline.now ≡ next.shown.report.dispatched =
-      ap (λ number. dispatched_in number cycle.pipeline.now) next.shown.number ∙ placed_now.dispatched in
-      λ i. cycle_places (next.shown.number i) (telling.in_flight_is i) (next.shown.steps_are i) (dispatched i) cycle.pipeline.now
+  places_are = places_seen placed_now cycle.number in_flight cycle.steps.now next.shown.number telling.in_flight_is next.shown.steps_are
 
   -- those of a cycle are few
   pub few_places : cycle_total places_now ≤ 264
-  few_places = omega (arith, ap cycle_total places_are, placed_now.add_up, placed_now.wide, telling.in_flight_is, telling.few_in_flight)
+  few_places = few_seen placed_now cycle.number in_flight cycle.steps.now next.shown.number telling.in_flight_is next.shown.steps_are telling.few_in_flight
 
   -- its steps and passages can be counted
   pub room : HasRoom tale (length cycle.steps.now) (length cycle.rows.now)

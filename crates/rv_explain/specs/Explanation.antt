@@ -22,14 +22,15 @@ use Rattle.rv_sentences.specs.Hotspot.{hotspots_text}
 use Rattle.rv_sentences.specs.Interrupt.{interrupts_text}
 use Rattle.rv_sentences.specs.Load.{load_text}
 use Rattle.rv_sentences.specs.PlaceLines.{places_text}
-use Rattle.rv_sentences.specs.Places.{AddUp, AreLostFor}
+use Rattle.rv_counts.specs.Places.{AddUp, AreLostFor}
 use Rattle.rv_sentences.specs.Stack.{count_text, stall_text}
 use Rattle.rv_explain.specs.Tale.{tale_of_run}
 use Rattle.rv_sentences.specs.Wait.{waits_text}
 use Rattle.rv_sentences.specs.Work.{work_text}
 use Rattle.rv_sentences.specs.Worst.{worst_text}
 use Rattle.rv_explain.specs.declared.{figures.Figures.Figures, tale.Tale.Tale}
-use Rattle.rv_sentences.specs.declared.{exception.Exception.Exception, places.Places.Places}
+use Rattle.rv_counts.specs.declared.run_places.Places.{Places}
+use Rattle.rv_sentences.specs.declared.exception.Exception.{Exception}
 
 -- a run that ended, how many words were fetched in it or before it, and what was kept of it
 pub record IsTold (arrivals : List Arrival) (limit : ℕ) (values : Values) (old new : GuidedHardware) (stop : Stop) (progress : Progress) (fetched : ℕ) (tale : Tale) : Type 0 where

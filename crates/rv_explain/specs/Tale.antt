@@ -23,14 +23,14 @@ use Rattle.rv_sentences.specs.Kinds.{IsCountable, kept_after, kept_of}
 use Rattle.rv_sentences.specs.LastStore.{last_store_to, stores_in, stores_of, with_stores}
 use Rattle.rv_sentences.specs.Load.{loads_of}
 use Rattle.rv_sentences.specs.Outcome.{CanTake, outcomes_at, with_passages}
-use Rattle.rv_sentences.specs.Places.{AddUp, all_places, places_of, with_cycle}
+use Rattle.rv_counts.specs.Places.{AddUp, all_places, places_of, with_cycle}
 use Rattle.rv_sentences.specs.Unit.{arrivals_after, none_came, unit_waits}
 use Rattle.rv_sentences.specs.Wait.{CanGrow, both_waits, bus_waits}
 use Rattle.rv_sentences.specs.WordCount.{count_at, with_all, with_one}
 use Rattle.rv_sentences.specs.WordNotes.{notes_of}
 use Rattle.rv_sentences.specs.Work.{both_work, word_in, work_of}
 use Rattle.rv_explain.specs.declared.tale.Tale.{Tale}
-use Rattle.rv_sentences.specs.declared.places.CyclePlaces.{CyclePlaces}
+use Rattle.rv_counts.specs.declared.run_places.CyclePlaces.{CyclePlaces}
 use Rattle.rv_sentences.specs.declared.work.Class.TheVariants.{Branch, Mispredicted}
 
 -- what is kept of some cycles that began with such hardware, by the arrivals at the interrupt lines, and of the instructions that

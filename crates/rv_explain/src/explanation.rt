@@ -17,12 +17,13 @@ use crate::running::run_told;
 use crate::tale::Tale;
 use rv_arch::Stop;
 use rv_core::{Pipeline, Progress};
+use rv_counts::Places;
 use rv_front::Predictor;
 use rv_isa::{Arrivals, Description};
 use rv_sentences::{
-    Exception, Places, write_counts, write_dispatches, write_drains, write_exceptions,
-    write_hotspots, write_interrupts, write_loads, write_places, write_stalls, write_waits,
-    write_work, write_worst,
+    Exception, write_counts, write_dispatches, write_drains, write_exceptions, write_hotspots,
+    write_interrupts, write_loads, write_places, write_stalls, write_waits, write_work,
+    write_worst,
 };
 use rv_source::Listing;
 use rv_text::{Field, ReportError, Sink, TextError, Value};

@@ -2,20 +2,20 @@ ghost use Rattle.std.specs.Prelude.{◌≡◌, ◌+◌, ◌≤◌, ℕ, List, []
 ghost use Rattle.rv_hardware.specs.Hardware.{Hardware};
 ghost use Rattle.rv_isa.specs.declared.lines.Arrival.{Arrival};
 ghost use Rattle.rv_explain.specs.Tale.{HasRoom, tale_after, tale_of};
-ghost use Rattle.rv_sentences.specs.Places.{cycle_total};
+ghost use Rattle.rv_counts.specs.Places.{cycle_total};
 ghost use Rattle.rv_sentences.specs.Wait.{CanGrow};
 
 use crate::head::head_word;
 use crate::traps::exception_in;
 use rv_core::Pipeline;
-use rv_counts::LoadCosts;
+use rv_counts::{CyclePlaces, LoadCosts, Places, count_retired};
 use rv_hardware::Step;
 use rv_isa::{Description, PerKind};
 use rv_passage::{Passage, up_to_youngest_left};
 use rv_sentences::{
-    Accesses, Class, CyclePlaces, Dispatches, Exceptions, Interrupts, Outcomes, Places, WordNotes,
-    Work, add_drain, add_loads, add_unit_waits, add_waits, count_left, count_one, count_retired,
-    count_words, interruption_in, no_waits, note_stores,
+    Accesses, Class, Dispatches, Exceptions, Interrupts, Outcomes, WordNotes, Work, add_drain,
+    add_loads, add_unit_waits, add_waits, count_left, count_one, count_words, interruption_in,
+    no_waits, note_stores,
 };
 use std::alloc::{AllocError, Global};
 

@@ -8,7 +8,6 @@ pub mod LastStores
 pub mod InterruptsGrow
 mod Joined
 mod LargestFirst
-pub mod LossReasons
 pub mod KindsGrow
 mod Options
 mod SeriesGrows
@@ -17,6 +16,3 @@ mod WordTable
 pub mod Works
 mod WorstLines
 pub mod OutcomesGrow
-pub mod PlacesGrow
-pub mod PlacesOfCycle
-pub mod SoughtCounts

@@ -19,6 +19,4 @@ pub mod Interrupt
 pub mod Dispatch
 pub mod Wait
 pub mod Unit
-pub mod Places
 pub mod PlaceLines
-pub mod Sought

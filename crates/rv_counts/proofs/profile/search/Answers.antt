@@ -1,6 +1,6 @@
 use Rattle.std.proofs.Common.{◌+◌, ◌-◌, ◌/◌, ◌<◌, ℕ, length, ap, arith}
 use Rattle.rv_counts.specs.declared.counts.WordCounts.{WordCounts}
-use Rattle.rv_counts.proofs.Places.{in_order-le, in_order-lt, over}
+use Rattle.rv_counts.proofs.ProfilePlaces.{in_order-le, in_order-lt, over}
 use Rattle.rv_counts.proofs.profile.search.Goals as goal
 
 pub returns-then-here-address-clause-found : goal.returns-then-here-address-clause-found

@@ -2,7 +2,7 @@ use Rattle.std.proofs.Common.{◌≡◌, ◌∙◌, sym, ap, subst, set}
 use Rattle.rv_counts.specs.Counts.{CanCount, added}
 use Rattle.rv_counts.specs.Following.{Profiled}
 use Rattle.rv_counts.proofs.Changes.{in_order-made}
-use Rattle.rv_counts.proofs.Places.{each-at}
+use Rattle.rv_counts.proofs.ProfilePlaces.{each-at}
 use Rattle.rv_counts.proofs.Profiles.{added-address}
 use Rattle.rv_counts.proofs.Rooms.{can_count-begun}
 use Rattle.rv_counts.proofs.profile.Profile.add.Goals as goal

@@ -4,7 +4,7 @@ use Rattle.rv_counts.specs.Counts.{nothing_at}
 use Rattle.rv_counts.specs.Following.{Profiled}
 use Rattle.rv_counts.specs.Order.{IsPlaceFor, IsPlaceOf}
 use Rattle.rv_counts.proofs.Changes.{in_order-made}
-use Rattle.rv_counts.proofs.Places.{begun-new, begun-there, change-at, change-made}
+use Rattle.rv_counts.proofs.ProfilePlaces.{begun-new, begun-there, change-at, change-made}
 use Rattle.rv_counts.proofs.profile.Profile.place_of.Goals as goal
 
 pub returns-in-Ok-clause-words : goal.returns-in-Ok-clause-words

@@ -1,6 +1,6 @@
 use Rattle.std.proofs.Common.{[], ap, arith, refl}
 use Rattle.rv_text.proofs.Saying.{says_nothing}
-use Rattle.rv_sentences.specs.Places.{cycle_total}
+use Rattle.rv_counts.specs.Places.{cycle_total}
 use Rattle.rv_explain.proofs.Telling.{few_places, room, telling_on}
 use Rattle.rv_explain.proofs.running.TellerView.see.Goals as goal
 

@@ -3,7 +3,7 @@ use Rattle.rv_counts.specs.Load.{costs_of}
 use Rattle.rv_sentences.specs.Dispatch.{none_dispatched}
 use Rattle.rv_sentences.specs.Drain.{drains_by}
 use Rattle.rv_sentences.specs.Load.{loads_of}
-use Rattle.rv_sentences.specs.Places.{no_places}
+use Rattle.rv_counts.specs.Places.{no_places}
 use Rattle.rv_sentences.specs.Unit.{none_came}
 use Rattle.rv_sentences.specs.Work.{work_of}
 use Rattle.rv_explain.proofs.tale.Tale.new.Goals as goal

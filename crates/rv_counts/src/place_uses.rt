@@ -1,9 +1,9 @@
 ghost use Rattle.std.specs.Prelude.{◌≡◌, count_by};
 ghost use Rattle.rv_hardware.specs.Step.{is_retirement, is_trap};
 ghost use Rattle.rv_isa.specs.Instruction.{is_serialising};
-ghost use Rattle.rv_sentences.specs.Places.{flush_by, flush_of};
+ghost use Rattle.rv_counts.specs.Places.{flush_by, flush_of};
 
-use crate::places::Flush;
+use crate::run_places::Flush;
 use rv_decode::decode;
 use rv_hardware::Step;
 use rv_isa::Instr;

@@ -31,7 +31,7 @@ use Rattle.rv_hardware.proofs.Turns.Dispatch.{DispatchTurn, dispatch_turn_is, di
 use Rattle.rv_hardware.proofs.Turns.KeptByBroadcast.{IsKeptByBroadcast, broadcast-keeps}
 use Rattle.rv_hardware.proofs.Turns.KeptByDrain.{IsKeptByDrain, drain-keeps}
 use Rattle.rv_hardware.proofs.Turns.KeptByIssue.{IsKeptByIssue, issue-keeps}
-use Rattle.rv_sentences.specs.Places.{cycle_total, dispatched_in, places_in}
+use Rattle.rv_counts.specs.Places.{cycle_total, dispatched_in, places_in}
 
 -- ---- what was dispatched in a cycle is in the reorder buffer at its end
 module _ (now : ℕ) where
@@ -129,7 +129,7 @@ module _ (most : ℕ) where
 
 -- what is known of the places of a cycle
 pub record ArePlaced (old : Hardware) (report : Report) (new : Hardware) : Type 0 where
-  pub dispatched : dispatched_in old.cycle new ≡ report.dispatched
+  pub dispatched : dispatched_in old.cycle new.rob ≡ report.dispatched
   pub within : report.dispatched ≤ new.values.dispatch_width
   pub values : new.values ≡ old.values
   pub wide : new.values.dispatch_width ≤ 8

@@ -1,5 +1,5 @@
 -- The places of a cycle are lost for what ended its dispatch phase.
-use Rattle.std.proofs.Common.{◌≡◌, ◌∙◌, ◌⊎◌, ℕ, suc, ◌+◌, ◌^◌, ◌<◌, ◌≤◌, ◌&&◌, nat_le, Bool, true, false, cond, List, [], ◌∷◌, ◌++◌, length, Option, Some, None, inl, inr, refl, ap, sym, arith, lt-ltb, le-ltb}
+use Rattle.std.proofs.Common.{◌≡◌, ◌∙◌, ◌⊎◌, ℕ, suc, ◌^◌, ◌<◌, ◌≤◌, ◌&&◌, nat_le, Bool, true, false, cond, List, [], ◌∷◌, ◌++◌, length, Option, Some, None, inl, inr, refl, ap, sym, arith, lt-ltb, le-ltb}
 use Rattle.std.specs.List.{slice_get}
 use Rattle.rv_isa.specs.Arrivals.{lines_at}
 use Rattle.rv_isa.specs.Instruction.{is_store, kind_of_word}
@@ -21,9 +21,9 @@ use Rattle.rv_hardware.proofs.Marks.History.{Anything, Passed, dispatching, hist
 use Rattle.rv_hardware.proofs.Marks.Sound.{SoundFetched}
 use Rattle.rv_hardware.proofs.Repeated.{Leads, turns_within}
 use Rattle.rv_hardware.proofs.Turns.Fetch.{IsNew}
-use Rattle.rv_sentences.specs.Places.{AreLostFor, awaited_in, has_serialising, loss_by, loss_in, loss_of, loss_of_kind, places_in, stall_for}
-use Rattle.rv_sentences.specs.declared.places.Loss.{Loss}
-use Rattle.rv_sentences.specs.declared.places.Loss.TheVariants as loss
+use Rattle.rv_counts.specs.Places.{AreLostFor, awaited_in, has_serialising, loss_by, loss_in, loss_of, loss_of_kind, places_in, stall_for}
+use Rattle.rv_counts.specs.declared.run_places.Loss.{Loss}
+use Rattle.rv_counts.specs.declared.run_places.Loss.TheVariants as loss
 
 -- an instruction waits for nothing, or for this
 abbrev IsReason : Option Stall → Loss → Type 0
@@ -33,7 +33,7 @@ by_queue : (full : Bool) → IsReason (cond full (Some stall.Store) None) loss.S
 by_queue true = inr refl
 by_queue false = inl refl
 
-by_kind : (h : Hardware) (full : Bool) (k : Option Kind) → IsReason (cond (has_full_stations h k) (Some stall.Station) (cond full (Some stall.Store) None)) (loss_of_kind h k)
+by_kind : (h : Hardware) (full : Bool) (k : Option Kind) → IsReason (cond (has_full_stations h k) (Some stall.Station) (cond full (Some stall.Store) None)) (loss_of_kind h.values h.rob k)
 by_kind h full None = by_queue full
 by_kind h full (Some kind) = by_stations (has_full_stations h (Some kind)) where
   by_stations : (no_room : Bool) → IsReason (cond no_room (Some stall.Station) (cond full (Some stall.Store) None)) (cond no_room (loss.Station kind) loss.Store)
@@ -44,19 +44,19 @@ by_test : (test : Bool) (first : Stall) (o : Option Stall) (why why' : Loss) →
 by_test true first o why why' is rest = inr (ap Some (sym is))
 by_test false first o why why' is rest = rest
 
-reason_is : (h : Hardware) (f : Fetched) → IsReason (reason_of h f) (loss_of h f.instruction)
+reason_is : (h : Hardware) (f : Fetched) → IsReason (reason_of h f) (loss_of h.values h.rob f.instruction)
 reason_is h f =
     let full : Bool = nat_le h.rob.capacity (length h.rob.entries) in
     let queued : Bool = is_store f.instruction && nat_le h.values.store_queue (length (stores_after h h.rob.entries)) in
     let kind : Option Kind = kind_of_word f.instruction in
     let rest : Option Stall = cond (has_full_stations h kind) (Some stall.Station) (cond queued (Some stall.Store) None) in
-    by_test (has_serialising h) stall.Serial (cond full (Some stall.Rob) rest) loss.Serial (cond full loss.Rob (loss_of_kind h kind)) refl
-    (by_test full stall.Rob rest loss.Rob (loss_of_kind h kind) refl (by_kind h queued kind))
+    by_test (has_serialising h.rob) stall.Serial (cond full (Some stall.Rob) rest) loss.Serial (cond full loss.Rob (loss_of_kind h.values h.rob kind)) refl
+    (by_test full stall.Rob rest loss.Rob (loss_of_kind h.values h.rob kind) refl (by_kind h queued kind))
 
 -- what the oldest of some words waits for
 abbrev first_loss : Hardware → List Fetched → Loss
 first_loss h [] = loss.Fetch
-first_loss h (f ∷ fs) = loss_of h f.instruction
+first_loss h (f ∷ fs) = loss_of h.values h.rob f.instruction
 
 module _ (width : ℕ) where
   -- the phase used its width, or the oldest word waits
@@ -66,7 +66,7 @@ module _ (width : ℕ) where
   abbrev After : ℕ → Dispatching → Type 0
   After k d = d.dispatched ≡ k
 
-  by_reason : (k : ℕ) (d : Dispatching) (f : Fetched) (fs : List Fetched) → d.hardware.front.entries ≡ f ∷ fs → After k d → (o : Option Stall) → IsReason o (loss_of d.hardware f.instruction)
+  by_reason : (k : ℕ) (d : Dispatching) (f : Fetched) (fs : List Fetched) → d.hardware.front.entries ≡ f ∷ fs → After k d → (o : Option Stall) → IsReason o (loss_of d.hardware.values d.hardware.rob f.instruction)
       → Leads (After (suc k)) Ended (dispatch_unless o f fs d)
   by_reason k d f fs at count None is = omega (arith, count)
   by_reason k d f fs at count (Some s) (inl none) = absurd (cc)
@@ -82,13 +82,13 @@ module _ (width : ℕ) where
       h.values.dispatch_width 0 (record { hardware = h; dispatched = 0; waits_for = None }) (omega (arith, is)) refl
 
 -- the words that a cycle fetches come after those that wait for their dispatch
-first_is : (now : ℕ) (h : Hardware) (fs added : List Fetched) → Each (SoundFetched now) fs → Each (IsNew now) added → loss_by now h (slice_get (fs ++ added) 0) ≡ first_loss h fs
+first_is : (now : ℕ) (h : Hardware) (fs added : List Fetched) → Each (SoundFetched now) fs → Each (IsNew now) added → loss_by now h.values h.rob (slice_get (fs ++ added) 0) ≡ first_loss h fs
 first_is now h [] [] sound new = refl
 first_is now h [] (f ∷ added) sound new = rw (le-ltb f.cycle now (omega (arith, new.0.0))) refl
 first_is now h (f ∷ fs) added sound new = rw (lt-ltb f.cycle now sound.0.0) refl
 
 module _ (arrivals : List Arrival) {old new : Hardware} {report : Report} (reached : Reachable old) (cycle : IsCycle any_prediction (lines_at arrivals old.cycle) old report new) where
-  one_reason : 0 < (places_in old (record { report = report; after = new })).lost → awaited_in arrivals old ≡ Some (stall_for (loss_in old.cycle new))
+  one_reason : 0 < (places_in old (record { report = report; after = new })).lost → awaited_in arrivals old ≡ Some (stall_for (loss_in old.cycle new.values new.rob new.front))
   one_reason lost =
       let lines : Lines = lines_at arrivals old.cycle in
       let before = reachable_has_history reached in
@@ -97,19 +97,14 @@ module _ (arrivals : List Arrival) {old new : Hardware} {report : Report} (reach
       let d : Dispatching = dispatching lines old in
       let described = ap (λ (w : Values). w.dispatch_width) passed.sends.basics.always.sizes.values in
       let width = ap (λ (w : Values). w.dispatch_width) passed.ends.always.sizes.values in
-      let same : loss_in old.cycle new ≡ first_loss d.hardware d.hardware.front.entries =
-      ap (λ (h : Hardware). loss_by old.cycle h (slice_get new.front.entries 0)) passed.others_stay
-      ∙ ap (λ words. loss_by old.cycle (record d.hardware { front = new.front; cycle = old.cycle + 1 }) (slice_get words 0)) passed.fetches.entries
-      ∙ first_is old.cycle (record d.hardware { front = new.front; cycle = old.cycle + 1 }) d.hardware.front.entries passed.fetches.added passed.dispatches.basics.fetched passed.fetches.are_new
-      ∙ same_first d.hardware.front.entries in
+      let same : loss_in old.cycle new.values new.rob new.front ≡ first_loss d.hardware d.hardware.front.entries =
+      ap (λ (h : Hardware). loss_by old.cycle h.values h.rob (slice_get new.front.entries 0)) passed.others_stay
+      ∙ ap (λ words. loss_by old.cycle d.hardware.values d.hardware.rob (slice_get words 0)) passed.fetches.entries
+      ∙ first_is old.cycle d.hardware d.hardware.front.entries passed.fetches.added passed.dispatches.basics.fetched passed.fetches.are_new in
       elim (phase_ends v.dispatch_width (sent_all lines old) described) [
         | inl wide ↦ absurd (omega (arith, wide, lost, width, passed.report_is.0))
         | inr is ↦ is ∙ ap (λ why. Some (stall_for why)) (sym same)
       ]
-    where
-      same_first : (fs : List Fetched) → first_loss (record (dispatching (lines_at arrivals old.cycle) old).hardware { front = new.front; cycle = old.cycle + 1 }) fs ≡ first_loss (dispatching (lines_at arrivals old.cycle) old).hardware fs
-      same_first [] = refl
-      same_first (f ∷ fs) = refl
 
 cycles_on : {arrivals : List Arrival} {old new : GuidedHardware} {moments : List Moment} → History arrivals old moments new → old.hardware.cycle ≤ new.hardware.cycle
 cycles_on ended = omega arith

@@ -8,11 +8,13 @@ use Rattle.rv_isa.specs.declared.values.Values.{Values}
 use Rattle.rv_hardware.specs.Guided.{GuidedHardware}
 use Rattle.rv_hardware.specs.Hardware.{Hardware}
 use Rattle.rv_hardware.specs.History.{History, Moment, ended, cycled}
-use Rattle.rv_sentences.specs.Places.{AddUp, all_lost, all_places, all_squashed, cycle_total, places_from, places_in, places_of, no_places, with_cycle, with_lost, with_squashed}
-use Rattle.rv_sentences.specs.declared.places.{CyclePlaces.CyclePlaces, Flush.Flush, Loss.Loss, Lost.Lost, Places.Places, Squashed.Squashed}
-use Rattle.rv_sentences.specs.declared.places.Flush.TheVariants as flush
-use Rattle.rv_sentences.specs.declared.places.Loss.TheVariants as loss
-use Rattle.rv_sentences.proofs.PlacesOfCycle.{ArePlaced}
+use Rattle.rv_hardware.specs.Report.{Report}
+use Rattle.rv_hardware.specs.declared.step.Step.{Step}
+use Rattle.rv_counts.specs.Places.{AddUp, all_lost, all_places, all_squashed, cycle_places, cycle_total, dispatched_in, places_by, places_from, places_in, places_of, no_places, with_cycle, with_lost, with_squashed}
+use Rattle.rv_counts.specs.declared.run_places.{CyclePlaces.CyclePlaces, Flush.Flush, Loss.Loss, Lost.Lost, Places.Places, Squashed.Squashed}
+use Rattle.rv_counts.specs.declared.run_places.Flush.TheVariants as flush
+use Rattle.rv_counts.specs.declared.run_places.Loss.TheVariants as loss
+use Rattle.rv_counts.proofs.PlacesOfCycle.{ArePlaced}
 
 more_squashed : (f : Flush) (count : ℕ) (s : Squashed) → all_squashed (with_squashed f count s) ≡ all_squashed s + count
 more_squashed flush.Prediction count s = omega arith
@@ -66,3 +68,14 @@ pub places_counted : (first : Hardware) (moments : List Moment) (last : Hardware
     → all_places (places_of first moments) ≤ length moments * 8 + 256
 places_counted first moments last add_up wide few =
     omega (arith, add_up, few, mul-le (length moments) last.values.dispatch_width (length moments) 8 (omega arith) wide)
+
+-- the places of a cycle, by what is seen after it
+module _ {old new : Hardware} {report : Report} (placed : ArePlaced old report new) (cycle before : ℕ) (steps : List Step) (number : cycle ≡ old.cycle) (in_flight : before ≡ length old.rob.entries) (steps_are : steps ≡ report.steps) where
+  pub places_seen : places_by new.values cycle before steps new.rob new.front ≡ places_in old (record { report = report; after = new })
+  places_seen =
+      let dispatched : dispatched_in cycle new.rob ≡ report.dispatched = ap (λ n. dispatched_in n new.rob) number ∙ placed.dispatched in
+      λ i. cycle_places new.values (number i) (in_flight i) (steps_are i) (dispatched i) new.rob new.front
+
+  -- they are few
+  pub few_seen : before ≤ 256 → cycle_total (places_by new.values cycle before steps new.rob new.front) ≤ 264
+  few_seen few = omega (arith, ap cycle_total places_seen, placed.add_up, placed.wide, in_flight, few)

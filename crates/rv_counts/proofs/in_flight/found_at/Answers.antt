@@ -1,6 +1,6 @@
 use Rattle.std.proofs.Common.{◌∙◌, arith}
 use Rattle.rv_rob.proofs.Places.{entry_of-distance}
-use Rattle.rv_sentences.proofs.in_flight.found_at.Goals as goal
+use Rattle.rv_counts.proofs.in_flight.found_at.Goals as goal
 
 pub returns : goal.returns
 returns c =

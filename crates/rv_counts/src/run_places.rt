@@ -1,7 +1,11 @@
-ghost use Rattle.std.specs.Prelude.{◌≡◌, ◌+◌, ◌<◌, ◌^◌};
-ghost use Rattle.rv_sentences.specs.Places.{all_places, cycle_total, with_cycle, with_lost, with_squashed};
+ghost use Rattle.std.specs.Prelude.{◌≡◌, ◌+◌, ◌<◌, ◌^◌, length};
+ghost use Rattle.rv_counts.specs.Places.{CanPlace, all_places, cycle_total, no_places, place_counts, placed_after, with_cycle, with_lost, with_squashed};
 
-use rv_isa::{Kind, PerKind};
+use crate::cycle_places::places_by;
+use rv_front::Front;
+use rv_hardware::Step;
+use rv_isa::{Kind, PerKind, Values};
+use rv_rob::Rob;
 
 /// What squashes instructions.
 #[derive(Clone, Copy)]
@@ -72,6 +76,14 @@ pub struct Places {
     pub trapped: u64,
     pub squashed: Squashed,
     pub lost: Lost,
+}
+
+/// What became of the places of a run so far.
+#[derive(Clone, Copy)]
+pub struct RunPlaces {
+    pub places: Places,
+    /// The instructions in the reorder buffer, of whose places it is open what becomes.
+    pub in_flight: usize,
 }
 
 impl Squashed {
@@ -150,5 +162,64 @@ impl Places {
         self.trapped += cycle.trapped;
         self.squashed.add(cycle.flush, cycle.squashed);
         self.lost.add(cycle.loss, cycle.lost);
+    }
+    /// Of how many places each became that, where so many instructions are in flight at the end: those of what retired, trapped, and was
+    /// squashed by wrong predictions, serialising instructions, traps and interrupts; those in flight; and those lost since fetch gave no
+    /// word, since a serialising instruction was in flight, and to a full reorder buffer, full stations of each kind and a full store queue.
+    pub fn counts(&self, in_flight: u64) -> [u64; 15]
+        ensures { result ≡ place_counts in_flight self.now }
+    {
+        let squashed = &self.squashed;
+        let lost = &self.lost;
+        [
+            self.retired,
+            self.trapped,
+            squashed.predictions,
+            squashed.serialising,
+            squashed.traps,
+            squashed.interrupts,
+            in_flight,
+            lost.fetch,
+            lost.serial,
+            lost.rob,
+            lost.stations.alu,
+            lost.stations.mul,
+            lost.stations.div,
+            lost.stations.mem,
+            lost.store,
+        ]
+    }
+}
+
+impl RunPlaces {
+    /// Of no cycle, by the reorder buffer before the first one.
+    pub fn begin(rob: &Rob) -> RunPlaces
+        ensures places { result.places ≡ no_places }
+        ensures in_flight { result.in_flight ≡ length rob.now.entries }
+    {
+        RunPlaces {
+            places: Places::NONE,
+            in_flight: rob.len(),
+        }
+    }
+
+    /// With one more cycle of a described machine, by its number, its steps and the buffers that it left.
+    pub fn with_cycle(
+        self,
+        values: &Values,
+        cycle: u64,
+        steps: &[Step],
+        rob: &Rob,
+        front: &Front,
+    ) -> RunPlaces
+        requires { CanPlace values.now cycle steps.now rob.now front.now self }
+        ensures { result ≡ placed_after values.now cycle steps.now rob.now front.now self }
+    {
+        let mut places = self.places;
+        places.add(&places_by(values, cycle, self.in_flight, steps, rob, front));
+        RunPlaces {
+            places,
+            in_flight: rob.len(),
+        }
     }
 }

@@ -1,6 +1,6 @@
-use Rattle.rv_sentences.specs.Sought.{is_sought}
-use Rattle.rv_sentences.proofs.SoughtCounts.{counted_on}
-use Rattle.rv_sentences.proofs.in_flight.count_sought.Goals as goal
+use Rattle.rv_counts.specs.Sought.{is_sought}
+use Rattle.rv_counts.proofs.SoughtCounts.{counted_on}
+use Rattle.rv_counts.proofs.in_flight.count_sought.Goals as goal
 
 pub loop-place-preserved : goal.loop-place-preserved
 loop-place-preserved c =

@@ -1,7 +1,7 @@
 ghost use Rattle.std.specs.Prelude.{◌≡◌, ◌+◌, ◌<◌, ◌≤◌, ◌^◌, if◌then◌else◌, Some, count_by, length, option_copied, slice_get};
 ghost use Rattle.rv_hardware.specs.Dispatch.{is_stationed};
 ghost use Rattle.rv_isa.specs.Instruction.{is_of_kind, kind_of_word};
-ghost use Rattle.rv_sentences.specs.Sought.{is_sought};
+ghost use Rattle.rv_counts.specs.Sought.{is_sought};
 
 use crate::place_uses::is_serialising;
 use rv_isa::{Instr, Kind, kind};
