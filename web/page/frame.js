@@ -3,11 +3,18 @@
 const TELL = byId("tell").textContent;
 let followed = "";
 let seenCycle;
+let marksPath = false;
+
+// The viewer's critical path.
+function showPathInPicture() {
+  marksPath = true;
+  chooseView("steps");
+}
 
 function showPage({ output }) {
   const html = textOf(output), head = html.indexOf("<head>") + "<head>".length;
   const url = urlOf(html.slice(0, head) + "<script>" + TELL + "</" + "script>" + html.slice(head), "text/html");
-  const place = [seenCycle === undefined ? "" : "cycle=" + seenCycle, followed === "" ? "" : "follow=" + followed].filter(Boolean).join("&");
+  const place = [seenCycle === undefined ? "" : "cycle=" + seenCycle, followed === "" ? "" : "follow=" + followed, marksPath ? "path" : ""].filter(Boolean).join("&");
   const frame = element("iframe", { title: "the run, cycle by cycle: the arrow keys step; ? has all keys", sandbox: "allow-scripts allow-downloads", id: "stepper", src: url + (place ? "#" + place : "") });
   frame.onload = () => { if (document.activeElement === document.body || document.activeElement === byId("tab-steps")) frame.focus(); };
   byId("shown").append(frame);
@@ -17,7 +24,10 @@ addEventListener("message", (event) => {
   const frame = byId("stepper"), told = event.data;
   if (!frame || event.source !== frame.contentWindow || !told || typeof told !== "object") return;
   if (/^-?\d{1,7}$/.test(told.cycle)) seenCycle = told.cycle;
-  if (told.place !== undefined) followed = (/follow=(\d{1,9})/.exec(String(told.place).slice(0, 200)) || ["", ""])[1];
+  const place = String(told.place).slice(0, 200);
+  if (told.place !== undefined) followed = (/follow=(\d{1,9})/.exec(place) || ["", ""])[1];
+  // (the viewer writes its address a moment after it is opened)
+  if (place.includes("cycle=")) marksPath = /[#&]path(&|$)/.test(place);
   if (/^(Enter|[\d0jJ])$/.test(told.key)) shortcut(told.key);
   else writeAddress();
 });

@@ -1,5 +1,5 @@
 // The address holds the job, as long as it is not too long for that: so a link shares it, and going back or loading again loses nothing.
-// After #: example=NAME or job=DEFLATED, machines=DEFLATED, view, limit, from, cycles of a view, retired, cycle and follow.
+// After #: example=NAME or job=DEFLATED, machines=DEFLATED, view, limit, from, cycles of a view, retired, cycle, follow and path.
 let exampleName = "", addressed = "";
 
 function optionWords() {
@@ -10,6 +10,7 @@ function optionWords() {
     if (value !== option.value) words.push(key + "=" + (value === true ? 1 : value));
   }
   if (currentView.name === "steps" && seenCycle !== undefined) words.push("cycle=" + seenCycle, ...(followed === "" ? [] : ["follow=" + followed]));
+  if (currentView.name === "steps" && marksPath) words.push("path=1");
   return words;
 }
 
@@ -89,6 +90,7 @@ function readOptions(words) {
   }
   seenCycle = /^-?\d{1,7}$/.test(words.get("cycle") || "") ? words.get("cycle") : undefined;
   followed = /^\d{1,9}$/.test(words.get("follow") || "") ? words.get("follow") : "";
+  marksPath = words.get("path") === "1";
   if (view) chooseView(view.name, true);
 }
 

@@ -64,7 +64,7 @@ function setWide(on) {
 }
 
 function chooseView(name, isEarly) {
-  if (currentView.name === "steps" && name !== "steps") { seenCycle = undefined; followed = ""; }
+  if (currentView.name === "steps" && name !== "steps") { seenCycle = undefined; followed = ""; marksPath = false; }
   currentView = viewNamed(name);
   markTab(name);
   setWide(name === "steps");

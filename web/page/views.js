@@ -7,6 +7,7 @@ const TEXT = { name: "text", label: "as text", isSwitch: true, value: false };
 const KONATA = "For the pipeline viewer Konata: save it, and open the file there.";
 const ONE_AT_A_TIME = "The same program on the machine that takes one instruction after the other; limit and arrivals count steps.";
 const CRITICAL = "Each event waited last for one other event: walking back from the last one, each cycle of the run has one cause.";
+const IN_PICTURE = { title: "Show it in the picture", act: showPathInPicture };
 const NEIGHBOURS = "The job on machines that differ from its own in one key; the change is in thousandths of the cycles.";
 const TRACE = "R retired, T trap, N interrupt; F, D, I, B, C: the cycles of fetch, dispatch, issue, broadcast and commit.";
 
@@ -18,7 +19,7 @@ const VIEWS = [
   { name: "compare", title: "Compare", command: "compare", limit: true, input: comparedInput, show: showComparison, file: "compare.tsv" },
   { name: "explain", title: "Explain", command: "explain", limit: true, show: showText, file: "explain.txt" },
   { name: "profile", title: "Profile", command: "profile", limit: true, show: showTable, file: "profile.tsv" },
-  { name: "path", title: "Path", command: "path", limit: true, show: showText, file: "path.txt", note: CRITICAL },
+  { name: "path", title: "Path", command: "path", limit: true, show: showText, file: "path.txt", note: CRITICAL, also: IN_PICTURE },
   { name: "sensitivity", title: "What would help", command: "sensitivity", limit: true, show: showTable, file: "sensitivity.tsv", note: NEIGHBOURS },
   { name: "trace", title: "Trace", command: "run", words: ["--trace"], limit: true, show: showText, file: "trace.txt", note: TRACE },
   { name: "log", title: "Log", command: "log", limit: true, show: showText, file: "run.kanata", note: KONATA },
@@ -63,6 +64,7 @@ function showTools(view, changed, saved) {
     tools.append(element("label", {}, ...(option.isSwitch ? [field, " " + option.label] : [option.label + " ", field])));
   }
   if (view.note) tools.append(element("span", { className: "note", textContent: view.note }));
+  if (view.also) tools.append(element("button", { type: "button", id: "also", textContent: view.also.title, onclick: view.also.act }));
   tools.append(element("button", { type: "button", id: "save-view", textContent: "Save " + view.file.replace(".svg", ""), onclick: saved }));
 }
 

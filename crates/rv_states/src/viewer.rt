@@ -5,7 +5,7 @@ pub(crate) const BEFORE: &[u8] = br#"<!DOCTYPE html>
 <html lang="en">
 <head>
 <meta charset="utf-8">
-<meta http-equiv="Content-Security-Policy" content="default-src 'none'; script-src 'sha256-zrKooTXQP9auK9rIqTnHgrFnqWFLQ43jW1uUGeZzJtE='; style-src 'sha256-olRomiyufp573Kai1buYzNvm244BX9gY97cXXkR5Jvs='; img-src data:; frame-src 'self' file:; base-uri 'none'; form-action 'none'">
+<meta http-equiv="Content-Security-Policy" content="default-src 'none'; script-src 'sha256-54gIrqYYwClf/Y/tiwMNBsYdT+BaLPGNrsqpJ9kVpbQ='; style-src 'sha256-NLy2pIWJG0JC21JBDLHbc1pUsek59DtpjCKqafZkZq0='; img-src data:; frame-src 'self' file:; base-uri 'none'; form-action 'none'">
 <meta name="viewport" content="width=device-width, initial-scale=1">
 <title>rv_sim: a run, cycle by cycle</title>
 <style>
@@ -123,6 +123,24 @@ td.wide { width: 99%; max-width: 0; text-overflow: ellipsis; }
 #picture-arrows { position: absolute; top: 0; left: 0; z-index: 1; pointer-events: none; }
 #picture-arrows svg { display: block; }
 .arrow { fill: none; stroke: var(--fault); stroke-width: 0.15; }
+/* The critical path: rings around its events, lines between them, and above them the cause of each cycle. Each sort has a letter besides. */
+.sort-refill { --sort: #c0392b; } .sort-front { --sort: #3b6fb5; } .sort-room { --sort: #9b59b6; } .sort-operand { --sort: #0e8a9c; }
+.sort-unit { --sort: #9c6633; } .sort-execution { --sort: #b7791f; } .sort-load { --sort: #d81b60; } .sort-port { --sort: #7b8a00; }
+.sort-bus { --sort: #e65100; } .sort-commit { --sort: #2e7d32; } .sort-interrupt { --sort: #6b7280; } .sort-rest { --sort: #6b7280; }
+.badge { display: inline-block; width: 1.05rem; text-align: center; background: var(--sort); color: #fff; font-weight: bold; }
+.bar[class*="sort-"] { background: var(--sort); }
+#picture .cell.on-path, #legend .on-path { outline: 2px solid var(--text); font-weight: bold; }
+#legend .on-path { outline-offset: -1px; }
+.cause { position: absolute; top: 1.25rem; height: 1.25rem; border: 1px solid var(--panel); line-height: 1.1rem; cursor: pointer; }
+.with-path #picture-heads { height: 2.5rem; }
+#picture-path { position: absolute; top: 0; left: 0; z-index: 1; pointer-events: none; }
+#picture-path svg { position: absolute; display: block; }
+.step { fill: none; stroke: var(--sort); stroke-width: 0.24; stroke-linejoin: round; stroke-linecap: round; }
+#waits, #causes, [data-panel="waits"] thead, [data-panel="path"] thead { font-size: 0.85rem; }
+[data-panel="waits"], [data-panel="path"] { flex: none; }
+#waits .cell { width: 1.4rem; } #waits .badge, #causes .badge { line-height: 1rem; }
+.on-path th, .on-path td { font-weight: bold; }
+#path-words { padding: 0 0.4rem; } #path-words:empty { display: none; }
 #picture-cursor { position: absolute; top: 0; bottom: 0; width: 1.05rem; border: solid var(--accent); border-width: 0 2px; z-index: 1; pointer-events: none; }
 .cell { text-align: center; }
 .f { background: var(--f); color: var(--on); } .d { background: var(--d); color: var(--on); } .i { background: var(--i); color: var(--on); } .e { background: var(--e); color: var(--on); }
@@ -159,7 +177,8 @@ body.pair > header, body.pair > main { display: none; }
   #picture-space { top: calc(-1rem * var(--down)); left: calc(-1rem * var(--along)); }
   #picture-heads { position: absolute; width: 100%; top: calc(1rem * var(--down)); }
   .corner, #picture-labels { position: absolute; left: calc(1rem * var(--along)); }
-  #picture-labels { top: 1.25rem; }
+  .corner + .corner, .with-path .corner ~ .corner { top: 1.25rem; }
+  #picture-labels { top: 1.25rem; } .with-path #picture-labels { top: 2.5rem; }
   .list { overflow: clip; } .list > div { top: calc(-1rem * var(--down)); }
 }
 </style>
@@ -186,6 +205,7 @@ body.pair > header, body.pair > main { display: none; }
 <label title="a"><input type="checkbox" id="abi"> ABI</label>
 <label title="leave out of the picture what was squashed, and words after the program's end (h)"><input type="checkbox" id="hide"> hide squashed</label>
 <label title="Tomasulo's tables as in the textbook (o)"><input type="checkbox" id="textbook"> tables</label>
+<label title="mark in the picture which events each waited for, back from the last step that the page shows (l)"><input type="checkbox" id="path"> critical path</label>
 <button type="button" id="panels" aria-expanded="false" aria-controls="switches" title="which panels are shown (p)">panels</button>
 <button type="button" id="help" aria-expanded="false" aria-controls="keys" title="keys (?)">?</button>
 </div>
@@ -195,7 +215,8 @@ body.pair > header, body.pair > main { display: none; }
 r, w, t, i, s: the next retirement, wrong prediction, trap, interrupt, stall; c, m: the next access and miss of the cache; x: the next write of the
 register that was typed or of the followed one's; y: the next store, to the address that was typed; with shift the one before. n and N: what the list says.
 j, k: follow the next instruction, the one before; Escape: follow none. b: a breakpoint there; B: to its next retirement. g: type a cycle. d: type an address or
-a register. a: ABI names. h: hide what was squashed. o: tables as in the textbook. p: panels. ] and [: size of type; 0: as at first. v, V: save the
+a register. a: ABI names. h: hide what was squashed. o: tables as in the textbook. l: the critical path in the
+picture; e: to the event that the one here waited for last; E: back. p: panels. ] and [: size of type; 0: as at first. v, V: save the
 panel with the focus, else the page, as SVG, PNG. . and , : the next stop of the lecture, the one before. q: quiz. 2: another run beside this one, then: by cycle or by
 retired instructions; 3: to the other one; 1: this one alone. A click on an instruction follows it: blue and double are its places, dashed its producers, dotted its consumers.</p>
 <p id="stop" role="status" aria-live="polite" hidden></p>
@@ -217,9 +238,11 @@ retired instructions; 3: to the other one; 1: this one alone. A click on an inst
 </div>
 <div class="column" id="middle">
 <section class="panel grows drawing" data-panel="pipeline" aria-labelledby="h-picture"><h2 id="h-picture">Pipeline</h2><span class="note" id="picture-note"></span><p id="legend"></p>
-<div id="picture" tabindex="0" role="region" aria-labelledby="h-picture"><div id="picture-space"><div id="picture-heads"></div><div id="picture-cursor"></div><div id="picture-labels"></div><div id="picture-rows" role="table" aria-labelledby="h-picture"></div><div id="picture-arrows" aria-hidden="true"></div></div></div></section>
+<div id="picture" tabindex="0" role="region" aria-labelledby="h-picture"><div id="picture-space"><div id="picture-heads"></div><div id="picture-cursor"></div><div id="picture-labels"></div><div id="picture-rows" role="table" aria-labelledby="h-picture"></div><div id="picture-path" aria-hidden="true"></div><div id="picture-arrows" aria-hidden="true"></div></div></div></section>
 <section class="panel" data-panel="rob" aria-labelledby="h-rob"><h2 id="h-rob" data-phase="2" title="phase 2 of 7 of a cycle: commit">Reorder buffer</h2><span class="note" id="rob-note"></span><div class="scroll eighteen" tabindex="0" role="region" aria-labelledby="h-rob"><table aria-labelledby="h-rob">
 <thead><tr><th scope="col"></th><th scope="col">no.</th><th scope="col"><div class="placed"><span class="pc">pc</span><span>statement</span></div></th><th scope="col"></th><th scope="col" title="dispatched in cycle">D</th><th scope="col" title="issued in cycle">I</th><th scope="col" title="broadcast in cycle, or after an arrow the first in which it can be">B</th><th scope="col" title="the register and its value; after an arrow where the program is predicted to go on, where that is not the next word">result</th></tr></thead><tbody id="rob"></tbody></table></div></section>
+<section class="panel" data-panel="waits" aria-labelledby="h-waits"><h2 id="h-waits">Waits</h2><span class="note" id="waits-note"></span><div class="scroll" tabindex="0" role="region" aria-labelledby="h-waits"><table aria-labelledby="h-waits">
+<thead><tr><th scope="col" title="event: fetch, dispatch, issue, broadcast, commit or trap, drain">ev.</th><th scope="col">cycle</th><th scope="col">waited last for</th><th scope="col">cause</th><th scope="col">cycles</th><th scope="col" title="whether it is on the critical path">path</th></tr></thead><tbody id="waits"></tbody></table></div></section>
 <section class="panel grows tall" data-panel="textbook" aria-labelledby="h-textbook"><h2 id="h-textbook">As in the textbook</h2><span class="note" title="issue is the cycle of dispatch, execute the cycles in a unit, write result the cycle of the broadcast; ROBn is entry n of the reorder buffer">issue: dispatch; write result: broadcast</span><div class="scroll" tabindex="0" role="region" aria-labelledby="h-textbook">
 <table aria-label="Instruction status"><thead><tr><th scope="col">entry</th><th scope="col">no.</th><th scope="col">instruction status</th><th scope="col">issue</th><th scope="col">execute</th><th scope="col">write result</th><th scope="col">commit</th></tr></thead><tbody id="status"></tbody></table>
 <table aria-label="Reservation stations"><thead><tr><th scope="col">station</th><th scope="col">busy</th><th scope="col">op</th><th scope="col">Vj</th><th scope="col">Vk</th><th scope="col">Qj</th><th scope="col">Qk</th><th scope="col">dest</th><th scope="col">A</th></tr></thead><tbody id="waiting"></tbody></table>
@@ -231,6 +254,8 @@ retired instructions; 3: to the other one; 1: this one alone. A click on an inst
 <section class="panel" data-panel="units" aria-labelledby="h-units"><h2 id="h-units" data-phase="4" title="phase 4 of 7 of a cycle: issue">Units and port</h2><span class="note">held of all; &#8594; end</span><div class="scroll six" tabindex="0" role="region" aria-labelledby="h-units"><table aria-labelledby="h-units"><thead class="unseen"><tr><th scope="col">unit</th><th scope="col">held</th><th scope="col">executes</th></tr></thead><tbody id="units"></tbody></table></div></section>
 <section class="panel" data-panel="bus" aria-labelledby="h-bus"><h2 id="h-bus" data-phase="5" title="phase 5 of 7 of a cycle: broadcast">Common data bus</h2><span class="note" id="bus-note"></span><div class="scroll six" tabindex="0" role="region" aria-labelledby="h-bus"><table aria-labelledby="h-bus"><thead class="unseen"><tr><th scope="col">stage</th><th scope="col">no.</th><th scope="col">result</th></tr></thead><tbody id="bus"></tbody></table></div></section>
 <section class="panel" data-panel="csrs" aria-labelledby="h-csrs"><h2 id="h-csrs" data-phase="2" title="phase 2 of 7 of a cycle: commit">CSRs</h2><span class="note" id="csrs-note"></span><div class="scroll ten" tabindex="0" role="region" aria-labelledby="h-csrs"><table aria-labelledby="h-csrs"><thead class="unseen"><tr><th scope="col">name</th><th scope="col">value</th><th scope="col">meaning</th></tr></thead><tbody id="csrs"></tbody></table></div></section>
+<section class="panel" data-panel="path" aria-labelledby="h-path"><h2 id="h-path">Critical path</h2><span class="note" id="path-note"></span><div class="scroll fourteen" tabindex="0" role="region" aria-labelledby="h-path"><p id="path-words"></p><table aria-labelledby="h-path">
+<thead><tr><th scope="col" title="the mark of the cause in the picture">m.</th><th scope="col">cause</th><th scope="col">cycles</th><th scope="col">share</th><th scope="col"></th></tr></thead><tbody id="causes"></tbody></table></div></section>
 <section class="panel grows counting" data-panel="counts" aria-labelledby="h-counts"><h2 id="h-counts">Counts</h2><span class="note" id="counts-note"></span><p id="counted"></p><p id="stack" role="img" aria-label="where the cycles went; the table below has the numbers"></p><div class="scroll" tabindex="0" role="region" aria-labelledby="h-counts"><table aria-labelledby="h-counts"><thead class="unseen"><tr><th scope="col">count</th><th scope="col">cycles</th><th scope="col">share</th></tr></thead><tbody id="counts"></tbody></table></div></section>
 </div>
 <div class="column" id="last">
@@ -493,6 +518,7 @@ class Run {
     const here = {
       index, cycle, ended: value.ended, interrupts: (value.steps || []).filter((step) => step.step === "interrupt"),
       stall: value.stall, phases: this.phasesIn(value), stored: before ? storedIn(state, before.state) : [], fetchedBefore: this.table.length,
+      room: roomIn(state), oldest: state.reorder_buffer.length ? value.in_flight[0] : undefined,
       changedSets: (value.sets || []).map((each) => each.set), head: state.reorder_buffer.length ? state.reorder_buffer[0].sequence : undefined,
       learned: value.learned || [], asked: this.askedIn(value),
     };
@@ -544,8 +570,8 @@ class Run {
     const buffer = value.state.reorder_buffer, all = buffer.concat(value.state.fetch_buffer);
     value.in_flight.forEach((number, k) => {
       const entry = all[k];
-      const { pc, word, fetched } = entry;
-      const known = this.table[number] || (this.table[number] = { number, pc, word, fetched, producers: [], consumers: [] });
+      const { pc, word, fetched, predicted } = entry;
+      const known = this.table[number] || (this.table[number] = { number, pc, word, fetched, predicted, producers: [], consumers: [] });
       if (k >= buffer.length) return;
       if (known.dispatched === undefined) {
         known.dispatched = entry.dispatched;
@@ -867,6 +893,319 @@ function showTables(view, followed) {
       wide(pcs.map(hex).join(" ")));
   }), 2, 5);
 }
+// The critical path, by the rules of `./rv_sim path`. An event of a run (a fetch, dispatch, issue, broadcast or commit of an instruction, the
+// start of its drain or of its write-back of lines, an interrupt) waited last for one other event: what stood in its way in the cycle before, or
+// the stage before where nothing did. Walking back so from the last step that the page shows, each cycle is on account of exactly one cause
+// (Fields, Rubin and Bodik, "Focusing processor policies via critical-path prediction", ISCA 2001).
+
+// The stamp of an instruction that says when an event came.
+const stamps = { fetch: "fetched", dispatch: "dispatched", issue: "issued", broadcast: "broadcast", commit: "left" };
+
+// What executes at its commit, after which everything younger is fetched anew: CSR instructions, mret and fence.i.
+function isSerialising(word) { return isFenceI(word) || word === 0x30200073 || ((word & 0x7f) === 0x73 && (word & 0x3000) !== 0); }
+
+// How full the hardware is between two cycles, and until when its port is held.
+function roomIn({ reorder_buffer: buffer, store_queue: stores, port_free: port }) {
+  const waiting = { alu: 0, mul: 0, div: 0, mem: 0 };
+  for (const entry of buffer) if (entry.kind && entry.issued === undefined) waiting[entry.kind] += 1;
+  return { buffered: buffer.length, waiting, stores: stores.length, port };
+}
+
+class CriticalPath {
+  constructor(run) {
+    this.run = run;
+    this.events = new Map(); // each event once, by its name
+    this.port = new Map();   // the event from which on the port was held, by the cycle in which it was idle again
+    this.drains = new Map(); // the same, of drains alone
+    this.units = new Map();  // the oldest issue that held a unit which is not pipelined, by its kind and the cycle in which it was free again
+    this.starts = new Map(); // the start of a drain or of a write-back of lines, by the instruction's number
+    this.seeStart();
+    this.seePort();
+    this.seeUnits();
+  }
+
+  // An event by its kind, its instruction's number and its cycle. One before the page has neither number nor cycle where they are not known.
+  event(kind, number, at) {
+    const cycle = at === undefined && this.run.table[number] ? this.run.table[number][stamps[kind]] : at, name = [kind, number, cycle].join(" ");
+    if (!this.events.has(name)) this.events.set(name, { name, kind, number, at: cycle });
+    return this.events.get(name);
+  }
+
+  isShown(event) { return event.at >= this.run.first; }
+
+  // A cycle of the page, and which instructions retired or trapped in it. Of the cycle before the page the room alone is known.
+  here(cycle) { return this.run.places[cycle - this.run.first + 1]; }
+  left(cycle) { return this.here(cycle).ended.filter((each) => each.end !== "squashed").map((each) => each.number); }
+
+  // What held port and units when the page begins.
+  seeStart() {
+    const { state, in_flight } = this.run.at(0), { port_free: until, store_queue: stores, reorder_buffer: [head] } = state;
+    const load = in_flight.find((number) => this.isLoadUntil(number, until)), isDrain = stores.some((store) => store.state === "draining");
+    const isCleaning = head !== undefined && isFenceI(head.word) && stores.length === 0;
+    const event = isDrain ? this.event("drain") : load !== undefined ? this.event("issue", load) : this.event(isCleaning ? "lines" : "issue");
+    if (this.run.first > 0) this.port.set(until, event);
+    if (isDrain) this.drains.set(until, event);
+    const held = kinds.flatMap((kind) => state.units[kind].map((unit) => ({ kind, ...unit })));
+    for (const { kind, since, cycles } of held) this.units.set(kind + (since + cycles), this.event("issue", undefined, since));
+  }
+
+  // The port is taken in a cycle after which it is held, until another one than before: by a drain, a load, or the lines that a fence.i writes back.
+  seePort() {
+    const { places } = this.run;
+    for (let place = 1; place < places.length; place += 1) {
+      const { cycle, room, access, phases, oldest } = places[place], until = room.port, isDrain = access !== undefined && access.what === "drain";
+      if (until <= cycle || until === places[place - 1].room.port) continue;
+      const load = isDrain ? undefined : phases.issue.find((number) => this.isLoadUntil(number, until));
+      const event = load !== undefined ? this.event("issue", load) : this.event(isDrain ? "drain" : "lines", isDrain ? access.number : oldest, cycle);
+      this.port.set(until, event);
+      if (isDrain) this.drains.set(until, event);
+      if (event.kind !== "issue") this.starts.set(event.number, event);
+    }
+  }
+
+  isLoadUntil(number, cycle) { const { word, issued, cost } = this.run.table[number]; return isLoad(word) && issued + cost === cycle; }
+
+  seeUnits() {
+    const issued = this.run.table.filter((each) => each && each.issued !== undefined);
+    for (const { number, kind, issued: since, cost } of issued.reverse()) this.units.set(kind + (since + cost), this.event("issue", number));
+  }
+
+  // The event that one waited for last, and the cause: none of a run's first event, and of events before the page.
+  before(event) {
+    if (event.wait === undefined) event.wait = this.isShown(event) ? this[event.kind](event, this.run.table[event.number]) || null : null;
+    return event.wait;
+  }
+
+  after(event, cause) { return { event, cause }; }
+  // No rule says for what. That comes in a page's first cycle alone, where the one before it is not shown.
+  otherwise(at, event) { return at > this.run.first ? this.after(event, "another cause") : undefined; }
+
+  // The event that sent the fetch elsewhere in a cycle, if one did.
+  redirection(cycle) {
+    const { interrupts, wrong, ended } = this.here(cycle), last = ended.filter((each) => each.end !== "squashed").pop();
+    if (interrupts.length) return this.after(this.event("interrupt", undefined, cycle), "refill: interrupt");
+    if (last && last.end === "trapped") return this.after(this.event("commit", last.number), "refill: trap");
+    if (last && isSerialising(last.word)) return this.after(this.event("commit", last.number), "refill: serialising instruction");
+    if (wrong === undefined) return undefined;
+    return this.after(this.event(last && last.number === wrong ? "commit" : "broadcast", wrong), "refill: wrong prediction");
+  }
+
+  fetch({ number, at }) {
+    const { table, machine } = this.run, last = table[number - 1], room = table[number - machine.fetch_buffer];
+    const anew = this.here(at).phases.fetch[0] === number && this.redirection(at);
+    if (anew) return anew;
+    if (!last) return undefined;
+    const lastFetch = this.event("fetch", number - 1), isNext = last.fetched === at - 1;
+    if (last.fetched === at) return this.after(lastFetch, "fetch in order");
+    if (isNext && this.here(at - 1).phases.fetch.length === machine.fetch_width) return this.after(lastFetch, "fetch width");
+    if (isNext && last.predicted !== (last.pc + 4) >>> 0) return this.after(lastFetch, "fetch ends at a predicted jump");
+    if (room && room.dispatched === at) return this.after(this.event("dispatch", room.number), "fetch buffer full");
+    return this.otherwise(at, lastFetch);
+  }
+
+  dispatch({ number, at }, it) {
+    const { table, machine } = this.run, last = table[number - 1] || {}, { room, phases } = this.here(at - 1);
+    if (it.fetched === at - 1) return this.after(this.event("fetch", number), "front end");
+    if (last.dispatched === at) return this.after(this.event("dispatch", number - 1), "dispatch in order");
+    const isWide = phases.dispatch.length === machine.dispatch_width;
+    if (last.dispatched === at - 1 && isWide) return this.after(this.event("dispatch", number - 1), "dispatch width");
+    return this.roomAt(at, it.kind, room) || this.otherwise(at, this.event("fetch", number));
+  }
+
+  // The event that made room for a dispatch in a cycle, where the hardware was full in the one before.
+  roomAt(at, kind, { buffered, waiting, stores }) {
+    const { table, machine } = this.run, [left] = this.left(at), issued = this.here(at).phases.issue.find((number) => table[number].kind === kind);
+    if (buffered === machine.rob && left !== undefined) return this.after(this.event("commit", left), "reorder buffer full");
+    const isFull = kind !== undefined && waiting[kind] === machine[kind].stations;
+    if (isFull && issued !== undefined) return this.after(this.event("issue", issued), kind + " stations full");
+    return stores === machine.store_queue && this.drains.has(at) ? this.after(this.drains.get(at), "store queue full") : undefined;
+  }
+
+  issue({ number, at }, it) {
+    const { table } = this.run, { phases } = this.here(at - 1);
+    if (it.dispatched === at - 1) return this.after(this.event("dispatch", number), "dispatch to issue");
+    const producer = it.producers.find((each) => table[each.number].broadcast === at - 1);
+    if (producer) return this.after(this.event("broadcast", producer.number), "operand");
+    const store = phases.broadcast.find((each) => isStore(table[each].word) && each < number);
+    if (isLoad(it.word) && store !== undefined) return this.after(this.event("broadcast", store), "address of an older store");
+    const unit = this.unitUntil(it.kind, at);
+    return unit ? this.after(unit, it.kind + " units busy") : this.portUntil(at) || this.otherwise(at, this.event("dispatch", number));
+  }
+
+  // The issue by which the units of a kind were held until a cycle: of pipelined ones the last that began in the cycle before.
+  unitUntil(kind, at) {
+    const { pipelined, units } = this.run.machine[kind], began = this.here(at - 1).phases.issue.filter((each) => this.run.table[each].kind === kind);
+    if (!pipelined) return this.units.get(kind + at);
+    return began.length === units ? this.event("issue", began[units - 1]) : undefined;
+  }
+
+  // The event from which on the port was held until a cycle.
+  portUntil(at) {
+    const event = this.port.get(at);
+    return event && this.after(event, { drain: "port: a store", issue: "port: a load", lines: "port: lines written back" }[event.kind]);
+  }
+
+  broadcast({ number, at }, it) {
+    const issue = this.event("issue", number), went = this.here(at - 1).phases.broadcast;
+    if (it.issued + it.cost === at) return this.after(issue, this.execution(it, issue, at));
+    if (went.length === this.run.machine.bus_width) return this.after(this.event("broadcast", went[went.length - 1]), "common data bus full");
+    return this.otherwise(at, issue);
+  }
+
+  execution(it, issue, at) {
+    if (!isLoad(it.word)) return "execution: " + it.kind;
+    if (this.port.get(at) !== issue) return "load: forwarded, or faulted";
+    return it.cost === this.run.machine.cache.hit ? "load: hit" : "load: miss";
+  }
+
+  commit({ number, at }, it) {
+    const done = this.event(it.broadcast === undefined ? "dispatch" : "broadcast", number), left = this.left(at), place = left.indexOf(number);
+    if (done.at === at - 1) return this.after(done, "commit");
+    if (place > 0) return this.after(this.event("commit", left[place - 1]), "commit in order");
+    const held = this.port.get(at), isOwn = held !== undefined && held.kind === "lines" && held.number === number;
+    const ofFence = () => isOwn ? this.after(held, "lines written back") : this.afterStores(at);
+    return (isFenceI(it.word) ? ofFence() : this.afterLeft(at, this.run.machine.commit_width)) || this.otherwise(at, done);
+  }
+
+  // The last that left in the cycle before.
+  afterLeft(at, width) {
+    const went = this.left(at - 1), cause = went.length === width ? "commit width" : "commit in order";
+    return went.length ? this.after(this.event("commit", went[went.length - 1]), cause) : undefined;
+  }
+
+  // What a fence.i waits for: the older stores, which leave the queue after the commit of a cycle, the port, and before both to be the oldest.
+  afterStores(at) {
+    const drain = this.drains.get(at - 1);
+    return drain ? this.after(drain, "port: a store") : this.portUntil(at) || this.afterLeft(at);
+  }
+
+  lines({ number, at }, it) {
+    const left = this.left(at), dispatch = this.event("dispatch", number);
+    if (it.dispatched === at - 1) return this.after(dispatch, "commit");
+    if (left.length) return this.after(this.event("commit", left[left.length - 1]), "commit in order");
+    return this.afterStores(at) || this.otherwise(at, dispatch);
+  }
+
+  drain({ number, at }, it) {
+    if (it && it.left === at) return this.after(this.event("commit", number), "drain");
+    return this.portUntil(at) || (it && this.otherwise(at, this.event("commit", number)));
+  }
+
+  interrupt({ at }) {
+    const last = this.lastStep(at - 1);
+    return last ? this.after(last, "until the interrupt") : this.run.first > 0 ? this.after(this.event("commit"), "until the interrupt") : undefined;
+  }
+
+  // The last step up to a cycle: a retirement, a trap or an interrupt.
+  lastStep(until) {
+    for (let cycle = until; cycle >= this.run.first; cycle -= 1) {
+      const left = this.left(cycle);
+      if (left.length) return this.event("commit", left[left.length - 1]);
+      if (this.here(cycle).interrupts.length) return this.event("interrupt", undefined, cycle);
+    }
+    return undefined;
+  }
+}
+// The account of a page: the critical path to the last step that it shows, and the one cause that each of its cycles is on account of.
+
+// The causes of `./rv_sim path`, in its order, by the sorts in which they are marked; those at the end have no cycles.
+const causeSorts = {
+  "refill: wrong prediction": "refill", "refill: trap": "refill", "refill: interrupt": "refill", "refill: serialising instruction": "refill",
+  "fetch width": "front", "fetch ends at a predicted jump": "front", "front end": "front", "dispatch width": "front", "store queue full": "room",
+  "dispatch to issue": "front", operand: "operand", "address of an older store": "operand",
+  "alu units busy": "unit", "mul units busy": "unit", "div units busy": "unit", "mem units busy": "unit",
+  "port: a store": "port", "port: a load": "port", "port: lines written back": "port",
+  "execution: alu": "execution", "execution: mul": "execution", "execution: div": "execution", "execution: mem": "execution",
+  "load: forwarded, or faulted": "load", "load: hit": "load", "load: miss": "load", "common data bus full": "bus",
+  commit: "commit", "commit in order": "commit", "commit width": "commit", "lines written back": "port", "until the interrupt": "interrupt",
+  "another cause": "rest",
+  "fetch in order": "front", "dispatch in order": "front", "fetch buffer full": "room", "reorder buffer full": "room",
+  "alu stations full": "room", "mul stations full": "room", "div stations full": "room", "mem stations full": "room", drain: "commit",
+};
+
+// Each sort has a letter, so that its marks are told apart without their colours.
+const sorts = {
+  refill: ["r", "refill"], front: ["f", "front end"], room: ["n", "no room"], operand: ["o", "operand"], unit: ["u", "unit busy"],
+  execution: ["e", "execution"], load: ["l", "load"], port: ["p", "port"], bus: ["b", "bus full"], commit: ["c", "commit"],
+  interrupt: ["i", "until an interrupt"], rest: ["-", "none"],
+};
+
+const beforeFirst = "before the first event", afterLast = "after the last step";
+function sortOf(cause) { return causeSorts[cause] || "rest"; }
+
+class Account {
+  constructor(run) {
+    this.run = run;
+    this.path = new CriticalPath(run);
+    this.end = this.path.lastStep(run.last);
+    this.steps = this.stepsTo(this.end);
+    this.spans = this.spansOf();
+    this.shares = this.sharesOf();
+    this.marked = new Set(this.steps.map(({ event }) => event.name));
+    // (of a store that drains in the cycle of its commit the letter is that of the commit)
+    this.cells = new Map([...this.steps].reverse().map((step) => [step.event.number + " " + step.to, step]));
+  }
+
+  // The path from its first event to the last one, which it waited for and why: a step of the path begins in the cycle of the event that was
+  // waited for, or with the page.
+  stepsTo(end) {
+    const { path } = this, { first } = this.run, found = [];
+    for (let event = end; event && path.isShown(event);) {
+      const wait = path.before(event), from = wait && path.isShown(wait.event) ? wait.event.at : first;
+      found.push({ event, wait, from, to: event.at, cause: wait ? this.causeOf(event) : beforeFirst });
+      event = wait && wait.event;
+    }
+    return found.reverse();
+  }
+
+  // The cause of the cycles between an event and the one that it waited for: where the fetch began anew, that of it, up to the first issue or
+  // commit after it.
+  causeOf(event) {
+    const { event: other, cause } = this.path.before(event);
+    return (event.kind !== "lines" && this.refillTo(other)) || cause;
+  }
+
+  // Why the fetch began anew before an event, where no instruction issued or left since.
+  refillTo(event) {
+    const passed = [];
+    let found = "";
+    for (let at = event; at.kind === "fetch" || at.kind === "dispatch";) {
+      const wait = this.path.before(at);
+      if (at.refill !== undefined) { found = at.refill; break; }
+      passed.push(at);
+      if (!wait) break;
+      if (wait.cause.startsWith("refill")) { found = wait.cause; break; }
+      at = wait.event;
+    }
+    for (const each of passed) each.refill = found;
+    return found;
+  }
+
+  // The cycles of the page from the first to the last, each with the step that it belongs to; after the last step there is none.
+  spansOf() {
+    const { first, last } = this.run, found = Array(last + 1 - first);
+    for (const step of this.steps) found.fill(step, step.from - first, step.to - first);
+    return found;
+  }
+
+  // How many cycles each cause has, the greatest first, and at the end those before the first event and after the last step.
+  sharesOf() {
+    const cycles = new Map([...Object.keys(causeSorts), beforeFirst, afterLast].map((cause) => [cause, 0]));
+    for (let k = 0; k < this.spans.length; k += 1) {
+      const cause = this.spans[k] ? this.spans[k].cause : afterLast;
+      cycles.set(cause, cycles.get(cause) + 1);
+    }
+    const all = [...cycles].map(([cause, count]) => ({ cause, cycles: count })), isEnd = ({ cause }) => cause === beforeFirst || cause === afterLast;
+    return [...all.filter((each) => !isEnd(each) && each.cycles > 0).sort((a, b) => b.cycles - a.cycles), ...all.filter(isEnd)];
+  }
+
+  // The step of a cycle.
+  stepIn(cycle) { return this.spans[cycle - this.run.first]; }
+
+  // The last event of the path up to a cycle, and the one of it that waited for an event.
+  eventUpTo(cycle) { return (this.steps.filter((each) => each.to <= cycle).pop() || {}).event; }
+  eventAfter(event) { return (this.steps.find((each) => each.wait && each.wait.event === event) || {}).event; }
+}
 // What is drawn. An element is described by a plain object, and the document is brought to the description: a step changes only what differs.
 // All text of a program goes into text nodes, never into markup.
 
@@ -1056,12 +1395,19 @@ function sizeType(factor) {
   document.documentElement.style.setProperty("--size", settings.size);
 }
 
+// The panels that a switch brings, and those that make room for them.
+function isLeftOut(name) {
+  const brought = { textbook: settings.textbook, waits: showsPath(), path: showsPath() };
+  const left = { rob: settings.textbook || showsPath(), stations: settings.textbook, csrs: showsPath() };
+  return name in brought ? !brought[name] : Boolean(left[name]);
+}
+
 // The panels by name, and those that are left out. A column without a panel gives its room to the others.
 function panelNames() { return [...document.querySelectorAll("[data-panel]")].map((each) => each.dataset.panel); }
 function showPanels() {
   for (const each of document.querySelectorAll("[data-panel]")) {
-    const name = each.dataset.panel, isOther = name === "textbook" ? !settings.textbook : settings.textbook && ["rob", "stations"].includes(name);
-    each.hidden = isOther || settings.without.has(name);
+    const name = each.dataset.panel;
+    each.hidden = isLeftOut(name) || settings.without.has(name);
   }
   for (const each of document.querySelectorAll(".column")) each.hidden = !each.querySelector(".panel:not([hidden])");
 }
@@ -1316,6 +1662,7 @@ function markFollowed(view, box) {
 const panels = {
   fetch: showFetch, predictor: showPredictor, rob: showReorderBuffer, textbook: showTextbook, stations: showStations, units: showUnits, bus: showBus,
   stores: showStores, registers: showRegisters, csrs: showCsrs, cache: showCache, accesses: showAccesses, counts: showCounts,
+  waits: showWaits, path: showPath,
 };
 // These are drawn though they are left out, since their texts are compared where two runs stand side by side.
 const compared = ["registers", "csrs", "counts"];
@@ -1402,10 +1749,14 @@ function sizePicture(run) {
   pictured.numbers = shown.map((each) => each.number);
   pictured.rows = new Map(pictured.numbers.map((number, k) => [number, k]));
   byId("picture-space").style.width = picture.label + run.places.length * picture.column + "rem";
-  byId("picture-space").style.height = (shown.length + 2) * picture.row + "rem";
+  byId("picture-space").style.height = (shown.length + 1 + headRows()) * picture.row + "rem";
+  byId("picture").classList.toggle("with-path", showsPath());
   note("picture-note", counted(all.length, "instruction") + " fetched in cycles " + run.first + " to " + run.last +
     (all.length > shown.length ? ", " + (all.length - shown.length) + " hidden" : ""));
 }
+
+// The heads are the cycles, and with the critical path the cause of each.
+function headRows() { return showsPath() ? 2 : 1; }
 
 // The row of the first instruction that is not older than a number.
 function rowFrom(number) {
@@ -1426,14 +1777,15 @@ function scrollPicture(view) {
   const first = flying.length ? flying[0] : Math.max(0, beside - 2), last = flying.length ? flying[flying.length - 1] : beside;
   // A row stands below the heads, which stay at the top of the box.
   const see = (first, last) => {
-    const least = Math.ceil(last + 2 - high / height) * height, most = first * height;
+    const least = Math.ceil(last + 1 + headRows() - high / height) * height, most = first * height;
     if (top < least) top = least;
     if (top > most) top = most;
   };
   see(first, last);
   // The followed one is seen before others, while it is in flight and where it has just left.
   const followed = run.table[view.followed], its = pictured.rows.get(view.followed), cycle = run.cycleOf(place);
-  if (its !== undefined && followed.fetched <= cycle && !(followed.left < cycle)) see(its, its);
+  const isPresent = its !== undefined && followed.fetched <= cycle && !(followed.left < cycle), isEvent = view.event && view.event.at === cycle;
+  if (isPresent || (its !== undefined && isEvent && view.event.number === view.followed)) see(its, its);
   scrollBox("picture", Math.max(0, top), left);
 }
 
@@ -1458,7 +1810,8 @@ function drawPicture(view) {
     const kinds = words("head", interrupt && "interrupt", now && "now");
     heads.push(element("div", { class: kinds, "data-go": cycle, style: "left:" + columnAt(column), title }, text));
   }
-  draw("picture-heads", heads);
+  draw("picture-heads", showsPath() ? [...heads, ...causeHeads(run, firstColumn, lastColumn)] : heads);
+  draw("picture-path", showsPath() ? pathLines(run, firstRow, lastRow, firstColumn, lastColumn) : []);
   byId("picture-cursor").style.left = columnAt(view.place - 1);
   byId("picture-cursor").hidden = view.place === 0;
 }
@@ -1479,7 +1832,7 @@ function pictureRows(view, numbers, firstRow, firstColumn, lastColumn) {
     const instruction = run.table[number], { fetched, left } = instruction;
     const end = left !== undefined && (!settings.quiz || left <= now) ? instruction.end : undefined;
     const from = Math.max(fetched, run.first + firstColumn), to = Math.min(left === undefined ? run.last : left, run.first + lastColumn);
-    const sign = [firstRow + k, from, to, end].join(), before = drawnBefore.get(number);
+    const sign = [firstRow + k, from, to, end, showsPath()].join(), before = drawnBefore.get(number);
     drawn.set(number, before && before.sign === sign ? before : { sign, ...pictureRow(run, instruction, firstRow + k, from, to, end) });
   });
   drawnBefore = drawn;
@@ -1491,16 +1844,17 @@ function pictureRows(view, numbers, firstRow, firstColumn, lastColumn) {
 function pictureRow(run, instruction, k, from, to, end) {
   const { number, pc } = instruction, cells = [];
   for (let cycle = from; cycle <= to; cycle += 1) {
-    const letter = letterOf(instruction, cycle);
-    const title = "#" + number + " in cycle " + cycle + ": " + letterWords[letter];
-    cells.push(span("cell " + cellClass(letter), letter, { key: cycle, role: "cell", title, "data-cycle": cycle }));
+    const letter = letterOf(instruction, cycle), step = pathMark(number, cycle);
+    const title = "#" + number + " in cycle " + cycle + ": " + letterWords[letter] + (step ? "; on the critical path: " + stepWords(step) : "");
+    const kind = "cell " + cellClass(letter) + (step ? " on-path sort-" + sortOf(step.cause) : "");
+    cells.push(span(kind, letter, { key: cycle, role: "cell", title, "data-cycle": cycle }));
   }
   const statement = run.statement(instruction).replace(/\s+/g, " "), id = "label-" + number, label = labelOf(number, pc, statement);
   return {
     label: element("div", { class: words("label", { squashed: "gone", trapped: "trap" }[end]), key: number, id, role: "rowheader", "data-number": number,
       title: hex(pc) + " " + statement, style: "top:" + k * picture.row + "rem;" + (smaller(label, labelRoom) || "") }, label),
     row: element("div", { class: "row", key: number, role: "row", "aria-owns": id, "data-number": number,
-      style: "top:" + (k + 1) * picture.row + "rem;padding-left:" + columnAt(from - run.first) }, ...cells),
+      style: "top:" + (k + headRows()) * picture.row + "rem;padding-left:" + columnAt(from - run.first) }, ...cells),
   };
 }
 
@@ -1518,7 +1872,7 @@ function drawArrows(view) {
     const from = pictured.rows.get(number), { broadcast } = run.table[number];
     if (from === undefined || !isKnown(broadcast)) continue;
     const to = isKnown(followed.issued) ? followed.issued : Math.max(broadcast + 1, Math.min(cycle, run.last));
-    const x = (at) => picture.label + (at - run.first + 0.5) * picture.column, y = (k) => (k + 1.5) * picture.row;
+    const x = (at) => picture.label + (at - run.first + 0.5) * picture.column, y = (k) => (k + headRows() + 0.5) * picture.row;
     lines.push(element("path", { class: "arrow", d: "M" + x(broadcast) + " " + (y(from) + 0.5) + " L" + x(to) + " " + (y(row) - 0.5), "data-from": number }));
   }
   const size = [byId("picture-space").style.width, byId("picture-space").style.height].map(parseFloat);
@@ -1528,11 +1882,188 @@ function drawArrows(view) {
 function showLegend() {
   const item = (kind, letter, word) => element("span", {}, element("b", { class: kind }, letter), " " + word);
   const items = Object.entries(letterWords).map(([letter, word]) => item(cellClass(letter), letter, word));
-  draw("legend", [...items, item("interrupt", "!", "interrupt")]);
+  draw("legend", [...items, item("interrupt", "!", "interrupt"), ...(showsPath() ? pathLegend() : [])]);
 }
 
 function cellClass(letter) {
   return { F: "f", D: "d", I: "i", "=": "e", "~": "r", B: "b", C: "c", T: "t", x: "x", ".": "w" }[letter];
+}
+// What the page says of the critical path: for what each event of the followed instruction waited last, the causes of all cycles, and the keys
+// that go from an event to the one that it waited for, and back.
+
+// In the quiz the path would say what comes.
+function showsPath() { return settings.path && !settings.quiz; }
+
+// It is worked out when it is asked for first.
+function account() { return view.account || (view.account = new Account(run)); }
+
+const eventNames = { lines: "write-back of lines", commit: "commit" };
+const eventLetters = { fetch: "F", dispatch: "D", issue: "I", broadcast: "B", commit: "C", trap: "T" };
+function eventName({ kind, number }) {
+  const isTrap = kind === "commit" && number !== undefined && run.table[number].end === "trapped";
+  return isTrap ? "trap" : eventNames[kind] || kind;
+}
+
+// The events of an instruction that the page knows, in their order.
+function eventsOf(number) {
+  const { path } = account(), it = run.table[number], start = path.starts.get(number), isLines = start !== undefined && start.kind === "lines";
+  const stages = ["fetch", "dispatch", "issue", "broadcast"].map((kind) => path.event(kind, number));
+  const end = it.end === "retired" || it.end === "trapped" ? [path.event("commit", number)] : [];
+  const all = isLines ? [...stages, start, ...end] : [...stages, ...end, start];
+  return all.filter((event) => event !== undefined && event.at !== undefined);
+}
+
+// An event as one of an instruction speaks of it: as its own, or by the number of the other instruction.
+function eventWords(event, number) {
+  const { kind, number: its } = event;
+  if (kind === "interrupt") return "the interrupt";
+  if (its === undefined) return kind === "commit" ? "an earlier step" : "an earlier " + eventName(event);
+  return its === number ? "its " + eventName(event) : "the " + eventName(event) + " of #" + its;
+}
+
+function cyclesOf(event, wait) { return wait.event.at === undefined ? undefined : event.at - wait.event.at; }
+
+// For what an event waited last, in a sentence.
+function eventSentence(event) {
+  const words = eventWords(event), wait = account().path.before(event), isFirst = event.at >= run.first && run.first === 0;
+  const said = words[0].toUpperCase() + words.slice(1) + " in cycle " + event.at + ": ";
+  if (!wait) return said + (isFirst ? "the first event of the run." : "what it waited for came before this page.");
+  const cycles = cyclesOf(event, wait), since = wait.event.at === undefined ? " before this page" : " in cycle " + wait.event.at;
+  const count = cycles === undefined ? "." : ", " + counted(cycles, "cycle") + ".";
+  return said + "it waited last for " + eventWords(wait.event, event.number) + since + ": " + account().causeOf(event) + count;
+}
+
+function badge(cause) {
+  const sort = sortOf(cause), [letter, words] = sorts[sort];
+  return element("b", { class: "badge sort-" + sort, title: words }, letter);
+}
+
+// A row for each event of the followed instruction.
+function showWaits(view) {
+  const it = run.table[view.followed];
+  note("waits-note", it ? called(run, view.followed) : "follow an instruction: a click on it, or j");
+  fill("waits", it ? eventsOf(view.followed).map((event) => waitRow(event)) : [], 6, 6);
+}
+
+function waitRow(event) {
+  const { path, marked } = account(), wait = path.before(event), isOn = marked.has(event.name), name = eventName(event), letter = eventLetters[name];
+  const head = element("th", { scope: "row", class: letter ? "cell " + cellClass(letter) : "", title: name }, letter || name);
+  const on = element("td", { title: isOn ? "on the critical path" : "not on the critical path" }, isOn ? "on" : "");
+  if (!wait) return row({}, head, event.at, wide(event.at > 0 ? "not on this page" : "nothing: the first event"), "", "", on);
+  const cause = account().causeOf(event), cycles = cyclesOf(event, wait), { event: other } = wait;
+  const words = eventWords(other, event.number) + (other.at === undefined ? "" : " in " + other.at);
+  const button = element("button", { class: "tag", type: "button", "data-event": event.name, title: "go there (e)", tabindex: -1 }, words);
+  const why = element("td", {}, badge(cause), " " + cause), count = cycles === undefined ? "" : cycles;
+  return row({ class: isOn ? "on-path" : "" }, head, event.at, wide(path.isShown(other) ? button : words), why, count, on);
+}
+
+// How many of the page's cycles each cause has.
+function showPath() {
+  const { end, shares } = account(), all = run.last + 1 - run.first;
+  note("path-note", end === undefined ? "no step here" : "to " + eventWords(end) + " in " + end.at);
+  const from = "The page begins with cycle " + run.first + ": the path is counted from there, and what came before is not known.";
+  note("path-words", run.first > 0 ? from : "");
+  // (a share is rounded down, as the program has it)
+  const share = (cycles) => all === 0 ? "-" : (Math.floor(1000 * cycles / all) / 10).toFixed(1) + "%";
+  fill("causes", shares.map(({ cause, cycles }) => row({}, element("td", {}, badge(cause)), heading(cause), cycles, share(cycles),
+    wide(span("bar sort-" + sortOf(cause), "", { style: "width:" + share(cycles) })))), 6, 5);
+}
+
+// The event at which the reader is: the one that a key went to, else the last one of the followed instruction up to the cursor.
+function eventNow() {
+  const cycle = run.cycleOf(view.place), { event, followed } = view;
+  if (event && event.at === cycle && event.number === followed) return event;
+  Object.assign(view, { event: undefined, trail: [] });
+  const known = followed === undefined ? [] : eventsOf(followed).filter((each) => each.at <= cycle);
+  return known.sort((a, b) => a.at - b.at).pop();
+}
+
+// What a key went to, in words.
+function toldEvent() { return view.event && eventNow() === view.event ? eventSentence(view.event) + " " : ""; }
+
+function goToEvent(event) {
+  view.event = event;
+  view.followed = event.number;
+  go(event.at - run.first + 1);
+}
+
+// Goes to the event that an event waited for last.
+function goBefore(event) {
+  const { path } = account(), wait = path.before(event);
+  view.event = event;
+  if (!wait || !path.isShown(wait.event)) return showFollowed();
+  view.trail = [...(view.trail || []), event];
+  goToEvent(wait.event);
+}
+
+// The key there: where no instruction is followed, first to the last event of the path up to the cursor.
+function stepBefore() {
+  const now = eventNow(), last = account().eventUpTo(run.cycleOf(view.place));
+  if (now) return goBefore(now);
+  if (last) return goToEvent(last);
+  say("No event of the critical path comes up to this cycle.");
+}
+
+// And back: to the event from which the reader came, else to that of the path which waited for this one.
+function stepAfter() {
+  const now = eventNow(), back = (view.trail || []).pop() || (now && account().eventAfter(now));
+  if (back) return goToEvent(back);
+  say("No event waited for this one on the critical path.");
+}
+
+// A click on what an event waited for.
+function goFromRow(name) {
+  eventNow();
+  goBefore(account().path.events.get(name));
+}
+// The critical path through the picture: a ring around each event on it, a line from event to event, and above them the cause of each cycle.
+
+// The step of the path that ends with an instruction's event in a cycle.
+function pathMark(number, cycle) { return showsPath() ? account().cells.get(number + " " + cycle) : undefined; }
+
+function stepWords({ event, wait, cause }) {
+  if (!wait) return "the first event";
+  return eventName(event) + " waited last for " + eventWords(wait.event, event.number) + ": " + cause;
+}
+
+// The cause of each cycle that is drawn, by its letter.
+function causeHeads(run, firstColumn, lastColumn) {
+  const heads = [element("div", { class: "corner", key: "causes" }, "critical path")];
+  for (let column = firstColumn; column <= lastColumn; column += 1) {
+    const cycle = run.first + column, step = account().stepIn(cycle), cause = step ? step.cause : afterLast, sort = sortOf(cause);
+    const title = "cycle " + cycle + ": " + cause + (step && step.event.number !== undefined ? ", #" + step.event.number : "");
+    const place = { key: cycle, "data-go": cycle, style: "left:" + columnAt(column), title };
+    heads.push(element("div", { class: "cause badge sort-" + sort, ...place }, sorts[sort][0]));
+  }
+  return heads;
+}
+
+// The row of an event; an interrupt and a hidden instruction have none.
+function rowOf(event) { return pictured.rows.get(event.number); }
+
+// A line for each step that is in view, below the letters: in the cycle of the event that was waited for to the row of the one that waited, and
+// along to it. Of a step between a row and none, as of an interrupt, the row's part is drawn.
+function pathLines(run, firstRow, lastRow, firstColumn, lastColumn) {
+  const first = run.first + firstColumn, last = run.first + lastColumn, lines = [];
+  const wide = (lastColumn - firstColumn + 1) * picture.column, high = (lastRow - firstRow + 1) * picture.row;
+  const x = (cycle) => ((cycle - first + 0.5) * picture.column).toFixed(2), y = (k) => ((k - firstRow + 0.92) * picture.row).toFixed(2);
+  for (const { event, wait, from, to, cause } of account().steps) {
+    if (to < first || from > last || !wait) continue;
+    const own = rowOf(event), other = account().path.isShown(wait.event) ? rowOf(wait.event) : undefined;
+    const end = own === undefined ? other : own, start = other === undefined ? own : other;
+    if (end === undefined || Math.max(start, end) < firstRow || Math.min(start, end) > lastRow) continue;
+    lines.push(element("path", { class: "step sort-" + sortOf(cause), d: "M" + x(from) + " " + y(start) + "V" + y(end) + "H" + x(to) }));
+  }
+  const place = "left:" + columnAt(firstColumn) + ";top:" + (firstRow + headRows()) * picture.row + "rem;width:" + wide + "rem;height:" + high + "rem";
+  return [element("svg", { viewBox: "0 0 " + wide + " " + high, style: place }, ...lines)];
+}
+
+// The sorts of causes that the page's cycles have.
+function pathLegend() {
+  const known = new Set(account().shares.filter(({ cycles }) => cycles > 0).map(({ cause }) => sortOf(cause)));
+  const item = (key, kind, letter, word) => element("span", { key }, element("b", { class: kind }, letter), " " + word);
+  const items = Object.entries(sorts).filter(([sort]) => known.has(sort)).map(([sort, [letter, word]]) => item(sort, "badge sort-" + sort, letter, word));
+  return [item("event", "on-path", "F", "on the critical path, which waited for"), ...items];
 }
 // Jumps: to the next cycle, or the one before, in which something happens; to an address, a register; and breakpoints.
 
@@ -1669,6 +2200,8 @@ function turnQuiz() {
   settings.quiz = !settings.quiz;
   byId("quiz").hidden = !settings.quiz;
   Object.assign(quiz, { asked: 0, right: 0 });
+  showPanels();
+  showLegend();
   sizePicture(run);
   show();
   if (settings.quiz) { ask(); return byId("answer").focus(); }
@@ -1903,7 +2436,8 @@ function turnPair() {
 }
 // The cursor: buttons, keys, the address of the page, and play.
 
-const settings = { abi: false, speed: 2, size: 1, hide: false, textbook: false, quiz: false, without: new Set() };
+const settings = { abi: false, speed: 2, size: 1, hide: false, textbook: false, path: false, quiz: false, without: new Set() };
+const switches = ["abi", "hide", "textbook", "path"];
 const run = new Run(byId("run").textContent);
 const view = { run, place: 0, followed: undefined, address: undefined, register: 0, breakpoints: new Set(), line: undefined, before: undefined };
 const lastPlace = run.places.length - 1;
@@ -1926,7 +2460,8 @@ function show() {
 
 function showFollowed() {
   const followed = view.followed;
-  say(followed === undefined ? "Follow an instruction: click on it, or press j." : instructionSentence(run, followed, view.place) + relatives(followed));
+  const told = toldEvent(), ask = told ? "" : "Follow an instruction: click on it, or press j.";
+  say(told + (followed === undefined ? ask : instructionSentence(run, followed, view.place) + relatives(followed)));
   markFollowed(view);
   drawArrows(view);
 }
@@ -1952,10 +2487,10 @@ function go(place, asked) {
 // The cursor's cycle, the followed instruction and what is shown stand in the page's address, so that a lecture can point to them.
 function writeAddress() {
   const words = new URLSearchParams(location.hash.slice(1));
-  for (const name of ["cycle", "follow", "abi", "hide", "textbook", "size", "without", "address"]) words.delete(name);
+  for (const name of ["cycle", "follow", ...switches, "size", "without", "address"]) words.delete(name);
   words.set("cycle", run.cycleOf(view.place));
   if (view.followed !== undefined) words.set("follow", view.followed);
-  for (const name of ["abi", "hide", "textbook"]) if (settings[name]) words.set(name, "");
+  for (const name of switches) if (settings[name]) words.set(name, "");
   if (settings.size !== 1) words.set("size", settings.size);
   if (settings.without.size) words.set("without", [...settings.without].join(","));
   history.replaceState(null, "", "#" + words.toString().replace(/=(?=&|$)/g, ""));
@@ -1975,7 +2510,7 @@ function readAddress() {
   const cycle = number("cycle"), followed = number("follow"), at = words.get("address"), size = Number(words.get("size"));
   view.followed = run.table[followed] ? followed : undefined;
   view.address = at && /^[0-9a-f]{1,8}$/i.test(at) ? parseInt(at, 16) : undefined;
-  for (const name of ["abi", "hide", "textbook"]) settings[name] = words.has(name);
+  for (const name of switches) settings[name] = words.has(name);
   if (size > 0) sizeType(size);
   settings.without = new Set((words.get("without") || (framed ? framedWithout : "")).split(",").filter((name) => panelNames().includes(name)));
   lecture.stops = readStops(words.get("notes") || byId("notes").textContent);
@@ -1989,8 +2524,9 @@ const framedWithout = "source,fetch,predictor,stores,stations,units,bus,csrs,cac
 
 // After a change of what is shown.
 function settle() {
-  for (const name of ["abi", "hide", "textbook"]) byId(name).checked = settings[name];
+  for (const name of switches) byId(name).checked = settings[name];
   showPanels();
+  showLegend();
   drawSwitches();
   sizePicture(run);
   show();
@@ -2009,6 +2545,7 @@ function say(text) { note("following", text); }
 
 function follow(number) {
   view.followed = run.table[number] ? number : undefined;
+  if (showsPath()) showWaits(view);
   scrollPicture(view);
   drawPicture(view);
   showPredictor(view);
@@ -2063,7 +2600,8 @@ const keys = {
   j: () => followNext(1), k: () => followNext(-1), Escape: () => follow(undefined), "?": showKeys,
   a: () => turn("abi"), h: () => turn("hide"), o: () => turn("textbook"), g: () => byId("cycle").select(), d: () => byId("address").select(),
   "]": () => resize(1.15), "[": () => resize(1 / 1.15), "0": () => resize(1), p: showSwitches,
-  b: turnBreakpoint, B: () => jump("breakpoint", 1), ".": () => goToStop(1), ",": () => goToStop(-1), q: turnQuiz,
+  b: turnBreakpoint, B: () => jump("breakpoint", 1), l: () => turn("path"), e: stepBefore, E: stepAfter,
+  ".": () => goToStop(1), ",": () => goToStop(-1), q: turnQuiz,
   v: () => save(false), V: () => save(true), "2": turnPair, "3": () => tellPair("other"), "1": () => tellPair("alone"),
 };
 for (const [key, what] of Object.entries({ r: "retirement", w: "wrong", t: "trap", i: "interrupt", s: "stall", c: "access", m: "miss", x: "register", y: "stored" })) {
@@ -2089,8 +2627,9 @@ function onKey(event) {
 }
 
 function onClick(event) {
-  const step = event.target.closest("[data-step]"), head = event.target.closest("[data-go]"), instruction = event.target.closest("[data-number]");
+  const [step, head, instruction, waited] = ["step", "go", "number", "event"].map((name) => event.target.closest("[data-" + name + "]"));
   if (step) steps[step.dataset.step]();
+  else if (waited) goFromRow(waited.dataset.event);
   else if (head) go(Number(head.dataset.go) - run.first + 1);
   else if (instruction) follow(Number(instruction.dataset.number));
 }
@@ -2117,7 +2656,7 @@ function listen() {
   byId("slider").addEventListener("input", (event) => go(Number(event.target.value) - run.first + 1));
   byId("cycle").addEventListener("change", (event) => { if (event.target.value !== "") go(Number(event.target.value) - run.first + 1); });
   byId("address").addEventListener("change", (event) => goToTyped(event.target.value.trim()));
-  for (const name of ["abi", "hide", "textbook"]) byId(name).addEventListener("change", () => turn(name));
+  for (const name of switches) byId(name).addEventListener("change", () => turn(name));
   byId("play").addEventListener("click", () => play(!playing));
   byId("help").addEventListener("click", showKeys);
   byId("panels").addEventListener("click", showSwitches);
@@ -2153,7 +2692,6 @@ function start() {
   listen();
   for (const id of ["slider", "cycle"]) { byId(id).min = run.first - 1; byId(id).max = run.last; }
   note("range", "of " + run.first + " to " + run.last);
-  showLegend();
   showMachine(run);
   sizeList("source", run.listing.length);
   sizeList("memory", run.memoryRows.length);

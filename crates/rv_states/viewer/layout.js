@@ -75,12 +75,19 @@ function sizeType(factor) {
   document.documentElement.style.setProperty("--size", settings.size);
 }
 
+// The panels that a switch brings, and those that make room for them.
+function isLeftOut(name) {
+  const brought = { textbook: settings.textbook, waits: showsPath(), path: showsPath() };
+  const left = { rob: settings.textbook || showsPath(), stations: settings.textbook, csrs: showsPath() };
+  return name in brought ? !brought[name] : Boolean(left[name]);
+}
+
 // The panels by name, and those that are left out. A column without a panel gives its room to the others.
 function panelNames() { return [...document.querySelectorAll("[data-panel]")].map((each) => each.dataset.panel); }
 function showPanels() {
   for (const each of document.querySelectorAll("[data-panel]")) {
-    const name = each.dataset.panel, isOther = name === "textbook" ? !settings.textbook : settings.textbook && ["rob", "stations"].includes(name);
-    each.hidden = isOther || settings.without.has(name);
+    const name = each.dataset.panel;
+    each.hidden = isLeftOut(name) || settings.without.has(name);
   }
   for (const each of document.querySelectorAll(".column")) each.hidden = !each.querySelector(".panel:not([hidden])");
 }

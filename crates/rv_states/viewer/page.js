@@ -1,6 +1,7 @@
 // The cursor: buttons, keys, the address of the page, and play.
 
-const settings = { abi: false, speed: 2, size: 1, hide: false, textbook: false, quiz: false, without: new Set() };
+const settings = { abi: false, speed: 2, size: 1, hide: false, textbook: false, path: false, quiz: false, without: new Set() };
+const switches = ["abi", "hide", "textbook", "path"];
 const run = new Run(byId("run").textContent);
 const view = { run, place: 0, followed: undefined, address: undefined, register: 0, breakpoints: new Set(), line: undefined, before: undefined };
 const lastPlace = run.places.length - 1;
@@ -23,7 +24,8 @@ function show() {
 
 function showFollowed() {
   const followed = view.followed;
-  say(followed === undefined ? "Follow an instruction: click on it, or press j." : instructionSentence(run, followed, view.place) + relatives(followed));
+  const told = toldEvent(), ask = told ? "" : "Follow an instruction: click on it, or press j.";
+  say(told + (followed === undefined ? ask : instructionSentence(run, followed, view.place) + relatives(followed)));
   markFollowed(view);
   drawArrows(view);
 }
@@ -49,10 +51,10 @@ function go(place, asked) {
 // The cursor's cycle, the followed instruction and what is shown stand in the page's address, so that a lecture can point to them.
 function writeAddress() {
   const words = new URLSearchParams(location.hash.slice(1));
-  for (const name of ["cycle", "follow", "abi", "hide", "textbook", "size", "without", "address"]) words.delete(name);
+  for (const name of ["cycle", "follow", ...switches, "size", "without", "address"]) words.delete(name);
   words.set("cycle", run.cycleOf(view.place));
   if (view.followed !== undefined) words.set("follow", view.followed);
-  for (const name of ["abi", "hide", "textbook"]) if (settings[name]) words.set(name, "");
+  for (const name of switches) if (settings[name]) words.set(name, "");
   if (settings.size !== 1) words.set("size", settings.size);
   if (settings.without.size) words.set("without", [...settings.without].join(","));
   history.replaceState(null, "", "#" + words.toString().replace(/=(?=&|$)/g, ""));
@@ -72,7 +74,7 @@ function readAddress() {
   const cycle = number("cycle"), followed = number("follow"), at = words.get("address"), size = Number(words.get("size"));
   view.followed = run.table[followed] ? followed : undefined;
   view.address = at && /^[0-9a-f]{1,8}$/i.test(at) ? parseInt(at, 16) : undefined;
-  for (const name of ["abi", "hide", "textbook"]) settings[name] = words.has(name);
+  for (const name of switches) settings[name] = words.has(name);
   if (size > 0) sizeType(size);
   settings.without = new Set((words.get("without") || (framed ? framedWithout : "")).split(",").filter((name) => panelNames().includes(name)));
   lecture.stops = readStops(words.get("notes") || byId("notes").textContent);
@@ -86,8 +88,9 @@ const framedWithout = "source,fetch,predictor,stores,stations,units,bus,csrs,cac
 
 // After a change of what is shown.
 function settle() {
-  for (const name of ["abi", "hide", "textbook"]) byId(name).checked = settings[name];
+  for (const name of switches) byId(name).checked = settings[name];
   showPanels();
+  showLegend();
   drawSwitches();
   sizePicture(run);
   show();
@@ -106,6 +109,7 @@ function say(text) { note("following", text); }
 
 function follow(number) {
   view.followed = run.table[number] ? number : undefined;
+  if (showsPath()) showWaits(view);
   scrollPicture(view);
   drawPicture(view);
   showPredictor(view);
@@ -160,7 +164,8 @@ const keys = {
   j: () => followNext(1), k: () => followNext(-1), Escape: () => follow(undefined), "?": showKeys,
   a: () => turn("abi"), h: () => turn("hide"), o: () => turn("textbook"), g: () => byId("cycle").select(), d: () => byId("address").select(),
   "]": () => resize(1.15), "[": () => resize(1 / 1.15), "0": () => resize(1), p: showSwitches,
-  b: turnBreakpoint, B: () => jump("breakpoint", 1), ".": () => goToStop(1), ",": () => goToStop(-1), q: turnQuiz,
+  b: turnBreakpoint, B: () => jump("breakpoint", 1), l: () => turn("path"), e: stepBefore, E: stepAfter,
+  ".": () => goToStop(1), ",": () => goToStop(-1), q: turnQuiz,
   v: () => save(false), V: () => save(true), "2": turnPair, "3": () => tellPair("other"), "1": () => tellPair("alone"),
 };
 for (const [key, what] of Object.entries({ r: "retirement", w: "wrong", t: "trap", i: "interrupt", s: "stall", c: "access", m: "miss", x: "register", y: "stored" })) {
@@ -186,8 +191,9 @@ function onKey(event) {
 }
 
 function onClick(event) {
-  const step = event.target.closest("[data-step]"), head = event.target.closest("[data-go]"), instruction = event.target.closest("[data-number]");
+  const [step, head, instruction, waited] = ["step", "go", "number", "event"].map((name) => event.target.closest("[data-" + name + "]"));
   if (step) steps[step.dataset.step]();
+  else if (waited) goFromRow(waited.dataset.event);
   else if (head) go(Number(head.dataset.go) - run.first + 1);
   else if (instruction) follow(Number(instruction.dataset.number));
 }
@@ -214,7 +220,7 @@ function listen() {
   byId("slider").addEventListener("input", (event) => go(Number(event.target.value) - run.first + 1));
   byId("cycle").addEventListener("change", (event) => { if (event.target.value !== "") go(Number(event.target.value) - run.first + 1); });
   byId("address").addEventListener("change", (event) => goToTyped(event.target.value.trim()));
-  for (const name of ["abi", "hide", "textbook"]) byId(name).addEventListener("change", () => turn(name));
+  for (const name of switches) byId(name).addEventListener("change", () => turn(name));
   byId("play").addEventListener("click", () => play(!playing));
   byId("help").addEventListener("click", showKeys);
   byId("panels").addEventListener("click", showSwitches);
@@ -250,7 +256,6 @@ function start() {
   listen();
   for (const id of ["slider", "cycle"]) { byId(id).min = run.first - 1; byId(id).max = run.last; }
   note("range", "of " + run.first + " to " + run.last);
-  showLegend();
   showMachine(run);
   sizeList("source", run.listing.length);
   sizeList("memory", run.memoryRows.length);

@@ -215,6 +215,7 @@ function markFollowed(view, box) {
 const panels = {
   fetch: showFetch, predictor: showPredictor, rob: showReorderBuffer, textbook: showTextbook, stations: showStations, units: showUnits, bus: showBus,
   stores: showStores, registers: showRegisters, csrs: showCsrs, cache: showCache, accesses: showAccesses, counts: showCounts,
+  waits: showWaits, path: showPath,
 };
 // These are drawn though they are left out, since their texts are compared where two runs stand side by side.
 const compared = ["registers", "csrs", "counts"];

@@ -14,10 +14,14 @@ function sizePicture(run) {
   pictured.numbers = shown.map((each) => each.number);
   pictured.rows = new Map(pictured.numbers.map((number, k) => [number, k]));
   byId("picture-space").style.width = picture.label + run.places.length * picture.column + "rem";
-  byId("picture-space").style.height = (shown.length + 2) * picture.row + "rem";
+  byId("picture-space").style.height = (shown.length + 1 + headRows()) * picture.row + "rem";
+  byId("picture").classList.toggle("with-path", showsPath());
   note("picture-note", counted(all.length, "instruction") + " fetched in cycles " + run.first + " to " + run.last +
     (all.length > shown.length ? ", " + (all.length - shown.length) + " hidden" : ""));
 }
+
+// The heads are the cycles, and with the critical path the cause of each.
+function headRows() { return showsPath() ? 2 : 1; }
 
 // The row of the first instruction that is not older than a number.
 function rowFrom(number) {
@@ -38,14 +42,15 @@ function scrollPicture(view) {
   const first = flying.length ? flying[0] : Math.max(0, beside - 2), last = flying.length ? flying[flying.length - 1] : beside;
   // A row stands below the heads, which stay at the top of the box.
   const see = (first, last) => {
-    const least = Math.ceil(last + 2 - high / height) * height, most = first * height;
+    const least = Math.ceil(last + 1 + headRows() - high / height) * height, most = first * height;
     if (top < least) top = least;
     if (top > most) top = most;
   };
   see(first, last);
   // The followed one is seen before others, while it is in flight and where it has just left.
   const followed = run.table[view.followed], its = pictured.rows.get(view.followed), cycle = run.cycleOf(place);
-  if (its !== undefined && followed.fetched <= cycle && !(followed.left < cycle)) see(its, its);
+  const isPresent = its !== undefined && followed.fetched <= cycle && !(followed.left < cycle), isEvent = view.event && view.event.at === cycle;
+  if (isPresent || (its !== undefined && isEvent && view.event.number === view.followed)) see(its, its);
   scrollBox("picture", Math.max(0, top), left);
 }
 
@@ -70,7 +75,8 @@ function drawPicture(view) {
     const kinds = words("head", interrupt && "interrupt", now && "now");
     heads.push(element("div", { class: kinds, "data-go": cycle, style: "left:" + columnAt(column), title }, text));
   }
-  draw("picture-heads", heads);
+  draw("picture-heads", showsPath() ? [...heads, ...causeHeads(run, firstColumn, lastColumn)] : heads);
+  draw("picture-path", showsPath() ? pathLines(run, firstRow, lastRow, firstColumn, lastColumn) : []);
   byId("picture-cursor").style.left = columnAt(view.place - 1);
   byId("picture-cursor").hidden = view.place === 0;
 }
@@ -91,7 +97,7 @@ function pictureRows(view, numbers, firstRow, firstColumn, lastColumn) {
     const instruction = run.table[number], { fetched, left } = instruction;
     const end = left !== undefined && (!settings.quiz || left <= now) ? instruction.end : undefined;
     const from = Math.max(fetched, run.first + firstColumn), to = Math.min(left === undefined ? run.last : left, run.first + lastColumn);
-    const sign = [firstRow + k, from, to, end].join(), before = drawnBefore.get(number);
+    const sign = [firstRow + k, from, to, end, showsPath()].join(), before = drawnBefore.get(number);
     drawn.set(number, before && before.sign === sign ? before : { sign, ...pictureRow(run, instruction, firstRow + k, from, to, end) });
   });
   drawnBefore = drawn;
@@ -103,16 +109,17 @@ function pictureRows(view, numbers, firstRow, firstColumn, lastColumn) {
 function pictureRow(run, instruction, k, from, to, end) {
   const { number, pc } = instruction, cells = [];
   for (let cycle = from; cycle <= to; cycle += 1) {
-    const letter = letterOf(instruction, cycle);
-    const title = "#" + number + " in cycle " + cycle + ": " + letterWords[letter];
-    cells.push(span("cell " + cellClass(letter), letter, { key: cycle, role: "cell", title, "data-cycle": cycle }));
+    const letter = letterOf(instruction, cycle), step = pathMark(number, cycle);
+    const title = "#" + number + " in cycle " + cycle + ": " + letterWords[letter] + (step ? "; on the critical path: " + stepWords(step) : "");
+    const kind = "cell " + cellClass(letter) + (step ? " on-path sort-" + sortOf(step.cause) : "");
+    cells.push(span(kind, letter, { key: cycle, role: "cell", title, "data-cycle": cycle }));
   }
   const statement = run.statement(instruction).replace(/\s+/g, " "), id = "label-" + number, label = labelOf(number, pc, statement);
   return {
     label: element("div", { class: words("label", { squashed: "gone", trapped: "trap" }[end]), key: number, id, role: "rowheader", "data-number": number,
       title: hex(pc) + " " + statement, style: "top:" + k * picture.row + "rem;" + (smaller(label, labelRoom) || "") }, label),
     row: element("div", { class: "row", key: number, role: "row", "aria-owns": id, "data-number": number,
-      style: "top:" + (k + 1) * picture.row + "rem;padding-left:" + columnAt(from - run.first) }, ...cells),
+      style: "top:" + (k + headRows()) * picture.row + "rem;padding-left:" + columnAt(from - run.first) }, ...cells),
   };
 }
 
@@ -130,7 +137,7 @@ function drawArrows(view) {
     const from = pictured.rows.get(number), { broadcast } = run.table[number];
     if (from === undefined || !isKnown(broadcast)) continue;
     const to = isKnown(followed.issued) ? followed.issued : Math.max(broadcast + 1, Math.min(cycle, run.last));
-    const x = (at) => picture.label + (at - run.first + 0.5) * picture.column, y = (k) => (k + 1.5) * picture.row;
+    const x = (at) => picture.label + (at - run.first + 0.5) * picture.column, y = (k) => (k + headRows() + 0.5) * picture.row;
     lines.push(element("path", { class: "arrow", d: "M" + x(broadcast) + " " + (y(from) + 0.5) + " L" + x(to) + " " + (y(row) - 0.5), "data-from": number }));
   }
   const size = [byId("picture-space").style.width, byId("picture-space").style.height].map(parseFloat);
@@ -140,7 +147,7 @@ function drawArrows(view) {
 function showLegend() {
   const item = (kind, letter, word) => element("span", {}, element("b", { class: kind }, letter), " " + word);
   const items = Object.entries(letterWords).map(([letter, word]) => item(cellClass(letter), letter, word));
-  draw("legend", [...items, item("interrupt", "!", "interrupt")]);
+  draw("legend", [...items, item("interrupt", "!", "interrupt"), ...(showsPath() ? pathLegend() : [])]);
 }
 
 function cellClass(letter) {

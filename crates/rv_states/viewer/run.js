@@ -86,6 +86,7 @@ class Run {
     const here = {
       index, cycle, ended: value.ended, interrupts: (value.steps || []).filter((step) => step.step === "interrupt"),
       stall: value.stall, phases: this.phasesIn(value), stored: before ? storedIn(state, before.state) : [], fetchedBefore: this.table.length,
+      room: roomIn(state), oldest: state.reorder_buffer.length ? value.in_flight[0] : undefined,
       changedSets: (value.sets || []).map((each) => each.set), head: state.reorder_buffer.length ? state.reorder_buffer[0].sequence : undefined,
       learned: value.learned || [], asked: this.askedIn(value),
     };
@@ -137,8 +138,8 @@ class Run {
     const buffer = value.state.reorder_buffer, all = buffer.concat(value.state.fetch_buffer);
     value.in_flight.forEach((number, k) => {
       const entry = all[k];
-      const { pc, word, fetched } = entry;
-      const known = this.table[number] || (this.table[number] = { number, pc, word, fetched, producers: [], consumers: [] });
+      const { pc, word, fetched, predicted } = entry;
+      const known = this.table[number] || (this.table[number] = { number, pc, word, fetched, predicted, producers: [], consumers: [] });
       if (k >= buffer.length) return;
       if (known.dispatched === undefined) {
         known.dispatched = entry.dispatched;

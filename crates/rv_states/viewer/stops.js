@@ -64,6 +64,8 @@ function turnQuiz() {
   settings.quiz = !settings.quiz;
   byId("quiz").hidden = !settings.quiz;
   Object.assign(quiz, { asked: 0, right: 0 });
+  showPanels();
+  showLegend();
   sizePicture(run);
   show();
   if (settings.quiz) { ask(); return byId("answer").focus(); }

@@ -1,0 +1,315 @@
+"""The critical path on a page: the table of causes beside the command `path`; waits, marks and keys beside examples/python/path, a second reader of
+the rules, which has the run from its beginning."""
+import importlib.util
+import json
+import re
+from importlib.machinery import SourceFileLoader
+from pathlib import Path
+
+SCRIPT = Path(__file__).resolve().parents[4] / "examples/python/path"
+ENDS = ("before the first event", "after the last step")
+# (the letters of the marks, by the beginnings and ends of the causes' names)
+LETTERS = (("r", r"refill"), ("b", r".*bus full"), ("n", r".* full"), ("u", r".* busy"), ("o", r"operand|address"), ("e", r"execution"), ("l", r"load"),
+           ("p", r"port|lines"), ("c", r"commit|drain"), ("f", r"fetch|dispatch|front"), ("i", r"until the interrupt"), ("-", r""))
+LEGEND = {"r": "refill", "f": "front end", "n": "no room", "o": "operand", "u": "unit busy", "e": "execution", "l": "load", "p": "port", "b": "bus full",
+          "c": "commit", "i": "until an interrupt", "-": "none"}
+NAMES = {"lines": "write-back"}
+STAGES = ("fetch", "dispatch", "issue", "broadcast", "lines", "commit", "drain")
+# how many events the key back goes through
+BACK = 15
+# the panels that are left out while the path is followed by its key, so that a step is soon drawn
+LEFT_OUT = "source,fetch,predictor,stores,rob,stations,units,bus,csrs,counts,registers,cache,accesses,memory"
+
+READ_PATH = r"""(() => {
+  const text = (each) => each.textContent.replace(/\u00a0/g, " ").replace(/\s+/g, " ").trim(), byName = (id) => document.getElementById(id);
+  const rows = (id) => [...byName(id).rows].filter((row) => !row.classList.contains("free")).map((row) => [...row.cells].map(text));
+  const box = (each) => { const { left, right, top, bottom } = each.getBoundingClientRect(); return [left, right, top, bottom]; };
+  const numbers = new Map([...document.querySelectorAll("#picture-labels > .label")].map((each) => [Math.round(each.getBoundingClientRect().top), Number(each.textContent.match(/\d+/)[0])]));
+  const numberOf = (row) => [0, -1, 1].map((by) => numbers.get(Math.round(row.getBoundingClientRect().top) + by)).find((each) => each !== undefined);
+  const cells = [...document.querySelectorAll("#picture-rows > .row")].flatMap((row) => [...row.querySelectorAll(".cell")].map((each) =>
+    ({ number: numberOf(row), cycle: Number(each.title.match(/in cycle (\d+)/)[1]), said: each.title.split("; on the critical path: ")[1], kind: each.className, outline: getComputedStyle(each).outlineStyle, box: box(each) })));
+  const colour = (each, what) => getComputedStyle(each)[what];
+  return {
+    causes: rows("causes"), bars: [...document.querySelectorAll("#causes .bar")].map((each) => each.style.width), waits: rows("waits"), notes: ["path-note", "path-words", "waits-note"].map((id) => text(byName(id))), cells,
+    shown: ["waits", "path", "csrs", "rob"].map((name) => !document.querySelector(`[data-panel=${name}]`).hidden),
+    heads: [...document.querySelectorAll("#picture-heads .cause")].map((each) => ({ text: text(each), tip: each.title, box: box(each), colour: colour(each, "backgroundColor") })),
+    lines: [...document.querySelectorAll("#picture-path path")].map((each) => ({ box: box(each), colour: colour(each, "stroke") })),
+    legend: [...document.querySelectorAll("#legend .badge")].map((each) => [text(each), text(each.parentNode), colour(each, "backgroundColor")]), view: box(byName("picture")),
+    checked: byName("path").checked, hash: location.hash,
+  };
+})()"""
+
+# Presses a key until it leads no further: cycle, followed instruction and what is said after each press.
+WALK = r"""((key, most) => {
+  const found = [], at = () => [Number(document.getElementById("cycle").value), document.querySelector("#picture-labels .followed") && Number(document.querySelector("#picture-labels .followed").textContent.match(/\d+/)[0]),
+    document.getElementById("following").textContent];
+  for (let k = 0; k < most; k += 1) {
+    document.body.dispatchEvent(new KeyboardEvent("keydown", { key, bubbles: true, cancelable: true }));
+    const now = at();
+    if (found.length && now.join() === found[found.length - 1].join()) return found;
+    found.push(now);
+  }
+  return found;
+})"""
+
+
+def script():
+    loader = SourceFileLoader("critical_path", str(SCRIPT))
+    module = importlib.util.module_from_spec(importlib.util.spec_from_loader("critical_path", loader))
+    loader.exec_module(module)
+    return module
+
+
+rules = script()
+
+
+def letter_of(cause):
+    return next(letter for letter, name in LETTERS if re.match(name, cause))
+
+
+class Known:
+    """What is known of the path to the last step of a page."""
+
+    def __init__(self, facts, lines, printed):
+        self.first, self.last = facts.first, lines[-1]["cycles"] - 1
+        self.run = rules.Run(lines)
+        self.path, self.printed = rules.Path(self.run), printed
+        self.steps = self.steps_to(self.path.ends())
+
+    def at(self, event):
+        return self.path.at(event)
+
+    def steps_to(self, event):
+        """The steps that lead to an event within the page, each with the cycles from which and to which it is on account of its cause."""
+        found = []
+        while event is not None and self.at(event) >= self.first:
+            before = self.path.before(event)
+            if before is None:
+                break
+            found.append((event, *before, max(0, self.at(event) - self.at(before[0]))))
+            event = before[0]
+        found.reverse()
+        steps = [(*step[:2], cause) for step, (_, cause, _, _) in zip(found, rules.refilled(found))]
+        return [(event, before, cause, max(self.first, self.at(before)), self.at(event)) for event, before, cause in steps]
+
+    def cause_of(self, event):
+        steps = self.steps_to(event)
+        return steps[-1][2] if steps and steps[-1][0] == event else None
+
+    def shares(self):
+        """The cycles of each cause, of the greatest first, and then of the run's ends."""
+        cycles = {cause: 0 for cause in ENDS}
+        for _, _, cause, begin, end in self.steps:
+            cycles[cause] = cycles.get(cause, 0) + end - begin
+        last = self.steps[-1][4] if self.steps else self.first
+        cycles[ENDS[1]] = self.last + 1 - last
+        begin = self.steps[0][3] if self.steps else last
+        cycles[ENDS[0]] = begin - self.first
+        return cycles
+
+
+def number_of(event):
+    return None if event[0] == "interrupt" else event[1].number
+
+
+def name_of(event):
+    kind, word = event
+    return "trap" if kind == "commit" and word.trapped else NAMES.get(kind, kind)
+
+
+def words_of(event, number):
+    if event[0] == "interrupt":
+        return "the interrupt"
+    return f"its {name_of(event)}" if number_of(event) == number else f"the {name_of(event)} of #{number_of(event)}"
+
+
+def counted(count, name):
+    return f"{count} {name}{'' if count == 1 else 's'}"
+
+
+def sentence_of(known, event):
+    """What is said of an event, and of the one that it waited for."""
+    words, before = words_of(event, None), known.path.before(event)
+    said = f"{words[0].upper()}{words[1:]} in cycle {known.at(event)}: "
+    if before is None:
+        return said + "the first event of the run."
+    return (said + f"it waited last for {words_of(before[0], number_of(event))} in cycle {known.at(before[0])}: {known.cause_of(event)}, "
+            f"{counted(known.at(event) - known.at(before[0]), 'cycle')}.")
+
+
+def percent(cycles, total):
+    return f"{1000 * cycles // total // 10}.{1000 * cycles // total % 10}%" if total else "-"
+
+
+class PathCheck:
+    def __init__(self, browser, known, page, same):
+        self.browser, self.known, self.page, self.same = browser, known, page, same
+        self.first, self.last, self.steps = known.first, known.last, known.steps
+
+    def table(self):
+        """The table of causes: as the program prints it, where the page has the run from its first cycle, and as the second reader counts it."""
+        self.browser.size(1280, 720)
+        self.browser.open(f"{self.page}#cycle={self.last}&path")
+        shown, total = self.browser.tell(READ_PATH), self.last + 1 - self.first
+        rows, cycles = shown["causes"], self.known.shares()
+        self.same("cycles of all causes", sum(int(row[2]) for row in rows), total)
+        self.same("causes by the second reader", {row[1]: int(row[2]) for row in rows}, {cause: count for cause, count in cycles.items() if count or cause in ENDS})
+        self.same("shares of the causes", [row[3] for row in rows], [percent(int(row[2]), total) for row in rows])
+        self.same("bars of the causes", [float(bar.rstrip("%")) if bar else 0 for bar in shown["bars"]], [float(row[3].rstrip("%-") or 0) for row in rows])
+        self.same("letters of the causes", [row[0] for row in rows], [letter_of(row[1]) for row in rows])
+        self.same("order of the causes", [row[1:3] for row in rows[-2:]], [[cause, str(cycles[cause])] for cause in ENDS])
+        self.same("the greatest cause first", [int(row[2]) for row in rows[:-2]], sorted((int(row[2]) for row in rows[:-2]), reverse=True))
+        if self.first == 0:
+            said = [f"cycles {total}", *(f"{cause} {count} {share.rstrip('%')} %" for _, cause, count, share, *_ in rows[-2:] + rows[:-2])]
+            self.same("what the command path prints", said, self.known.printed.splitlines())
+        end = self.known.path.ends()
+        inside = end is not None and self.known.at(end) >= self.first
+        note = f"to {words_of(end, None)} in {self.known.at(end)}" if inside else "no step here"
+        words = f"The page begins with cycle {self.first}: the path is counted from there, and what came before is not known."
+        self.same("notes of the path", shown["notes"][:2], [note, words if self.first else ""])
+        self.same("panels of the path", (shown["shown"], shown["checked"]), ([True, True, False, False], True))
+        self.marks(shown)
+        return shown
+
+    def marks(self, shown):
+        """Rings, lines and letters in the picture."""
+        on = {}
+        for event, _, cause, _, end in self.steps:
+            if number_of(event) is not None:
+                on.setdefault((number_of(event), end), []).append((event, cause))
+        marked = [(cell["number"], cell["cycle"]) for cell in shown["cells"] if cell["outline"] == "solid"]
+        start = [] if self.first or not self.steps or number_of(self.steps[0][1]) is None else [(number_of(self.steps[0][1]), self.known.at(self.steps[0][1]))]
+        known = [(cell["number"], cell["cycle"]) for cell in shown["cells"] if (cell["number"], cell["cycle"]) in {*on, *start}]
+        self.same("rings of events on the path", marked, known)
+        said = {(cell["number"], cell["cycle"]): cell["said"] for cell in shown["cells"] if cell.get("said")}
+        for place in [place for place in marked if place in on]:
+            words = [f"{name_of(event)} waited last for {words_of(self.known.path.before(event)[0], place[0])}: {cause}" for event, cause in on[place]]
+            self.same(f"tip of the event of #{place[0]} in cycle {place[1]}", said.get(place) if said.get(place) in words else said.get(place), said.get(place) if said.get(place) in words else words[0])
+        colours = {letter: colour for letter, _, colour in shown["legend"]}
+        causes = {cycle: cause for _, _, cause, begin, end in self.steps for cycle in range(begin, end)}
+        lefts = {cell["cycle"]: cell["box"][0] for cell in shown["cells"]}
+        for head in shown["heads"]:
+            cycle, cause = re.match(r"cycle (\d+): ([^,]+(?:, or faulted)?)", head["tip"]).groups()
+            wanted = causes.get(int(cycle), ENDS[1] if not self.steps or int(cycle) >= self.steps[-1][4] else ENDS[0])
+            self.same(f"cause of cycle {cycle}", (head["text"], cause, head["colour"]), (letter_of(wanted), wanted, colours.get(letter_of(wanted))))
+            if int(cycle) in lefts and abs(lefts[int(cycle)] - head["box"][0]) > 1.5:
+                self.same(f"place of the cause of cycle {cycle}", head["box"][0], lefts[int(cycle)])
+        self.same("columns with a cause", {int(re.match(r"cycle (\d+)", head["tip"])[1]) for head in shown["heads"]} >= set(lefts), True)
+        letters = [letter_of(cause) for cause, cycles in self.known.shares().items() if cycles]
+        self.same("legend of the causes", [item[:2] for item in shown["legend"]], [[letter, f"{letter} {LEGEND[letter]}"] for letter in LEGEND if letter in letters])
+        self.lines(shown, colours)
+
+    def lines(self, shown, colours):
+        """A line goes from each event to the one that waited for it, in the colour of the cause."""
+        boxes = {(cell["number"], cell["cycle"]): cell["box"] for cell in shown["cells"]}
+        drawn = [(line["colour"], *line["box"]) for line in shown["lines"]]
+        for event, before, cause, begin, end in self.steps:
+            places = [(number_of(before), begin), (number_of(event), end)]
+            if self.known.at(before) < self.first or not all(place in boxes for place in places) or letter_of(cause) not in colours:
+                continue
+            (left, wide, _, low), (right, _, _, high) = (boxes[place] for place in places)
+            half = (wide - left) / 2
+            wanted = (min(left, right) + half, max(left, right) + half, min(low, high), max(low, high))
+            near = [line for line in drawn if line[0] == colours[letter_of(cause)] and all(abs(one - other) < 4 for one, other in zip(line[1:], wanted))]
+            self.same(f"line from {places[0]} to {places[1]}: {cause}", bool(near), True)
+
+    def waits(self, numbers):
+        """The events of a followed instruction, and what each waited for."""
+        for number in numbers:
+            self.browser.tell(f"follow({number})")
+            rows, word = self.browser.tell(READ_PATH)["waits"], self.known.run.words[number]
+            events = [(kind, word) for kind in STAGES if self.has(kind, word)]
+            self.same(f"events of #{number}", [(row[0], row[1]) for row in rows], [(self.letter(event), str(self.known.at(event))) for event in events])
+            for row, event in zip(rows, events):
+                before = self.known.path.before(event)
+                if self.known.at(event) < self.first:
+                    self.same(f"wait of #{number}'s {event[0]}", row[2:5], ["not on this page", "", ""])
+                elif before is None:
+                    self.same(f"wait of #{number}'s {event[0]}", row[2:5], ["nothing: the first event", "", ""])
+                elif self.known.at(before[0]) >= self.first or number_of(before[0]) in (number, None):
+                    cause, cycles = self.known.cause_of(event), self.known.at(event) - self.known.at(before[0])
+                    self.same(f"wait of #{number}'s {event[0]}", row[2:5],
+                              [f"{words_of(before[0], number)} in {self.known.at(before[0])}", f"{letter_of(cause)} {cause}", str(cycles)])
+                self.same(f"whether #{number}'s {event[0]} is on the path", row[5], "on" if self.is_on(event) else "")
+
+    def telling(self):
+        """Instructions whose events waited for what those of others did not."""
+        found, seen = [], set()
+        for number, word in sorted(self.known.run.words.items()):
+            events = [(kind, word) for kind in STAGES if self.has(kind, word) and self.first <= self.known.at((kind, word)) <= self.last]
+            causes = {(event[0], before[1]) for event in events for before in [self.known.path.before(event)] if before}
+            if causes - seen and word.pc is not None:
+                found.append(number)
+                seen |= causes
+        return found
+
+    def has(self, kind, word):
+        if kind == "commit":
+            return word.commit is not None
+        at = getattr(word, {"fetch": "fetched", "dispatch": "dispatched", "issue": "issued", "broadcast": "broadcast", "drain": "drained", "lines": "writing_back"}[kind], None)
+        return at is not None and (kind not in ("drain", "lines") or at >= self.first)
+
+    def is_on(self, event):
+        return any(event in step[:2] for step in self.steps) and self.known.at(event) >= self.first
+
+    @staticmethod
+    def letter(event):
+        return {"fetch": "F", "dispatch": "D", "issue": "I", "broadcast": "B", "commit": "T" if event[0] == "commit" and event[1].trapped else "C"}.get(event[0], NAMES.get(event[0], event[0]))
+
+    def walk(self):
+        """The key, from the last step of the page back to its first event, and forward again; the cycles of all waits add up to the run's."""
+        self.browser.size(480, 320)
+        self.browser.open(f"{self.page}#cycle={self.last}&path&without={LEFT_OUT}")
+        self.browser.press("End")
+        back = self.browser.tell(f"{WALK}('e', {len(self.steps) + 5})")
+        events = [step[0] for step in reversed(self.steps)]
+        if self.steps and self.known.at(self.steps[0][1]) >= self.first:
+            events.append(self.steps[0][1])
+        self.same("events that the key goes through", [(cycle, number) for cycle, number, _ in back], [(self.known.at(event), number_of(event)) for event in events])
+        for (_, _, said), event in list(zip(back, events)):
+            if self.known.path.before(event) is None or self.known.at(self.known.path.before(event)[0]) >= self.first:
+                self.same("what is said of an event", said[:len(sentence_of(self.known, event))], sentence_of(self.known, event))
+        cycles = [re.match(r"[^:]+: it waited last for [^:]*: .*?, (\d+) cycles?\.", said) for _, _, said in back]
+        total = sum(int(found[1]) for found in cycles if found)
+        if self.first == 0 and self.steps:
+            self.same("cycles of all waits that the key goes through", total + self.last + 1 - self.known.at(events[0]) + self.known.at(events[-1]), self.last + 1)
+        forth, again = self.browser.tell(f"{WALK}('E', {BACK})"), events[:-1][::-1][:BACK]
+        self.same("events that the key back goes through", [(cycle, number) for cycle, number, _ in forth[:len(again)]],
+                  [(self.known.at(event), number_of(event)) for event in again])
+
+
+def known_of(facts, job):
+    """What is known of the path on the page of a job."""
+    count = str(facts.first + facts.window)
+    lines = [json.loads(line) for line in facts.run(job, "states", "--from", "0", "--cycles", count).splitlines()]
+    for before, line in zip(lines, lines[1:]):
+        if "address" in line and "line" in line:
+            line.setdefault("text", before.get("text", ""))
+    return Known(facts, lines, facts.run(job, "path", "--limit", count) if facts.first == 0 else "")
+
+
+def with_early_recovery(job):
+    """A job with early recovery, or None where it has that."""
+    if re.search(r"(?m)^\s*recovery", job.description):
+        return None if '"early"' in job.description else job.text(job.description.replace('"commit"', '"early"'))
+    return job.text('recovery = "early"\n' + job.description)
+
+
+def paths_of(facts, page):
+    """What is known of the path on a job's page, and on that of the job with early recovery, which is made beside it."""
+    found, early = [(known_of(facts, facts.job.text()), page)], with_early_recovery(facts.job)
+    if early is not None:
+        beside = page.with_name(f"{page.stem}-early.html")
+        beside.write_text(facts.run(early, "page", "--from", str(facts.first), "--cycles", str(facts.window)))
+        found.append((known_of(facts, early), beside))
+    return found
+
+
+def compare_paths(browser, paths, same):
+    """The path of a page, and that of the page with early recovery, which is followed where it goes elsewhere."""
+    for k, (known, page) in enumerate(paths):
+        check = PathCheck(browser, known, page.as_uri(), same)
+        check.table()
+        check.waits(check.telling()[-6:] if k == 0 else check.telling()[-2:])
+        if k == 0 or len(known.steps) != len(paths[0][0].steps):
+            check.walk()
