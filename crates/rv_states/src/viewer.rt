@@ -5,7 +5,7 @@ pub(crate) const BEFORE: &[u8] = br#"<!DOCTYPE html>
 <html lang="en">
 <head>
 <meta charset="utf-8">
-<meta http-equiv="Content-Security-Policy" content="default-src 'none'; script-src 'sha256-54gIrqYYwClf/Y/tiwMNBsYdT+BaLPGNrsqpJ9kVpbQ='; style-src 'sha256-NLy2pIWJG0JC21JBDLHbc1pUsek59DtpjCKqafZkZq0='; img-src data:; frame-src 'self' file:; base-uri 'none'; form-action 'none'">
+<meta http-equiv="Content-Security-Policy" content="default-src 'none'; script-src 'sha256-NsjmOD9qKhvm6Ddy0zepcCbq3msVPgJB1o4ksMIalJw='; style-src 'sha256-GPCyShncOqn8lQqPPv8BVc0LVw4uR+PINRuIegbju/I='; img-src data:; frame-src 'self' file:; base-uri 'none'; form-action 'none'">
 <meta name="viewport" content="width=device-width, initial-scale=1">
 <title>rv_sim: a run, cycle by cycle</title>
 <style>
@@ -136,10 +136,11 @@ td.wide { width: 99%; max-width: 0; text-overflow: ellipsis; }
 #picture-path { position: absolute; top: 0; left: 0; z-index: 1; pointer-events: none; }
 #picture-path svg { position: absolute; display: block; }
 .step { fill: none; stroke: var(--sort); stroke-width: 0.24; stroke-linejoin: round; stroke-linecap: round; }
-#waits, #causes, [data-panel="waits"] thead, [data-panel="path"] thead { font-size: 0.85rem; }
+#causes, [data-panel="path"] thead { font-size: 0.85rem; } #waits, [data-panel="waits"] thead { font-size: 0.78rem; }
 [data-panel="waits"], [data-panel="path"] { flex: none; }
+.drawing:has(~ [data-panel="waits"]:not([hidden])) { min-height: 20rem; }
 #waits .cell { width: 1.4rem; } #waits .badge, #causes .badge { line-height: 1rem; }
-.on-path th, .on-path td { font-weight: bold; }
+tr.on-path { background: var(--title); }
 #path-words { padding: 0 0.4rem; } #path-words:empty { display: none; }
 #picture-cursor { position: absolute; top: 0; bottom: 0; width: 1.05rem; border: solid var(--accent); border-width: 0 2px; z-index: 1; pointer-events: none; }
 .cell { text-align: center; }
@@ -205,7 +206,7 @@ body.pair > header, body.pair > main { display: none; }
 <label title="a"><input type="checkbox" id="abi"> ABI</label>
 <label title="leave out of the picture what was squashed, and words after the program's end (h)"><input type="checkbox" id="hide"> hide squashed</label>
 <label title="Tomasulo's tables as in the textbook (o)"><input type="checkbox" id="textbook"> tables</label>
-<label title="mark in the picture which events each waited for, back from the last step that the page shows (l)"><input type="checkbox" id="path"> critical path</label>
+<label title="mark the events that waited for one another, back from the last step of the page, and the cause of each cycle (l)"><input type="checkbox" id="path"> critical path</label>
 <button type="button" id="panels" aria-expanded="false" aria-controls="switches" title="which panels are shown (p)">panels</button>
 <button type="button" id="help" aria-expanded="false" aria-controls="keys" title="keys (?)">?</button>
 </div>
@@ -1127,7 +1128,7 @@ const causeSorts = {
 const sorts = {
   refill: ["r", "refill"], front: ["f", "front end"], room: ["n", "no room"], operand: ["o", "operand"], unit: ["u", "unit busy"],
   execution: ["e", "execution"], load: ["l", "load"], port: ["p", "port"], bus: ["b", "bus full"], commit: ["c", "commit"],
-  interrupt: ["i", "until an interrupt"], rest: ["-", "none"],
+  interrupt: ["i", "until an interrupt"], rest: ["-", "no cause"],
 };
 
 const beforeFirst = "before the first event", afterLast = "after the last step";
@@ -1897,7 +1898,7 @@ function showsPath() { return settings.path && !settings.quiz; }
 // It is worked out when it is asked for first.
 function account() { return view.account || (view.account = new Account(run)); }
 
-const eventNames = { lines: "write-back of lines", commit: "commit" };
+const eventNames = { lines: "write-back" };
 const eventLetters = { fetch: "F", dispatch: "D", issue: "I", broadcast: "B", commit: "C", trap: "T" };
 function eventName({ kind, number }) {
   const isTrap = kind === "commit" && number !== undefined && run.table[number].end === "trapped";
@@ -1952,7 +1953,7 @@ function waitRow(event) {
   if (!wait) return row({}, head, event.at, wide(event.at > 0 ? "not on this page" : "nothing: the first event"), "", "", on);
   const cause = account().causeOf(event), cycles = cyclesOf(event, wait), { event: other } = wait;
   const words = eventWords(other, event.number) + (other.at === undefined ? "" : " in " + other.at);
-  const button = element("button", { class: "tag", type: "button", "data-event": event.name, title: "go there (e)", tabindex: -1 }, words);
+  const button = element("button", { class: "tag", type: "button", "data-event": event.name, title: "go there (e): " + words, tabindex: -1 }, words);
   const why = element("td", {}, badge(cause), " " + cause), count = cycles === undefined ? "" : cycles;
   return row({ class: isOn ? "on-path" : "" }, head, event.at, wide(path.isShown(other) ? button : words), why, count, on);
 }
@@ -2054,7 +2055,7 @@ function pathLines(run, firstRow, lastRow, firstColumn, lastColumn) {
     if (end === undefined || Math.max(start, end) < firstRow || Math.min(start, end) > lastRow) continue;
     lines.push(element("path", { class: "step sort-" + sortOf(cause), d: "M" + x(from) + " " + y(start) + "V" + y(end) + "H" + x(to) }));
   }
-  const place = "left:" + columnAt(firstColumn) + ";top:" + (firstRow + headRows()) * picture.row + "rem;width:" + wide + "rem;height:" + high + "rem";
+  const top = (firstRow + headRows()) * picture.row, place = "left:" + columnAt(firstColumn) + ";top:" + top + "rem;width:" + wide + "rem;height:" + high + "rem";
   return [element("svg", { viewBox: "0 0 " + wide + " " + high, style: place }, ...lines)];
 }
 
@@ -2062,8 +2063,8 @@ function pathLines(run, firstRow, lastRow, firstColumn, lastColumn) {
 function pathLegend() {
   const known = new Set(account().shares.filter(({ cycles }) => cycles > 0).map(({ cause }) => sortOf(cause)));
   const item = (key, kind, letter, word) => element("span", { key }, element("b", { class: kind }, letter), " " + word);
-  const items = Object.entries(sorts).filter(([sort]) => known.has(sort)).map(([sort, [letter, word]]) => item(sort, "badge sort-" + sort, letter, word));
-  return [item("event", "on-path", "F", "on the critical path, which waited for"), ...items];
+  const own = Object.entries(sorts).filter(([sort]) => known.has(sort)), badges = own.map(([sort, [letter, word]]) => item(sort, "badge sort-" + sort, letter, word));
+  return [item("event", "on-path", "F", "on the critical path, which waited for"), ...badges];
 }
 // Jumps: to the next cycle, or the one before, in which something happens; to an address, a register; and breakpoints.
 
@@ -2283,10 +2284,11 @@ function drawnElement(each) {
   return drawnBox(style, box, each !== document.activeElement) + clipped;
 }
 
-// The lines from producers are drawn already.
+// The lines from producers and along the critical path are drawn already.
 function drawnLines(svg) {
   const box = svg.getBoundingClientRect();
-  const paths = [...svg.querySelectorAll("path")].map((path) => `<path d="${path.getAttribute("d")}" fill="none" stroke="${getComputedStyle(path).stroke}" stroke-width="0.15"/>`);
+  const drawn = (path, { stroke, strokeWidth }) => `<path d="${path.getAttribute("d")}" fill="none" stroke="${stroke}" stroke-width="${parseFloat(strokeWidth)}"/>`;
+  const paths = [...svg.querySelectorAll("path")].map((path) => drawn(path, getComputedStyle(path)));
   return `<svg ${svgBox(box)} viewBox="${svg.getAttribute("viewBox")}">${paths.join("")}</svg>`;
 }
 

@@ -19,7 +19,7 @@ const causeSorts = {
 const sorts = {
   refill: ["r", "refill"], front: ["f", "front end"], room: ["n", "no room"], operand: ["o", "operand"], unit: ["u", "unit busy"],
   execution: ["e", "execution"], load: ["l", "load"], port: ["p", "port"], bus: ["b", "bus full"], commit: ["c", "commit"],
-  interrupt: ["i", "until an interrupt"], rest: ["-", "none"],
+  interrupt: ["i", "until an interrupt"], rest: ["-", "no cause"],
 };
 
 const beforeFirst = "before the first event", afterLast = "after the last step";

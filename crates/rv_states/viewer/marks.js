@@ -36,7 +36,7 @@ function pathLines(run, firstRow, lastRow, firstColumn, lastColumn) {
     if (end === undefined || Math.max(start, end) < firstRow || Math.min(start, end) > lastRow) continue;
     lines.push(element("path", { class: "step sort-" + sortOf(cause), d: "M" + x(from) + " " + y(start) + "V" + y(end) + "H" + x(to) }));
   }
-  const place = "left:" + columnAt(firstColumn) + ";top:" + (firstRow + headRows()) * picture.row + "rem;width:" + wide + "rem;height:" + high + "rem";
+  const top = (firstRow + headRows()) * picture.row, place = "left:" + columnAt(firstColumn) + ";top:" + top + "rem;width:" + wide + "rem;height:" + high + "rem";
   return [element("svg", { viewBox: "0 0 " + wide + " " + high, style: place }, ...lines)];
 }
 
@@ -44,6 +44,6 @@ function pathLines(run, firstRow, lastRow, firstColumn, lastColumn) {
 function pathLegend() {
   const known = new Set(account().shares.filter(({ cycles }) => cycles > 0).map(({ cause }) => sortOf(cause)));
   const item = (key, kind, letter, word) => element("span", { key }, element("b", { class: kind }, letter), " " + word);
-  const items = Object.entries(sorts).filter(([sort]) => known.has(sort)).map(([sort, [letter, word]]) => item(sort, "badge sort-" + sort, letter, word));
-  return [item("event", "on-path", "F", "on the critical path, which waited for"), ...items];
+  const own = Object.entries(sorts).filter(([sort]) => known.has(sort)), badges = own.map(([sort, [letter, word]]) => item(sort, "badge sort-" + sort, letter, word));
+  return [item("event", "on-path", "F", "on the critical path, which waited for"), ...badges];
 }

@@ -51,10 +51,11 @@ function drawnElement(each) {
   return drawnBox(style, box, each !== document.activeElement) + clipped;
 }
 
-// The lines from producers are drawn already.
+// The lines from producers and along the critical path are drawn already.
 function drawnLines(svg) {
   const box = svg.getBoundingClientRect();
-  const paths = [...svg.querySelectorAll("path")].map((path) => `<path d="${path.getAttribute("d")}" fill="none" stroke="${getComputedStyle(path).stroke}" stroke-width="0.15"/>`);
+  const drawn = (path, { stroke, strokeWidth }) => `<path d="${path.getAttribute("d")}" fill="none" stroke="${stroke}" stroke-width="${parseFloat(strokeWidth)}"/>`;
+  const paths = [...svg.querySelectorAll("path")].map((path) => drawn(path, getComputedStyle(path)));
   return `<svg ${svgBox(box)} viewBox="${svg.getAttribute("viewBox")}">${paths.join("")}</svg>`;
 }
 

@@ -12,7 +12,7 @@ ENDS = ("before the first event", "after the last step")
 LETTERS = (("r", r"refill"), ("b", r".*bus full"), ("n", r".* full"), ("u", r".* busy"), ("o", r"operand|address"), ("e", r"execution"), ("l", r"load"),
            ("p", r"port|lines"), ("c", r"commit|drain"), ("f", r"fetch|dispatch|front"), ("i", r"until the interrupt"), ("-", r""))
 LEGEND = {"r": "refill", "f": "front end", "n": "no room", "o": "operand", "u": "unit busy", "e": "execution", "l": "load", "p": "port", "b": "bus full",
-          "c": "commit", "i": "until an interrupt", "-": "none"}
+          "c": "commit", "i": "until an interrupt", "-": "no cause"}
 NAMES = {"lines": "write-back"}
 STAGES = ("fetch", "dispatch", "issue", "broadcast", "lines", "commit", "drain")
 # how many events the key back goes through
