@@ -5,7 +5,7 @@ pub(crate) const BEFORE: &[u8] = br#"<!DOCTYPE html>
 <html lang="en">
 <head>
 <meta charset="utf-8">
-<meta http-equiv="Content-Security-Policy" content="default-src 'none'; script-src 'sha256-NsjmOD9qKhvm6Ddy0zepcCbq3msVPgJB1o4ksMIalJw='; style-src 'sha256-GPCyShncOqn8lQqPPv8BVc0LVw4uR+PINRuIegbju/I='; img-src data:; frame-src 'self' file:; base-uri 'none'; form-action 'none'">
+<meta http-equiv="Content-Security-Policy" content="default-src 'none'; script-src 'sha256-FnlA9dGPqnOefFegl3AvewA+9XQsZhnD8EiayEpKU/8='; style-src 'sha256-GPCyShncOqn8lQqPPv8BVc0LVw4uR+PINRuIegbju/I='; img-src data:; frame-src 'self' file:; base-uri 'none'; form-action 'none'">
 <meta name="viewport" content="width=device-width, initial-scale=1">
 <title>rv_sim: a run, cycle by cycle</title>
 <style>
@@ -943,7 +943,8 @@ class CriticalPath {
     const { state, in_flight } = this.run.at(0), { port_free: until, store_queue: stores, reorder_buffer: [head] } = state;
     const load = in_flight.find((number) => this.isLoadUntil(number, until)), isDrain = stores.some((store) => store.state === "draining");
     const isCleaning = head !== undefined && isFenceI(head.word) && stores.length === 0;
-    const event = isDrain ? this.event("drain") : load !== undefined ? this.event("issue", load) : this.event(isCleaning ? "lines" : "issue");
+    const others = isCleaning ? this.event("lines", in_flight[0]) : this.event("issue", load);
+    const event = isDrain ? this.event("drain") : others;
     if (this.run.first > 0) this.port.set(until, event);
     if (isDrain) this.drains.set(until, event);
     const held = kinds.flatMap((kind) => state.units[kind].map((unit) => ({ kind, ...unit })));

@@ -47,7 +47,8 @@ class CriticalPath {
     const { state, in_flight } = this.run.at(0), { port_free: until, store_queue: stores, reorder_buffer: [head] } = state;
     const load = in_flight.find((number) => this.isLoadUntil(number, until)), isDrain = stores.some((store) => store.state === "draining");
     const isCleaning = head !== undefined && isFenceI(head.word) && stores.length === 0;
-    const event = isDrain ? this.event("drain") : load !== undefined ? this.event("issue", load) : this.event(isCleaning ? "lines" : "issue");
+    const others = isCleaning ? this.event("lines", in_flight[0]) : this.event("issue", load);
+    const event = isDrain ? this.event("drain") : others;
     if (this.run.first > 0) this.port.set(until, event);
     if (isDrain) this.drains.set(until, event);
     const held = kinds.flatMap((kind) => state.units[kind].map((unit) => ({ kind, ...unit })));

@@ -9,12 +9,14 @@ from pathlib import Path
 SCRIPT = Path(__file__).resolve().parents[4] / "examples/python/path"
 ENDS = ("before the first event", "after the last step")
 # (the letters of the marks, by the beginnings and ends of the causes' names)
-LETTERS = (("r", r"refill"), ("b", r".*bus full"), ("n", r".* full"), ("u", r".* busy"), ("o", r"operand|address"), ("e", r"execution"), ("l", r"load"),
-           ("p", r"port|lines"), ("c", r"commit|drain"), ("f", r"fetch|dispatch|front"), ("i", r"until the interrupt"), ("-", r""))
-LEGEND = {"r": "refill", "f": "front end", "n": "no room", "o": "operand", "u": "unit busy", "e": "execution", "l": "load", "p": "port", "b": "bus full",
-          "c": "commit", "i": "until an interrupt", "-": "no cause"}
+LETTERS = (("r", r"refill"), ("b", r".*bus full"), ("n", r".* full"), ("u", r".* busy"), ("o", r"operand|address"), ("e", r"execution"),
+           ("l", r"load"), ("p", r"port|lines"), ("c", r"commit|drain"), ("f", r"fetch|dispatch|front"), ("i", r"until the interrupt"), ("-", r""))
+LEGEND = {"r": "refill", "f": "front end", "n": "no room", "o": "operand", "u": "unit busy", "e": "execution", "l": "load", "p": "port",
+          "b": "bus full", "c": "commit", "i": "until an interrupt", "-": "no cause"}
 NAMES = {"lines": "write-back"}
 STAGES = ("fetch", "dispatch", "issue", "broadcast", "lines", "commit", "drain")
+STAMPS = {"fetch": "fetched", "dispatch": "dispatched", "issue": "issued", "broadcast": "broadcast", "drain": "drained", "lines": "writing_back"}
+LETTERS_OF = {"fetch": "F", "dispatch": "D", "issue": "I", "broadcast": "B", "commit": "C", "trap": "T"}
 # how many events the key back goes through
 BACK = 15
 # the panels that are left out while the path is followed by its key, so that a step is soon drawn
@@ -24,25 +26,29 @@ READ_PATH = r"""(() => {
   const text = (each) => each.textContent.replace(/\u00a0/g, " ").replace(/\s+/g, " ").trim(), byName = (id) => document.getElementById(id);
   const rows = (id) => [...byName(id).rows].filter((row) => !row.classList.contains("free")).map((row) => [...row.cells].map(text));
   const box = (each) => { const { left, right, top, bottom } = each.getBoundingClientRect(); return [left, right, top, bottom]; };
-  const numbers = new Map([...document.querySelectorAll("#picture-labels > .label")].map((each) => [Math.round(each.getBoundingClientRect().top), Number(each.textContent.match(/\d+/)[0])]));
-  const numberOf = (row) => [0, -1, 1].map((by) => numbers.get(Math.round(row.getBoundingClientRect().top) + by)).find((each) => each !== undefined);
-  const cells = [...document.querySelectorAll("#picture-rows > .row")].flatMap((row) => [...row.querySelectorAll(".cell")].map((each) =>
-    ({ number: numberOf(row), cycle: Number(each.title.match(/in cycle (\d+)/)[1]), said: each.title.split("; on the critical path: ")[1], kind: each.className, outline: getComputedStyle(each).outlineStyle, box: box(each) })));
+  const all = (what, made) => [...document.querySelectorAll(what)].map(made), topOf = (each) => Math.round(each.getBoundingClientRect().top);
+  // the label of a row is that which stands beside it
+  const numbers = new Map(all("#picture-labels > .label", (each) => [topOf(each), Number(each.textContent.match(/\d+/)[0])]));
+  const numberOf = (row) => [0, -1, 1].map((by) => numbers.get(topOf(row) + by)).find((each) => each !== undefined);
+  const cell = (row, each) => ({ number: numberOf(row), cycle: Number(each.title.match(/in cycle (\d+)/)[1]), box: box(each),
+    said: each.title.split("; on the critical path: ")[1], outline: getComputedStyle(each).outlineStyle });
   const colour = (each, what) => getComputedStyle(each)[what];
   return {
-    causes: rows("causes"), bars: [...document.querySelectorAll("#causes .bar")].map((each) => each.style.width), waits: rows("waits"), notes: ["path-note", "path-words", "waits-note"].map((id) => text(byName(id))), cells,
-    shown: ["waits", "path", "csrs", "rob"].map((name) => !document.querySelector(`[data-panel=${name}]`).hidden),
-    heads: [...document.querySelectorAll("#picture-heads .cause")].map((each) => ({ text: text(each), tip: each.title, box: box(each), colour: colour(each, "backgroundColor") })),
-    lines: [...document.querySelectorAll("#picture-path path")].map((each) => ({ box: box(each), colour: colour(each, "stroke") })),
-    legend: [...document.querySelectorAll("#legend .badge")].map((each) => [text(each), text(each.parentNode), colour(each, "backgroundColor")]), view: box(byName("picture")),
-    checked: byName("path").checked, hash: location.hash,
+    causes: rows("causes"), bars: all("#causes .bar", (each) => each.style.width), waits: rows("waits"),
+    notes: ["path-note", "path-words"].map((id) => text(byName(id))),
+    cells: all("#picture-rows > .row", (row) => [...row.querySelectorAll(".cell")].map((each) => cell(row, each))).flat(),
+    shown: ["waits", "path", "csrs", "rob"].map((name) => !document.querySelector(`[data-panel=${name}]`).hidden), checked: byName("path").checked,
+    heads: all("#picture-heads .cause", (each) => ({ text: text(each), tip: each.title, box: box(each), colour: colour(each, "backgroundColor") })),
+    lines: all("#picture-path path", (each) => ({ box: box(each), colour: colour(each, "stroke") })),
+    legend: all("#legend .badge", (each) => [text(each), text(each.parentNode), colour(each, "backgroundColor")]),
   };
 })()"""
 
 # Presses a key until it leads no further: cycle, followed instruction and what is said after each press.
 WALK = r"""((key, most) => {
-  const found = [], at = () => [Number(document.getElementById("cycle").value), document.querySelector("#picture-labels .followed") && Number(document.querySelector("#picture-labels .followed").textContent.match(/\d+/)[0]),
-    document.getElementById("following").textContent];
+  const byName = (id) => document.getElementById(id), followed = () => document.querySelector("#picture-labels .followed");
+  const number = () => followed() && Number(followed().textContent.match(/\d+/)[0]), found = [];
+  const at = () => [Number(byName("cycle").value), number(), byName("following").textContent];
   for (let k = 0; k < most; k += 1) {
     document.body.dispatchEvent(new KeyboardEvent("keydown", { key, bubbles: true, cancelable: true }));
     const now = at();
@@ -153,12 +159,15 @@ class PathCheck:
         shown, total = self.browser.tell(READ_PATH), self.last + 1 - self.first
         rows, cycles = shown["causes"], self.known.shares()
         self.same("cycles of all causes", sum(int(row[2]) for row in rows), total)
-        self.same("causes by the second reader", {row[1]: int(row[2]) for row in rows}, {cause: count for cause, count in cycles.items() if count or cause in ENDS})
+        known = {cause: count for cause, count in cycles.items() if count or cause in ENDS}
+        self.same("causes by the second reader", {row[1]: int(row[2]) for row in rows}, known)
         self.same("shares of the causes", [row[3] for row in rows], [percent(int(row[2]), total) for row in rows])
-        self.same("bars of the causes", [float(bar.rstrip("%")) if bar else 0 for bar in shown["bars"]], [float(row[3].rstrip("%-") or 0) for row in rows])
+        bars = [float(bar.rstrip("%") or 0) for bar in shown["bars"]]
+        self.same("bars of the causes", bars, [float(row[3].rstrip("%-") or 0) for row in rows])
         self.same("letters of the causes", [row[0] for row in rows], [letter_of(row[1]) for row in rows])
         self.same("order of the causes", [row[1:3] for row in rows[-2:]], [[cause, str(cycles[cause])] for cause in ENDS])
-        self.same("the greatest cause first", [int(row[2]) for row in rows[:-2]], sorted((int(row[2]) for row in rows[:-2]), reverse=True))
+        counts = [int(row[2]) for row in rows[:-2]]
+        self.same("the greatest cause first", counts, sorted(counts, reverse=True))
         if self.first == 0:
             said = [f"cycles {total}", *(f"{cause} {count} {share.rstrip('%')} %" for _, cause, count, share, *_ in rows[-2:] + rows[:-2])]
             self.same("what the command path prints", said, self.known.printed.splitlines())
@@ -178,13 +187,15 @@ class PathCheck:
             if number_of(event) is not None:
                 on.setdefault((number_of(event), end), []).append((event, cause))
         marked = [(cell["number"], cell["cycle"]) for cell in shown["cells"] if cell["outline"] == "solid"]
-        start = [] if self.first or not self.steps or number_of(self.steps[0][1]) is None else [(number_of(self.steps[0][1]), self.known.at(self.steps[0][1]))]
+        start = {(number_of(before), self.known.at(before)) for _, before, *_ in self.steps[:1] if self.first == 0 and number_of(before) is not None}
         known = [(cell["number"], cell["cycle"]) for cell in shown["cells"] if (cell["number"], cell["cycle"]) in {*on, *start}]
         self.same("rings of events on the path", marked, known)
         said = {(cell["number"], cell["cycle"]): cell["said"] for cell in shown["cells"] if cell.get("said")}
         for place in [place for place in marked if place in on]:
-            words = [f"{name_of(event)} waited last for {words_of(self.known.path.before(event)[0], place[0])}: {cause}" for event, cause in on[place]]
-            self.same(f"tip of the event of #{place[0]} in cycle {place[1]}", said.get(place) if said.get(place) in words else said.get(place), said.get(place) if said.get(place) in words else words[0])
+            # (a store that retires may begin to drain in the same cycle, and the letter there is that of the commit)
+            event, cause = on[place][0]
+            words = f"{name_of(event)} waited last for {words_of(self.known.path.before(event)[0], place[0])}: {cause}"
+            self.same(f"tip of the event of #{place[0]} in cycle {place[1]}", said.get(place), words)
         colours = {letter: colour for letter, _, colour in shown["legend"]}
         causes = {cycle: cause for _, _, cause, begin, end in self.steps for cycle in range(begin, end)}
         lefts = {cell["cycle"]: cell["box"][0] for cell in shown["cells"]}
@@ -195,8 +206,9 @@ class PathCheck:
             if int(cycle) in lefts and abs(lefts[int(cycle)] - head["box"][0]) > 1.5:
                 self.same(f"place of the cause of cycle {cycle}", head["box"][0], lefts[int(cycle)])
         self.same("columns with a cause", {int(re.match(r"cycle (\d+)", head["tip"])[1]) for head in shown["heads"]} >= set(lefts), True)
-        letters = [letter_of(cause) for cause, cycles in self.known.shares().items() if cycles]
-        self.same("legend of the causes", [item[:2] for item in shown["legend"]], [[letter, f"{letter} {LEGEND[letter]}"] for letter in LEGEND if letter in letters])
+        letters = {letter_of(cause) for cause, cycles in self.known.shares().items() if cycles}
+        words = [[letter, f"{letter} {LEGEND[letter]}"] for letter in LEGEND if letter in letters]
+        self.same("legend of the causes", [item[:2] for item in shown["legend"]], words)
         self.lines(shown, colours)
 
     def lines(self, shown, colours):
@@ -210,8 +222,9 @@ class PathCheck:
             (left, wide, _, low), (right, _, _, high) = (boxes[place] for place in places)
             half = (wide - left) / 2
             wanted = (min(left, right) + half, max(left, right) + half, min(low, high), max(low, high))
-            near = [line for line in drawn if line[0] == colours[letter_of(cause)] and all(abs(one - other) < 4 for one, other in zip(line[1:], wanted))]
-            self.same(f"line from {places[0]} to {places[1]}: {cause}", bool(near), True)
+            alike = [line[1:] for line in drawn if line[0] == colours[letter_of(cause)]]
+            near = any(all(abs(one - other) < 4 for one, other in zip(line, wanted)) for line in alike)
+            self.same(f"line from {places[0]} to {places[1]}: {cause}", near, True)
 
     def waits(self, numbers):
         """The events of a followed instruction, and what each waited for."""
@@ -219,7 +232,8 @@ class PathCheck:
             self.browser.tell(f"follow({number})")
             rows, word = self.browser.tell(READ_PATH)["waits"], self.known.run.words[number]
             events = [(kind, word) for kind in STAGES if self.has(kind, word)]
-            self.same(f"events of #{number}", [(row[0], row[1]) for row in rows], [(self.letter(event), str(self.known.at(event))) for event in events])
+            known = [(LETTERS_OF.get(name_of(event), name_of(event)), str(self.known.at(event))) for event in events]
+            self.same(f"events of #{number}", [(row[0], row[1]) for row in rows], known)
             for row, event in zip(rows, events):
                 before = self.known.path.before(event)
                 if self.known.at(event) < self.first:
@@ -227,9 +241,9 @@ class PathCheck:
                 elif before is None:
                     self.same(f"wait of #{number}'s {event[0]}", row[2:5], ["nothing: the first event", "", ""])
                 elif self.known.at(before[0]) >= self.first or number_of(before[0]) in (number, None):
-                    cause, cycles = self.known.cause_of(event), self.known.at(event) - self.known.at(before[0])
-                    self.same(f"wait of #{number}'s {event[0]}", row[2:5],
-                              [f"{words_of(before[0], number)} in {self.known.at(before[0])}", f"{letter_of(cause)} {cause}", str(cycles)])
+                    cause, since = self.known.cause_of(event), self.known.at(before[0])
+                    words = [f"{words_of(before[0], number)} in {since}", f"{letter_of(cause)} {cause}", str(self.known.at(event) - since)]
+                    self.same(f"wait of #{number}'s {event[0]}", row[2:5], words)
                 self.same(f"whether #{number}'s {event[0]} is on the path", row[5], "on" if self.is_on(event) else "")
 
     def telling(self):
@@ -246,15 +260,11 @@ class PathCheck:
     def has(self, kind, word):
         if kind == "commit":
             return word.commit is not None
-        at = getattr(word, {"fetch": "fetched", "dispatch": "dispatched", "issue": "issued", "broadcast": "broadcast", "drain": "drained", "lines": "writing_back"}[kind], None)
+        at = getattr(word, STAMPS[kind], None)
         return at is not None and (kind not in ("drain", "lines") or at >= self.first)
 
     def is_on(self, event):
         return any(event in step[:2] for step in self.steps) and self.known.at(event) >= self.first
-
-    @staticmethod
-    def letter(event):
-        return {"fetch": "F", "dispatch": "D", "issue": "I", "broadcast": "B", "commit": "T" if event[0] == "commit" and event[1].trapped else "C"}.get(event[0], NAMES.get(event[0], event[0]))
 
     def walk(self):
         """The key, from the last step of the page back to its first event, and forward again; the cycles of all waits add up to the run's."""
@@ -265,17 +275,18 @@ class PathCheck:
         events = [step[0] for step in reversed(self.steps)]
         if self.steps and self.known.at(self.steps[0][1]) >= self.first:
             events.append(self.steps[0][1])
-        self.same("events that the key goes through", [(cycle, number) for cycle, number, _ in back], [(self.known.at(event), number_of(event)) for event in events])
-        for (_, _, said), event in list(zip(back, events)):
+        known = [(self.known.at(event), number_of(event)) for event in events]
+        self.same("events that the key goes through", [(cycle, number) for cycle, number, _ in back], known)
+        for (_, _, said), event in zip(back, events):
             if self.known.path.before(event) is None or self.known.at(self.known.path.before(event)[0]) >= self.first:
                 self.same("what is said of an event", said[:len(sentence_of(self.known, event))], sentence_of(self.known, event))
         cycles = [re.match(r"[^:]+: it waited last for [^:]*: .*?, (\d+) cycles?\.", said) for _, _, said in back]
         total = sum(int(found[1]) for found in cycles if found)
         if self.first == 0 and self.steps:
-            self.same("cycles of all waits that the key goes through", total + self.last + 1 - self.known.at(events[0]) + self.known.at(events[-1]), self.last + 1)
-        forth, again = self.browser.tell(f"{WALK}('E', {BACK})"), events[:-1][::-1][:BACK]
-        self.same("events that the key back goes through", [(cycle, number) for cycle, number, _ in forth[:len(again)]],
-                  [(self.known.at(event), number_of(event)) for event in again])
+            ends = self.last + 1 - self.known.at(events[0]) + self.known.at(events[-1])
+            self.same("cycles of all waits that the key goes through", total + ends, self.last + 1)
+        forth, again = self.browser.tell(f"{WALK}('E', {BACK})"), known[:-1][::-1][:BACK]
+        self.same("events that the key back goes through", [(cycle, number) for cycle, number, _ in forth[:len(again)]], again)
 
 
 def known_of(facts, job):
