@@ -5,7 +5,7 @@ pub(crate) const BEFORE: &[u8] = br#"<!DOCTYPE html>
 <html lang="en">
 <head>
 <meta charset="utf-8">
-<meta http-equiv="Content-Security-Policy" content="default-src 'none'; script-src 'sha256-FnlA9dGPqnOefFegl3AvewA+9XQsZhnD8EiayEpKU/8='; style-src 'sha256-GPCyShncOqn8lQqPPv8BVc0LVw4uR+PINRuIegbju/I='; img-src data:; frame-src 'self' file:; base-uri 'none'; form-action 'none'">
+<meta http-equiv="Content-Security-Policy" content="default-src 'none'; script-src 'sha256-WUFmZXaZJUSNFHfotJUg16vm6VtXerZs70IpvfB/FW8='; style-src 'sha256-GPCyShncOqn8lQqPPv8BVc0LVw4uR+PINRuIegbju/I='; img-src data:; frame-src 'self' file:; base-uri 'none'; form-action 'none'">
 <meta name="viewport" content="width=device-width, initial-scale=1">
 <title>rv_sim: a run, cycle by cycle</title>
 <style>
@@ -1981,7 +1981,10 @@ function eventNow() {
 }
 
 // What a key went to, in words.
-function toldEvent() { return view.event && eventNow() === view.event ? eventSentence(view.event) + " " : ""; }
+function toldEvent() {
+  const now = view.event && eventNow();
+  return now && now === view.event ? eventSentence(now) + " " : "";
+}
 
 function goToEvent(event) {
   view.event = event;

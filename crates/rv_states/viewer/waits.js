@@ -89,7 +89,10 @@ function eventNow() {
 }
 
 // What a key went to, in words.
-function toldEvent() { return view.event && eventNow() === view.event ? eventSentence(view.event) + " " : ""; }
+function toldEvent() {
+  const now = view.event && eventNow();
+  return now && now === view.event ? eventSentence(now) + " " : "";
+}
 
 function goToEvent(event) {
   view.event = event;

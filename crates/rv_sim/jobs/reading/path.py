@@ -288,6 +288,20 @@ class PathCheck:
         forth, again = self.browser.tell(f"{WALK}('E', {BACK})"), known[:-1][::-1][:BACK]
         self.same("events that the key back goes through", [(cycle, number) for cycle, number, _ in forth[:len(again)]], again)
 
+    def elsewhere(self):
+        """From an event that is not on the path: the key goes to what it waited for, and the key back to it again."""
+        words = [word for word in self.known.run.words.values() if word.issued is not None and self.first < word.issued <= self.last]
+        for event in [("issue", word) for word in words if not self.is_on(("issue", word))][-3:]:
+            before, _ = self.known.path.before(event)
+            if self.known.at(before) < self.first:
+                continue
+            self.browser.tell(f"follow({number_of(event)}); go({self.known.at(event)} - run.first + 1)")
+            (cycle, number, said), *_ = self.browser.tell(f"{WALK}('e', 1)")
+            self.same("event to which the key goes from one elsewhere", (cycle, number), (self.known.at(before), number_of(before)))
+            (cycle, number, said), *_ = self.browser.tell(f"{WALK}('E', 1)")
+            self.same("event to which the key back goes", (cycle, number), (self.known.at(event), number_of(event)))
+            self.same("what is said of it", said[:len(sentence_of(self.known, event))], sentence_of(self.known, event))
+
 
 def known_of(facts, job):
     """What is known of the path on the page of a job."""
@@ -324,3 +338,4 @@ def compare_paths(browser, paths, same):
         check.waits(check.telling()[-6:] if k == 0 else check.telling()[-2:])
         if k == 0 or len(known.steps) != len(paths[0][0].steps):
             check.walk()
+            check.elsewhere()
