@@ -5,7 +5,7 @@ pub(crate) const BEFORE: &[u8] = br#"<!DOCTYPE html>
 <html lang="en">
 <head>
 <meta charset="utf-8">
-<meta http-equiv="Content-Security-Policy" content="default-src 'none'; script-src 'sha256-WUFmZXaZJUSNFHfotJUg16vm6VtXerZs70IpvfB/FW8='; style-src 'sha256-GPCyShncOqn8lQqPPv8BVc0LVw4uR+PINRuIegbju/I='; img-src data:; frame-src 'self' file:; base-uri 'none'; form-action 'none'">
+<meta http-equiv="Content-Security-Policy" content="default-src 'none'; script-src 'sha256-EOpK6qKqWAQvjBEV8khtZQHY1wOPCC/S+7PLQXqohCQ='; style-src 'sha256-GPCyShncOqn8lQqPPv8BVc0LVw4uR+PINRuIegbju/I='; img-src data:; frame-src 'self' file:; base-uri 'none'; form-action 'none'">
 <meta name="viewport" content="width=device-width, initial-scale=1">
 <title>rv_sim: a run, cycle by cycle</title>
 <style>
@@ -2049,6 +2049,7 @@ function rowOf(event) { return pictured.rows.get(event.number); }
 // A line for each step that is in view, below the letters: in the cycle of the event that was waited for to the row of the one that waited, and
 // along to it. Of a step between a row and none, as of an interrupt, the row's part is drawn.
 function pathLines(run, firstRow, lastRow, firstColumn, lastColumn) {
+  if (lastColumn < firstColumn) return []; // (the panel is left out)
   const first = run.first + firstColumn, last = run.first + lastColumn, lines = [];
   const wide = (lastColumn - firstColumn + 1) * picture.column, high = (lastRow - firstRow + 1) * picture.row;
   const x = (cycle) => ((cycle - first + 0.5) * picture.column).toFixed(2), y = (k) => ((k - firstRow + 0.92) * picture.row).toFixed(2);

@@ -26,6 +26,7 @@ function rowOf(event) { return pictured.rows.get(event.number); }
 // A line for each step that is in view, below the letters: in the cycle of the event that was waited for to the row of the one that waited, and
 // along to it. Of a step between a row and none, as of an interrupt, the row's part is drawn.
 function pathLines(run, firstRow, lastRow, firstColumn, lastColumn) {
+  if (lastColumn < firstColumn) return []; // (the panel is left out)
   const first = run.first + firstColumn, last = run.first + lastColumn, lines = [];
   const wide = (lastColumn - firstColumn + 1) * picture.column, high = (lastRow - firstRow + 1) * picture.row;
   const x = (cycle) => ((cycle - first + 0.5) * picture.column).toFixed(2), y = (k) => ((k - firstRow + 0.92) * picture.row).toFixed(2);

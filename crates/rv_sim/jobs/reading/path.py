@@ -19,8 +19,8 @@ STAMPS = {"fetch": "fetched", "dispatch": "dispatched", "issue": "issued", "broa
 LETTERS_OF = {"fetch": "F", "dispatch": "D", "issue": "I", "broadcast": "B", "commit": "C", "trap": "T"}
 # how many events the key back goes through
 BACK = 15
-# the panels that are left out while the path is followed by its key, so that a step is soon drawn
-LEFT_OUT = "source,fetch,predictor,stores,rob,stations,units,bus,csrs,counts,registers,cache,accesses,memory"
+# the panels that are left out while the path is followed by its key, so that a step is soon drawn: what is said of an event stands above them
+LEFT_OUT = "source,fetch,predictor,stores,pipeline,waits,path,rob,stations,units,bus,csrs,counts,registers,cache,accesses,memory"
 
 READ_PATH = r"""(() => {
   const text = (each) => each.textContent.replace(/\u00a0/g, " ").replace(/\s+/g, " ").trim(), byName = (id) => document.getElementById(id);
@@ -44,11 +44,12 @@ READ_PATH = r"""(() => {
   };
 })()"""
 
-# Presses a key until it leads no further: cycle, followed instruction and what is said after each press.
+# Presses a key until it leads no further: cycle, instruction and what is said after each press.
 WALK = r"""((key, most) => {
-  const byName = (id) => document.getElementById(id), followed = () => document.querySelector("#picture-labels .followed");
-  const number = () => followed() && Number(followed().textContent.match(/\d+/)[0]), found = [];
-  const at = () => [Number(byName("cycle").value), number(), byName("following").textContent];
+  const found = [], at = () => {
+    const said = document.getElementById("following").textContent, number = /^The [a-z-]+ of #([0-9]+) /.exec(said);
+    return [Number(document.getElementById("cycle").value), number && Number(number[1]), said];
+  };
   for (let k = 0; k < most; k += 1) {
     document.body.dispatchEvent(new KeyboardEvent("keydown", { key, bubbles: true, cancelable: true }));
     const now = at();
@@ -81,6 +82,7 @@ class Known:
         self.run = rules.Run(lines)
         self.path, self.printed = rules.Path(self.run), printed
         self.steps = self.steps_to(self.path.ends())
+        self.causes = {event: cause for event, _, cause, *_ in self.steps}
 
     def at(self, event):
         return self.path.at(event)
@@ -99,8 +101,10 @@ class Known:
         return [(event, before, cause, max(self.first, self.at(before)), self.at(event)) for event, before, cause in steps]
 
     def cause_of(self, event):
-        steps = self.steps_to(event)
-        return steps[-1][2] if steps and steps[-1][0] == event else None
+        if event not in self.causes:
+            steps = self.steps_to(event)
+            self.causes[event] = steps[-1][2] if steps and steps[-1][0] == event else None
+        return self.causes[event]
 
     def shares(self):
         """The cycles of each cause, of the greatest first, and then of the run's ends."""
@@ -148,14 +152,18 @@ def percent(cycles, total):
 
 
 class PathCheck:
-    def __init__(self, browser, known, page, same):
-        self.browser, self.known, self.page, self.same = browser, known, page, same
+    def __init__(self, browser, known, same):
+        self.browser, self.known, self.same = browser, known, same
         self.first, self.last, self.steps = known.first, known.last, known.steps
+
+    def turn_to(self, address):
+        """Goes to another address of the page that is open."""
+        self.browser.tell(f"new Promise((done) => {{ addEventListener('hashchange', () => setTimeout(done), {{ once: true }}); location.hash = '{address}'; }})")
 
     def table(self):
         """The table of causes: as the program prints it, where the page has the run from its first cycle, and as the second reader counts it."""
         self.browser.size(1280, 720)
-        self.browser.open(f"{self.page}#cycle={self.last}&path")
+        self.turn_to(f"cycle={self.last}&path")
         shown, total = self.browser.tell(READ_PATH), self.last + 1 - self.first
         rows, cycles = shown["causes"], self.known.shares()
         self.same("cycles of all causes", sum(int(row[2]) for row in rows), total)
@@ -268,9 +276,8 @@ class PathCheck:
 
     def walk(self):
         """The key, from the last step of the page back to its first event, and forward again; the cycles of all waits add up to the run's."""
-        self.browser.size(480, 320)
-        self.browser.open(f"{self.page}#cycle={self.last}&path&without={LEFT_OUT}")
-        self.browser.press("End")
+        self.turn_to(f"cycle={self.last}&path&without={LEFT_OUT}")
+        self.browser.press("Escape", "End")
         back = self.browser.tell(f"{WALK}('e', {len(self.steps) + 5})")
         events = [step[0] for step in reversed(self.steps)]
         if self.steps and self.known.at(self.steps[0][1]) >= self.first:
@@ -322,18 +329,24 @@ def with_early_recovery(job):
 
 def paths_of(facts, page):
     """What is known of the path on a job's page, and on that of the job with early recovery, which is made beside it."""
+    def run(job, command):
+        return facts.run(job, command, "--from", str(facts.first), "--cycles", str(facts.window))
+
     found, early = [(known_of(facts, facts.job.text()), page)], with_early_recovery(facts.job)
-    if early is not None:
+    # (where no branch is mended early, the page is the same but for the name of the recovery)
+    if early is not None and run(early, "states").splitlines()[1:] != run(facts.job.text(), "states").splitlines()[1:]:
         beside = page.with_name(f"{page.stem}-early.html")
-        beside.write_text(facts.run(early, "page", "--from", str(facts.first), "--cycles", str(facts.window)))
+        beside.write_text(run(early, "page"))
         found.append((known_of(facts, early), beside))
     return found
 
 
 def compare_paths(browser, paths, same):
-    """The path of a page, and that of the page with early recovery, which is followed where it goes elsewhere."""
+    """The path of the page that is open, and that of the page with early recovery, which is followed where it goes elsewhere."""
     for k, (known, page) in enumerate(paths):
-        check = PathCheck(browser, known, page.as_uri(), same)
+        if k > 0 or not browser.tell(f"location.href.startsWith({page.as_uri()!r})"):
+            browser.open(page.as_uri())
+        check = PathCheck(browser, known, same)
         check.table()
         check.waits(check.telling()[-6:] if k == 0 else check.telling()[-2:])
         if k == 0 or len(known.steps) != len(paths[0][0].steps):
