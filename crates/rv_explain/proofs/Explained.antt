@@ -11,10 +11,11 @@ use Rattle.rv_passage.specs.Walk.{passages_after}
 use Rattle.rv_counts.specs.Left.{left_after}
 use Rattle.rv_source.specs.Listing.{Listed}
 use Rattle.rv_explain.specs.Explanation.{IsExplanation, IsTold, explanation}
-use Rattle.rv_sentences.specs.Head.{head_after}
+use Rattle.rv_sentences.specs.Head.{accounts_of, itself}
 use Rattle.rv_sentences.specs.Work.{word_in}
 use Rattle.rv_explain.specs.declared.{figures.Figures.Figures, tale.Tale.Tale}
 use Rattle.rv_sentences.specs.declared.work.Class.TheVariants.{Branch, Mispredicted}
+use Rattle.rv_sentences.proofs.AccountsGrow.{length-accounts}
 use Rattle.rv_sentences.proofs.CountSums.{counted_within}
 use Rattle.rv_passage.proofs.EndedRun.{length-reports_of}
 
@@ -26,14 +27,15 @@ explained arrivals limit figures values listing old new stop progress fetched ta
   text_is = λ i. explanation figures listing stop new.hardware (told.counted i) (told.fetched_are i) (told.kept i);
   places_add_up = told.places_add_up;
   places_are_lost_for = told.places_are_lost_for;
+  stays_add_up = told.stays_add_up;
 }
 
 -- no more cycles left the words of RAM at the head than there were
 pub heads_counted : (arrivals : List Arrival) (limit : ℕ) (values : Values) (old new : GuidedHardware) (stop : Stop) (progress : Progress) (fetched : ℕ) (tale : Tale)
     → IsTold arrivals limit values old new stop progress fetched tale → sum tale.heads.words ≤ progress.cycles
 heads_counted arrivals limit values old new stop progress fetched tale told =
-    let heads = counted_within head_after values told.moments in
-    omega (arith, heads, ap (λ (t : Tale). sum t.heads.words) told.kept, ap (λ (p : Progress). p.cycles) told.counted, length-reports_of told.moments)
+    let heads = counted_within itself values (accounts_of old.hardware told.moments) in
+    omega (arith, heads, length-accounts old.hardware told.moments, ap (λ (t : Tale). sum t.heads.words) told.kept, ap (λ (p : Progress). p.cycles) told.counted, length-reports_of told.moments)
 
 -- no more branches and jumps retired, and were mispredicted, than words were fetched
 pub branches_counted : (arrivals : List Arrival) (limit : ℕ) (values : Values) (old new : GuidedHardware) (stop : Stop) (progress : Progress) (fetched : ℕ) (tale : Tale)

@@ -1,13 +1,12 @@
 -- What is kept of a run, with one cycle more.
 use Rattle.std.proofs.Common.{◌≡◌, ◌∙◌, ℕ, ◌+◌, ◌*◌, ◌^◌, ◌≤◌, ◌==◌, List, [], ◌∷◌, ◌++◌, length, count_by, filter, Option, Some, None, cond, Bool, true, false, refl, sym, ap, arith, append-nil}
-use Rattle.std.specs.Prelude.{is_some}
+use Rattle.std.specs.Prelude.{is_some, sum}
 use Rattle.std.specs.List.{cons_option, filter_map}
 use Rattle.std.specs.Option.{option_to_list}
 use Rattle.std.proofs.lemmas.List.Elements.{filter_map-append}
 use Rattle.std.proofs.lemmas.List.Sums.{count_by-le-length, sum_by-append}
 use Rattle.rv_isa.specs.declared.lines.Arrival.{Arrival}
-use Rattle.rv_isa.specs.PerKind.{by_kind}
-use Rattle.rv_isa.specs.declared.{per_kind.PerKind.PerKind, values.Values.Values}
+use Rattle.rv_isa.specs.declared.values.Values.{Values}
 use Rattle.rv_core.proofs.Shown.{shown_steps-push}
 use Rattle.rv_hardware.specs.Guided.{GuidedHardware}
 use Rattle.rv_hardware.specs.Hardware.{Hardware}
@@ -16,13 +15,15 @@ use Rattle.rv_hardware.specs.Step.{is_retirement}
 use Rattle.rv_hardware.specs.declared.step.Step.{Step}
 use Rattle.rv_hardware.specs.declared.step.Step.TheVariants.{Retired, Trap, Interrupt}
 use Rattle.rv_passage.specs.Passage.{is_squash}
+use Rattle.rv_passage.specs.Table.{still_open}
 use Rattle.rv_passage.specs.declared.passage.Passage.{Passage}
+use Rattle.rv_passage.proofs.Walk.{last_cycle}
 use Rattle.rv_counts.specs.Load.{costs_of, is_hit}
 use Rattle.rv_counts.specs.Passing.{has_left}
 use Rattle.rv_sentences.specs.Dispatch.{dispatched_after, dispatched_with, is_last, none_dispatched, with_cycle}
 use Rattle.rv_sentences.specs.Drain.{drain_in, drains_by, drains_of}
 use Rattle.rv_sentences.specs.Exception.{exception_of_cycle, exceptions_of}
-use Rattle.rv_sentences.specs.Head.{head_after}
+use Rattle.rv_sentences.specs.Head.{accounts_of, is_idle, itself}
 use Rattle.rv_hardware.specs.History.{History, Moment, reports_of}
 use Rattle.rv_sentences.specs.Interrupt.{by_line, interruption_of_cycle, interruptions_of, interrupts_after}
 use Rattle.rv_sentences.specs.Kinds.{kept_after, kept_of}
@@ -30,8 +31,7 @@ use Rattle.rv_sentences.specs.LastStore.{last_store_to, stores_in, stores_of}
 use Rattle.rv_sentences.specs.Load.{retired_load_cost}
 use Rattle.rv_explain.specs.Tale.{HasRoom, tale_after, tale_of}
 use Rattle.rv_counts.specs.Places.{all_places, places_in, places_of}
-use Rattle.rv_sentences.specs.Unit.{arrivals_after, arrivals_by, none_came, unit_wait_in, unit_waits}
-use Rattle.rv_sentences.specs.Wait.{CanGrow, both_waits, bus_wait, bus_waits}
+use Rattle.rv_sentences.specs.Stay.{all_stays, awaited_word, no_stays, stays_of, with_stays}
 use Rattle.rv_sentences.specs.WordCount.{count_at}
 use Rattle.rv_sentences.specs.WordNotes.{notes_of}
 use Rattle.rv_sentences.specs.Work.{is_mispredicted_branch, is_retired_branch, word_in}
@@ -39,12 +39,15 @@ use Rattle.rv_sentences.specs.declared.{dispatches.Dispatches.Dispatches, except
 use Rattle.rv_sentences.specs.declared.work.Class.TheVariants.{Branch, Mispredicted}
 use Rattle.rv_sentences.proofs.DrainCounts.{drains_by-append, drains_of-le, drains_of-push}
 use Rattle.rv_sentences.proofs.CountSums.{counted_within}
-use Rattle.rv_sentences.proofs.CountsGrow.{heads-push, with_all_at}
+use Rattle.rv_sentences.proofs.CountsGrow.{with_all_at}
 use Rattle.rv_sentences.proofs.LastStores.{stores_of-push, with_stores_of}
 use Rattle.rv_sentences.proofs.InterruptsGrow.{by_line-push, lines_counted}
 use Rattle.rv_sentences.proofs.KindsGrow.{kept-push, kept_counted}
 use Rattle.rv_sentences.proofs.OutcomesGrow.{can_take, outcomes-left}
 use Rattle.rv_counts.proofs.PlacesGrow.{places_of-push}
+use Rattle.rv_sentences.proofs.AccountsGrow.{flusher-push, heads-push, idle-push, length-accounts}
+use Rattle.rv_sentences.proofs.RaisedGrows.{raised-push}
+use Rattle.rv_sentences.proofs.StaysGrow.{awaited-push, stays-push}
 use Rattle.rv_sentences.proofs.Works.{branch_words-left, loads-left, mispredicted_words-left, work-left}
 
 kept_after-push : (es : List Exception) (o : Option Exception) → kept_after o (kept_of es) ≡ kept_of (es ++ cons_option o [])
@@ -92,75 +95,51 @@ dispatched_after-le : (steps : List Step) (d : Dispatches) → (dispatched_after
 dispatched_after-le [] d = omega arith
 dispatched_after-le (step ∷ steps) d = omega (arith, dispatched_with-le step d, dispatched_after-le steps (dispatched_with step d))
 
-bus_waits-append : (some more : List Step) → bus_waits (some ++ more) ≡ both_waits (bus_waits some) (bus_waits more)
-bus_waits-append some more = λ i. by_kind (λ kind. sum_by-append (bus_wait kind) some more i)
-
-none_and : (waits : PerKind ℕ) → waits ≡ both_waits (by_kind (λ kind. 0)) waits
-none_and waits =
-    let alu : waits.alu ≡ 0 + waits.alu = omega arith in
-    let mul : waits.mul ≡ 0 + waits.mul = omega arith in
-    let div : waits.div ≡ 0 + waits.div = omega arith in
-    let mem : waits.mem ≡ 0 + waits.mem = omega arith in
-    λ i. record { alu = alu i; mul = mul i; div = div i; mem = mem i }
-
-both_waits-assoc : (some others more : PerKind ℕ) → both_waits some (both_waits others more) ≡ both_waits (both_waits some others) more
-both_waits-assoc some others more =
-    let alu : some.alu + (others.alu + more.alu) ≡ (some.alu + others.alu) + more.alu = omega arith in
-    let mul : some.mul + (others.mul + more.mul) ≡ (some.mul + others.mul) + more.mul = omega arith in
-    let div : some.div + (others.div + more.div) ≡ (some.div + others.div) + more.div = omega arith in
-    let mem : some.mem + (others.mem + more.mem) ≡ (some.mem + others.mem) + more.mem = omega arith in
-    λ i. record { alu = alu i; mul = mul i; div = div i; mem = mem i }
-
-arrivals_after-append : (came : List ℕ) (some more : List Step) → arrivals_after came (some ++ more) ≡ arrivals_after (arrivals_after came some) more
-arrivals_after-append came [] more = refl
-arrivals_after-append came (step ∷ some) more = arrivals_after-append (arrivals_by came step) some more
-
-unit_waits-append : (came : List ℕ) (some more : List Step) → unit_waits came (some ++ more) ≡ both_waits (unit_waits came some) (unit_waits (arrivals_after came some) more)
-unit_waits-append came [] more = none_and (unit_waits came more)
-unit_waits-append came (step ∷ some) more =
-    ap (both_waits (unit_wait_in came step)) (unit_waits-append (arrivals_by came step) some more) ∙
-    both_waits-assoc (unit_wait_in came step) (unit_waits (arrivals_by came step) some) (unit_waits (arrivals_after (arrivals_by came step) some) more)
-
 module _ (values : Values) where
   -- one more cycle
-  pub tale-push : {arrivals : List Arrival} {old now : GuidedHardware} {moments : List Moment} (moment : Moment) (rows left : List Passage) → History arrivals old moments now
-      → tale_after now.hardware.registers moment.report.steps (places_in now.hardware moment) (drain_in arrivals now.hardware) moment.after rows (tale_of values arrivals old.hardware moments left)
+  pub tale-push : {arrivals : List Arrival} {old now : GuidedHardware} {moments : List Moment} (moment : Moment) (rows left : List Passage) (passes : History arrivals old moments now)
+      → rows ≡ (last_cycle still_open passes moment).passages.rows
+      → tale_after now.hardware.cycle now.hardware.registers moment.report.steps (places_in now.hardware moment) (drain_in arrivals now.hardware) moment.after.lines moment.after rows (tale_of values arrivals old.hardware moments left)
       ≡ tale_of values arrivals old.hardware (moments ++ moment ∷ []) (filter has_left rows ++ left)
-  tale-push {arrivals = arrivals} {old = old} {now = now} {moments = moments} moment rows left passes =
+  tale-push {arrivals = arrivals} {old = old} {now = now} {moments = moments} moment rows left passes rows_are =
       let steps = shown_steps-push moments moment in
       let exceptions = exceptions-push moments moment in
       let interrupts = interrupts-push moments moment in
       let stores = with_stores_of values (stores_in now.hardware.registers moment.report.steps) (stores_of old.hardware moments) in
       let stored = sym (stores_of-push moment passes) in
       let retired = sym (ap (count_by is_retirement) steps ∙ sum_by-append (λ (step : Step). cond (is_retirement step) 1 0) (steps_of (reports_of moments)) moment.report.steps) in
+      let raised = sym (raised-push moment passes) in
       let places = sym (places_of-push moment passes) in
       let dispatches = sym (ap (λ (all : List Step). dispatched_after all none_dispatched) steps ∙ dispatched_after-append (steps_of (reports_of moments)) moment.report.steps none_dispatched) in
-      let bus = sym (ap bus_waits steps ∙ bus_waits-append (steps_of (reports_of moments)) moment.report.steps) in
-      let units = sym (ap (unit_waits none_came) steps ∙ unit_waits-append none_came (steps_of (reports_of moments)) moment.report.steps) in
-      let came = sym (ap (arrivals_after none_came) steps ∙ arrivals_after-append none_came (steps_of (reports_of moments)) moment.report.steps) in
+      let stays = stays-push moment passes rows_are in
+      let awaited = awaited-push moment passes rows_are values in
       let work = work-left (filter has_left rows) left in
       let loads = loads-left (costs_of values) rows left in
       let outcomes = outcomes-left values (costs_of values) (filter has_left rows) left in
       let drains = sym (ap (drains_by values.cache.hit) (drains_of-push moment passes) ∙ drains_by-append values.cache.hit (drains_of arrivals old.hardware moments) (option_to_list (drain_in arrivals now.hardware))) in
       let last_stores = stores ∙ (λ i. notes_of values (last_store_to (stored i))) in
-      let heads = heads-push values moments moment in
+      let heads = heads-push moment passes rows_are values in
+      let idle = idle-push moment passes rows_are in
+      let flusher = flusher-push moment passes rows_are in
       let branches = with_all_at values (word_in Branch) rows (count_at (word_in Branch) left) (count_at (word_in Branch) (filter has_left rows ++ left)) (branch_words-left rows left) in
       let mispredicted = with_all_at values (word_in Mispredicted) rows (count_at (word_in Mispredicted) left) (count_at (word_in Mispredicted) (filter has_left rows ++ left)) (mispredicted_words-left rows left) in
       λ i. record {
         retired = retired i;
         exceptions = exceptions i;
         interrupts = interrupts i;
+        raised = raised i;
         places = places i;
         dispatches = dispatches i;
-        bus = bus i;
-        units = units i;
-        came = came i;
+        stays = stays i;
+        awaited = awaited i;
         work = work i;
         costs = costs_of values;
         loads = loads i;
         drains = drains i;
         last_stores = last_stores i;
         heads = heads i;
+        idle = idle i;
+        flusher = flusher i;
         branches = branches i;
         mispredicted = mispredicted i;
         outcomes = outcomes i;
@@ -168,12 +147,13 @@ module _ (values : Values) where
 
   -- the steps of one more cycle can be counted
   pub has_room : (arrivals : List Arrival) (h : Hardware) (moments : List Moment) (left : List Passage) (more rows : ℕ) → length (steps_of (reports_of moments)) ≤ 8 * 2 ^ 40 → length moments ≤ 2 ^ 40
-      → all_places (places_of h moments) ≤ 8 * 2 ^ 40 + 256 → length left ≤ 576 * 2 ^ 40 → more ≤ 8 → rows ≤ 576 → CanGrow (bus_waits (steps_of (reports_of moments))) more → CanGrow (unit_waits none_came (steps_of (reports_of moments))) more
+      → all_places (places_of h moments) ≤ 8 * 2 ^ 40 + 256 → length left ≤ 576 * 2 ^ 40 → more ≤ 8 → rows ≤ 576 → all_stays (with_stays (stays_of h moments) no_stays) ≤ 576 * 2 ^ 40
+      → sum (notes_of values (count_at awaited_word (stays_of h moments))).words ≤ 576 * 2 ^ 40
       → HasRoom (tale_of values arrivals h moments left) more rows
-  has_room arrivals h moments left more rows few within placed fewer little some bus_grows units_grow = record {
+  has_room arrivals h moments left more rows few within placed fewer little some few_stays few_awaited = record {
     dispatches = omega (arith, dispatched_after-le (steps_of (reports_of moments)) none_dispatched, few, little);
-    bus = bus_grows;
-    units = units_grow;
+    stays = omega (arith, few_stays, some);
+    awaited = omega (arith, few_awaited, some);
     places = omega (arith, placed);
     retired = omega (arith, count_by-le-length is_retirement (steps_of (reports_of moments)), few, little);
     exceptions = kept_counted (exceptions_of moments) (omega (arith, length-filter_map exception_of_cycle moments, within));
@@ -187,7 +167,8 @@ module _ (values : Values) where
     drains = omega (arith, drains_of-le arrivals h moments, within);
     hits = omega (arith, drains_of-le arrivals h moments, count_by-le-length (λ (cost : ℕ). cost == values.cache.hit) (drains_of arrivals h moments), within);
     outcomes = can_take values (costs_of values) left rows (omega (arith, fewer, some));
-    heads = omega (arith, counted_within head_after values moments, within);
+    heads = omega (arith, counted_within itself values (accounts_of h moments), length-accounts h moments, within);
+    idle = omega (arith, count_by-le-length is_idle (accounts_of h moments), length-accounts h moments, within);
     branch_words = omega (arith, counted_within (word_in Branch) values left, fewer, some);
     mispredicted_words = omega (arith, counted_within (word_in Mispredicted) values left, fewer, some);
   }

@@ -1,14 +1,17 @@
 -- A run that is told as its cycles come: what was kept so far, one cycle more, and the end.
 use Rattle.std.proofs.Common.{◌≡◌, ◌∙◌, ℕ, ◌+◌, ◌*◌, ◌^◌, ◌<◌, ◌≤◌, List, [], ◌∷◌, ◌++◌, length, length-append, Option, sym, ap, subst, arith}
 use Rattle.std.proofs.lemmas.Nat.{mul-le}
-use Rattle.rv_isa.specs.declared.lines.Arrival.{Arrival}
-use Rattle.rv_isa.specs.PerKind.{by_kind}
+use Rattle.rv_isa.specs.declared.lines.{Arrival.Arrival, Lines.Lines}
+use Rattle.rv_isa.specs.PerKind.{at_kind}
+use Rattle.rv_isa.specs.declared.operations.Kind.TheVariants.{Mem}
+use Rattle.rv_units.specs.Pool.{is_free}
+use Rattle.std.specs.Prelude.{sum, true}
 use Rattle.rv_isa.specs.declared.values.Values.{Values}
 use Rattle.rv_arch.specs.declared.outcome.Stop.{Stop}
 use Rattle.rv_core.specs.Progress.{progress_of}
 use Rattle.rv_core.specs.Watching.{Watched, watched, with_shown}
 use Rattle.rv_core.specs.declared.outcome.Progress.{Progress}
-use Rattle.rv_core.proofs.Shown.{cycle_counts, moments_counted, shown_steps-push}
+use Rattle.rv_core.proofs.Shown.{cycle_counts, moments_counted}
 use Rattle.rv_hardware.specs.Draining.{drain_end}
 use Rattle.rv_hardware.specs.Guided.{GuidedHardware}
 use Rattle.rv_hardware.specs.History.{Moment, reports_of}
@@ -27,20 +30,18 @@ use Rattle.rv_sentences.specs.Drain.{begun, drain_in}
 use Rattle.rv_explain.specs.Explanation.{IsTold}
 use Rattle.rv_explain.specs.Tale.{HasRoom, IsTelling, tale_after, tale_of}
 use Rattle.rv_counts.specs.Places.{cycle_total, places_by, places_in}
-use Rattle.rv_sentences.specs.Wait.{CanGrow}
+use Rattle.rv_sentences.specs.Stay.{all_stays, awaited_word}
 use Rattle.rv_counts.specs.declared.run_places.CyclePlaces.{CyclePlaces}
 use Rattle.rv_explain.specs.declared.tale.Tale.{Tale}
 use Rattle.rv_sentences.proofs.DrainBegins.{begun_in_cycle}
 use Rattle.rv_counts.proofs.LossReasons.{lost_for}
 use Rattle.rv_counts.proofs.PlacesGrow.{add_up-push, add_up_nothing, few_seen, places_counted, places_seen}
 use Rattle.rv_counts.proofs.PlacesOfCycle.{ArePlaced, placed}
+use Rattle.rv_sentences.proofs.CountSums.{counted_within}
+use Rattle.rv_sentences.proofs.StaysGrow.{few_more_awaited, few_more_stays, stays_add_up}
 use Rattle.rv_explain.proofs.Tales.{has_room, tale-push}
 use Rattle.rv_view.specs.Viewing.{IsNextCycle}
 use Rattle.rv_view.specs.declared.shown_cycle.ShownCycle.{ShownCycle}
-
--- no wait can go on by those of so many steps
-nothing_grows : (more : ℕ) → 0 + more ≤ 2 ^ 44 → CanGrow (by_kind (λ kind. 0)) more
-nothing_grows more few = record { alu = omega (arith, few); mul = omega (arith, few); div = omega (arith, few); mem = omega (arith, few) }
 
 -- no cycle yet
 pub telling_nothing : (values : Values) (arrivals : List Arrival) (h : GuidedHardware) (tale : Tale) (registers : List ℕ) (end : Option ℕ) (in_flight : ℕ) → tale ≡ tale_of values arrivals h.hardware [] []
@@ -51,8 +52,8 @@ telling_nothing values arrivals h tale registers end in_flight untold registers_
       some_left = omega arith;
       untold = untold;
       told = λ by is. is;
-      bus_grows = λ more few. subst (λ (t : Tale). CanGrow t.bus more) (sym untold) (nothing_grows more few);
-      units_grow = λ more few. subst (λ (t : Tale). CanGrow t.units more) (sym untold) (nothing_grows more few);
+      few_stays = omega (arith, ap (λ (t : Tale). all_stays t.stays) untold);
+      few_awaited = omega (arith, ap (λ (t : Tale). sum t.awaited.words) untold, counted_within awaited_word values []);
       registers_are = registers_are;
       end_is = end_is;
       in_flight_is = in_flight_is;
@@ -87,22 +88,19 @@ module _ {seen : Watched} {cycle : ShownCycle} (next : IsNextCycle seen cycle) {
       let more = length cycle.steps.now in
       let rows = length cycle.rows.now in
       let counted = moments_counted shown.passes in
-      let few_steps : length (steps_of (reports_of seen.moments)) ≤ 8 * 2 ^ 40 = omega (arith, shown.few_before, counted, shown.number, shown.counted) in
       subst (λ (t : Tale). HasRoom t more rows) (sym (telling.told telling.values telling.untold))
       (has_room telling.values seen.arrivals seen.first.hardware seen.moments (left_after seen.first.hardware seen.moments) more rows (omega (arith, shown.few_before, counted, shown.number, shown.counted))
       (omega (arith, length-reports_of seen.moments, counted, shown.number, shown.counted))
       (omega (arith, places_counted seen.first.hardware seen.moments seen.now.hardware telling.places_add_up (omega (arith, ap (λ (v : Values). v.dispatch_width) placed_now.values, placed_now.wide)) telling.few_before, length-reports_of seen.moments, counted, shown.number, shown.counted))
       (omega (arith, telling.some_left, shown.number, shown.counted)) shown.few next.few
-      (subst (λ (t : Tale). CanGrow t.bus more) (telling.told telling.values telling.untold) (telling.bus_grows more (omega (arith, few_steps, shown.few))))
-      (subst (λ (t : Tale). CanGrow t.units more) (telling.told telling.values telling.untold) (telling.units_grow more (omega (arith, few_steps, shown.few)))))
+      (omega (arith, telling.few_stays, ap (λ (t : Tale). all_stays t.stays) (telling.told telling.values telling.untold), shown.number, shown.counted))
+      (omega (arith, telling.few_awaited, ap (λ (t : Tale). sum t.awaited.words) (telling.told telling.values telling.untold), shown.number, shown.counted)))
 
   -- and are told
-  pub telling_on : (drain : Option ℕ) (tale' : Tale) (registers' : List ℕ) (end' : Option ℕ) (in_flight' : ℕ) (places : CyclePlaces) → places ≡ places_now → drain ≡ begun cycle.number end end'
-      → tale' ≡ tale_after registers cycle.steps.now places drain cycle.pipeline.now cycle.rows.now tale
-      → ((more : ℕ) → CanGrow tale.bus (more + length cycle.steps.now) → CanGrow tale'.bus more)
-      → ((more : ℕ) → CanGrow tale.units (more + length cycle.steps.now) → CanGrow tale'.units more) → registers' ≡ cycle.pipeline.now.registers → end' ≡ drain_end cycle.pipeline.now
+  pub telling_on : (drain : Option ℕ) (tale' : Tale) (registers' : List ℕ) (end' : Option ℕ) (in_flight' : ℕ) (places : CyclePlaces) (lines : Lines) → lines ≡ cycle.pipeline.now.lines → places ≡ places_now → drain ≡ begun cycle.number end end'
+      → tale' ≡ tale_after cycle.number registers cycle.steps.now places drain lines cycle.pipeline.now cycle.rows.now tale → registers' ≡ cycle.pipeline.now.registers → end' ≡ drain_end cycle.pipeline.now
       → in_flight' ≡ length cycle.pipeline.now.rob.entries → in_flight' ≤ 256 → IsTelling first tale' registers' end' in_flight' (with_shown seen next.shown)
-  telling_on drain tale' registers' end' in_flight' places places_is drain_is added bus_grows units_grow registers_are end_is in_flight_is few =
+  telling_on drain tale' registers' end' in_flight' places lines lines_are places_is drain_is added registers_are end_is in_flight_is few =
       let shown = next.shown in
       let steps = cycle.steps.now in
       let after = cycle.pipeline.now in
@@ -110,19 +108,19 @@ module _ {seen : Watched} {cycle : ShownCycle} (next : IsNextCycle seen cycle) {
       let drain_now : drain ≡ drain_in seen.arrivals seen.now.hardware =
       drain_is ∙ (λ i. begun (shown.number i) (telling.end_is i) (end_is i)) ∙ begun_in_cycle shown.reached (any_cycle shown.cycled.cycle) in
       let placed_as : places ≡ places_in seen.now.hardware moment = places_is ∙ places_are in
-      let all_steps : length (steps_of (reports_of (seen.moments ++ moment ∷ []))) ≡ length (steps_of (reports_of seen.moments)) + length shown.report.steps =
-      ap length (shown_steps-push seen.moments moment) ∙ length-append (steps_of (reports_of seen.moments)) shown.report.steps in
+      let free = is_free cycle.number (at_kind Mem after.units) in
+      let one_more = cycle_counts shown.cycled in
       let left = left_after seen.first.hardware seen.moments in
       record {
         values = telling.values;
         some_left = some_left-push shown.passes moment next.rows_are next.few (cycle_counts shown.cycled) telling.some_left;
         untold = telling.untold;
         told = λ by is.
-            added ∙ (λ i. tale_after (telling.registers_are i) (shown.steps_are i) (placed_as i) (drain_now i) after rows (telling.told by is i)) ∙
-            tale-push by moment rows left shown.passes ∙
+            added ∙ (λ i. tale_after (shown.number i) (telling.registers_are i) (shown.steps_are i) (placed_as i) (drain_now i) (lines_are i) after rows (telling.told by is i)) ∙
+            tale-push by moment rows left shown.passes next.rows_are ∙
             ap (tale_of by seen.arrivals seen.first.hardware (seen.moments ++ moment ∷ [])) (sym (left-push shown.passes moment next.rows_are));
-        bus_grows = λ more few. bus_grows more (telling.bus_grows (more + length steps) (omega (arith, few, all_steps, ap length shown.steps_are)));
-        units_grow = λ more few. units_grow more (telling.units_grow (more + length steps) (omega (arith, few, all_steps, ap length shown.steps_are)));
+        few_stays = omega (arith, ap (λ (t : Tale). all_stays t.stays) added, few_more_stays cycle.number free true rows tale.stays, telling.few_stays, next.few, one_more);
+        few_awaited = omega (arith, ap (λ (t : Tale). sum t.awaited.words) added, few_more_awaited cycle.number free true rows tale.awaited, telling.few_awaited, next.few, one_more);
         registers_are = registers_are;
         end_is = end_is;
         in_flight_is = in_flight_is;
@@ -163,5 +161,8 @@ module _ {arrivals : List Arrival} {old new : GuidedHardware} {moments : List Mo
         kept = telling.told values untold;
         places_add_up = telling.places_add_up;
         places_are_lost_for = lost_for reached run.passes within;
+        stays_add_up = stays_add_up old.hardware moments;
         few = few;
+        few_stays = omega (arith, telling.few_stays, within);
+        few_awaited = omega (arith, telling.few_awaited, within);
       }

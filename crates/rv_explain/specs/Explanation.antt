@@ -1,6 +1,8 @@
 -- What a run came to, in sentences.
-use Rattle.std.specs.Prelude.{◌≡◌, ℕ, ◌+◌, ◌*◌, ◌^◌, ◌<◌, ◌≤◌, List, ◌++◌, codes, length, Option, Some, None}
+use Rattle.std.specs.Prelude.{◌≡◌, ℕ, ◌+◌, ◌*◌, ◌^◌, ◌<◌, ◌≤◌, List, ◌++◌, codes, length, sum, Option, Some, None}
 use Rattle.rv_isa.specs.declared.{lines.Arrival.Arrival, values.Values.Values}
+use Rattle.rv_isa.specs.declared.csrs.Csr.TheVariants.{Mie, Mstatus}
+use Rattle.rv_arch.specs.Csr.{value_of}
 use Rattle.rv_arch.specs.declared.outcome.Stop.{Stop}
 use Rattle.rv_core.specs.Progress.{progress_of}
 use Rattle.rv_core.specs.declared.outcome.Progress.{Progress}
@@ -25,7 +27,9 @@ use Rattle.rv_sentences.specs.PlaceLines.{places_text}
 use Rattle.rv_counts.specs.Places.{AddUp, AreLostFor}
 use Rattle.rv_sentences.specs.Stack.{count_text, stall_text}
 use Rattle.rv_explain.specs.Tale.{tale_of_run}
-use Rattle.rv_sentences.specs.Wait.{waits_text}
+use Rattle.rv_sentences.specs.Stay.{StaysAddUp, all_stays}
+use Rattle.rv_sentences.specs.StayLines.{awaited_text, greatest_waits_text, stays_text}
+use Rattle.rv_sentences.specs.Untaken.{all_untaken_text}
 use Rattle.rv_sentences.specs.Work.{work_text}
 use Rattle.rv_sentences.specs.Worst.{worst_text}
 use Rattle.rv_explain.specs.declared.{figures.Figures.Figures, tale.Tale.Tale}
@@ -41,7 +45,10 @@ pub record IsTold (arrivals : List Arrival) (limit : ℕ) (values : Values) (old
   pub kept : tale ≡ tale_of_run values arrivals old.hardware moments
   pub places_add_up : AddUp old.hardware moments new.hardware
   pub places_are_lost_for : AreLostFor arrivals old.hardware moments
+  pub stays_add_up : StaysAddUp old.hardware moments
   pub few : progress.cycles * new.hardware.values.dispatch_width < 2 ^ 64
+  pub few_stays : all_stays tale.stays < 2 ^ 64
+  pub few_awaited : sum tale.awaited.words < 2 ^ 64
 
 -- the cycles, and those to each instruction
 unfoldable pub cycle_text : Progress → ℕ → List ℕ
@@ -49,30 +56,30 @@ cycle_text progress retired =
     count_text progress.cycles retired ++
     (line_of (codes "cycles per instruction") (ratio_text progress.cycles retired) ++ stall_text progress.cycles progress.busy progress.stalls)
 
--- what became of the places for dispatch
-unfoldable pub lead_text : Hardware → Progress → Places → List ℕ
-lead_text h progress places = places_text progress.cycles h.values.dispatch_width (length h.rob.entries) places
+-- the interrupt lines that are high and were never taken
+abbrev pub untaken_lines : Hardware → Tale → List ℕ
+untaken_lines h tale = all_untaken_text tale.raised tale.interrupts (value_of h.csrs h.lines Mstatus) (value_of h.csrs h.lines Mie)
 
--- what results and instructions waited for, and what the accesses to memory cost
-unfoldable pub waited_text : Tale → List ℕ
-waited_text tale =
-    waits_text (codes "cycles that results waited for the bus") tale.bus ++
-    (waits_text (codes "cycles that instructions waited for a unit") tale.units ++ (load_text tale.loads ++ drain_text tale.drains))
+-- what instructions in flight waited for most, and what became of the places for dispatch
+unfoldable pub lead_text : Hardware → Progress → Tale → List ℕ
+lead_text h progress tale =
+    greatest_waits_text tale.stays ++ places_text progress.cycles h.values.dispatch_width (length h.rob.entries) tale.places
 
 -- where the cycles went
 unfoldable pub cost_text : Listed → Progress → ℕ → Tale → List ℕ
 cost_text listing progress fetched tale =
     cycle_text progress tale.retired ++ (dispatches_text progress.busy tale.dispatches.cycles ++
-    (work_text fetched tale.work ++ (worst_text listing tale.branches tale.mispredicted ++ (waited_text tale ++
-    hotspots_text listing progress.cycles tale.heads tale.outcomes))))
+    (work_text fetched tale.work ++ (worst_text listing tale.branches tale.mispredicted ++ (stays_text tale.stays ++
+    (awaited_text listing tale.awaited ++ (load_text tale.loads ++ (drain_text tale.drains ++
+    hotspots_text listing progress.cycles tale.idle tale.heads tale.outcomes)))))))
 
--- how a run ended, its exceptions and interrupts, what became of its places for dispatch, and where its cycles went, by how many words
--- were fetched among others
+-- how a run ended, its exceptions, interrupts and lines never taken, its greatest waits, what became of its places for dispatch, and where its cycles went, by
+-- how many words were fetched among others
 unfoldable pub whole_text : Listed → Stop → Hardware → Progress → ℕ → Tale → List ℕ
 whole_text listing stop h progress fetched tale =
     ending_text listing stop h tale.last_stores ++ (first_passed_text listing tale.exceptions.all ++
     (exceptions_text listing tale.exceptions.all tale.exceptions.kinds ++ (interrupts_text listing tale.interrupts ++
-    (lead_text h progress tale.places ++ cost_text listing progress fetched tale))))
+    (untaken_lines h tale ++ (lead_text h progress tale ++ cost_text listing progress fetched tale)))))
 
 -- the sentences on a run, or on the crash that stands alone
 unfoldable pub told_text : Option Exception → Listed → Stop → Hardware → Progress → ℕ → Tale → List ℕ
@@ -91,13 +98,14 @@ explanation_of figures values arrivals listing first moments after stop =
     explanation figures listing stop after (progress_of (reports_of moments)) (length (passages_of_run first moments)) (tale_of_run values arrivals first moments)
 
 -- a text explains a run that ended for a reason; what it says of the places for dispatch adds up, and each is lost for what ended the
--- dispatch phase of its cycle
+-- dispatch phase of its cycle; what it says of the instructions in flight adds up to all cycles of each
 pub record IsExplanation (arrivals : List Arrival) (limit : ℕ) (figures : Figures) (values : Values) (listing : Listed) (old new : GuidedHardware) (stop : Stop) (text : List ℕ) : Type 0 where
   pub moments : List Moment
   pub run : IsEndedRun arrivals limit old moments new stop
   pub text_is : text ≡ explanation_of figures values arrivals listing old.hardware moments new.hardware stop
   pub places_add_up : AddUp old.hardware moments new.hardware
   pub places_are_lost_for : AreLostFor arrivals old.hardware moments
+  pub stays_add_up : StaysAddUp old.hardware moments
 
 -- of hardware that a described predictor guides there is one explanation, whatever it leaves
 abbrev pub HasOneExplanation : List Arrival → ℕ → Figures → Values → Listed → Type 0

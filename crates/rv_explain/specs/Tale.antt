@@ -1,7 +1,10 @@
 -- What is kept of a run, cycle by cycle.
-use Rattle.std.specs.Prelude.{◌≡◌, ℕ, ◌+◌, ◌*◌, ◌^◌, ◌<◌, ◌≤◌, List, [], count_by, filter, length, sum, Option}
+use Rattle.std.specs.Prelude.{◌≡◌, ℕ, ◌+◌, ◌*◌, ◌^◌, ◌<◌, ◌≤◌, List, [], count_by, filter, length, sum, true, Option}
 use Rattle.std.specs.Option.{option_to_list}
-use Rattle.rv_isa.specs.declared.{lines.Arrival.Arrival, values.Values.Values}
+use Rattle.rv_isa.specs.PerKind.{at_kind}
+use Rattle.rv_isa.specs.declared.{lines.Arrival.Arrival, lines.Lines.Lines, values.Values.Values}
+use Rattle.rv_isa.specs.declared.operations.Kind.TheVariants.{Mem}
+use Rattle.rv_units.specs.Pool.{is_free}
 use Rattle.rv_core.specs.Watching.{Watched}
 use Rattle.rv_hardware.specs.Draining.{drain_end}
 use Rattle.rv_hardware.specs.Hardware.{Hardware}
@@ -10,13 +13,14 @@ use Rattle.rv_hardware.specs.Step.{is_retirement}
 use Rattle.rv_hardware.specs.declared.step.Step.{Step}
 use Rattle.rv_passage.specs.declared.passage.Passage.{Passage}
 use Rattle.rv_counts.specs.Left.{left_after}
+use Rattle.rv_counts.specs.Counts.{one_more}
 use Rattle.rv_counts.specs.Load.{costs_of}
 use Rattle.rv_counts.specs.Passing.{has_left}
 use Rattle.rv_sentences.specs.Access.{both}
 use Rattle.rv_sentences.specs.Dispatch.{dispatched_after, none_dispatched}
 use Rattle.rv_sentences.specs.Drain.{drains_by, drains_of}
 use Rattle.rv_sentences.specs.Exception.{exception_in, exceptions_of}
-use Rattle.rv_sentences.specs.Head.{head_cycles, head_word}
+use Rattle.rv_sentences.specs.Head.{account_of, accounts_of, flusher_in, flusher_of, is_idle, itself}
 use Rattle.rv_hardware.specs.History.{Moment, reports_of}
 use Rattle.rv_sentences.specs.Interrupt.{AreCountable, by_line, interruption_in, interruptions_of, interrupts_after}
 use Rattle.rv_sentences.specs.Kinds.{IsCountable, kept_after, kept_of}
@@ -24,8 +28,8 @@ use Rattle.rv_sentences.specs.LastStore.{last_store_to, stores_in, stores_of, wi
 use Rattle.rv_sentences.specs.Load.{loads_of}
 use Rattle.rv_sentences.specs.Outcome.{CanTake, outcomes_at, with_passages}
 use Rattle.rv_counts.specs.Places.{AddUp, all_places, places_of, with_cycle}
-use Rattle.rv_sentences.specs.Unit.{arrivals_after, none_came, unit_waits}
-use Rattle.rv_sentences.specs.Wait.{CanGrow, both_waits, bus_waits}
+use Rattle.rv_sentences.specs.Stay.{all_stays, awaited_word, no_stays, stays_among, stays_of, with_awaited, with_stays}
+use Rattle.rv_sentences.specs.Untaken.{raised_of, raised_with}
 use Rattle.rv_sentences.specs.WordCount.{count_at, with_all, with_one}
 use Rattle.rv_sentences.specs.WordNotes.{notes_of}
 use Rattle.rv_sentences.specs.Work.{both_work, word_in, work_of}
@@ -40,17 +44,19 @@ tale_of values arrivals h moments left = record {
   retired = count_by is_retirement (steps_of (reports_of moments));
   exceptions = kept_of (exceptions_of moments);
   interrupts = by_line (interruptions_of moments);
+  raised = raised_of h moments;
   places = places_of h moments;
   dispatches = dispatched_after (steps_of (reports_of moments)) none_dispatched;
-  bus = bus_waits (steps_of (reports_of moments));
-  units = unit_waits none_came (steps_of (reports_of moments));
-  came = arrivals_after none_came (steps_of (reports_of moments));
+  stays = with_stays (stays_of h moments) no_stays;
+  awaited = notes_of values (count_at awaited_word (stays_of h moments));
   work = work_of left;
   costs = costs_of values;
   loads = loads_of (costs_of values) left;
   drains = drains_by values.cache.hit (drains_of arrivals h moments);
   last_stores = notes_of values (last_store_to (stores_of h moments));
-  heads = notes_of values (head_cycles moments);
+  heads = notes_of values (count_at itself (accounts_of h moments));
+  idle = count_by is_idle (accounts_of h moments);
+  flusher = flusher_of h moments;
   branches = notes_of values (count_at (word_in Branch) left);
   mispredicted = notes_of values (count_at (word_in Mispredicted) left);
   outcomes = notes_of values (outcomes_at (costs_of values) left);
@@ -60,24 +66,26 @@ tale_of values arrivals h moments left = record {
 abbrev pub tale_of_run : Values → List Arrival → Hardware → List Moment → Tale
 tale_of_run values arrivals h moments = tale_of values arrivals h moments (left_after h moments)
 
--- what is kept with one more cycle: its steps, by the registers before them, its places, the drain that began in it, the hardware
--- that it left, and the passages at its end
-abbrev pub tale_after : List ℕ → List Step → CyclePlaces → Option ℕ → Hardware → List Passage → Tale → Tale
-tale_after registers steps places drain after rows tale = record {
+-- what is kept with one more cycle: its number, its steps, by the registers before them, its places, the drain that began in it, the
+-- levels of the lines in it, the hardware that it left, and the passages at its end
+abbrev pub tale_after : ℕ → List ℕ → List Step → CyclePlaces → Option ℕ → Lines → Hardware → List Passage → Tale → Tale
+tale_after number registers steps places drain lines after rows tale = record {
   retired = tale.retired + count_by is_retirement steps;
   exceptions = kept_after (exception_in after steps) tale.exceptions;
   interrupts = interrupts_after (interruption_in steps) tale.interrupts;
+  raised = raised_with number lines tale.raised;
   places = with_cycle places tale.places;
   dispatches = dispatched_after steps tale.dispatches;
-  bus = both_waits tale.bus (bus_waits steps);
-  units = both_waits tale.units (unit_waits tale.came steps);
-  came = arrivals_after tale.came steps;
+  stays = with_stays (stays_among number (is_free number (at_kind Mem after.units)) true rows) tale.stays;
+  awaited = with_awaited (stays_among number (is_free number (at_kind Mem after.units)) true rows) tale.awaited;
   work = both_work tale.work (work_of (filter has_left rows));
   costs = tale.costs;
   loads = both tale.loads (loads_of tale.costs rows);
   drains = both tale.drains (drains_by tale.costs.hit (option_to_list drain));
   last_stores = with_stores (stores_in registers steps) tale.last_stores;
-  heads = with_one (head_word after) tale.heads;
+  heads = with_one (account_of after rows tale.flusher) tale.heads;
+  idle = one_more (is_idle (account_of after rows tale.flusher)) tale.idle;
+  flusher = flusher_in after rows tale.flusher;
   branches = with_all (word_in Branch) rows tale.branches;
   mispredicted = with_all (word_in Mispredicted) rows tale.mispredicted;
   outcomes = with_passages tale.costs (filter has_left rows) tale.outcomes;
@@ -90,8 +98,8 @@ pub record IsTelling (first tale : Tale) (registers : List ℕ) (end : Option �
   pub some_left : length (left_after seen.first.hardware seen.moments) ≤ 576 * seen.now.hardware.cycle
   pub untold : first ≡ tale_of_run values seen.arrivals seen.first.hardware []
   pub told : (by : Values) → first ≡ tale_of_run by seen.arrivals seen.first.hardware [] → tale ≡ tale_of_run by seen.arrivals seen.first.hardware seen.moments
-  pub bus_grows : (more : ℕ) → length (steps_of (reports_of seen.moments)) + more ≤ 2 ^ 44 → CanGrow tale.bus more
-  pub units_grow : (more : ℕ) → length (steps_of (reports_of seen.moments)) + more ≤ 2 ^ 44 → CanGrow tale.units more
+  pub few_stays : all_stays tale.stays ≤ 576 * seen.now.hardware.cycle
+  pub few_awaited : sum tale.awaited.words ≤ 576 * seen.now.hardware.cycle
   pub registers_are : registers ≡ seen.now.hardware.registers
   pub end_is : end ≡ drain_end seen.now.hardware
   pub in_flight_is : in_flight ≡ length seen.now.hardware.rob.entries
@@ -104,8 +112,8 @@ pub record HasRoom (tale : Tale) (more rows : ℕ) : Type 0 where
   pub retired : tale.retired + more < 2 ^ 64
   pub places : all_places tale.places + 264 < 2 ^ 64
   pub dispatches : tale.dispatches.cycles + more < 2 ^ 64
-  pub bus : CanGrow tale.bus more
-  pub units : CanGrow tale.units more
+  pub stays : all_stays tale.stays + rows < 2 ^ 64
+  pub awaited : sum tale.awaited.words + rows < 2 ^ 64
   pub exceptions : IsCountable tale.exceptions
   pub interrupts : AreCountable tale.interrupts
   pub left : tale.work.left + rows < 2 ^ 64
@@ -118,5 +126,6 @@ pub record HasRoom (tale : Tale) (more rows : ℕ) : Type 0 where
   pub hits : tale.drains.quick + 1 < 2 ^ 64
   pub outcomes : CanTake tale.outcomes rows
   pub heads : sum tale.heads.words + 1 < 2 ^ 64
+  pub idle : tale.idle + 1 < 2 ^ 64
   pub branch_words : sum tale.branches.words + rows < 2 ^ 64
   pub mispredicted_words : sum tale.mispredicted.words + rows < 2 ^ 64

@@ -1,17 +1,18 @@
 ghost use Rattle.std.specs.Prelude.{◌≡◌, ◌*◌, ◌≤◌, ◌<◌, ◌^◌, Err, List, [], sum, IfOk};
-ghost use Rattle.rv_explain.specs.Explanation.{HasOneExplanation, IsExplanation, cost_text, cycle_text, explanation, lead_text, told_text, waited_text, whole_text};
+ghost use Rattle.rv_explain.specs.Explanation.{HasOneExplanation, IsExplanation, cost_text, cycle_text, explanation, lead_text, told_text, untaken_lines, whole_text};
 ghost use Rattle.rv_hardware.specs.Guided.{guided};
 ghost use Rattle.rv_hardware.specs.Hardware.{Hardware};
 ghost use Rattle.rv_isa.specs.declared.lines.Arrival.{Arrival};
 ghost use Rattle.rv_explain.specs.Tale.{tale_of};
 ghost use Rattle.rv_view.specs.Following.{FollowsFrom};
+ghost use Rattle.rv_sentences.specs.Stay.{all_stays};
 ghost use Rattle.rv_text.specs.IsText.{IsText};
 ghost use Rattle.rv_text.specs.Said.{Says};
 ghost use Rattle.rv_text.specs.Written.{IsWritten};
 
 use crate::crash::{lone_crash, write_crash, write_first_passed};
 use crate::cycle_places::in_flight;
-use crate::ending::write_ending;
+use crate::ending::{csr, write_ending};
 use crate::figures::Figures;
 use crate::running::run_told;
 use crate::tale::Tale;
@@ -19,11 +20,11 @@ use rv_arch::Stop;
 use rv_core::{Pipeline, Progress};
 use rv_counts::Places;
 use rv_front::Predictor;
-use rv_isa::{Arrivals, Description};
+use rv_isa::{Arrivals, Csr, Description};
 use rv_sentences::{
-    Exception, write_counts, write_dispatches, write_drains, write_exceptions, write_hotspots,
-    write_interrupts, write_loads, write_places, write_stalls, write_waits, write_work,
-    write_worst,
+    Exception, write_awaited, write_counts, write_dispatches, write_drains, write_exceptions,
+    write_greatest_waits, write_hotspots, write_interrupts, write_loads, write_places,
+    write_stalls, write_stays, write_untaken, write_work, write_worst,
 };
 use rv_source::Listing;
 use rv_text::{Field, ReportError, Sink, TextError, Value};
@@ -67,37 +68,34 @@ fn write_cycles<W: Write>(out: &mut Sink<'_, W>, progress: &Progress, retired: u
     write_stalls(out, progress.cycles, progress.busy, &progress.stalls);
 }
 
-// What results and instructions waited for, and what the accesses to memory cost.
-fn write_waited<W: Write>(out: &mut Sink<'_, W>, tale: &Tale)
-    ensures { Says W.contents out.old out.new (waited_text tale.now) }
+// The interrupt lines that are high and were never taken.
+fn write_untaken_lines<W: Write>(out: &mut Sink<'_, W>, pipeline: &Pipeline, tale: &Tale)
+    ensures { Says W.contents out.old out.new (untaken_lines pipeline.now tale.now) }
 {
-    write_waits(out, b"cycles that results waited for the bus", &tale.bus);
-    write_waits(
-        out,
-        b"cycles that instructions waited for a unit",
-        &tale.units,
-    );
-    write_loads(out, &tale.loads);
-    write_drains(out, &tale.drains);
+    let mstatus = csr(pipeline, Csr::Mstatus);
+    let mie = csr(pipeline, Csr::Mie);
+    write_untaken(out, &tale.raised, &tale.interrupts, mstatus, mie);
 }
 
-// What became of the places for dispatch.
+// What instructions in flight waited for most, and what became of the places for dispatch.
 fn write_lead<W: Write>(
     out: &mut Sink<'_, W>,
     pipeline: &Pipeline,
     progress: &Progress,
-    places: &Places,
+    tale: &Tale,
 )
     requires places { progress.now.cycles * pipeline.now.values.dispatch_width < 2 ^ 64 }
-    ensures { Says W.contents out.old out.new (lead_text pipeline.now progress.now places.now) }
+    requires stays { all_stays tale.now.stays < 2 ^ 64 }
+    ensures { Says W.contents out.old out.new (lead_text pipeline.now progress.now tale.now) }
 {
+    write_greatest_waits(out, &tale.stays);
     let width = u64::from(pipeline.values().dispatch_width);
     write_places(
         out,
         progress.cycles,
         width,
         in_flight(pipeline) as u64,
-        places,
+        &tale.places,
     );
 }
 
@@ -112,17 +110,23 @@ fn write_costs<W: Write>(
     requires heads { sum tale.old.heads.words ≤ progress.now.cycles }
     requires branches { sum tale.old.branches.words < 2 ^ 64 }
     requires mispredicted { sum tale.old.mispredicted.words < 2 ^ 64 }
+    requires stays { all_stays tale.old.stays < 2 ^ 64 }
+    requires awaited { sum tale.old.awaited.words < 2 ^ 64 }
     ensures { Says W.contents out.old out.new (cost_text listing.now progress.now fetched tale.old) }
 {
     write_cycles(out, progress, tale.retired);
     write_dispatches(out, progress.busy, &tale.dispatches);
     write_work(out, fetched, &tale.work);
     write_worst(out, listing, &mut tale.branches, &mut tale.mispredicted);
-    write_waited(out, tale);
+    write_stays(out, &tale.stays);
+    write_awaited(out, listing, &mut tale.awaited);
+    write_loads(out, &tale.loads);
+    write_drains(out, &tale.drains);
     write_hotspots(
         out,
         listing,
         progress.cycles,
+        tale.idle,
         &tale.outcomes,
         &mut tale.heads,
     );
@@ -141,6 +145,8 @@ fn write_whole<W: Write>(
     requires heads { sum tale.old.heads.words ≤ progress.now.cycles }
     requires branches { sum tale.old.branches.words < 2 ^ 64 }
     requires mispredicted { sum tale.old.mispredicted.words < 2 ^ 64 }
+    requires stays { all_stays tale.old.stays < 2 ^ 64 }
+    requires awaited { sum tale.old.awaited.words < 2 ^ 64 }
     requires places { progress.now.cycles * pipeline.now.values.dispatch_width < 2 ^ 64 }
     ensures { Says W.contents out.old out.new (whole_text listing.now stop pipeline.now progress.now fetched tale.old) }
 {
@@ -148,7 +154,8 @@ fn write_whole<W: Write>(
     write_first_passed(out, listing, tale.exceptions.all());
     write_exceptions(out, listing, &tale.exceptions);
     write_interrupts(out, listing, &tale.interrupts);
-    write_lead(out, pipeline, progress, &tale.places);
+    write_untaken_lines(out, pipeline, tale);
+    write_lead(out, pipeline, progress, tale);
     write_costs(out, listing, progress, fetched, tale);
 }
 
@@ -167,6 +174,8 @@ fn write_sentences<W: Write>(
     requires heads { sum tale.old.heads.words ≤ progress.now.cycles }
     requires branches { sum tale.old.branches.words < 2 ^ 64 }
     requires mispredicted { sum tale.old.mispredicted.words < 2 ^ 64 }
+    requires stays { all_stays tale.old.stays < 2 ^ 64 }
+    requires awaited { sum tale.old.awaited.words < 2 ^ 64 }
     requires places { progress.now.cycles * pipeline.now.values.dispatch_width < 2 ^ 64 }
     ensures { Says W.contents out.old out.new (told_text crash listing.now stop pipeline.now progress.now fetched tale.old) }
 {
@@ -191,6 +200,8 @@ fn write_told<W: Write>(
     requires heads { sum tale.old.heads.words ≤ progress.now.cycles }
     requires branches { sum tale.old.branches.words < 2 ^ 64 }
     requires mispredicted { sum tale.old.mispredicted.words < 2 ^ 64 }
+    requires stays { all_stays tale.old.stays < 2 ^ 64 }
+    requires awaited { sum tale.old.awaited.words < 2 ^ 64 }
     requires places { progress.now.cycles * pipeline.now.values.dispatch_width < 2 ^ 64 }
     ensures { IsWritten result (W.contents writer.old) (W.contents writer.new) (explanation figures listing.now stop pipeline.now progress.now fetched tale.old) }
 {
@@ -204,15 +215,15 @@ fn write_told<W: Write>(
 
 /// Runs a pipeline that a predictor guides, each cycle with the lines of its number, up to a breakpoint, a stale word,
 /// exhaustion or so many cycles, and then writes what the run came to, in plain sentences: how it ended, where and why,
-/// and for a stale word the last store to it; its exceptions and interrupts; what became of the places
-/// for dispatch; where the cycles went; how many dispatched
-/// only what did not retire; how many words were fetched and how many of them squashed; how many branches and jumps
-/// retired, and how many of them were mispredicted, with the three lines that most of those come from; what results
-/// waited for the bus, and instructions for a unit; what its loads and the drains of its stores cost; and the five
-/// lines that most cycles left at the head of the reorder buffer, with their loads. Where the program crashed, its first
-/// exception and the interrupts alone are told, unless the figures are asked for. The description says where RAM
-/// lies, whose words are counted, and what loads and drains cost. The listing is that of the program, whose lines are
-/// shown.
+/// and for a stale word the last store to it; its exceptions and interrupts, and the interrupt lines that are high and were
+/// never taken; what instructions in flight waited for most; what became of the places for dispatch; where the cycles went;
+/// how many dispatched only what did not retire; how many words were fetched and how many of them squashed; how many
+/// branches and jumps retired, and how many of them were mispredicted, with the three lines that most of those come from;
+/// why instructions stayed in flight, and the line whose results were awaited most; what its loads and the drains of its
+/// stores cost; and the five lines that most cycles left at the head of the reorder buffer, or that had flushed it, with their
+/// loads. Where the program crashed, its first exception and the interrupts alone are told, unless the figures are asked for.
+/// The description says where RAM lies, whose words are counted, and what loads and drains cost. The listing is that of the
+/// program, whose lines are shown.
 /// Answers why the run ended.
 ///
 /// # Errors

@@ -1,12 +1,34 @@
 ghost use Rattle.std.specs.Prelude.{◌≡◌};
-ghost use Rattle.rv_sentences.specs.Head.{head_word};
+ghost use Rattle.rv_sentences.specs.Head.{account_of, flusher_in, head_word};
 
 use rv_core::Pipeline;
+use rv_passage::Passage;
+use rv_sentences::flusher_after;
 
-/// The word of the instruction at the head of the reorder buffer.
-pub(crate) fn head_word(pipeline: &Pipeline) -> Option<u32>
+// The word of the instruction at the head of the reorder buffer.
+fn head_word(pipeline: &Pipeline) -> Option<u32>
     ensures { result ≡ head_word pipeline.now }
 {
     let head = pipeline.reorder_buffer().head()?;
     Some(head.pc / 4)
+}
+
+/// The word that the last cycle is on account of, by the passages at its end and by what had flushed the buffer before.
+pub(crate) fn account_of(pipeline: &Pipeline, rows: &[Passage], before: Option<u32>) -> Option<u32>
+    ensures { result ≡ account_of pipeline.now rows.now before }
+{
+    match head_word(pipeline) {
+        Some(word) => Some(word),
+        None => flusher_after(rows, before),
+    }
+}
+
+/// What had flushed the buffer if it is empty after the last cycle.
+pub(crate) fn flusher_in(pipeline: &Pipeline, rows: &[Passage], before: Option<u32>) -> Option<u32>
+    ensures { result ≡ flusher_in pipeline.now rows.now before }
+{
+    match head_word(pipeline) {
+        Some(_) => None,
+        None => flusher_after(rows, before),
+    }
 }

@@ -59,15 +59,18 @@ impl View for Teller {
         let drain_end = cycle.pipeline.drain_end();
         let drain = begun(cycle.number, self.drain_end, drain_end);
         let places = cycle_places(cycle.number, self.in_flight, cycle.steps, cycle.pipeline);
+        let observed = cycle.pipeline.observe();
         self.tale.add(
+            cycle.number,
             &mut self.registers,
             cycle.steps,
             &places,
             drain,
+            observed.lines,
             cycle.pipeline,
             cycle.rows,
         );
-        let registers = cycle.pipeline.observe().regs;
+        let registers = observed.regs;
         self.registers = registers;
         self.drain_end = drain_end;
         self.in_flight = in_flight(cycle.pipeline);

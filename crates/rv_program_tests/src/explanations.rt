@@ -5,6 +5,7 @@ mod exceptions;
 mod places;
 mod predictions;
 mod slowest;
+mod untaken;
 mod waits;
 
 use crate::helpers::{CORE, run_text};
@@ -32,6 +33,7 @@ ebreak
 const SENTENCES: &[u8] = b"\
 The run ended at a breakpoint, at 80000004, line 2: ebreak
 No exception came before that.
+cycles of instructions in flight: 6, of them 4 waiting for retirement (66.7%)
 Where the 10 places for dispatch went, 2 in each cycle:
 squashed by traps                     4   40.0%  ####################
 lost: fetch gave no word              4   40.0%  ####################
@@ -48,13 +50,18 @@ store           0    0.0% \x20
 of the busy cycles 1 dispatched something that retired, 2 only what did not
 fetched words: 9, of them 6 squashed (66.7%)
 branches and jumps: none
-cycles that results waited for the bus: alu 0, mul 0, div 0, mem 0
-cycles that instructions waited for a unit: alu 0, mul 0, div 0, mem 0
+Where the 6 cycles of instructions in flight went:
+in execution                          2   33.3%  #################
+waiting for retirement                4   66.7%  #################################
 loads: 0, of them 0 at the cost of a hit or of forwarding, 0 at that of a miss
 drains: 0, of them 0 at the cost of a hit, 0 at that of a miss
-The lines that stood longest at the head of the reorder buffer, in cycles:
+The lines that stood longest at the head of the reorder buffer, or had flushed it, in cycles:
 80000000, line 1: addi x1,x0,5
                 3   60.0%  ##############################
+80000004, line 2: ebreak
+                1   20.0%  ##########
+none: the reorder buffer was empty
+                1   20.0%  ##########
 ";
 
 #[test]

@@ -2,14 +2,12 @@
 use Rattle.std.proofs.Common.{◌≡◌, ◌∙◌, ℕ, ◌+◌, List, [], ◌∷◌, ◌++◌, Option, Some, None, cond, refl, ap, sym, arith, eq-eqb, ne_eqb}
 use Rattle.std.proofs.lemmas.List.Sums.{sum_by-append, sum_by-cons}
 use Rattle.rv_isa.specs.declared.values.Values.{Values}
-use Rattle.rv_hardware.specs.History.{Moment}
-use Rattle.rv_sentences.specs.Head.{head_after, head_cycles, head_word}
 use Rattle.rv_sentences.specs.WordCount.{count_at, is_word, with_all, with_one}
 use Rattle.rv_sentences.specs.WordNotes.{notes_of}
 use Rattle.rv_sentences.proofs.WordTable.{change_one}
 
 -- one thing more
-with_one_at : (values : Values) (place : Option ℕ) (old new : ℕ → ℕ) → ((w : ℕ) → new w ≡ old w + cond (is_word w place) 1 0) → with_one place (notes_of values old) ≡ notes_of values new
+pub with_one_at : (values : Values) (place : Option ℕ) (old new : ℕ → ℕ) → ((w : ℕ) → new w ≡ old w + cond (is_word w place) 1 0) → with_one place (notes_of values old) ≡ notes_of values new
 with_one_at values None old new are =
     let same : (w : ℕ) → old w ≡ new w = λ w. omega (arith, are w) in
     λ i. notes_of values (λ w. same w i)
@@ -30,11 +28,10 @@ with_all_at values place (x ∷ xs) old new are =
     ap (with_one (place x)) (with_all_at values place xs old rest (λ w. refl)) ∙
     with_one_at values (place x) rest new (λ w. omega (arith, are w, sum_by-cons (λ y. cond (is_word w (place y)) 1 0) x xs))
 
-head_cycles-push : (moments : List Moment) (moment : Moment) (word : ℕ) → head_cycles (moments ++ moment ∷ []) word ≡ head_cycles moments word + cond (is_word word (head_word moment.after)) 1 0
-head_cycles-push moments moment word =
-    let none : 0 + cond (is_word word (head_word moment.after)) 1 0 ≡ cond (is_word word (head_word moment.after)) 1 0 = omega arith in
-    sum_by-append (λ (m : Moment). cond (is_word word (head_after m)) 1 0) moments (moment ∷ []) ∙ ap (λ n. head_cycles moments word + n) none
-
--- one cycle more
-pub heads-push : (values : Values) (moments : List Moment) (moment : Moment) → with_one (head_word moment.after) (notes_of values (head_cycles moments)) ≡ notes_of values (head_cycles (moments ++ moment ∷ []))
-heads-push values moments moment = with_one_at values (head_word moment.after) (head_cycles moments) (head_cycles (moments ++ moment ∷ [])) (λ w. head_cycles-push moments moment w)
+-- one place more at the end
+pub with_last_at : {X : Type 0} (values : Values) (place : X → Option ℕ) (xs : List X) (x : X) → with_one (place x) (notes_of values (count_at place xs)) ≡ notes_of values (count_at place (xs ++ x ∷ []))
+with_last_at values place xs x =
+    with_one_at values (place x) (count_at place xs) (count_at place (xs ++ x ∷ []))
+    (λ w. sum_by-append (λ y. cond (is_word w (place y)) 1 0) xs (x ∷ []) ∙ ap (λ n. count_at place xs w + n) (nothing_and (cond (is_word w (place x)) 1 0))) where
+      nothing_and : (n : ℕ) → 0 + n ≡ n
+      nothing_and n = omega arith

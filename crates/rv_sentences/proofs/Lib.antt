@@ -3,7 +3,6 @@ pub mod CountSums
 pub mod CountsGrow
 pub mod DrainBegins
 pub mod DrainCounts
-mod Growing
 pub mod LastStores
 pub mod InterruptsGrow
 mod Joined
@@ -16,3 +15,6 @@ mod WordTable
 pub mod Works
 mod WorstLines
 pub mod OutcomesGrow
+pub mod StaysGrow
+pub mod AccountsGrow
+pub mod RaisedGrows

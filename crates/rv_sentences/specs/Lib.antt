@@ -16,7 +16,8 @@ pub mod Series
 pub mod Kinds
 pub mod Exception
 pub mod Interrupt
+pub mod Untaken
 pub mod Dispatch
-pub mod Wait
-pub mod Unit
+pub mod Stay
+pub mod StayLines
 pub mod PlaceLines

@@ -1,6 +1,6 @@
 ghost use Rattle.std.specs.Prelude.{◌≡◌, ◌≤◌, sum};
 ghost use Rattle.std.specs.List.{flat_map};
-ghost use Rattle.rv_sentences.specs.Hotspot.{has_loads, hotspot_text, hotspots_text, load_counts, loads_there};
+ghost use Rattle.rv_sentences.specs.Hotspot.{empty_text, has_loads, hotspot_text, hotspots_text, idle_text, load_counts, loads_there};
 ghost use Rattle.rv_text.specs.Said.{Says};
 
 use crate::greatest_lines::greatest_lines;
@@ -73,19 +73,42 @@ fn write_each<W: Write>(
     }
 }
 
-/// Writes the five lines that stood longest at the head, by the cycles that left each word there, each with its loads, and leaves no
-/// count of theirs. The cycles of all words are no more than there were.
+// Writes the cycles on account of no line.
+fn write_empty<W: Write>(out: &mut Sink<'_, W>, all: u64, idle: u64)
+    ensures { Says W.contents out.old out.new (empty_text all idle) }
+{
+    out.put(b"none: the reorder buffer was empty\n");
+    write_share(out, "       ", idle, all);
+}
+
+#[tactic(auto, unfolding(crate::specs::Hotspot::idle_text))]
+fn write_idle<W: Write>(out: &mut Sink<'_, W>, all: u64, idle: u64)
+    ensures { Says W.contents out.old out.new (idle_text all idle) }
+{
+    if idle == 0 {
+        return;
+    }
+    write_empty(out, all, idle);
+}
+
+/// Writes the five lines that stood longest at the head, or had flushed the empty buffer, by the cycles on account of each word, each
+/// with its loads, and leaves no count of theirs; and how many cycles were idle, on account of none. The cycles of all words are no
+/// more than there were.
 pub fn write_hotspots<W: Write>(
     out: &mut Sink<'_, W>,
     listing: &Listing,
     all: u64,
+    idle: u64,
     outcomes: &WordNotes<Outcomes>,
     heads: &mut WordNotes<u64>,
 )
     requires heads { sum heads.old.words ≤ all }
-    ensures { Says W.contents out.old out.new (hotspots_text listing.now all heads.old outcomes.now) }
+    ensures { Says W.contents out.old out.new (hotspots_text listing.now all idle heads.old outcomes.now) }
 {
-    out.put(b"The lines that stood longest at the head of the reorder buffer, in cycles:\n");
+    out.put(
+        b"The lines that stood longest at the head of the reorder buffer, or had flushed it, in cycles:\n",
+    );
     let hotspots = greatest_lines(heads, listing, 5);
     write_each(out, listing, all, outcomes, hotspots.as_slice());
+    write_idle(out, all, idle);
 }

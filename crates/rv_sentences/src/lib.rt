@@ -1,6 +1,7 @@
 //! What `explain` counts of a run and how it is written in plain sentences, but for the run itself: exceptions and interrupts, what became
-//! of the places for dispatch, where the cycles went, what became of the fetched words and of the predictions, what loads, drains, bus and units cost, and the lines that cost
-//! the most. Each text is a function of the counts and of the listing of the program.
+//! of the places for dispatch, where the cycles went, what became of the fetched words and of the predictions, why instructions stayed in
+//! flight, what loads and drains cost, and the lines that cost the most. Each text is a function of the counts and of the listing of the
+//! program.
 #![tactic(auto)]
 
 mod accesses;
@@ -8,6 +9,7 @@ mod dispatches;
 mod drains;
 mod exception;
 mod exceptions;
+mod flushers;
 mod greatest_lines;
 mod hotspots;
 mod interrupt_lines;
@@ -20,13 +22,16 @@ mod loads;
 mod outcomes;
 mod place;
 mod place_lines;
+mod raised;
 mod series;
 mod spot;
 mod stack;
+mod stay;
+mod stay_lines;
+mod stays;
 mod stored;
 mod stores;
-mod unit_waits;
-mod waits;
+mod untaken;
 mod word_notes;
 mod work;
 mod worst;
@@ -36,6 +41,7 @@ pub use dispatches::{Dispatches, write_dispatches};
 pub use drains::{add_drain, begun, write_drains};
 pub use exception::Exception;
 pub use exceptions::write_first;
+pub use flushers::{flusher_after, idle_with};
 pub use hotspots::write_hotspots;
 pub use interrupt_lines::write_interrupts;
 pub use interruption::Interruption;
@@ -46,11 +52,14 @@ pub use loads::{add_loads, write_loads};
 pub use outcomes::{Outcomes, count_left};
 pub use place::write_place;
 pub use place_lines::write_places;
+pub use raised::Raised;
 pub use series::Series;
 pub use stack::{write_counts, write_stalls};
+pub use stay::Stay;
+pub use stay_lines::{write_awaited, write_greatest_waits, write_stays};
+pub use stays::{Stays, add_stays};
 pub use stores::note_stores;
-pub use unit_waits::add_unit_waits;
-pub use waits::{add_waits, no_waits, write_waits};
+pub use untaken::write_untaken;
 pub use word_notes::{WordNotes, count_one};
 pub use work::{Class, Work, count_words, write_work};
 pub use worst::write_worst;

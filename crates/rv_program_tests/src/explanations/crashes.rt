@@ -79,7 +79,7 @@ fn other_runs_have_their_figures(rt: HostRuntime) {
     );
     let handled = "la x5,h\ncsrw mtvec,x5\necall\nh: j h";
     let handler = "The program went on at its handler, at 80000010";
-    let bus = "cycles that results waited for the bus: alu 0, mul 0, div 0, mem 0";
-    check_run(&rt, alloc, BARE, handled, 0, &[handler, bus]);
-    check_run(&rt, alloc, BARE, "l: j l", 0, &[bus]);
+    let drains = "drains: 0, of them 0 at the cost of a hit, 0 at that of a miss";
+    check_run(&rt, alloc, BARE, handled, 0, &[handler, drains]);
+    check_run(&rt, alloc, BARE, "l: j l", 0, &[drains]);
 }

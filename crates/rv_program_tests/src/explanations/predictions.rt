@@ -52,7 +52,7 @@ The lines with the most wrong predictions:
        retired 1, of them 1 mispredicted (100.0%)
 8000000c, line 4: a: beqz x0,b
        retired 1, of them 1 mispredicted (100.0%)
-cycles that results waited for the bus:",
+Where the ",
 };
 
 // Two branches of one line: the first goes to the second, where fetch goes, too, and the second goes past the jump.
@@ -69,7 +69,7 @@ branches and jumps: 2, of them 1 mispredicted (50.0%)
 The lines with the most wrong predictions:
 80000004, line 2: .word 0x00000263, 0x00000463
        retired 2, of them 1 mispredicted (50.0%)
-cycles that results waited for the bus:",
+Where the ",
 };
 
 // The jump goes where it is predicted to go.
@@ -80,7 +80,7 @@ e: ebreak
 ",
     line: "
 branches and jumps: 1, of them 0 mispredicted (0.0%)
-cycles that results waited for the bus:",
+Where the ",
 };
 
 // Whether the explanation of a program has some lines, one after another.

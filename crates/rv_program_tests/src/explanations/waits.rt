@@ -46,7 +46,7 @@ ebreak
 
 #[test]
 fn what_results_wait_for_the_bus_is_told(rt: HostRuntime) {
-    let line = "cycles that results waited for the bus: alu 1, mul 0, div 2, mem 3";
+    let line = "waiting for the bus                   6   11.5%  ######";
     check_run(&rt, rt.alloc(), EXPLAIN, FOUR_RESULTS, 0, &[line]);
 }
 
@@ -74,6 +74,91 @@ ebreak
 
 #[test]
 fn what_instructions_wait_for_a_unit_is_told(rt: HostRuntime) {
-    let line = "cycles that instructions waited for a unit: alu 6, mul 1, div 4, mem 3";
-    check_run(&rt, rt.alloc(), EXPLAIN, ONE_UNIT, 0, &[line]);
+    let lines = [
+        "waiting for an alu unit               6    3.8%  ##",
+        "waiting for a mul unit                1    0.6%  ",
+        "waiting for a div unit                4    2.5%  #",
+        "waiting for a mem unit                3    1.9%  #",
+    ];
+    check_run(&rt, rt.alloc(), EXPLAIN, ONE_UNIT, 0, &lines);
+}
+
+// The division is issued in cycle 2 and broadcast in 18. The sum waits for it from cycle 2 to 18, and is executed and broadcast in 19 and
+// 20. The breakpoint has a place in the reorder buffer in cycle 19, and waits in 20.
+const OPERAND: &str = "rob = 2\n%%\ndiv x5,x0,x0\naddi x6,x5,0\nebreak";
+
+// The store has its address in cycle 20, up to which the load waits from 3 on. Then the store drains, and the port is busy up to 31. The
+// breakpoint waits from cycle 20 to 43, the word after it from 22 on.
+const ADDRESS: &str =
+    "ram_base = 0\nrob = 3\n%%\nrem x5,x0,x0\nsw x0,1024(x5)\nlw x6,0(x0)\nebreak";
+
+// The first load has the unit in cycle 2, and the port up to cycle 12: the second one waits for the one and then for the other.
+const PORT: &str = "ram_base = 0\nrob = 2\n%%\nlw x5,0(x0)\nlw x6,64(x0)\nebreak";
+
+// A CSR instruction, which uses no unit, waits for the division in front of it, from cycle 2 to 18.
+const HEAD: &str = "rob = 2\n%%\ndiv x5,x0,x0\ncsrrs x6,mip,x0\nebreak";
+
+const IN_FLIGHT: [Told; 8] = [
+    Told {
+        program: OPERAND,
+        line: "waiting for operands                 17   45.9%  #######################",
+    },
+    Told {
+        program: OPERAND,
+        line: "in execution                         19   51.4%  ##########################",
+    },
+    Told {
+        program: OPERAND,
+        line: "Awaited most, for 17 cycles: 80000000, line 1: div x5,x0,x0",
+    },
+    Told {
+        program: ADDRESS,
+        line: "waiting for a store's address        18   14.6%  #######",
+    },
+    Told {
+        program: ADDRESS,
+        line: "waiting for retirement               46   37.4%  ###################",
+    },
+    Told {
+        program: PORT,
+        line: "waiting for a mem unit                1    2.2%  #",
+    },
+    Told {
+        program: PORT,
+        line: "waiting for the port                 10   22.2%  ###########",
+    },
+    Told {
+        program: HEAD,
+        line: "waiting for retirement               17   50.0%  #########################",
+    },
+];
+
+#[test]
+fn each_wait_in_flight_has_its_cycles(rt: HostRuntime) {
+    for told in IN_FLIGHT {
+        check_run(&rt, rt.alloc(), EXPLAIN, told.program, 0, &[told.line]);
+    }
+}
+
+// The greatest wait comes first, of equal ones the one that an instruction meets first; a wait that never was is not named.
+const GREATEST: [Told; 3] = [
+    Told {
+        program: ADDRESS,
+        line: "cycles of instructions in flight: 123, of them 46 waiting for retirement (37.4%), 18 waiting for an older store's address (14.6%)",
+    },
+    Told {
+        program: PORT,
+        line: "cycles of instructions in flight: 45, of them 10 waiting for the port (22.2%), 10 waiting for retirement (22.2%)",
+    },
+    Told {
+        program: HEAD,
+        line: "cycles of instructions in flight: 34, of them 17 waiting for retirement (50.0%)",
+    },
+];
+
+#[test]
+fn the_greatest_waits_lead(rt: HostRuntime) {
+    for told in GREATEST {
+        check_run(&rt, rt.alloc(), EXPLAIN, told.program, 0, &[told.line]);
+    }
 }

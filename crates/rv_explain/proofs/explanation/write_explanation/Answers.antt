@@ -14,6 +14,8 @@ write_told-written-requires g c =
       branches = omega (arith, branches_counted _ c.args.limit c.args.description.now _ _ told.stop told.progress told.fetched told.tale c.run_told-told.ensures);
       mispredicted = omega (arith, mispredicted_counted _ c.args.limit c.args.description.now _ _ told.stop told.progress told.fetched told.tale c.run_told-told.ensures);
       places = c.run_told-told.ensures.few;
+      stays = c.run_told-told.ensures.few_stays;
+      awaited = c.run_told-told.ensures.few_awaited;
     }
 
 pub returns-in-Ok-written-clause-written : goal.returns-in-Ok-written-clause-written

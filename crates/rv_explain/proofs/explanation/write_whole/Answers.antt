@@ -8,4 +8,4 @@ pub returns : goal.returns
 unfolding whole_text
 returns g c =
     says_both c.write_ending.ensures (says_both (says_same (ap (first_passed_text c.args.listing.now) c.all.ensures) c.write_first_passed.ensures) (says_both c.write_exceptions.ensures
-    (says_both c.write_interrupts.ensures (says_both c.write_lead.ensures c.write_costs.ensures))))
+    (says_both c.write_interrupts.ensures (says_both c.write_untaken_lines.ensures (says_both c.write_lead.ensures c.write_costs.ensures)))))

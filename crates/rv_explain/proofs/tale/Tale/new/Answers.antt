@@ -1,10 +1,11 @@
-use Rattle.std.proofs.Common.{[]}
+use Rattle.std.proofs.Common.{[], None}
 use Rattle.rv_counts.specs.Load.{costs_of}
 use Rattle.rv_sentences.specs.Dispatch.{none_dispatched}
 use Rattle.rv_sentences.specs.Drain.{drains_by}
 use Rattle.rv_sentences.specs.Load.{loads_of}
 use Rattle.rv_counts.specs.Places.{no_places}
-use Rattle.rv_sentences.specs.Unit.{none_came}
+use Rattle.rv_sentences.specs.Stay.{no_stays}
+use Rattle.rv_sentences.specs.Untaken.{none_raised}
 use Rattle.rv_sentences.specs.Work.{work_of}
 use Rattle.rv_explain.proofs.tale.Tale.new.Goals as goal
 
@@ -13,18 +14,20 @@ returns c arrivals h = λ i. record {
   retired = 0;
   exceptions = c.in_ok-new.ensures i;
   interrupts = c.new-2.ensures i;
+  raised = none_raised;
   places = no_places;
   dispatches = none_dispatched;
-  bus = c.no_waits.ensures i;
-  units = c.no_waits-2.ensures i;
-  came = none_came;
+  stays = no_stays;
+  awaited = c.in_ok-new-2.ensures i;
   work = work_of [];
-  costs = c.new-3.ensures i;
+  costs = c.new-4.ensures i;
   loads = loads_of (costs_of c.args.description.now) [];
   drains = drains_by c.args.description.now.cache.hit [];
-  last_stores = c.in_ok-new-2.ensures i;
-  heads = c.in_ok-new-3.ensures i;
-  branches = c.in_ok-new-4.ensures i;
-  mispredicted = c.in_ok-new-5.ensures i;
-  outcomes = c.in_ok-new-6.ensures i;
+  last_stores = c.in_ok-new-3.ensures i;
+  heads = c.in_ok-new-4.ensures i;
+  idle = 0;
+  flusher = None;
+  branches = c.in_ok-new-5.ensures i;
+  mispredicted = c.in_ok-new-6.ensures i;
+  outcomes = c.in_ok-new-7.ensures i;
 }

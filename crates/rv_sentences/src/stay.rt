@@ -1,0 +1,184 @@
+ghost use Rattle.std.specs.Prelude.{◌≡◌};
+ghost use Rattle.rv_isa.specs.Instruction.{is_load, is_store};
+ghost use Rattle.rv_sentences.specs.Stay.{awaited, awaited_word, came_before, dispatched_stay, first_awaited, lacks_address, load_stay, operand_stay, ready_stay, station_stay, stay_in};
+
+use rv_counts::kind_of_word;
+use rv_isa::{Instr, Kind};
+use rv_passage::{Passage, Producer, Producers};
+
+/// Why an instruction that was dispatched before a cycle stays in flight in it.
+#[derive(Clone, Copy)]
+pub enum Stay {
+    /// It waits for an operand, the result of the instruction at this pc.
+    Operand(u32),
+    /// It is a load, and waits for the address of an older store.
+    Address,
+    /// It waits for a unit of its kind.
+    Unit(Kind),
+    /// It is a load, and waits for the port of the cache.
+    Port,
+    /// It is executed, or its result is broadcast.
+    Execution,
+    /// Its result waits for the common data bus.
+    Bus,
+    /// It is done, or uses no unit, and waits for its retirement.
+    Retirement,
+}
+
+// Whether something came before a cycle.
+fn came_before(cycle: u64, stamp: Option<u64>) -> bool
+    ensures { result ≡ came_before cycle stamp }
+{
+    match stamp {
+        Some(stamp) => stamp < cycle,
+        None => false,
+    }
+}
+
+// The pc of a producer whose result was not broadcast before a cycle.
+fn awaited(cycle: u64, producer: Option<Producer>) -> Option<u32>
+    ensures { result ≡ awaited cycle producer }
+{
+    match producer {
+        Some(producer) => {
+            if came_before(cycle, producer.broadcast) {
+                None
+            } else {
+                Some(producer.pc)
+            }
+        }
+        None => None,
+    }
+}
+
+// The first of two.
+fn first_awaited(cycle: u64, producers: &Producers) -> Option<u32>
+    ensures { result ≡ first_awaited cycle producers.now }
+{
+    match awaited(cycle, producers.first) {
+        Some(pc) => Some(pc),
+        None => awaited(cycle, producers.second),
+    }
+}
+
+fn is_load(instruction: Option<Instr>) -> bool
+    ensures { result ≡ is_load instruction }
+{
+    matches!(instruction, Some(Instr::Load { .. }))
+}
+
+fn is_store(instruction: Option<Instr>) -> bool
+    ensures { result ≡ is_store instruction }
+{
+    matches!(instruction, Some(Instr::Store { .. }))
+}
+
+// What a load with its operands waits for.
+fn load_stay(has_unit: bool, has_addresses: bool) -> Stay
+    ensures { result ≡ load_stay has_unit has_addresses }
+{
+    if !has_addresses {
+        Stay::Address
+    } else if has_unit {
+        Stay::Port
+    } else {
+        Stay::Unit(Kind::Mem)
+    }
+}
+
+// What an instruction of a kind with its operands waits for.
+fn ready_stay(has_unit: bool, has_addresses: bool, kind: Kind, passage: &Passage) -> Stay
+    ensures { result ≡ ready_stay has_unit has_addresses kind passage.now }
+{
+    if is_load(passage.instruction) {
+        load_stay(has_unit, has_addresses)
+    } else {
+        Stay::Unit(kind)
+    }
+}
+
+// What one waits for that may lack an operand.
+fn operand_stay(ready: Stay, awaited: Option<u32>) -> Stay
+    ensures { result ≡ operand_stay ready awaited }
+{
+    match awaited {
+        Some(pc) => Stay::Operand(pc),
+        None => ready,
+    }
+}
+
+// What one waits for that was not issued.
+fn station_stay(
+    cycle: u64,
+    has_unit: bool,
+    has_addresses: bool,
+    kind: Option<Kind>,
+    passage: &Passage,
+) -> Stay
+    ensures { result ≡ station_stay cycle has_unit has_addresses kind passage.now }
+{
+    match kind {
+        Some(kind) => operand_stay(
+            ready_stay(has_unit, has_addresses, kind, passage),
+            first_awaited(cycle, &passage.producers),
+        ),
+        None => Stay::Retirement,
+    }
+}
+
+// Why one stays that was dispatched.
+fn dispatched_stay(cycle: u64, has_unit: bool, has_addresses: bool, passage: &Passage) -> Stay
+    ensures { result ≡ dispatched_stay cycle has_unit has_addresses passage.now }
+{
+    if came_before(cycle, passage.broadcast) {
+        Stay::Retirement
+    } else if passage.waits_for_bus(cycle) {
+        Stay::Bus
+    } else if passage.issue.is_some() {
+        Stay::Execution
+    } else {
+        station_stay(
+            cycle,
+            has_unit,
+            has_addresses,
+            kind_of_word(passage.instruction),
+            passage,
+        )
+    }
+}
+
+/// Why an instruction stays in flight in a cycle, by what became of it by its end: whether a unit of loads and stores is free in it,
+/// and all older stores have their addresses. `None` where it was not dispatched before, or left.
+pub(crate) fn stay_in(
+    cycle: u64,
+    has_unit: bool,
+    has_addresses: bool,
+    passage: &Passage,
+) -> Option<Stay>
+    ensures { result ≡ stay_in cycle has_unit has_addresses passage.now }
+{
+    if passage.is_in_flight() && came_before(cycle, passage.dispatched) {
+        Some(dispatched_stay(cycle, has_unit, has_addresses, passage))
+    } else {
+        None
+    }
+}
+
+/// Whether it is a store in flight whose address was not broadcast before a cycle.
+pub(crate) fn lacks_address(cycle: u64, passage: &Passage) -> bool
+    ensures { result ≡ lacks_address cycle passage.now }
+{
+    passage.is_in_flight()
+        && is_store(passage.instruction)
+        && !came_before(cycle, passage.broadcast)
+}
+
+/// The word of the instruction whose result is awaited, if one is.
+pub(crate) fn awaited_word(stay: Option<Stay>) -> Option<u32>
+    ensures { result ≡ awaited_word stay }
+{
+    match stay {
+        Some(Stay::Operand(pc)) => Some(pc / 4),
+        _ => None,
+    }
+}

@@ -1,0 +1,264 @@
+ghost use Rattle.std.specs.Prelude.{◌≡◌, ◌<◌, ◌^◌, [], get_or, map, sum};
+ghost use Rattle.std.specs.List.{flat_map};
+ghost use Rattle.rv_sentences.specs.Stay.{all_stays};
+ghost use Rattle.rv_sentences.specs.StayLines.{awaited_line, awaited_text, greatest_waits_text, parts_text, second_wait_text, share_text, some_parts_text, stay_line, stays_text, two_waits_text, wait_counts, wait_names, wait_text, waits_text};
+ghost use Rattle.rv_text.specs.Said.{Says};
+
+use crate::greatest_lines::greatest_lines;
+use crate::place::write_place;
+use crate::spot::{Greatest, Spot};
+use crate::stack::{parts_of, write_share};
+use crate::stays::Stays;
+use crate::word_notes::{WordNotes, clear, first_greatest};
+use itoa::Buffer;
+use rv_source::Listing;
+use rv_text::Sink;
+use std::io::Write;
+
+// What instructions in flight wait for.
+static NAMES: [&[u8]; 9] = [
+    b" waiting for operands",
+    b" waiting for an older store's address",
+    b" waiting for an alu unit",
+    b" waiting for a mul unit",
+    b" waiting for a div unit",
+    b" waiting for a mem unit",
+    b" waiting for the port",
+    b" waiting for the bus",
+    b" waiting for retirement",
+];
+
+// The name at a place of a table.
+fn name_at(names: &[&'static [u8]], place: usize) -> &'static [u8]
+    ensures { result.now ≡ get_or (map (λ name. name.now) names.now) place [] }
+{
+    if place < names.len() {
+        names[place]
+    } else {
+        b""
+    }
+}
+
+fn wait_name(place: usize) -> &'static [u8]
+    ensures { result.now ≡ get_or wait_names place [] }
+{
+    name_at(&NAMES, place)
+}
+
+// For how many cycles they waited for each.
+fn wait_counts(stays: &Stays) -> [u64; 9]
+    ensures { result ≡ wait_counts stays.now }
+{
+    [
+        stays.operands,
+        stays.addresses,
+        stays.units.alu,
+        stays.units.mul,
+        stays.units.div,
+        stays.units.mem,
+        stays.port,
+        stays.bus,
+        stays.retirement,
+    ]
+}
+
+#[tactic(auto, using(rv_text::proofs::Saying::saying), unfolding(crate::specs::StayLines::share_text))]
+fn write_share_of<W: Write>(out: &mut Sink<'_, W>, tenths: u128)
+    ensures { Says W.contents out.old out.new (share_text tenths) }
+{
+    let mut percent_buffer = Buffer::new();
+    let percent = percent_buffer.format(tenths / 10).as_bytes();
+    let mut tenth_buffer = Buffer::new();
+    let tenth = tenth_buffer.format(tenths % 10).as_bytes();
+    out.put_all(&[b" (", percent, b".", tenth, b"%)"]);
+}
+
+// Writes a wait, for how many cycles, and what part of all that is.
+fn write_wait<W: Write>(out: &mut Sink<'_, W>, all: u64, wait: &Greatest)
+    ensures { Says W.contents out.old out.new (wait_text all wait.now) }
+{
+    out.put_decimal(wait.count);
+    out.put(wait_name(wait.place));
+    write_share_of(out, parts_of(1000, wait.count, all));
+}
+
+#[tactic(auto, using(rv_text::proofs::Saying::saying), unfolding(crate::specs::StayLines::second_wait_text))]
+fn write_second_wait<W: Write>(out: &mut Sink<'_, W>, all: u64, second: &Greatest)
+    ensures { Says W.contents out.old out.new (second_wait_text all second.now) }
+{
+    if second.count == 0 {
+        out.put(b"\n");
+        return;
+    }
+    out.put(b", ");
+    write_wait(out, all, second);
+    out.put(b"\n");
+}
+
+// Writes two waits.
+fn write_waits<W: Write>(out: &mut Sink<'_, W>, all: u64, first: &Greatest, second: &Greatest)
+    ensures { Says W.contents out.old out.new (waits_text all first.now second.now) }
+{
+    out.put(b"cycles of instructions in flight: ");
+    out.put_decimal(all);
+    out.put(b", of them ");
+    write_wait(out, all, first);
+    write_second_wait(out, all, second);
+}
+
+// The same, if there was one.
+#[tactic(auto, unfolding(crate::specs::StayLines::two_waits_text))]
+fn write_two_waits<W: Write>(out: &mut Sink<'_, W>, all: u64, first: &Greatest, second: &Greatest)
+    ensures { Says W.contents out.old out.new (two_waits_text all first.now second.now) }
+{
+    if first.count == 0 {
+        return;
+    }
+    write_waits(out, all, first, second);
+}
+
+/// Writes what instructions in flight waited for most, and what next, if they waited.
+pub fn write_greatest_waits<W: Write>(out: &mut Sink<'_, W>, stays: &Stays)
+    requires room { all_stays stays.now < 2 ^ 64 }
+    ensures { Says W.contents out.old out.new (greatest_waits_text stays.now) }
+{
+    let mut counts = wait_counts(stays);
+    let first = first_greatest(&counts);
+    clear(&mut counts, first.place);
+    let second = first_greatest(&counts);
+    write_two_waits(out, stays.all(), &first, &second);
+}
+
+// A part of the cycles of instructions in flight.
+#[derive(Clone, Copy)]
+struct Part<'a> {
+    name: &'a str,
+    count: u64,
+}
+
+// Writes a part, unless it is none.
+#[tactic(auto, unfolding(crate::specs::StayLines::stay_line))]
+fn write_one<W: Write>(out: &mut Sink<'_, W>, name: &str, count: u64, all: u64)
+    ensures { Says W.contents out.old out.new (stay_line name.now count all) }
+{
+    if count == 0 {
+        return;
+    }
+    write_share(out, name, count, all);
+}
+
+#[tactic(auto, using(rv_text::proofs::Saying::saying))]
+fn write_parts<W: Write>(out: &mut Sink<'_, W>, parts: &[Part<'_>], all: u64)
+    ensures { Says W.contents out.old out.new (flat_map (λ part. stay_line part.name.now part.count all) parts.now) }
+{
+    for part in parts {
+        write_one(out, part.name, part.count, all);
+    }
+}
+
+// Writes why the instructions in flight stayed there, in so many cycles.
+fn write_all_parts<W: Write>(out: &mut Sink<'_, W>, all: u64, stays: &Stays)
+    ensures { Says W.contents out.old out.new (parts_text all stays.now) }
+{
+    out.put(b"Where the ");
+    out.put_decimal(all);
+    out.put(b" cycles of instructions in flight went:\n");
+    write_parts(
+        out,
+        &[
+            Part {
+                name: "waiting for operands         ",
+                count: stays.operands,
+            },
+            Part {
+                name: "waiting for a store's address",
+                count: stays.addresses,
+            },
+            Part {
+                name: "waiting for an alu unit      ",
+                count: stays.units.alu,
+            },
+            Part {
+                name: "waiting for a mul unit       ",
+                count: stays.units.mul,
+            },
+            Part {
+                name: "waiting for a div unit       ",
+                count: stays.units.div,
+            },
+            Part {
+                name: "waiting for a mem unit       ",
+                count: stays.units.mem,
+            },
+            Part {
+                name: "waiting for the port         ",
+                count: stays.port,
+            },
+            Part {
+                name: "in execution                 ",
+                count: stays.execution,
+            },
+            Part {
+                name: "waiting for the bus          ",
+                count: stays.bus,
+            },
+            Part {
+                name: "waiting for retirement       ",
+                count: stays.retirement,
+            },
+        ],
+        all,
+    );
+}
+
+// Writes that, if there are any cycles.
+#[tactic(auto, unfolding(crate::specs::StayLines::some_parts_text))]
+fn write_some_parts<W: Write>(out: &mut Sink<'_, W>, all: u64, stays: &Stays)
+    ensures { Says W.contents out.old out.new (some_parts_text all stays.now) }
+{
+    if all == 0 {
+        return;
+    }
+    write_all_parts(out, all, stays);
+}
+
+/// Writes why the instructions in flight stayed there, in all their cycles.
+pub fn write_stays<W: Write>(out: &mut Sink<'_, W>, stays: &Stays)
+    requires room { all_stays stays.now < 2 ^ 64 }
+    ensures { Says W.contents out.old out.new (stays_text stays.now) }
+{
+    write_some_parts(out, stays.all(), stays);
+}
+
+fn write_awaited_line<W: Write>(out: &mut Sink<'_, W>, listing: &Listing, spot: &Spot)
+    ensures { Says W.contents out.old out.new (awaited_line listing.now spot.now) }
+{
+    out.put(b"Awaited most, for ");
+    out.put_decimal(spot.count);
+    out.put(b" cycles: ");
+    write_place(out, listing, spot.address);
+}
+
+#[tactic(auto, using(rv_text::proofs::Saying::saying))]
+fn write_each<W: Write>(out: &mut Sink<'_, W>, listing: &Listing, spots: &[Spot])
+    ensures { Says W.contents out.old out.new (flat_map (awaited_line listing.now) spots.now) }
+{
+    for spot in spots {
+        write_awaited_line(out, listing, spot);
+    }
+}
+
+/// Writes the line of the program whose results were awaited most, if any were, by the cycles that each word was awaited. Leaves no
+/// count of that line.
+#[tactic(auto, unfolding(crate::specs::StayLines::awaited_text))]
+pub fn write_awaited<W: Write>(
+    out: &mut Sink<'_, W>,
+    listing: &Listing,
+    awaited: &mut WordNotes<u64>,
+)
+    requires room { sum awaited.old.words < 2 ^ 64 }
+    ensures { Says W.contents out.old out.new (awaited_text listing.now awaited.old) }
+{
+    let spots = greatest_lines(awaited, listing, 1);
+    write_each(out, listing, spots.as_slice());
+}

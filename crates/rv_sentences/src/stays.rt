@@ -1,0 +1,110 @@
+ghost use Rattle.std.specs.Prelude.{◌≡◌, ◌+◌, ◌<◌, ◌^◌, length, sum};
+ghost use Rattle.rv_sentences.specs.Stay.{all_stays, stays_among, with_awaited, with_reason, with_stay, with_stays};
+
+use crate::stay::{Stay, awaited_word, lacks_address, stay_in};
+use crate::word_notes::{WordNotes, count_one};
+use rv_isa::{Kind, PerKind};
+use rv_passage::Passage;
+
+/// The cycles that instructions stayed in flight, by the reason: each instruction counts in each cycle once.
+#[derive(Clone, Copy)]
+pub struct Stays {
+    /// In wait for operands.
+    pub operands: u64,
+    /// Of loads, in wait for the addresses of older stores.
+    pub addresses: u64,
+    /// In wait for a unit, by the kind.
+    pub units: PerKind<u64>,
+    /// Of loads, in wait for the port of the cache.
+    pub port: u64,
+    /// In execution, or in broadcast.
+    pub execution: u64,
+    /// Of results, in wait for the common data bus.
+    pub bus: u64,
+    /// In wait for retirement.
+    pub retirement: u64,
+}
+
+impl Stays {
+    /// Of no instruction.
+    pub const NONE: Stays = Stays {
+        operands: 0,
+        addresses: 0,
+        units: PerKind {
+            alu: 0,
+            mul: 0,
+            div: 0,
+            mem: 0,
+        },
+        port: 0,
+        execution: 0,
+        bus: 0,
+        retirement: 0,
+    };
+
+    fn count(&mut self, stay: Stay)
+        requires room { all_stays self.old + 1 < 2 ^ 64 }
+        ensures { self.new ≡ with_reason stay self.old }
+    {
+        match stay {
+            Stay::Operand(_) => self.operands += 1,
+            Stay::Address => self.addresses += 1,
+            Stay::Unit(Kind::Alu) => self.units.alu += 1,
+            Stay::Unit(Kind::Mul) => self.units.mul += 1,
+            Stay::Unit(Kind::Div) => self.units.div += 1,
+            Stay::Unit(Kind::Mem) => self.units.mem += 1,
+            Stay::Port => self.port += 1,
+            Stay::Execution => self.execution += 1,
+            Stay::Bus => self.bus += 1,
+            Stay::Retirement => self.retirement += 1,
+        }
+    }
+
+    fn add(&mut self, stay: Option<Stay>)
+        requires room { all_stays self.old + 1 < 2 ^ 64 }
+        ensures { self.new ≡ with_stay stay self.old }
+    {
+        if let Some(stay) = stay {
+            self.count(stay);
+        }
+    }
+
+    /// How many they are.
+    pub fn all(&self) -> u64
+        requires room { all_stays self.now < 2 ^ 64 }
+        ensures { result ≡ all_stays self.now }
+    {
+        let units = self.units.alu + self.units.mul + self.units.div + self.units.mem;
+        self.operands
+            + self.addresses
+            + units
+            + self.port
+            + self.execution
+            + self.bus
+            + self.retirement
+    }
+}
+
+/// Adds why some instructions stay in flight in a cycle, in order of fetch, and counts those that wait for an operand at the word of the
+/// instruction that gives it: whether a unit of loads and stores is free in the cycle, and all stores before them have their addresses.
+pub fn add_stays(
+    stays: &mut Stays,
+    awaited: &mut WordNotes<u64>,
+    cycle: u64,
+    has_unit: bool,
+    has_addresses: bool,
+    rows: &[Passage],
+)
+    requires room { all_stays stays.old + length rows.now < 2 ^ 64 }
+    requires words { sum awaited.old.words + length rows.now < 2 ^ 64 }
+    ensures stays { stays.new ≡ with_stays (stays_among cycle has_unit has_addresses rows.now) stays.old }
+    ensures awaited { awaited.new ≡ with_awaited (stays_among cycle has_unit has_addresses rows.now) awaited.old }
+{
+    if let [row, rest @ ..] = rows {
+        let stay = stay_in(cycle, has_unit, has_addresses, row);
+        stays.add(stay);
+        count_one(awaited, awaited_word(stay));
+        let has_addresses = has_addresses && !lacks_address(cycle, row);
+        add_stays(stays, awaited, cycle, has_unit, has_addresses, rest);
+    }
+}
