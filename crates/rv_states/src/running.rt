@@ -1,23 +1,24 @@
-ghost use Rattle.std.specs.Prelude.{◌≡◌, ◌++◌, false};
+ghost use Rattle.std.specs.Prelude.{◌≡◌, ◌≤◌, ◌++◌, false, vec_capacity};
 ghost use Rattle.rv_hardware.specs.Guided.{guided};
 ghost use Rattle.rv_states.specs.Page.{after_lines, before_lines};
 ghost use Rattle.rv_states.specs.Predictor.{untaught_predictor};
 ghost use Rattle.rv_states.specs.States.{WritesStates, head_text};
 ghost use Rattle.rv_json.specs.Stop.{stop_line};
 ghost use Rattle.rv_text.specs.Said.{Extends};
-ghost use Rattle.rv_view.specs.Following.{FollowsFrom};
+ghost use Rattle.rv_view.specs.Following.{BeginsAt};
 
 use crate::form::Form;
 use crate::moment::{write_begun, write_end, write_head, write_shown};
 use crate::predictor::teach;
 use rv_arch::Stop;
-use rv_core::Pipeline;
+use rv_core::{Pipeline, Progress, Watcher, watch};
 use rv_front::{DescribedPredictor, Predictor};
+use rv_hardware::Step;
 use rv_isa::Arrivals;
-use rv_passage::Passage;
+use rv_passage::{Passage, Table};
 use rv_source::Listing;
 use rv_text::Sink;
-use rv_view::{Following, ShownCycle, View, run_view};
+use rv_view::{follow, follow_numbers};
 use std::convert::Infallible;
 use std::io::Write;
 
@@ -28,54 +29,61 @@ pub(crate) struct Shown {
     pub(crate) has_failed: bool,
 }
 
-// The view that writes the states after the first `from` cycles, and what the predictor knows.
+// The watcher that writes the states after the first `from` cycles. Before these it follows no more than which instructions are in
+// flight.
 #[derive(Drop)]
 struct Shower {
     from: u64,
+    // What the predictor knows.
     predictor: DescribedPredictor,
+    table: Table,
+    has_failed: bool,
 }
 
-impl View for Shower {
-    ghost use Rattle.std.specs.Prelude.{refl};
+impl Watcher for Shower {
     ghost use Rattle.rv_states.specs.Showing.{IsShowing};
-    ghost use Rattle.rv_states.specs.States.{cycles_text};
 
     type Refusal = Infallible;
 
-    ghost has_seen = { λ start shower seen. IsShowing start.from shower.from start.predictor shower.predictor seen };
-
-    ghost text = { λ shower _ cycles. cycles_text shower.from shower.predictor cycles };
+    ghost has_seen = { λ start shower seen before now. IsShowing start.from shower.from start.predictor shower.predictor shower.table start.has_failed shower.has_failed seen before now };
 
     ghost has_room = { λ _. Unit {0} };
-
-    ghost nothing_said = { λ _ _. refl };
 
     fn make_room(&mut self) -> Result<(), Infallible> {
         Ok(())
     }
 
-    fn see<W: Write>(&mut self, cycle: &ShownCycle<'_>, out: &mut Sink<'_, W>) {
-        let next = cycle.pipeline.observe().pc;
-        teach(&mut self.predictor, cycle.steps, next);
+    fn see<W: Write>(
+        &mut self,
+        cycle: u64,
+        steps: &[Step],
+        pipeline: &Pipeline,
+        progress: &Progress,
+        output: &mut W,
+    ) {
+        let next = pipeline.observe().pc;
+        teach(&mut self.predictor, steps, next);
+        if progress.cycles < self.from {
+            follow_numbers(&mut self.table, cycle, steps, pipeline);
+            return;
+        }
+        follow(&mut self.table, cycle, steps, pipeline);
+        let shown = self.table.rows();
+        let mut out = Sink::after(output, self.has_failed);
         let from = self.from;
         write_shown(
-            out,
+            &mut out,
             from,
-            cycle.number,
-            cycle.rows,
-            cycle.steps,
-            cycle.pipeline,
-            cycle.progress,
+            cycle,
+            shown,
+            steps,
+            pipeline,
+            progress,
             &self.predictor,
         );
-        write_begun(
-            out,
-            from,
-            cycle.rows,
-            cycle.pipeline,
-            cycle.progress,
-            &self.predictor,
-        );
+        write_begun(&mut out, from, shown, pipeline, progress, &self.predictor);
+        self.has_failed = out.has_failed();
+        self.table.drop_ended();
     }
 }
 
@@ -115,11 +123,13 @@ pub(crate) fn run_shown<W: Write>(
     limit: u64,
     form: Form,
     listing: &Listing,
-    following: Following,
+    table: Table,
+    steps: Vec<Step>,
     untaught: DescribedPredictor,
     writer: &mut W,
 ) -> Shown
-    requires follows { FollowsFrom pipeline.old following }
+    requires begins { BeginsAt pipeline.old table }
+    requires room { 8 ≤ vec_capacity steps }
     requires untaught { untaught ≡ untaught_predictor pipeline.old.values }
     ensures { WritesStates arrivals.now from limit form listing.now (guided pipeline.old (known predictor.old)) (guided pipeline.new (known predictor.new)) result.stop result.has_failed (W.contents writer.old) (W.contents writer.new) }
 {
@@ -128,27 +138,29 @@ pub(crate) fn run_shown<W: Write>(
         form,
         from,
         listing,
-        following.rows(),
+        table.rows(),
         pipeline,
         &untaught,
     );
-    let shower = Shower {
+    let mut shower = Shower {
         from,
         predictor: untaught,
+        table,
+        has_failed,
     };
-    let viewed = run_view(
-        pipeline, predictor, arrivals, limit, following, shower, has_failed, writer,
+    let ended = watch(
+        pipeline,
+        predictor,
+        arrivals,
+        limit,
+        steps,
+        &mut shower,
+        writer,
     );
-    match viewed.stop {
+    match ended.stop {
         Ok(stop) => Shown {
             stop,
-            has_failed: end(
-                writer,
-                viewed.has_failed,
-                form,
-                viewed.progress.cycles,
-                stop,
-            ),
+            has_failed: end(writer, shower.has_failed, form, ended.progress.cycles, stop),
         },
     }
 }

@@ -11,7 +11,7 @@ use rv_front::{DescribedPredictor, Predictor};
 use rv_isa::Arrivals;
 use rv_source::Listing;
 use rv_text::TextError;
-use rv_view::Following;
+use rv_view::begin_table;
 use std::alloc::Global;
 use std::io::Write;
 
@@ -41,7 +41,10 @@ pub fn write_states<W: Write>(
     ensures one_text { HasOneText arrivals.now from limit form listing.now }
     ensures not_run { result ≡ Err TextError.Memory → (pipeline.new ≡ pipeline.old) × (known predictor.new ≡ known predictor.old) }
 {
-    let Ok(following) = Following::begin(alloc, pipeline) else {
+    let Ok(table) = begin_table(alloc, pipeline) else {
+        return Err(TextError::Memory);
+    };
+    let Ok(steps) = Vec::with_capacity(alloc, 8) else {
         return Err(TextError::Memory);
     };
     // Of hardware that a reset and cycles lead to, the predictor is one that a description can say.
@@ -51,7 +54,7 @@ pub fn write_states<W: Write>(
         return Err(TextError::Memory);
     };
     let shown = run_shown(
-        pipeline, predictor, arrivals, from, limit, form, listing, following, untaught, writer,
+        pipeline, predictor, arrivals, from, limit, form, listing, table, steps, untaught, writer,
     );
     if shown.has_failed {
         Err(TextError::WriteFailed)

@@ -33,3 +33,6 @@ returns-then-shown-clause-one_text g c = one_text c.args.arrivals.now c.args.fro
 
 pub returns-else-shown-clause-one_text : goal.returns-else-shown-clause-one_text
 returns-else-shown-clause-one_text g c = one_text c.args.arrivals.now c.args.from c.args.limit c.args.form c.args.listing.now
+
+pub returns-in_default-with_capacity-clause-one_text : goal.returns-in_default-with_capacity-clause-one_text
+returns-in_default-with_capacity-clause-one_text g c = one_text c.args.arrivals.now c.args.from c.args.limit c.args.form c.args.listing.now
