@@ -213,7 +213,8 @@ def states(assembly, description=None, *, arrivals=None, first=None, cycles=None
 
 def compare(assembly, descriptions, *, limit=None, show=()):
     """The rows of `compare`, as dictionaries: one for each description, of which there may be any number. `show` has up to four registers
-    (a0 or x10) and addresses of words, whose values at the end stand in columns of their names."""
+    (a0 or x10) and addresses of words, whose values at the end stand in columns of their names, and `places`, for those of what became of
+    the places for dispatch."""
     rows, words = [], [*limit_words(limit), *(it for name in show for it in ("--show", name))]
     for i in range(0, len(descriptions), MOST_MACHINES):
         block = descriptions[i:i + MOST_MACHINES]

@@ -53,7 +53,7 @@ cycles_rule = number_rule (codes "cycles") 1 most_cycles_shown (codes "60")
 abbrev pub told_cycles_rule : Rule
 told_cycles_rule = number_rule (codes "cycles") 1 most_cycles_told (codes "200")
 
--- `--show WHAT`: a register or a word that a table shows; it may be given more than once
+-- `--show WHAT`: a register, a word or the places that a table shows; it may be given more than once
 abbrev pub show_rule : Rule
 show_rule = record (new_rule (codes "show")) { long = Some (codes "show"); action = Some Append; value_names = 1 }
 

@@ -1,15 +1,19 @@
 -- What `--show` names.
 use Rattle.std.specs.Prelude.{ℕ, ◌%◌, ◌==◌, nat_lt, if◌then◌else◌, List, [], length, get_or, slice_get, Option, Some, None, codes, option_and_then, unwrap_or}
-use Rattle.std.specs.{Option.option_map, Option.option_map_or}
+use Rattle.std.specs.{Option.option_map, Option.option_map_or, Str.bytes_eq}
 use Rattle.clap.specs.Words.{Row, Text, all_of}
 use Rattle.rv_asm.specs.Names.{register_named}
 use Rattle.rv_asm.specs.Token.{Lexeme, Token, Name, Number, first_lexeme}
 use Rattle.rv_command.specs.declared.shown.{Shown.Shown, ShownColumns.ShownColumns}
-use Rattle.rv_command.specs.declared.shown.Shown.TheVariants.{Register, Word}
+use Rattle.rv_command.specs.declared.shown.Shown.TheVariants.{Register, Word, Places}
 
--- a register by its name, or the word of memory at an address, as the assembler reads names and numbers
+-- `places` stands for what became of the places for dispatch, another name for a register
+abbrev pub name_shown : Text → Option Shown
+name_shown name = if bytes_eq name (codes "places") then Some Places else option_map Register (register_named name)
+
+-- a name, or the word of memory at an address, as the assembler reads names and numbers
 abbrev pub shown_by : Token → Option Shown
-shown_by (Name name) = option_map Register (register_named name)
+shown_by (Name name) = name_shown name
 shown_by (Number address) = if address % 4 == 0 then Some (Word address) else None
 shown_by _ = None
 

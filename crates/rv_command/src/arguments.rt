@@ -135,7 +135,9 @@ fn show_argument<'a>(alloc: Global) -> Arg<'a>
     Arg::new(alloc, "show")
         .long("show")
         .value_name("WHAT")
-        .help("Shows a register or the word at an address at each run's end, four at most")
+        .help(
+            "Shows a register or the word at an address at each run's end, or the places for dispatch; four at most",
+        )
         .action(ArgAction::Append)
 }
 

@@ -25,7 +25,7 @@ pub const MOST_CYCLES_SHOWN: u64 = 1_000;
 pub const MOST_CYCLES_TOLD: u64 = 10_000;
 
 const WHAT_IS_SHOWN: &str =
-    "WHAT is a register, as a0 or x10, or the address of a word, as 0x80001000; --show may be given four times";
+    "WHAT is a register, as a0 or x10, the address of a word, as 0x80001000, or places; --show may be given four times";
 
 const WHAT_IS_SET: &str =
     "KEY=VALUE is a key of a description that says how fast a program runs, as rob, cache.line, div.pipelined or predictor.kind, \
@@ -86,7 +86,7 @@ pub enum Command {
         limit: u64,
     },
     /// Compare machines by the totals of one program's run on each, of at most so many cycles, with registers and words of
-    /// memory at their ends.
+    /// memory at their ends, or what became of the places for dispatch.
     Compare {
         shown: ShownColumns,
         limit: u64,

@@ -1,19 +1,21 @@
 ghost use Rattle.std.specs.Prelude.{◌≡◌, map};
 ghost use Rattle.clap.specs.Words.{found_of, rows_of};
 ghost use Rattle.rv_asm.specs.Read.{token_of};
-ghost use Rattle.rv_command.specs.Shown.{column_of, columns_in, columns_of, shown_by, shown_of};
+ghost use Rattle.rv_command.specs.Shown.{column_of, columns_in, columns_of, name_shown, shown_by, shown_of};
 
 use clap::ArgMatches;
 use rv_asm::{Token, first_lexeme, register_named};
 use rv_isa::Reg;
 
-/// What a table shows of the state that a run left.
+/// What a table shows of a run besides its counts.
 #[derive(Clone, Copy, PartialEq, Eq)]
 pub enum Shown {
-    /// What a register holds.
+    /// What a register holds at the end.
     Register(Reg),
-    /// The word of memory at an address, which is a multiple of 4.
+    /// The word of memory at an address, which is a multiple of 4, at the end.
     Word(u32),
+    /// What became of the places for dispatch.
+    Places,
 }
 
 /// What a table shows in further columns, in their order.
@@ -28,12 +30,23 @@ pub struct ShownColumns {
 /// The most further columns of a table.
 const MOST_SHOWN: usize = 4;
 
+// What a name stands for.
+fn name_shown(name: &[u8]) -> Option<Shown>
+    ensures { result ≡ name_shown name.now }
+{
+    if name == b"places".as_slice() {
+        Some(Shown::Places)
+    } else {
+        Some(Shown::Register(register_named(name)?))
+    }
+}
+
 // What a token names.
 fn shown_by(token: Token<'_>) -> Option<Shown>
     ensures { result ≡ shown_by (token_of token.entry) }
 {
     match token {
-        Token::Name(name) => Some(Shown::Register(register_named(name)?)),
+        Token::Name(name) => name_shown(name),
         Token::Number(address) => {
             if address % 4 == 0 {
                 Some(Shown::Word(address))

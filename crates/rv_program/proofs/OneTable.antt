@@ -11,7 +11,7 @@ use Rattle.rv_passage.specs.EndedRun.{IsEndedRun}
 use Rattle.rv_passage.proofs.OneRun.{one_run}
 use Rattle.rv_report.specs.Comparison.{RunsTo, table_of}
 use Rattle.rv_report.specs.Events.{events_in}
-use Rattle.rv_report.specs.Shown.{words_of}
+use Rattle.rv_report.specs.Shown.{places_shown, words_of}
 use Rattle.rv_report.specs.Tally.{losses_of}
 use Rattle.rv_report.specs.declared.shown.TableOptions.{TableOptions}
 use Rattle.rv_report.specs.Totals.{totals_at}
@@ -30,7 +30,8 @@ came_to_once {arrivals} {options} {h} {predictor} run run' within is is' =
     let losses : run.losses ≡ run'.losses = is.losses_are ∙ (λ i. losses_of h (same.moments_are i) (same.ends i).hardware) ∙ sym is'.losses_are in
     let events : run.events ≡ run'.events = is.events_are ∙ (λ i. events_in h.values h (same.moments_are i)) ∙ sym is'.events_are in
     let words : run.words ≡ run'.words = is.words_are ∙ (λ i. words_of options.shown (same.ends i).hardware) ∙ sym is'.words_are in
-    λ i. record { totals = totals i; losses = losses i; events = events i; words = words i }
+    let places : run.places ≡ run'.places = is.places_are ∙ (λ i. places_shown options.shown h (same.moments_are i) (same.ends i).hardware) ∙ sym is'.places_are in
+    λ i. record { totals = totals i; losses = losses i; events = events i; words = words i; places = places i }
 
 module _ (options : TableOptions) where
   -- each job's run came to what stands at its place

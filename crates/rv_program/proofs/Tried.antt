@@ -3,7 +3,7 @@ use Rattle.std.proofs.Common.{◌≡◌, ◌∙◌, ℕ, ◌+◌, ◌<◌, List,
 use Rattle.std.proofs.lemmas.List.{take_all, take_more}
 use Rattle.std.specs.List.{AllZip}
 use Rattle.rv_job.specs.declared.job.Job.{Job}
-use Rattle.rv_report.specs.Sensitivity.{in_order, sensitivity_table}
+use Rattle.rv_report.specs.Sensitivity.{AreInOrder, in_order, sensitivity_table}
 use Rattle.rv_report.specs.declared.{losses.ComparedRun.ComparedRun, sensitivity.TriedRun.TriedRun, shown.TableOptions.TableOptions}
 use Rattle.rv_sensitivity.specs.Neighbours.{neighbours_of}
 use Rattle.rv_sensitivity.specs.declared.{change.Change.Change, neighbour.Neighbour.Neighbour}
@@ -31,9 +31,13 @@ all_tried options job neighbours place runs is done = subst (λ l. AllZip (IsTri
 -- the rows of all
 pub rows_made : (options : TableOptions) (job : Job) (own : List Change) (neighbours given : List Neighbour) (tried handed rows : List TriedRun)
     → neighbours ≡ neighbours_of job.description own → given ≡ neighbours → AllZip (IsTried options job) given tried → handed ≡ tried → rows ≡ in_order handed
-    → AreRows options job own rows
-rows_made options job own neighbours given tried handed rows found lent each again placed =
-    record { tried = tried; each = subst (λ l. AllZip (IsTried options job) l tried) (lent ∙ found) each; rows_are = placed ∙ ap in_order again }
+    → AreInOrder handed rows → AreRows options job own rows
+rows_made options job own neighbours given tried handed rows found lent each again placed ordered = record {
+  tried = tried;
+  each = subst (λ l. AllZip (IsTried options job) l tried) (lent ∙ found) each;
+  rows_are = placed ∙ ap in_order again;
+  in_order = subst (λ l. AreInOrder l rows) again ordered;
+}
 
 -- the table of all
 pub sensitivity_made : (job : Job) (own : List Change) (options : TableOptions) (run : ComparedRun) (rows given : List TriedRun)

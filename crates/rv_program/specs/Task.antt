@@ -6,7 +6,7 @@ use Rattle.rv_arch.specs.declared.outcome.Stop.TheVariants.{Stale}
 use Rattle.rv_command.specs.declared.command.Command.{Command}
 use Rattle.rv_command.specs.declared.command.Command.TheVariants as command
 use Rattle.rv_command.specs.declared.shown.{Shown.Shown, ShownColumns.ShownColumns}
-use Rattle.rv_command.specs.declared.shown.Shown.TheVariants.{Register, Word}
+use Rattle.rv_command.specs.declared.shown.Shown.TheVariants.{Register, Word, Places}
 use Rattle.rv_explain.specs.declared.figures.Figures.{Figures}
 use Rattle.rv_explain.specs.declared.figures.Figures.TheVariants.{Always, UnlessCrashed}
 use Rattle.rv_front.specs.Guide.{Guide}
@@ -70,6 +70,7 @@ stretch_of form from limit = record { form = form; from = from; limit = limit }
 abbrev pub shown_word : Shown → ShownWord
 shown_word (Register register) = cell.Register register
 shown_word (Word address) = cell.Word address
+shown_word Places = cell.Places
 
 abbrev pub column_of : Option Shown → Option ShownWord
 column_of None = None

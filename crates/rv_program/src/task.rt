@@ -126,6 +126,7 @@ const fn shown_word(asked: Shown) -> ShownWord
     match asked {
         Shown::Register(register) => ShownWord::Register(register),
         Shown::Word(address) => ShownWord::Word(address),
+        Shown::Places => ShownWord::Places,
     }
 }
 

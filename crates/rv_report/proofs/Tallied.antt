@@ -20,11 +20,12 @@ use Rattle.rv_report.specs.Events.{AreAtMost, begun, both_events, counted_after,
 use Rattle.rv_report.specs.Speculation.{CanCount, Speculated, in_flight, speculated_after, speculated_at, speculated_in}
 use Rattle.rv_report.specs.Tally.{IsTallied, losses_with}
 use Rattle.rv_report.specs.Totals.{HasRoom, both_counts, counts_of, totals_with}
-use Rattle.rv_report.specs.Shown.{words_of}
+use Rattle.rv_report.specs.Shown.{places_shown, words_of}
 use Rattle.rv_report.specs.declared.shown.{Columns.Columns, TableOptions.TableOptions}
 use Rattle.rv_report.specs.declared.{events.EventCounter.EventCounter, events.Events.Events, losses.Losses.Losses, totals.StepCounts.StepCounts, totals.Totals.Totals}
 use Rattle.rv_report.specs.declared.events.Event.TheVariants.{Branch, Load, Miss, WriteBack}
-use Rattle.rv_counts.specs.declared.loads.LoadCosts.{LoadCosts}
+use Rattle.rv_counts.specs.Places.{AddUp, AreLostFor}
+use Rattle.rv_counts.specs.declared.{loads.LoadCosts.LoadCosts, run_places.RunPlaces.RunPlaces}
 use Rattle.rv_report.proofs.LiveReport.{counts_of-append}
 use Rattle.rv_report.proofs.Speculated.{speculated-push}
 
@@ -196,10 +197,11 @@ module _ {arrivals : List Arrival} {old new : GuidedHardware} {moments : List Mo
       rw tallied.counted (omega (arith, count_by-le-length is_retirement all, count_by-le-length is_trap all, tallied.steps_few, few, within))
 
   -- what a run came to that ended
-  pub tallied_to_the_end : {progress : Progress} {stop : Stop} {totals : Totals} {losses : Losses} {did : Events} {words : Columns (Option ℕ)} (options : TableOptions) (left : ℕ) → History arrivals old moments new → progress ≡ progress_of (reports_of moments)
+  pub tallied_to_the_end : {progress : Progress} {stop : Stop} {totals : Totals} {losses : Losses} {did : Events} {words : Columns (Option ℕ)} {places : Option RunPlaces} (options : TableOptions) (left : ℕ) → History arrivals old moments new → progress ≡ progress_of (reports_of moments)
       → IsStop options.limit (reports_of moments) new.hardware stop → totals ≡ totals_with progress counts stop → left ≡ in_flight new.hardware.rob new.hardware.front → losses ≡ losses_with s counts left → did ≡ events.counts → words ≡ words_of options.shown new.hardware
-      → RunsTo arrivals options old (record { totals = totals; losses = losses; events = did; words = words })
-  tallied_to_the_end {stop = stop} options left passes counted stops totals_are left_is losses_are did_are words_are = rw totals_are (record {
+      → places ≡ places_shown options.shown old.hardware moments new.hardware → AddUp old.hardware moments new.hardware → AreLostFor arrivals old.hardware moments
+      → RunsTo arrivals options old (record { totals = totals; losses = losses; events = did; words = words; places = places })
+  tallied_to_the_end {stop = stop} options left passes counted stops totals_are left_is losses_are did_are words_are places_are add_up lost_for = rw totals_are (record {
     moments = moments;
     new = new;
     cycles = passes;
@@ -208,4 +210,7 @@ module _ {arrivals : List Arrival} {old new : GuidedHardware} {moments : List Mo
     losses_are = losses_are ∙ (λ i. losses_with (tallied.speculated i) (tallied.counted i) (left_is i));
     words_are = words_are;
     events_are = did_are ∙ ap (λ (e : EventCounter). e.counts) tallied.happened;
+    places_are = places_are;
+    places_add_up = add_up;
+    places_are_lost_for = lost_for;
   })

@@ -3,11 +3,12 @@ use Rattle.std.specs.Prelude.{◌≡◌, ℕ, ◌-◌, List, [], ◌∷◌, ◌+
 use Rattle.std.specs.List.{enumerate_from, flat_map}
 use Rattle.rv_isa.specs.declared.lines.Arrival.{Arrival}
 use Rattle.rv_arch.specs.declared.outcome.Stop.{Stop}
+use Rattle.rv_counts.specs.Places.{AddUp, AreLostFor}
 use Rattle.rv_hardware.specs.Guided.{GuidedHardware}
 use Rattle.rv_hardware.specs.History.{History, Moment, reports_of}
 use Rattle.rv_hardware.specs.Run.{IsStop}
 use Rattle.rv_report.specs.Events.{events_in}
-use Rattle.rv_report.specs.Shown.{cells_text, heads_text, words_of}
+use Rattle.rv_report.specs.Shown.{cells_text, heads_text, places_shown, words_of}
 use Rattle.rv_report.specs.State.{stop_text}
 use Rattle.rv_report.specs.Tally.{losses_of}
 use Rattle.rv_report.specs.Totals.{totals_at}
@@ -18,7 +19,8 @@ use Rattle.rv_text.specs.ReadField.{cell_text}
 use Rattle.rv_text.specs.declared.fields.Value.{Value}
 use Rattle.rv_text.specs.declared.fields.Value.TheVariants.{Count, Ratio}
 
--- a run of some hardware that a predictor guides, up to a limit of cycles, came to this
+-- a run of some hardware that a predictor guides, up to a limit of cycles, came to this; what it says of the places for dispatch adds up,
+-- and each is lost for what ended the dispatch phase of its cycle
 pub record RunsTo (arrivals : List Arrival) (options : TableOptions) (old : GuidedHardware) (run : ComparedRun) : Type 0 where
   pub moments : List Moment
   pub new : GuidedHardware
@@ -28,8 +30,11 @@ pub record RunsTo (arrivals : List Arrival) (options : TableOptions) (old : Guid
   pub losses_are : run.losses ≡ losses_of old.hardware moments new.hardware
   pub words_are : run.words ≡ words_of options.shown new.hardware
   pub events_are : run.events ≡ events_in old.hardware.values old.hardware moments
+  pub places_are : run.places ≡ places_shown options.shown old.hardware moments new.hardware
+  pub places_add_up : AddUp old.hardware moments new.hardware
+  pub places_are_lost_for : AreLostFor arrivals old.hardware moments
 
--- the names of the columns, but for those of what is shown of the states at the ends
+-- the names of the columns, but for those of what is shown besides
 unfoldable pub table_head : List ℕ
 table_head =
     codes "number\tcycles\tretired\tcpi\ttraps\tinterrupts\tbusy\tstall_fetch\tstall_serial\tstall_rob\t" ++
@@ -81,9 +86,9 @@ event_values run =
 unfoldable pub name_and_stop : List ℕ → Stop → List ℕ
 name_and_stop name stop = name_text name ++ (codes "\t" ++ (stop_text stop ++ codes "\t"))
 
--- the last count, and what is shown of the state at the end
+-- the last count, and what is shown besides
 unfoldable pub last_cells : Columns (Option Shown) → ComparedRun → List ℕ
-last_cells shown run = decimal run.events.write_backs ++ (cells_text shown run.words ++ codes "\n")
+last_cells shown run = decimal run.events.write_backs ++ (cells_text shown run.words run.places ++ codes "\n")
 
 -- the line of a run
 unfoldable pub table_row : Columns (Option Shown) → ℕ → List ℕ → ComparedRun → List ℕ

@@ -1,6 +1,9 @@
 -- What is counted of a run for a comparison.
-use Rattle.std.specs.Prelude.{◌≡◌, ℕ, ◌+◌, ◌-◌, ◌*◌, ◌≤◌, List, length}
+use Rattle.std.specs.Prelude.{◌≡◌, ℕ, ◌+◌, ◌-◌, ◌*◌, ◌≤◌, List, length, Option}
+use Rattle.std.specs.Option.{option_map}
 use Rattle.rv_core.specs.Watching.{Watched}
+use Rattle.rv_counts.specs.Places.{AddUp, run_places}
+use Rattle.rv_counts.specs.declared.run_places.RunPlaces.{RunPlaces}
 use Rattle.rv_hardware.specs.Draining.{drain_end}
 use Rattle.rv_hardware.specs.Hardware.{Hardware}
 use Rattle.rv_hardware.specs.History.{Moment, reports_of}
@@ -31,3 +34,10 @@ pub record IsTallied (counts : StepCounts) (s : Speculated) (events : EventCount
   pub mispredicted : s.mispredicted ≤ 8 * seen.now.hardware.cycle
   pub events_few : AreAtMost (9 * seen.now.hardware.cycle) events.counts
   pub steps_few : length (steps_of (reports_of seen.moments)) ≤ 8 * seen.now.hardware.cycle
+
+-- what became of the places of the cycles so far is counted, where it was at first, and they add up
+pub record HasPlaced (start places : Option RunPlaces) (seen : Watched) : Type 0 where
+  pub placed : places ≡ option_map (λ begun. run_places seen.first.hardware seen.moments seen.now.hardware) start
+  pub places_add_up : AddUp seen.first.hardware seen.moments seen.now.hardware
+  pub few_before : length seen.first.hardware.rob.entries ≤ 256
+  pub few_in_flight : length seen.now.hardware.rob.entries ≤ 256

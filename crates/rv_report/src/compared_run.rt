@@ -1,18 +1,23 @@
-ghost use Rattle.std.specs.Prelude.{◌≡◌, ◌+◌, ◌≤◌, ◌<◌, ◌^◌, IfOk};
+ghost use Rattle.std.specs.Prelude.{◌≡◌, ◌+◌, ◌≤◌, ◌<◌, ◌^◌, [], IfOk, IfSome, length};
+ghost use Rattle.std.specs.Option.{option_map};
+ghost use Rattle.rv_counts.specs.Places.{CanPlace, placed_after, run_places};
 ghost use Rattle.rv_hardware.specs.Guided.{guided};
 ghost use Rattle.rv_report.specs.Comparison.{RunsTo};
+ghost use Rattle.rv_report.specs.Shown.{places_shown};
 ghost use Rattle.rv_report.specs.Speculation.{in_flight, speculated_at};
 ghost use Rattle.rv_report.specs.Tally.{losses_with};
 
 use crate::events::EventCounter;
 use crate::losses::{ComparedRun, Losses};
-use crate::shown::{TableOptions, words};
+use crate::shown::{Columns, Shown, TableOptions, shows_places, words};
 use crate::speculation::Speculation;
 use crate::totals::{StepCounts, Totals};
 use rv_core::{Pipeline, Progress, Watcher, watch};
-use rv_front::Predictor;
+use rv_counts::RunPlaces;
+use rv_front::{Front, Predictor};
 use rv_hardware::Step;
-use rv_isa::Arrivals;
+use rv_isa::{Arrivals, Values};
+use rv_rob::Rob;
 use std::alloc::{AllocError, Global};
 use std::convert::Infallible;
 use std::io;
@@ -24,14 +29,16 @@ struct Tally {
     counts: StepCounts,
     speculation: Speculation,
     events: EventCounter,
+    // What became of the places, where that is to be shown.
+    places: Option<RunPlaces>,
 }
 
 impl Watcher for Tally {
-    ghost use Rattle.rv_report.specs.Tally.{IsTallied};
+    ghost use Rattle.rv_report.specs.Tally.{HasPlaced, IsTallied};
 
     type Refusal = Infallible;
 
-    ghost has_seen = { λ _ tally seen _ _. IsTallied tally.counts tally.speculation tally.events seen };
+    ghost has_seen = { λ start tally seen _ _. IsTallied tally.counts tally.speculation tally.events seen × HasPlaced start.places tally.places seen };
 
     ghost has_room = { λ _. Unit {0} };
 
@@ -49,12 +56,61 @@ impl Watcher for Tally {
     ) {
         // Of hardware that a reset and cycles lead to, the buffers are as long as described.
         let _ = pipeline.cycles_done();
+        let _ = in_buffer(pipeline);
+        let values = pipeline.values();
         let buffer = pipeline.reorder_buffer();
+        let front = pipeline.front();
         let pc = pipeline.observe().pc;
         self.counts.count_all(steps);
         self.events.follow(cycle, steps, pipeline.drain_end());
-        self.speculation
-            .follow(cycle, steps, buffer, pipeline.front(), pc);
+        self.speculation.follow(cycle, steps, buffer, front, pc);
+        self.places = placed(self.places, values, cycle, steps, buffer, front);
+    }
+}
+
+// What became of the places with one more cycle, where that is counted.
+fn placed(
+    places: Option<RunPlaces>,
+    values: &Values,
+    cycle: u64,
+    steps: &[Step],
+    rob: &Rob,
+    front: &Front,
+) -> Option<RunPlaces>
+    requires { IfSome places (CanPlace values.now cycle steps.now rob.now front.now) }
+    ensures { result ≡ option_map (placed_after values.now cycle steps.now rob.now front.now) places }
+{
+    match places {
+        Some(run) => Some(run.with_cycle(values, cycle, steps, rob, front)),
+        None => None,
+    }
+}
+
+// How many instructions are in the reorder buffer.
+fn in_buffer(pipeline: &Pipeline) -> usize
+    ensures counted { result ≡ length pipeline.now.rob.entries }
+    ensures few { result ≤ 256 }
+{
+    // Of hardware that a reset and cycles lead to, the buffers are as long as described.
+    let _ = pipeline.cycles_done();
+    pipeline.reorder_buffer().len()
+}
+
+// What became of the places of no cycle.
+fn none_placed(pipeline: &Pipeline) -> RunPlaces
+    ensures { result ≡ run_places pipeline.now [] pipeline.now }
+{
+    RunPlaces::begin(pipeline.reorder_buffer())
+}
+
+// The same, where that is to be shown.
+fn no_places(shown: &Columns<Option<Shown>>, pipeline: &Pipeline) -> Option<RunPlaces>
+    ensures { result ≡ places_shown shown.now pipeline.now [] pipeline.now }
+{
+    if shows_places(shown) {
+        Some(none_placed(pipeline))
+    } else {
+        None
     }
 }
 
@@ -91,8 +147,8 @@ fn losses(tally: &Tally, left: u64) -> Losses
 }
 
 /// Runs a pipeline that a predictor guides, each cycle with the lines of its number, up to a breakpoint, a stale word,
-/// exhaustion or the limit of cycles. Answers what the run came to, with the words that are to be shown at its end. The only error is out of memory, in which nothing was
-/// run.
+/// exhaustion or the limit of cycles. Answers what the run came to, with the words that are to be shown at its end, and with what
+/// became of the places for dispatch where that is to be shown. The only error is out of memory, in which nothing was run.
 pub fn run_totals(
     alloc: Global,
     pipeline: Pipeline,
@@ -102,12 +158,16 @@ pub fn run_totals(
 ) -> Result<ComparedRun, AllocError>
     ensures { IfOk result (RunsTo arrivals.now options.now (guided pipeline (known predictor.old))) }
 {
+    // Of hardware that a reset and cycles lead to, what it does is known.
+    let _ = pipeline.cycles_done();
+    let _ = in_buffer(&pipeline);
     let mut pipeline = pipeline;
     let speculation = begin(alloc, &pipeline)?;
     let steps = Vec::with_capacity(alloc, 8)?;
     let mut tally = Tally {
         counts: StepCounts::default(),
         events: EventCounter::begin(&pipeline),
+        places: no_places(&options.shown, &pipeline),
         speculation,
     };
     let ended = watch(
@@ -127,6 +187,7 @@ pub fn run_totals(
             losses: losses(&tally, count_in_flight(&pipeline)),
             events: tally.events.counts,
             words: words(&pipeline, &options.shown),
+            places: tally.places,
         }),
     }
 }

@@ -100,13 +100,13 @@ fn write_events<W: Write>(out: &mut Sink<'_, W>, run: &ComparedRun)
     out.put_cells(&values);
 }
 
-// The last count of a line, and what is shown of the state at the end.
+// The last count of a line, and what is shown besides.
 #[tactic(auto, using(rv_text::proofs::Saying::saying), unfolding(crate::specs::Comparison::last_cells))]
 fn write_last<W: Write>(out: &mut Sink<'_, W>, shown: &Columns<Option<Shown>>, run: &ComparedRun)
     ensures { Says W.contents out.old out.new (last_cells shown.now run.now) }
 {
     out.put_decimal(run.events.write_backs);
-    write_cells(out, shown, &run.words);
+    write_cells(out, shown, &run.words, &run.places);
     out.put(b"\n");
 }
 
@@ -171,7 +171,7 @@ fn say_table<W: Write>(
 
 /// Writes what several runs came to as a table: a line with the names of the columns, and a line for each run, numbered from
 /// 1, with a tab between two cells. `names` has the names of the runs' machines, in their order, and `shown` says what the last
-/// columns show of the states at the ends. Asks for no memory. Fails by
+/// columns show besides the counts. Asks for no memory. Fails by
 /// `WriteFailed` alone, and what was written is then a beginning of the table.
 #[tactic(auto, using(rv_text::proofs::Saying::says_written))]
 pub fn write_table<W: Write>(

@@ -1,6 +1,7 @@
 use crate::events::Events;
 use crate::shown::Columns;
 use crate::totals::Totals;
+use rv_counts::RunPlaces;
 
 /// What a run of the core lost cycles to.
 #[derive(Clone, Copy, PartialEq, Eq)]
@@ -19,4 +20,6 @@ pub struct ComparedRun {
     pub events: Events,
     /// The words that the table shows of the state at its end.
     pub words: Columns<Option<u32>>,
+    /// What became of its places for dispatch, where the table shows it.
+    pub places: Option<RunPlaces>,
 }

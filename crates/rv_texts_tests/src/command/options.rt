@@ -14,8 +14,12 @@ const NOTHING_SHOWN: ShownColumns = ShownColumns {
 };
 
 #[test]
-fn a_comparison_shows_four_registers_and_words_at_most(rt: HostRuntime) -> Result<(), Fail> {
-    const REFUSED: [&[&str]; 6] = [
+fn a_comparison_shows_four_registers_words_and_the_places_at_most(
+    rt: HostRuntime,
+) -> Result<(), Fail> {
+    const REFUSED: [&[&str]; 8] = [
+        &["rv_sim", "compare", "--show", "place"],
+        &["rv_sim", "compare", "--show", "Places"],
         &["rv_sim", "compare", "--show", "a8"],
         &["rv_sim", "compare", "--show", "0x80001002"],
         &["rv_sim", "compare", "--show", "a0 "],
@@ -41,7 +45,7 @@ fn a_comparison_shows_four_registers_and_words_at_most(rt: HostRuntime) -> Resul
         first: Some(Shown::Register(Reg::new(10).expect(&rt, "a register"))),
         second: Some(Shown::Word(0x8000_1000)),
         third: Some(Shown::Register(Reg::new(31).expect(&rt, "a register"))),
-        fourth: Some(Shown::Word(16)),
+        fourth: Some(Shown::Places),
     };
     let words = &[
         "rv_sim",
@@ -52,13 +56,21 @@ fn a_comparison_shows_four_registers_and_words_at_most(rt: HostRuntime) -> Resul
         "--show",
         "x31",
         "--show",
-        "16",
+        "places",
     ];
     let whole = Command::Compare {
         shown,
         limit: 100_000,
     };
     is_taken(&rt, alloc, words, whole)?;
+    let by_decimal = Command::Compare {
+        shown: ShownColumns {
+            first: Some(Shown::Word(16)),
+            ..NOTHING_SHOWN
+        },
+        limit: 100_000,
+    };
+    is_taken(&rt, alloc, &["rv_sim", "compare", "--show", "16"], by_decimal)?;
     each_is_refused(&rt, alloc, &REFUSED)
 }
 

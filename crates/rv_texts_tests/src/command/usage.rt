@@ -216,7 +216,7 @@ Usage: rv_sim compare [OPTIONS]
 
 Options:
       --limit <N>    The most cycles of each run, 1 to 1000000 [default: 100000]
-      --show <WHAT>  Shows a register or the word at an address at each run's end, four at most
+      --show <WHAT>  Shows a register or the word at an address at each run's end, or the places for dispatch; four at most
   -h, --help         Print help
 
 Reads from standard input up to 64 descriptions of machines in TOML, a line %% after each, and a program,

@@ -39,6 +39,7 @@ fn run_of(cycles: u64) -> ComparedRun {
             third: None,
             fourth: None,
         },
+        places: None,
     }
 }
 

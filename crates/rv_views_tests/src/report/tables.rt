@@ -1,9 +1,10 @@
 use crate::machine::{described, no_arrivals, pipeline};
 use rv_arch::Stop;
 use rv_core::Pipeline;
+use rv_counts::{Lost, Places, RunPlaces, Squashed};
 use rv_front::NotTaken;
 use rv_hardware::StallCounts;
-use rv_isa::{Image, Reg, Values};
+use rv_isa::{Image, PerKind, Reg, Values};
 use rv_report::{
     Columns, ComparedRun, Events, Losses, Shown, StepCounts, TableOptions, Totals, run_totals,
     write_table,
@@ -73,12 +74,14 @@ fn a_table_has_a_line_for_each_run(rt: HostRuntime) -> Result<(), Fail> {
             losses,
             events,
             words: NO_WORDS,
+            places: None,
         },
         ComparedRun {
             totals: none,
             losses,
             events,
             words: NO_WORDS,
+            places: None,
         },
     ];
     let mut table = Vec::new(rt.alloc());
@@ -188,13 +191,26 @@ const TWO_STORES: [u8; 12] = [
     0x23, 0x20, 0x00, 0x10, 0x23, 0x20, 0x00, 0x10, 0x73, 0x00, 0x10, 0x00,
 ];
 
+const PLACES_SHOWN: Columns<Option<Shown>> = Columns {
+    first: None,
+    second: Some(Shown::Places),
+    third: None,
+    fourth: None,
+};
+
 // One place is in the reorder buffer, and one in the store queue. The second store waits for both in the two cycles until the first
-// retires, and then for the eleven cycles of its drain; the breakpoint waits two cycles for the second store.
+// retires, and then for the eleven cycles of its drain; the breakpoint waits two cycles for the second store. The run has 20 cycles of two
+// places. In 0 and 19 there is no word: 4. A store in 1 and in 15 and the breakpoint in 18 each take one of two, and what is next finds the
+// reorder buffer full, as it does in two whole cycles after each store: 11. Eleven cycles wait for the store queue: 22.
 #[test]
 fn a_full_reorder_buffer_is_the_reason_before_a_full_store_queue(
     rt: HostRuntime,
 ) -> Result<(), Fail> {
     let alloc = rt.alloc();
+    let options = TableOptions {
+        limit: 100,
+        shown: PLACES_SHOWN,
+    };
     let mut values = Values::standard();
     values.ram_base = 0;
     values.rob = 1;
@@ -203,14 +219,78 @@ fn a_full_reorder_buffer_is_the_reason_before_a_full_store_queue(
     let image = Image::from_bytes(alloc, 0, &TWO_STORES, 0)?;
     let pipeline = Pipeline::new(alloc, &described(&rt, values), &image).expect(&rt, "a pipeline");
     let mut predictor = NotTaken;
-    let run = run_totals(
-        alloc,
-        pipeline,
-        &mut predictor,
-        &arrivals,
-        &A_HUNDRED_CYCLES,
-    )?;
+    let run = run_totals(alloc, pipeline, &mut predictor, &arrivals, &options)?;
     let stalls = run.totals.stalls;
     assert_eq!(rt; (stalls.rob, stalls.store), (4, 11));
+    let mut table = Vec::new(alloc);
+    write_table(&options.shown, &[], &[run], &mut table)?;
+    let text = table.as_slice();
+    assert!(&rt; text.ends_with(b"\t2\t1\t0\t0\t0\t0\t0\t4\t0\t11\t0\t0\t0\t0\t22\n"));
+    Ok(())
+}
+
+// Each count is another one.
+const SOME_PLACES: RunPlaces = RunPlaces {
+    places: Places {
+        retired: 11,
+        trapped: 12,
+        squashed: Squashed {
+            predictions: 13,
+            serialising: 14,
+            traps: 15,
+            interrupts: 16,
+        },
+        lost: Lost {
+            fetch: 17,
+            serial: 18,
+            rob: 19,
+            stations: PerKind {
+                alu: 20,
+                mul: 21,
+                div: 22,
+                mem: 23,
+            },
+            store: 24,
+        },
+    },
+    in_flight: 25,
+};
+
+#[test]
+fn the_places_have_fifteen_columns(rt: HostRuntime) -> Result<(), Fail> {
+    let run = ComparedRun {
+        totals: Totals {
+            stop: Stop::Limit,
+            cycles: 0,
+            steps: StepCounts::default(),
+            longest_gap: 0,
+            busy: 0,
+            stalls: StallCounts::default(),
+        },
+        losses: Losses {
+            mispredicted: 0,
+            squashed: 0,
+        },
+        events: Events {
+            branches: 0,
+            loads: 0,
+            drains: 0,
+            hits: 0,
+            misses: 0,
+            write_backs: 0,
+        },
+        words: NO_WORDS,
+        places: Some(SOME_PLACES),
+    };
+    let mut table = Vec::new(rt.alloc());
+    write_table(&PLACES_SHOWN, &[], &[run], &mut table)?;
+    let end = "\thits\twrite_backs\t\
+places_retired\tplaces_trapped\tplaces_squashed_predictions\tplaces_squashed_serialising\tplaces_squashed_traps\t\
+places_squashed_interrupts\tplaces_in_flight\tplaces_lost_fetch\tplaces_lost_serial\tplaces_lost_rob\tplaces_lost_alu\t\
+places_lost_mul\tplaces_lost_div\tplaces_lost_mem\tplaces_lost_store
+1\t0\t0\t-\t0\t0\t0\t0\t0\t0\t0\t0\t0\t0\t0\t-\tlimit\t-\t0\t0\t0\t0\t0\t0\t\
+11\t12\t13\t14\t15\t16\t25\t17\t18\t19\t20\t21\t22\t23\t24
+";
+    assert!(&rt; table.as_slice().ends_with(end.as_bytes()));
     Ok(())
 }
