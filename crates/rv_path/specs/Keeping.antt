@@ -1,5 +1,5 @@
 -- What is kept of the path while a run goes on.
-use Rattle.std.specs.Prelude.{◌≡◌, ℕ, ◌+◌, ◌-◌, ◌≤◌, if◌then◌else◌, List, [], ◌∷◌, ◌++◌, drop, filter, length, replicate, vec_capacity, Option, Some, None}
+use Rattle.std.specs.Prelude.{◌≡◌, ℕ, ◌+◌, ◌-◌, ◌≤◌, Bool, if◌then◌else◌, List, [], ◌∷◌, ◌++◌, drop, filter, length, replicate, vec_capacity, Option, Some, None}
 use Rattle.std.specs.List.{list_all}
 use Rattle.std.specs.Option.{option_or}
 use Rattle.rv_isa.specs.declared.values.Values.{Values}
@@ -14,14 +14,29 @@ use Rattle.rv_path.specs.Fetching.{fetch_event}
 use Rattle.rv_path.specs.Holding.{goes_beyond, new_holds}
 use Rattle.rv_path.specs.Leaving.{is_interrupted, leaving_of}
 use Rattle.rv_path.specs.Moving.{all_moved}
-use Rattle.rv_path.specs.Path.{Known, before_next, fetched_ways, known_of, still_in_flight}
+use Rattle.rv_path.specs.Path.{Known, before_next, fetched_ways, known_in, known_of, setting_in, still_in_flight}
 use Rattle.rv_path.specs.Setting.{Setting}
 use Rattle.rv_path.specs.Way.{way_from}
-use Rattle.rv_path.specs.declared.{before.Before.Before, path.Path.Path, seeing.Seen.Seen, way.Way.Way}
+use Rattle.rv_view.specs.declared.shown_cycle.ShownCycle.{ShownCycle}
+use Rattle.rv_path.specs.declared.{before.Before.Before, before.UnitHold.UnitHold, leaving.Leaving.Leaving, path.Path.Path, seeing.Seen.Seen, way.Way.Way}
+
+-- the events of the instructions in flight
+abbrev pub ways_of : Path → List Way
+ways_of path = drop path.dropped path.ways.items
 
 -- what a path has of the cycles so far
 abbrev pub known_of_path : Path → Known
-known_of_path path = record { ways = drop path.dropped path.ways.items; holds = path.holds.items; before = path.before }
+known_of_path path = record { ways = ways_of path; holds = path.holds.items; before = path.before }
+
+-- a path changed in nothing but the events of the instructions in flight, the holds of units, or what is known beside
+abbrev pub AreSameButWays : Path → Path → Type 0
+AreSameButWays old new = (new.holds ≡ old.holds) × (new.next ≡ old.next) × (new.before ≡ old.before)
+
+abbrev pub AreSameButHolds : Path → Path → Type 0
+AreSameButHolds old new = (new.ways ≡ old.ways) × (new.dropped ≡ old.dropped) × (new.next ≡ old.next) × (new.before ≡ old.before)
+
+abbrev pub AreSameButBefore : Path → Path → Type 0
+AreSameButBefore old new = (new.ways ≡ old.ways) × (new.dropped ≡ old.dropped) × (new.next ≡ old.next) × (new.holds ≡ old.holds)
 
 -- so many words that one event fetched, if some were
 abbrev pub ways_by : Option Reached → ℕ → List Way
@@ -37,21 +52,42 @@ before_with seen before = record {
   facts = seen.facts;
 }
 
+-- the event by which words were fetched in a cycle, if some were, is the one by the definition
+abbrev pub IsFetchEvent : Setting → List Way → Bool → Leaving → Hardware → Option Reached → Type 0
+IsFetchEvent s ways interrupted leaving after event =
+    ways_by event (length s.rows - length ways) ≡ fetched_ways s ways (fetch_event s ways interrupted leaving after)
+
 -- what a cycle brings, where the events of the instructions that were in flight before it stand so after it
 pub record IsSeen (s : Setting) (steps : List Step) (after : Hardware) (old ways : List Way) (seen : Seen) : Type 0 where
   pub moved : ways ≡ all_moved s (leaving_of s old) old
   pub before : before_with seen s.before ≡ before_next s ways steps after (leaving_of s old)
-  pub fetched :
-      ways_by seen.fetch (length s.rows - length ways)
-      ≡ fetched_ways s ways (fetch_event s ways (is_interrupted steps) (leaving_of s old) after)
+  pub fetched : IsFetchEvent s ways (is_interrupted steps) (leaving_of s old) after seen.fetch
 
--- what is known after a cycle that brought this, where the events of what was in flight before it stand so
+-- the events of all instructions of a cycle, with the words that were fetched in it
+abbrev pub with_fetched : Seen → List Passage → List Way → List Way
+with_fetched seen rows ways = ways ++ ways_by seen.fetch (length rows - length ways)
+
+-- what is known after a cycle of such a number, machine and rows that brought this, where those events stand as they do after it
 abbrev pub known_seen : ℕ → Values → List Passage → Seen → Known → Known
 known_seen number values rows seen known = record {
-  ways = still_in_flight rows (known.ways ++ ways_by seen.fetch (length rows - length known.ways));
+  ways = still_in_flight rows (with_fetched seen rows known.ways);
   holds = filter (goes_beyond number) known.holds ++ new_holds number values rows known.ways;
   before = before_with seen known.before;
 }
+
+-- the same of a cycle that is shown, and who holds units then
+abbrev pub known_brought : ShownCycle → Seen → Known → Known
+known_brought cycle seen known = known_seen cycle.number cycle.pipeline.now.values cycle.rows.now seen known
+
+abbrev pub holds_shown : ShownCycle → Known → List UnitHold
+holds_shown cycle known =
+    filter (goes_beyond cycle.number) known.holds ++ new_holds cycle.number cycle.pipeline.now.values cycle.rows.now known.ways
+
+-- what a cycle makes of what is known, as it is shown
+abbrev pub known_shown : ShownCycle → Known → Known
+known_shown cycle known =
+    known_in (setting_in cycle.number (cycle.progress.now.cycles - 1) cycle.rows.now cycle.pipeline.now known)
+    known.ways cycle.steps.now cycle.pipeline.now
 
 -- how many left the hardware, if all of those are older than all that did not
 abbrev pub one_more : Option ℕ → Option ℕ

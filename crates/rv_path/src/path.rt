@@ -1,6 +1,5 @@
-ghost use Rattle.std.specs.Prelude.{◌≡◌, ◌+◌, ◌-◌, ◌<◌, ◌^◌, ◌≤◌, ◌++◌, [], drop, filter, length, replicate, vec_capacity, IfOk, IfSome, sum};
+ghost use Rattle.std.specs.Prelude.{◌≡◌, ◌+◌, ◌<◌, ◌^◌, ◌≤◌, [], length, replicate, vec_capacity, IfOk, IfSome, sum};
 ghost use Rattle.rv_path.specs.Event.{nothing_yet};
-ghost use Rattle.rv_path.specs.Holding.{goes_beyond, new_holds};
 ghost use Rattle.rv_path.specs.Path.{AreForgotten, end_of, still_in_flight};
 ghost use Rattle.rv_path.specs.Way.{way_from};
 
@@ -36,8 +35,8 @@ pub(crate) struct Path {
 }
 
 impl Path {
-    ghost use Rattle.rv_path.specs.Keeping.{HasRoom, before_with, known_of_path, known_seen, ways_by};
-    ghost use Rattle.rv_path.specs.Path.{known_at, known_in, setting_in};
+    ghost use Rattle.rv_path.specs.Keeping.{AreSameButBefore, AreSameButHolds, AreSameButWays, HasRoom, before_with, holds_shown, known_brought, known_of_path, known_shown, ways_of, with_fetched};
+    ghost use Rattle.rv_path.specs.Path.{known_at};
 
     /// That of a pipeline in which so many instructions are in flight, before the first cycle. The only error is out of memory.
     pub(crate) fn begin(
@@ -46,7 +45,7 @@ impl Path {
         in_flight: usize,
     ) -> Result<Path, AllocError>
         requires few { in_flight ≤ 576 }
-        ensures ways { IfOk result (λ path. drop path.dropped path.ways.items ≡ replicate in_flight (way_from nothing_yet)) }
+        ensures ways { IfOk result (λ path. ways_of path ≡ replicate in_flight (way_from nothing_yet)) }
         ensures holds { IfOk result (λ path. path.holds.items ≡ []) }
         ensures before { IfOk result (λ path. path.before ≡ (known_at pipeline.now).before) }
     {
@@ -83,7 +82,7 @@ impl Path {
         requires room { HasRoom self.old }
         requires few { length cycle.now.rows.now ≤ 576 }
         requires cycles { cycle.now.number < 2 ^ 40 }
-        ensures known { known_of_path self.new ≡ known_in (setting_in cycle.now.number (cycle.now.progress.now.cycles - 1) cycle.now.rows.now cycle.now.pipeline.now (known_of_path self.old)) (known_of_path self.old).ways cycle.now.steps.now cycle.now.pipeline.now }
+        ensures known { known_of_path self.new ≡ known_shown cycle.now (known_of_path self.old) }
     {
         let scene = Scene {
             number: cycle.number,
@@ -108,7 +107,7 @@ impl Path {
         requires room { HasRoom self.old }
         requires few { length cycle.now.rows.now ≤ 576 }
         requires cycles { cycle.now.number < 2 ^ 40 }
-        ensures { known_of_path self.new ≡ known_seen cycle.now.number cycle.now.pipeline.now.values cycle.now.rows.now seen.now (known_of_path self.old) }
+        ensures { known_of_path self.new ≡ known_brought cycle.now seen.now (known_of_path self.old) }
     {
         self.take_holds(cycle);
         self.take_fetched(cycle.rows, seen);
@@ -120,8 +119,8 @@ impl Path {
     fn take_holds(&mut self, cycle: &ShownCycle<'_>)
         requires room { length self.old.holds.items + length cycle.now.rows.now ≤ vec_capacity self.old.holds }
         requires cycles { cycle.now.number < 2 ^ 40 }
-        ensures holds { self.new.holds.items ≡ filter (goes_beyond cycle.now.number) self.old.holds.items ++ new_holds cycle.now.number cycle.now.pipeline.now.values cycle.now.rows.now (drop self.old.dropped self.old.ways.items) }
-        ensures others { (self.new.ways ≡ self.old.ways) × (self.new.dropped ≡ self.old.dropped) × (self.new.next ≡ self.old.next) × (self.new.before ≡ self.old.before) }
+        ensures holds { self.new.holds.items ≡ holds_shown cycle.now (known_of_path self.old) }
+        ensures others { AreSameButHolds self.old self.new }
     {
         drop_ended(cycle.number, &mut self.holds);
         push_holds(
@@ -136,8 +135,8 @@ impl Path {
     // The words that were fetched in a cycle are in flight.
     fn take_fetched(&mut self, rows: &[Passage], seen: &Seen)
         requires room { length self.old.ways.items + length rows.now ≤ vec_capacity self.old.ways }
-        ensures ways { drop self.new.dropped self.new.ways.items ≡ drop self.old.dropped self.old.ways.items ++ ways_by seen.now.fetch (length rows.now - length (drop self.old.dropped self.old.ways.items)) }
-        ensures others { (self.new.holds ≡ self.old.holds) × (self.new.next ≡ self.old.next) × (self.new.before ≡ self.old.before) }
+        ensures ways { ways_of self.new ≡ with_fetched seen.now rows.now (ways_of self.old) }
+        ensures others { AreSameButWays self.old self.new }
     {
         let fetched = rows.len().saturating_sub(self.ways.len() - self.dropped);
         push_fetched(fetched, &seen.fetch, &mut self.ways);
@@ -146,7 +145,7 @@ impl Path {
     // All else that is known after a cycle.
     fn take_before(&mut self, seen: &Seen)
         ensures before { self.new.before ≡ before_with seen.now self.old.before }
-        ensures others { (self.new.ways ≡ self.old.ways) × (self.new.dropped ≡ self.old.dropped) × (self.new.next ≡ self.old.next) × (self.new.holds ≡ self.old.holds) }
+        ensures others { AreSameButBefore self.old self.new }
     {
         if seen.left.is_some() {
             self.before.left = seen.left;
@@ -162,7 +161,7 @@ impl Path {
 
     // How many at the front are forgotten with those that left the hardware, if the others may stay where they are.
     fn forgotten(&self, rows: &[Passage]) -> Option<usize>
-        ensures { IfSome result (AreForgotten rows.now (drop self.now.dropped self.now.ways.items)) }
+        ensures { IfSome result (AreForgotten rows.now (ways_of self.now)) }
     {
         if self.ways.len() - self.dropped != rows.len() {
             return None;
@@ -179,7 +178,7 @@ impl Path {
     // Forgets the events of the instructions that left the hardware.
     fn drop_ended(&mut self, rows: &[Passage])
         requires room { length rows.now ≤ vec_capacity self.old.next }
-        ensures ways { drop self.new.dropped self.new.ways.items ≡ still_in_flight rows.now (drop self.old.dropped self.old.ways.items) }
+        ensures ways { ways_of self.new ≡ still_in_flight rows.now (ways_of self.old) }
         ensures others { (self.new.holds ≡ self.old.holds) × (self.new.before ≡ self.old.before) }
     {
         match self.forgotten(rows) {
@@ -191,7 +190,7 @@ impl Path {
     // Moves the events of those that are in flight to where there is room.
     fn move_to_next(&mut self, rows: &[Passage])
         requires room { length rows.now ≤ vec_capacity self.old.next }
-        ensures ways { drop self.new.dropped self.new.ways.items ≡ still_in_flight rows.now (drop self.old.dropped self.old.ways.items) }
+        ensures ways { ways_of self.new ≡ still_in_flight rows.now (ways_of self.old) }
         ensures others { (self.new.holds ≡ self.old.holds) × (self.new.before ≡ self.old.before) }
     {
         self.next.clear();

@@ -1,8 +1,7 @@
-ghost use Rattle.std.specs.Prelude.{◌≡◌, ◌-◌, ◌≤◌, drop, length};
-ghost use Rattle.rv_path.specs.Fetching.{fetch_event};
-ghost use Rattle.rv_path.specs.Keeping.{IsSeen, before_with, ways_by};
+ghost use Rattle.std.specs.Prelude.{◌≡◌, ◌≤◌, drop, length};
+ghost use Rattle.rv_path.specs.Keeping.{IsFetchEvent, IsSeen, before_with};
 ghost use Rattle.rv_path.specs.Leaving.{is_interrupted};
-ghost use Rattle.rv_path.specs.Path.{before_next, fetched_ways};
+ghost use Rattle.rv_path.specs.Path.{before_next};
 ghost use Rattle.rv_path.specs.Setting.{setting_of};
 
 use crate::before::{DrainHold, Facts, Left, PortHold};
@@ -35,7 +34,7 @@ fn fetched(
     leaving: &Leaving,
     pipeline: &Pipeline,
 ) -> Option<Event>
-    ensures { ways_by result (length scene.now.rows.now - length ways.now) ≡ fetched_ways (setting_of scene.now) ways.now (fetch_event (setting_of scene.now) ways.now interrupted leaving.now pipeline.now) }
+    ensures { IsFetchEvent (setting_of scene.now) ways.now interrupted leaving.now pipeline.now result }
 {
     if ways.len() < scene.rows.len() {
         Some(fetch_event(scene, ways, interrupted, leaving, pipeline))
@@ -53,7 +52,7 @@ fn notice(
     pipeline: &Pipeline,
 ) -> Seen
     ensures before { before_with result scene.now.before.now ≡ before_next (setting_of scene.now) ways.now steps.now pipeline.now leaving.now }
-    ensures fetch { ways_by result.fetch (length scene.now.rows.now - length ways.now) ≡ fetched_ways (setting_of scene.now) ways.now (fetch_event (setting_of scene.now) ways.now (is_interrupted steps.now) leaving.now pipeline.now) }
+    ensures fetch { IsFetchEvent (setting_of scene.now) ways.now (is_interrupted steps.now) leaving.now pipeline.now result.fetch }
 {
     let interrupted = is_interrupted(steps);
     let facts = Facts::of(pipeline);
