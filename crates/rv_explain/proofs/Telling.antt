@@ -15,7 +15,7 @@ use Rattle.rv_core.proofs.Shown.{cycle_counts, moments_counted}
 use Rattle.rv_hardware.specs.Draining.{drain_end}
 use Rattle.rv_hardware.specs.Guided.{GuidedHardware}
 use Rattle.rv_hardware.specs.History.{Moment, reports_of}
-use Rattle.rv_hardware.specs.Run.{Reachable, steps_of}
+use Rattle.rv_hardware.specs.Run.{Reachable}
 use Rattle.rv_hardware.proofs.Always.Sound.{sound}
 use Rattle.rv_hardware.proofs.AnyPrediction.{any_cycle}
 use Rattle.rv_passage.specs.EndedRun.{IsEndedRun}

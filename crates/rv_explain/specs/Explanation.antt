@@ -33,7 +33,6 @@ use Rattle.rv_sentences.specs.Untaken.{all_untaken_text}
 use Rattle.rv_sentences.specs.Work.{work_text}
 use Rattle.rv_sentences.specs.Worst.{worst_text}
 use Rattle.rv_explain.specs.declared.{figures.Figures.Figures, tale.Tale.Tale}
-use Rattle.rv_counts.specs.declared.run_places.Places.{Places}
 use Rattle.rv_sentences.specs.declared.exception.Exception.{Exception}
 
 -- a run that ended, how many words were fetched in it or before it, and what was kept of it

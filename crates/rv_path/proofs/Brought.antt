@@ -1,5 +1,5 @@
 -- What a cycle brings leads to what is known after it.
-use Rattle.std.proofs.Common.{◌≡◌, ◌∙◌, ◌-◌, List, ◌++◌, filter, length, ap}
+use Rattle.std.proofs.Common.{◌≡◌, ◌∙◌, ◌-◌, List, ◌++◌, filter, ap}
 use Rattle.rv_hardware.specs.Hardware.{Hardware}
 use Rattle.rv_hardware.specs.declared.step.Step.{Step}
 use Rattle.rv_path.specs.Fetching.{fetch_event}

@@ -1,5 +1,5 @@
 -- Of no events nothing is found, and nothing comes of them.
-use Rattle.std.proofs.Common.{◌≡◌, ◌<◌, ℕ, List, [], ◌∷◌, length, Option, None, refl, arith}
+use Rattle.std.proofs.Common.{◌≡◌, ◌<◌, ℕ, List, [], ◌∷◌, length, None, refl, arith}
 use Rattle.rv_isa.specs.declared.values.Values.{Values}
 use Rattle.rv_passage.specs.declared.passage.Passage.{Passage}
 use Rattle.rv_path.specs.Holding.{new_holds}

@@ -1,5 +1,5 @@
 -- All events of a cycle come within those before it, where what was known does: each waits for one that was known, or is one again.
-use Rattle.std.proofs.Common.{ℕ, zero, suc, ◌+◌, ◌-◌, ◌≤◌, List, [], ◌∷◌, ◌++◌, length, filter, replicate, Option, Some, None, arith}
+use Rattle.std.proofs.Common.{ℕ, zero, suc, ◌+◌, ◌-◌, ◌≤◌, List, [], ◌∷◌, ◌++◌, length, filter, Option, Some, None, arith}
 use Rattle.std.specs.Prelude.{Bool, IfSome, slice_get, ◌==◌, not, ◌&&◌, nat_le, nat_lt, count_by}
 use Rattle.std.specs.Option.{option_or}
 use Rattle.rv_hardware.specs.Broadcast.{mends_early}

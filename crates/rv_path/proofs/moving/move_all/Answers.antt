@@ -1,4 +1,4 @@
-use Rattle.std.proofs.Common.{◌≡◌, ◌∙◌, ◌+◌, suc, ap, sym, arith}
+use Rattle.std.proofs.Common.{◌≡◌, ◌∙◌, ◌+◌, suc, ap, arith}
 use Rattle.rv_path.specs.Moving.{moved_at, moved_up_to}
 use Rattle.rv_path.specs.Setting.{setting_of}
 use Rattle.rv_path.proofs.moving.move_all.Goals as goal

@@ -1,4 +1,4 @@
-use Rattle.std.proofs.Common.{◌∙◌, List, ap, length}
+use Rattle.std.proofs.Common.{◌∙◌, ap}
 use Rattle.rv_path.specs.Fetching.{fetch_event}
 use Rattle.rv_path.specs.Leaving.{is_interrupted}
 use Rattle.rv_path.specs.Moving.{all_moved}

@@ -1,4 +1,4 @@
-use Rattle.std.proofs.Common.{ap, refl, ◌∙◌}
+use Rattle.std.proofs.Common.{ap, ◌∙◌}
 use Rattle.rv_core.proofs.Shown.{stops_by}
 use Rattle.rv_core.specs.declared.outcome.Progress.{Progress}
 use Rattle.rv_passage.specs.Table.{Passages}

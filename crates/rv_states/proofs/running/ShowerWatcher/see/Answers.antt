@@ -1,5 +1,4 @@
-use Rattle.std.proofs.Common.{rules, sym, ◌∙◌, ltb-true}
-use Rattle.rv_passage.specs.Table.{passages_of}
+use Rattle.std.proofs.Common.{rules}
 use Rattle.rv_text.proofs.Saying.{says_both, says_extends}
 use Rattle.rv_states.proofs.Showing.{can_count_on, showing_early, showing_on}
 use Rattle.rv_states.proofs.running.ShowerWatcher.see.Goals as goal
