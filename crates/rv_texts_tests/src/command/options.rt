@@ -70,7 +70,12 @@ fn a_comparison_shows_four_registers_words_and_the_places_at_most(
         },
         limit: 100_000,
     };
-    is_taken(&rt, alloc, &["rv_sim", "compare", "--show", "16"], by_decimal)?;
+    is_taken(
+        &rt,
+        alloc,
+        &["rv_sim", "compare", "--show", "16"],
+        by_decimal,
+    )?;
     each_is_refused(&rt, alloc, &REFUSED)
 }
 
