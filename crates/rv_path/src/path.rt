@@ -196,6 +196,7 @@ impl Path {
         self.next.clear();
         push_in_flight(rows, &self.ways.as_slice()[self.dropped..], &mut self.next);
         swap(&mut self.ways, &mut self.next);
+        self.next.clear();
         self.dropped = 0;
     }
 
