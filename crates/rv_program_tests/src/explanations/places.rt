@@ -3,7 +3,9 @@ use crate::explanations::{EXPLAIN, Told};
 use crate::helpers::run_text;
 
 // In cycle 0 nothing is there to dispatch. In 1 the first addition takes the one station, and the second waits for it: one place is
-// lost. In 2 the second and the breakpoint are dispatched, in 3 and 4 two words each after it, which its trap squashes in 5.
+// lost. In 2 the second and the breakpoint are dispatched, in 3 and 4 two words each after it, which its trap squashes in 5. After its
+// dispatch each addition is in execution or broadcast for two cycles and then retires. The breakpoint waits for its retirement for two, and
+// two of the words after it for one.
 const ONE_STATION: &[u8] = b"alu.stations = 1
 %%
 addi x1,x0,5
@@ -14,6 +16,7 @@ ebreak
 const SENTENCES: &[u8] = b"\
 The run ended at a breakpoint, at 80000008, line 3: ebreak
 No exception came before that.
+cycles of instructions in flight: 8, of them 4 waiting for retirement (50.0%)
 Where the 12 places for dispatch went, 2 in each cycle:
 squashed by traps                     4   33.3%  #################
 lost: fetch gave no word              4   33.3%  #################
