@@ -183,12 +183,39 @@ def profile(assembly, description=None, *, arrivals=None, limit=None):
     return numbers(read_table(call(["profile", *limit_words(limit)], job(assembly, description, arrivals))))
 
 
+PATH_LINES = "The lines of the program with the most cycles on the path:"
+
+
+def path_texts(assembly, description, arrivals, limit):
+    """What `path` prints: the lines of the causes, and those of the lines of the program."""
+    printed = call(["path", *limit_words(limit)], job(assembly, description, arrivals)).splitlines()
+    end = printed.index(PATH_LINES) if PATH_LINES in printed else len(printed)
+    return printed[1:end], printed[end + 1:]
+
+
+def shares(lines):
+    """The cycles of each name, of lines of a name, its cycles and its share."""
+    found = (re.fullmatch(r" *(.*) (\d+) (?:\d+\.\d|-) %", line).groups() for line in lines)
+    return {name: int(cycles) for name, cycles in found}
+
+
 def path(assembly, description=None, *, arrivals=None, limit=None):
     """How many cycles of the run each cause has on its critical path, by the names that `path` prints, in its order. They add up to the
     cycles of the run."""
-    _, *lines = call(["path", *limit_words(limit)], job(assembly, description, arrivals)).splitlines()
-    causes = (re.fullmatch(r"(.*) (\d+) (?:\d+\.\d|-) %", line).groups() for line in lines)
-    return {cause: int(cycles) for cause, cycles in causes}
+    return shares(path_texts(assembly, description, arrivals, limit)[0])
+
+
+def path_lines(assembly, description=None, *, arrivals=None, limit=None):
+    """The lines of the program with the most cycles on the critical path, most first, as dictionaries: address, line and text (None where
+    no line of the program stands at the address), cycles, and the cycles of its greatest causes by their names."""
+    rows = []
+    for line in path_texts(assembly, description, arrivals, limit)[1]:
+        found = re.fullmatch(r"([0-9a-f]{8})(?:, line (\d+): (.*))?", line)
+        if found:
+            rows.append({"address": int(found[1], 16), "line": found[2] and int(found[2]), "text": found[3], "causes": {}})
+        else:
+            rows[-1]["causes"] |= shares([line])
+    return [{**row, "cycles": row["causes"].pop("cycles")} for row in rows]
 
 
 def sensitivity(assembly, description=None, *, arrivals=None, limit=None, also=None):
