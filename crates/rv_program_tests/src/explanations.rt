@@ -43,10 +43,6 @@ cycles 5, retired instructions 1
 cycles per instruction 5.000
 busy            3   60.0%  ##############################
 fetch           2   40.0%  ####################
-serial          0    0.0% \x20
-rob             0    0.0% \x20
-station         0    0.0% \x20
-store           0    0.0% \x20
 of the busy cycles 1 dispatched something that retired, 2 only what did not
 fetched words: 9, of them 6 squashed (66.7%)
 branches and jumps: none

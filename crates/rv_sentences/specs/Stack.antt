@@ -30,9 +30,13 @@ share_line name count all = row_text name (decimal count) (parts_of 1000 count a
 unfoldable pub count_text : ℕ → ℕ → List ℕ
 count_text cycles retired = codes "cycles " ++ (decimal cycles ++ (codes ", retired instructions " ++ (decimal retired ++ codes "\n")))
 
+-- the same of a part, unless it is none
+unfoldable pub part_line : List ℕ → ℕ → ℕ → List ℕ
+part_line name count all = if count == 0 then [] else share_line name count all
+
 -- the cycles that dispatched something, and those that did not, by the reason
 unfoldable pub stall_text : ℕ → ℕ → StallCounts → List ℕ
 stall_text cycles busy stalls =
-    flat_map (λ (share : List ℕ × ℕ). share_line share.0 share.1 cycles)
+    flat_map (λ (share : List ℕ × ℕ). part_line share.0 share.1 cycles)
     ((codes "busy   ", busy) ∷ (codes "fetch  ", stalls.fetch) ∷ (codes "serial ", stalls.serial) ∷ (codes "rob    ", stalls.rob) ∷
     (codes "station", stalls.station) ∷ (codes "store  ", stalls.store) ∷ [])

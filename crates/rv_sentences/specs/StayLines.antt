@@ -4,7 +4,7 @@ use Rattle.std.specs.List.{flat_map}
 use Rattle.rv_source.specs.Listing.{Listed}
 use Rattle.rv_sentences.specs.Place.{place_text}
 use Rattle.rv_sentences.specs.Spot.{first_greatest, greatest_lines}
-use Rattle.rv_sentences.specs.Stack.{parts_of, share_line}
+use Rattle.rv_sentences.specs.Stack.{part_line, parts_of}
 use Rattle.rv_sentences.specs.Stay.{all_stays}
 use Rattle.rv_sentences.specs.WordNotes.{Notes}
 use Rattle.rv_sentences.specs.declared.{spot.Greatest.Greatest, spot.Spot.Spot, stays.Stays.Stays}
@@ -56,15 +56,11 @@ greatest_waits_text s =
     let first = first_greatest (wait_counts s) in
     two_waits_text (all_stays s) first (first_greatest (slice_set (wait_counts s) first.place 0))
 
--- a part of the cycles, none where it is none
-unfoldable pub stay_line : List ℕ → ℕ → ℕ → List ℕ
-stay_line name count all = if count == 0 then [] else share_line name count all
-
 -- what the instructions in flight did in so many cycles, in the order in which one may do it
 unfoldable pub parts_text : ℕ → Stays → List ℕ
 parts_text all s =
     codes "Where the " ++ (decimal all ++ (codes " cycles of instructions in flight went:\n" ++
-    flat_map (λ (share : List ℕ × ℕ). stay_line share.0 share.1 all)
+    flat_map (λ (share : List ℕ × ℕ). part_line share.0 share.1 all)
     ((codes "waiting for operands         ", s.operands) ∷ (codes "waiting for a store's address", s.addresses) ∷
     (codes "waiting for an alu unit      ", s.units.alu) ∷ (codes "waiting for a mul unit       ", s.units.mul) ∷
     (codes "waiting for a div unit       ", s.units.div) ∷ (codes "waiting for a mem unit       ", s.units.mem) ∷

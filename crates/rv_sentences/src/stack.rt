@@ -1,5 +1,5 @@
 ghost use Rattle.std.specs.Prelude.{◌≡◌, take, drop};
-ghost use Rattle.rv_sentences.specs.Stack.{parts_of, share_line, count_text, stall_text};
+ghost use Rattle.rv_sentences.specs.Stack.{parts_of, part_line, share_line, count_text, stall_text};
 ghost use Rattle.std.specs.List.{flat_map};
 ghost use Rattle.rv_text.specs.Said.{Says};
 
@@ -92,23 +92,35 @@ pub fn write_counts<W: Write>(out: &mut Sink<'_, W>, cycles: u64, retired: u64)
     ]);
 }
 
-// A part of a run's cycles.
+/// A part of all.
 #[derive(Clone, Copy)]
-struct Share<'a> {
-    name: &'a str,
-    count: u64,
+pub struct Share<'a> {
+    pub name: &'a str,
+    pub count: u64,
 }
 
+// Writes a part, unless it is none.
+#[tactic(auto, unfolding(crate::specs::Stack::part_line))]
+fn write_part<W: Write>(out: &mut Sink<'_, W>, name: &str, count: u64, all: u64)
+    ensures { Says W.contents out.old out.new (part_line name.now count all) }
+{
+    if count == 0 {
+        return;
+    }
+    write_share(out, name, count, all);
+}
+
+/// Writes the parts that there are.
 #[tactic(auto, using(rv_text::proofs::Saying::saying))]
-fn write_shares<W: Write>(out: &mut Sink<'_, W>, shares: &[Share<'_>], all: u64)
-    ensures { Says W.contents out.old out.new (flat_map (λ share. share_line share.name.now share.count all) shares.now) }
+pub fn write_shares<W: Write>(out: &mut Sink<'_, W>, shares: &[Share<'_>], all: u64)
+    ensures { Says W.contents out.old out.new (flat_map (λ share. part_line share.name.now share.count all) shares.now) }
 {
     for share in shares {
-        write_share(out, share.name, share.count, all);
+        write_part(out, share.name, share.count, all);
     }
 }
 
-/// Writes how many cycles dispatched something, and how many did not, by the reason.
+/// Writes how many cycles dispatched something, and how many did not, by the reason, unless there are none.
 #[tactic(auto, unfolding(crate::specs::Stack::stall_text))]
 pub fn write_stalls<W: Write>(out: &mut Sink<'_, W>, cycles: u64, busy: u64, stalls: &StallCounts)
     ensures { Says W.contents out.old out.new (stall_text cycles busy stalls.now) }

@@ -1,13 +1,13 @@
 ghost use Rattle.std.specs.Prelude.{◌≡◌, ◌<◌, ◌^◌, [], get_or, map, sum};
 ghost use Rattle.std.specs.List.{flat_map};
 ghost use Rattle.rv_sentences.specs.Stay.{all_stays};
-ghost use Rattle.rv_sentences.specs.StayLines.{awaited_line, awaited_text, greatest_waits_text, parts_text, second_wait_text, share_text, some_parts_text, stay_line, stays_text, two_waits_text, wait_counts, wait_names, wait_text, waits_text};
+ghost use Rattle.rv_sentences.specs.StayLines.{awaited_line, awaited_text, greatest_waits_text, parts_text, second_wait_text, share_text, some_parts_text, stays_text, two_waits_text, wait_counts, wait_names, wait_text, waits_text};
 ghost use Rattle.rv_text.specs.Said.{Says};
 
 use crate::greatest_lines::greatest_lines;
 use crate::place::write_place;
 use crate::spot::{Greatest, Spot};
-use crate::stack::{parts_of, write_share};
+use crate::stack::{Share, parts_of, write_shares};
 use crate::stays::Stays;
 use crate::word_notes::{WordNotes, clear, first_greatest};
 use itoa::Buffer;
@@ -129,33 +129,6 @@ pub fn write_greatest_waits<W: Write>(out: &mut Sink<'_, W>, stays: &Stays)
     write_two_waits(out, stays.all(), &first, &second);
 }
 
-// A part of the cycles of instructions in flight.
-#[derive(Clone, Copy)]
-struct Part<'a> {
-    name: &'a str,
-    count: u64,
-}
-
-// Writes a part, unless it is none.
-#[tactic(auto, unfolding(crate::specs::StayLines::stay_line))]
-fn write_one<W: Write>(out: &mut Sink<'_, W>, name: &str, count: u64, all: u64)
-    ensures { Says W.contents out.old out.new (stay_line name.now count all) }
-{
-    if count == 0 {
-        return;
-    }
-    write_share(out, name, count, all);
-}
-
-#[tactic(auto, using(rv_text::proofs::Saying::saying))]
-fn write_parts<W: Write>(out: &mut Sink<'_, W>, parts: &[Part<'_>], all: u64)
-    ensures { Says W.contents out.old out.new (flat_map (λ part. stay_line part.name.now part.count all) parts.now) }
-{
-    for part in parts {
-        write_one(out, part.name, part.count, all);
-    }
-}
-
 // Writes why the instructions in flight stayed there, in so many cycles.
 fn write_all_parts<W: Write>(out: &mut Sink<'_, W>, all: u64, stays: &Stays)
     ensures { Says W.contents out.old out.new (parts_text all stays.now) }
@@ -163,46 +136,46 @@ fn write_all_parts<W: Write>(out: &mut Sink<'_, W>, all: u64, stays: &Stays)
     out.put(b"Where the ");
     out.put_decimal(all);
     out.put(b" cycles of instructions in flight went:\n");
-    write_parts(
+    write_shares(
         out,
         &[
-            Part {
+            Share {
                 name: "waiting for operands         ",
                 count: stays.operands,
             },
-            Part {
+            Share {
                 name: "waiting for a store's address",
                 count: stays.addresses,
             },
-            Part {
+            Share {
                 name: "waiting for an alu unit      ",
                 count: stays.units.alu,
             },
-            Part {
+            Share {
                 name: "waiting for a mul unit       ",
                 count: stays.units.mul,
             },
-            Part {
+            Share {
                 name: "waiting for a div unit       ",
                 count: stays.units.div,
             },
-            Part {
+            Share {
                 name: "waiting for a mem unit       ",
                 count: stays.units.mem,
             },
-            Part {
+            Share {
                 name: "waiting for the port         ",
                 count: stays.port,
             },
-            Part {
+            Share {
                 name: "in execution                 ",
                 count: stays.execution,
             },
-            Part {
+            Share {
                 name: "waiting for the bus          ",
                 count: stays.bus,
             },
-            Part {
+            Share {
                 name: "waiting for retirement       ",
                 count: stays.retirement,
             },

@@ -30,10 +30,6 @@ cycles 20, retired instructions 1
 cycles per instruction 20.000
 busy           11   55.0%  ############################
 fetch           9   45.0%  #######################
-serial          0    0.0% \x20
-rob             0    0.0% \x20
-station         0    0.0% \x20
-store           0    0.0% \x20
 of the busy cycles 1 dispatched something that retired, 10 only what did not
 fetched words: 16, of them 6 squashed (37.5%)
 branches and jumps: none
