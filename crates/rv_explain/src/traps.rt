@@ -40,6 +40,7 @@ pub(crate) fn exception_in(steps: &[Step], pipeline: &Pipeline) -> Option<Except
 {
     match steps {
         [] => None,
+        [Step::Retired(_), rest @ ..] => exception_in(rest, pipeline),
         [step, rest @ ..] => exception_of(step, pipeline).or(exception_in(rest, pipeline)),
     }
 }

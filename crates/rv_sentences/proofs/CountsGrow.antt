@@ -3,7 +3,7 @@ use Rattle.std.proofs.Common.{◌≡◌, ◌∙◌, ℕ, ◌+◌, List, [], ◌�
 use Rattle.std.proofs.lemmas.List.Sums.{sum_by-append, sum_by-cons}
 use Rattle.rv_isa.specs.declared.values.Values.{Values}
 use Rattle.rv_sentences.specs.WordCount.{count_at, is_word, with_all, with_one}
-use Rattle.rv_sentences.specs.WordNotes.{notes_of}
+use Rattle.rv_sentences.specs.WordNotes.{Notes, notes_of}
 use Rattle.rv_sentences.proofs.WordTable.{change_one}
 
 -- one thing more
@@ -35,3 +35,8 @@ with_last_at values place xs x =
     (λ w. sum_by-append (λ y. cond (is_word w (place y)) 1 0) xs (x ∷ []) ∙ ap (λ n. count_at place xs w + n) (nothing_and (cond (is_word w (place x)) 1 0))) where
       nothing_and : (n : ℕ) → 0 + n ≡ n
       nothing_and n = omega arith
+
+-- the last of some things comes first
+pub with_all-last : {X : Type 0} (place : X → Option ℕ) (xs : List X) (x : X) (counts : Notes ℕ) → with_all place (xs ++ x ∷ []) counts ≡ with_all place xs (with_one (place x) counts)
+with_all-last place [] x counts = refl
+with_all-last place (y ∷ xs) x counts = ap (with_one (place y)) (with_all-last place xs x counts)

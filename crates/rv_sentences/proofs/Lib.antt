@@ -11,6 +11,7 @@ pub mod KindsGrow
 mod Options
 mod SeriesGrows
 mod Spots
+mod StoreWords
 mod WordTable
 pub mod Works
 mod WorstLines

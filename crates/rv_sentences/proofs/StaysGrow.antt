@@ -1,5 +1,5 @@
 -- Why instructions stay in flight, as more cycles come.
-use Rattle.std.proofs.Common.{◌≡◌, ◌∙◌, ℕ, suc, ◌+◌, ◌≤◌, ◌&&◌, Bool, true, false, List, [], ◌∷◌, ◌++◌, length, count_by, cond, not, Option, Some, None, is_some, refl, ap, sym, arith, length-append, append-nil}
+use Rattle.std.proofs.Common.{◌≡◌, ◌∙◌, ℕ, suc, ◌+◌, ◌≤◌, ◌&&◌, Bool, true, false, List, [], ◌∷◌, ◌++◌, length, count_by, cond, not, Option, Some, None, is_some, refl, ap, sym, arith, append-nil}
 use Rattle.std.specs.Prelude.{sum}
 use Rattle.std.specs.List.{flat_map}
 use Rattle.std.proofs.lemmas.List.Concat.{flat_map-append, flat_map-cons}
@@ -47,6 +47,12 @@ one_at_most false = omega arith
 
 pub one_more_stay : (o : Option Stay) (t : Stays) → all_stays (with_stay o t) ≤ all_stays t + 1
 one_more_stay o t = omega (arith, counted_once o t, one_at_most (is_some o))
+
+pub stay_counted : (o : Option Stay) (old new : Stays) → new ≡ with_stay o old → all_stays new ≤ all_stays old + 1
+stay_counted o old new is = omega (arith, ap (λ (s : Stays). all_stays s) is, one_more_stay o old)
+
+pub await_counted : (o : Option ℕ) (old new : Notes ℕ) → new ≡ with_one o old → sum new.words ≤ sum old.words + 1
+await_counted o old new is = omega (arith, ap (λ (notes : Notes ℕ). sum notes.words) is, sum_with_one o old)
 
 all_counted : (os : List (Option Stay)) (t : Stays) → all_stays (with_stays os t) ≡ all_stays t + count_by (λ (o : Option Stay). is_some o) os
 all_counted [] t = omega arith

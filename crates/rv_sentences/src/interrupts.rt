@@ -35,6 +35,7 @@ pub fn interruption_in(steps: &[Step]) -> Option<Interruption>
 {
     match steps {
         [] => None,
+        [Step::Retired(_), rest @ ..] => interruption_in(rest),
         [step, rest @ ..] => interruption_of(step).or(interruption_in(rest)),
     }
 }

@@ -1,5 +1,6 @@
-ghost use Rattle.std.specs.Prelude.{◌≡◌, ◌+◌, ◌<◌, ◌^◌, length, sum};
-ghost use Rattle.rv_sentences.specs.Stay.{all_stays, stays_among, with_awaited, with_reason, with_stay, with_stays};
+ghost use Rattle.std.specs.Prelude.{◌≡◌, ◌+◌, ◌<◌, ◌^◌, ◌&&◌, length, not, sum};
+ghost use Rattle.rv_sentences.specs.Stay.{all_stays, awaited_word, lacks_address, stay_in, stays_among, with_awaited, with_reason, with_stay, with_stays};
+ghost use Rattle.rv_sentences.specs.WordCount.{with_one};
 
 use crate::stay::{Stay, awaited_word, lacks_address, stay_in};
 use crate::word_notes::{WordNotes, count_one};
@@ -85,6 +86,32 @@ impl Stays {
     }
 }
 
+// Adds why an instruction stays in flight in a cycle, if it does, and answers whether all stores up to it have their addresses.
+fn add_stay(
+    stays: &mut Stays,
+    awaited: &mut WordNotes<u64>,
+    cycle: u64,
+    has_unit: bool,
+    has_addresses: bool,
+    row: &Passage,
+) -> bool
+    requires room { all_stays stays.old + 1 < 2 ^ 64 }
+    requires words { sum awaited.old.words + 1 < 2 ^ 64 }
+    ensures stays { stays.new ≡ with_stay (stay_in cycle has_unit has_addresses row.now) stays.old }
+    ensures awaited { awaited.new ≡ with_one (awaited_word (stay_in cycle has_unit has_addresses row.now)) awaited.old }
+    ensures addresses { result ≡ has_addresses && not (lacks_address cycle row.now) }
+{
+    if !row.is_in_flight() {
+        return has_addresses;
+    }
+    // Before anything is written: what is known of the row holds for both.
+    let still_has = has_addresses && !lacks_address(cycle, row);
+    let stay = stay_in(cycle, has_unit, has_addresses, row);
+    stays.add(stay);
+    count_one(awaited, awaited_word(stay));
+    still_has
+}
+
 /// Adds why some instructions stay in flight in a cycle, in order of fetch, and counts those that wait for an operand at the word of the
 /// instruction that gives it: whether a unit of loads and stores is free in the cycle, and all stores before them have their addresses.
 pub fn add_stays(
@@ -101,10 +128,7 @@ pub fn add_stays(
     ensures awaited { awaited.new ≡ with_awaited (stays_among cycle has_unit has_addresses rows.now) awaited.old }
 {
     if let [row, rest @ ..] = rows {
-        let stay = stay_in(cycle, has_unit, has_addresses, row);
-        stays.add(stay);
-        count_one(awaited, awaited_word(stay));
-        let has_addresses = has_addresses && !lacks_address(cycle, row);
+        let has_addresses = add_stay(stays, awaited, cycle, has_unit, has_addresses, row);
         add_stays(stays, awaited, cycle, has_unit, has_addresses, rest);
     }
 }

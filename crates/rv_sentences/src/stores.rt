@@ -2,6 +2,7 @@ ghost use Rattle.std.specs.Prelude.{◌≡◌, ℕ, None, Some, slice_index};
 ghost use Rattle.std.specs.List.{slice_get};
 ghost use Rattle.rv_isa.specs.Operands.{sources_of};
 ghost use Rattle.std.specs.Option.{option_to_list};
+ghost use Rattle.rv_decode.specs.Decodes.{instruction_of};
 ghost use Rattle.rv_sentences.specs.LastStore.{registers_after, store_of, stored_at, stores_in, with_stores};
 
 use crate::stored::Stored;
@@ -9,6 +10,9 @@ use crate::word_notes::WordNotes;
 use rv_decode::decode;
 use rv_hardware::Step;
 use rv_isa::{Instr, Reg, sources};
+
+// Unprivileged ISA 20191213, 24: the opcode of stores.
+const STORE: u32 = 0b010_0011;
 
 // The value of the first register that an instruction reads, or 0 where its first operand is none.
 fn first_value(registers: &[u32; 32], instruction: &Instr) -> u32
@@ -45,6 +49,16 @@ fn stored_by_word(registers: &[u32; 32], pc: u32, instruction: Option<Instr>) ->
     }
 }
 
+// The same of a word by itself. One with another opcode is not decoded: most are no stores.
+fn store_by(registers: &[u32; 32], pc: u32, word: u32) -> Option<Stored>
+    ensures { result ≡ stored_at registers.now pc (instruction_of word) }
+{
+    if word & 0x7f != STORE {
+        return None;
+    }
+    stored_by_word(registers, pc, decode(word))
+}
+
 // The store that retired in a step, by the registers before it.
 fn store_of(registers: &[u32; 32], step: &Step) -> Option<Stored>
     ensures { result ≡ store_of registers.now step.now }
@@ -52,7 +66,7 @@ fn store_of(registers: &[u32; 32], step: &Step) -> Option<Stored>
     let Step::Retired(row) = *step else {
         return None;
     };
-    stored_by_word(registers, row.pc, decode(row.word))
+    store_by(registers, row.pc, row.word)
 }
 
 // Puts the registers after a step.

@@ -104,9 +104,10 @@ pub fn count_words(counts: &mut WordNotes<u64>, rows: &[Passage], class: Class)
     requires room { sum counts.old.words + length rows.now < 2 ^ 64 }
     ensures { counts.new ≡ with_all (word_in class) rows.now counts.old }
 {
-    if let [row, rest @ ..] = rows {
-        count_words(counts, rest, class);
+    let mut left = rows;
+    while let Some((row, before)) = left.split_last() {
         count_one(counts, word_in(class, row));
+        left = before;
     }
 }
 
