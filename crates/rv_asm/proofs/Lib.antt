@@ -1,8 +1,12 @@
+pub mod Commas
+pub mod Data
 pub mod Emitted
+pub mod Few
 pub mod Joined
 pub mod Kept
 pub mod Moves
 pub mod Named
+pub mod Next
 pub mod Operands
 pub mod Ranges
 pub mod TokenLines

@@ -25,10 +25,19 @@ pub record Placed : Type 0 where
 abbrev pub place_body : Reach → Bool → Result Statement AsmFault → Placed
 place_body reach label_starts statement = record { reach = reach; starts = label_starts || constant_starts statement; statement = statement }
 
+-- a label of a line is _start
+abbrev pub label_starts : Line → Bool
+label_starts Unreadable = false
+label_starts (Readable labels body) = list_any is_start labels
+
+-- the statement of a line
+abbrev pub statement_on : Line → Result Statement AsmFault
+statement_on Unreadable = Err BadToken
+statement_on (Readable labels body) = statement_in body
+
 -- a line in its place
 abbrev pub place : Reach → Line → Placed
-place reach Unreadable = place_body reach false (Err BadToken)
-place reach (Readable labels body) = place_body reach (list_any is_start labels) (statement_in body)
+place reach line = place_body reach (label_starts line) (statement_on line)
 
 -- lines after a layout, each where it stands
 abbrev pub placed : Layout → List Line → List Placed

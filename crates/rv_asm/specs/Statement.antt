@@ -152,13 +152,22 @@ statement (form.Values width) (first ∷ others) = if list_all (takes place.Valu
 statement (form.Bytes directive place) (operand ∷ []) = if takes place operand then Ok (Bytes directive operand) else Err BadOperands
 statement _ operands = Err BadOperands
 
+-- the form is that of data, which may have any number of operands
+abbrev pub is_data : Form → Bool
+is_data (form.Values width) = true
+is_data _ = false
+
 -- the symbol that li takes, which an earlier .equ has to define
 unfoldable pub needed : Form → List Operand → Option (List ℕ)
 needed (form.Instruction operation.LoadNumber first second third) (register ∷ Value (Symbol name) ∷ []) = Some name
 needed _ operands = None
 
+-- the operands that tokens spell
+abbrev pub operands_read : List Token → Result (List Operand) AsmFault
+operands_read tokens = ok_or (operands_of tokens) BadOperands
+
 -- the form and the operands that tokens spell
 abbrev pub reading : List Token → Result (Form × List Operand) AsmFault
 reading [] = Ok (form.Nothing, [])
-reading (token.Name name ∷ rest) = and_then (ok_or (form_named name) UnknownMnemonic) (λ named. and_then (ok_or (operands_of rest) BadOperands) (λ operands. Ok (named, operands)))
+reading (token.Name name ∷ rest) = and_then (ok_or (form_named name) UnknownMnemonic) (λ named. and_then (operands_read rest) (λ operands. Ok (named, operands)))
 reading _ = Err UnknownMnemonic

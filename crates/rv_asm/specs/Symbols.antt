@@ -3,11 +3,10 @@ use Rattle.std.specs.Prelude.{ℕ, ℤ, ◌++◌, List, Option, Result, map}
 use Rattle.std.specs.{BTreeMap.get_by, Cmp.Lexicographic.slice_cmp, Ordering.nat_cmp}
 use Rattle.rv_asm.specs.Faults.{second_fault}
 use Rattle.rv_asm.specs.Kept.{Kept, first_with_fault, places}
-use Rattle.rv_asm.specs.Layout.{Layout}
+use Rattle.rv_asm.specs.Layout.{Layout, line_in}
 use Rattle.rv_asm.specs.Meaning.{Cell, after_text, cells_at, contents, value_of}
-use Rattle.rv_asm.specs.Placed.{Placed, place_body}
-use Rattle.rv_asm.specs.Read.{operands_in}
-use Rattle.rv_asm.specs.Statement.{Statement, statement}
+use Rattle.rv_asm.specs.Placed.{Placed, place}
+use Rattle.rv_asm.specs.Statement.{Statement}
 use Rattle.rv_asm.specs.declared.{fault.AsmFault.AsmFault, record.Record.Record, program.Program.Program, reach.Reach.Reach, symbols.Definition.Definition, symbols.Symbols.Symbols}
 use Rattle.rv_asm.specs.declared.operation.Section.TheVariants.{Text, Data}
 use Rattle.rv_asm.specs.declared.layout.Layout as read
@@ -24,9 +23,9 @@ value_in program = value_of program.base program.layout.now.reach.text_size (fou
 abbrev pub layout_of : read.Layout → Layout
 layout_of program = record { reach = program.reach; meanings = found program.symbols }
 
--- where the lines of the program stand
+-- where a line of the program stands
 abbrev pub placed_of : Record → Placed
-placed_of line = place_body line.reach line.label_starts (statement line.reading.form (operands_in line.reading.operands.items))
+placed_of line = place line.reach (line_in line.line.bytes.now)
 
 -- what the program keeps of lines
 abbrev pub kept_in : List Record → List Kept

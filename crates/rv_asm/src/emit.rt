@@ -2,18 +2,20 @@ ghost use Rattle.std.specs.Prelude.{◌≡◌, ◌∷◌, [], map, option_to_lis
 ghost use Rattle.std.specs.List.{list_all};
 ghost use Rattle.rv_asm.specs.Emitted.{AppendsIfRoom, EmitsOrRefuses};
 ghost use Rattle.rv_asm.specs.Meaning.{Word', bytes_at, data_of, evaluate, fits_width, instructions};
-ghost use Rattle.rv_asm.specs.Read.{expression_of, operand_of, operands_in, statement_of};
+ghost use Rattle.rv_asm.specs.Read.{data_in, datum, expression_of, statement_of, tokens_in};
 ghost use Rattle.rv_asm.specs.Statement.{Instruction, expression_in};
 ghost use Rattle.rv_asm.specs.Symbols.{means, value_in};
 
 use crate::fault::AsmFault;
 use crate::filling::expression_in;
 use crate::instructions::instructions;
-use crate::operand::{Expression, Operand};
+use crate::operand::{Expression, read_operand};
 use crate::operation::{Fields, Operation};
+use crate::pieces::first_piece;
 use crate::program::Program;
 use crate::reach::{Reach, modulo_word};
 use crate::statement::Statement;
+use crate::token::Token;
 use rv_decode::encode;
 use rv_isa::{Instr, Width};
 
@@ -85,48 +87,64 @@ fn push_number(out: &mut Vec<u8>, width: Width, number: i128) -> Result<(), AsmF
     Ok(())
 }
 
-/// Whether each operand has a value.
-fn are_known<'a>(program: &Program<'_, 'a>, operands: &[Operand<'a>]) -> bool
+/// The expression of a piece of data; of one that is no operand 0.
+fn value_of<'a>(piece: &[Token<'a>]) -> Expression<'a>
+    ensures { expression_of result ≡ expression_in (datum (tokens_in piece.now)) }
+{
+    match read_operand(piece) {
+        Some(operand) => expression_in(operand),
+        None => Expression::Number(0),
+    }
+}
+
+/// Whether each operand of data has a value.
+fn are_known<'a>(program: &Program<'_, 'a>, tokens: &[Token<'a>]) -> bool
     ensures { result ≡ list_all (λ operand.
         is_some (evaluate (value_in program.now) (expression_in operand)))
-        (operands_in operands.now) }
+        (data_in tokens.now) }
 {
-    for operand in operands {
-        if program.evaluate(&expression_in(*operand)).is_none() {
+    let mut rest = Some(tokens);
+    while let Some(unread) = rest {
+        let (piece, behind) = first_piece(unread);
+        if program.evaluate(&value_of(piece)).is_none() {
             return false;
         }
+        rest = behind;
     }
     true
 }
 
-/// Appends the value of an operand; one without a value counts as 0.
+/// Appends the value of a piece of data; one without a value counts as 0.
 fn emit_value<'a>(
     program: &Program<'_, 'a>,
     width: Width,
-    operand: &Operand<'a>,
+    piece: &[Token<'a>],
     out: &mut Vec<u8>,
 ) -> Result<(), AsmFault>
     ensures { EmitsOrRefuses (bytes_at width (unwrap_or (evaluate (value_in program.now)
-        (expression_in (operand_of operand.now))) (pos 0))) out.old.items out.new.items result }
+        (expression_in (datum (tokens_in piece.now)))) (pos 0))) out.old.items out.new.items result }
 {
-    let number = program.evaluate(&expression_in(*operand)).unwrap_or(0);
+    let number = program.evaluate(&value_of(piece)).unwrap_or(0);
     push_number(out, width, number)
 }
 
-/// Appends the values of operands.
+/// Appends the values of data.
 fn emit_values<'a>(
     program: &Program<'_, 'a>,
     width: Width,
-    operands: &[Operand<'a>],
+    tokens: &[Token<'a>],
     out: &mut Vec<u8>,
 ) -> Result<(), AsmFault>
     ensures { EmitsOrRefuses (data_of (value_in program.now) width
-        (operands_in operands.now)) out.old.items out.new.items result }
+        (data_in tokens.now)) out.old.items out.new.items result }
 {
-    for operand in operands {
-        if let Err(fault) = emit_value(program, width, operand, out) {
+    let mut rest = Some(tokens);
+    while let Some(unread) = rest {
+        let (piece, behind) = first_piece(unread);
+        if let Err(fault) = emit_value(program, width, piece, out) {
             return Err(fault);
         }
+        rest = behind;
     }
     Ok(())
 }
@@ -136,21 +154,20 @@ fn emit_values<'a>(
 pub fn emit<'a>(
     program: &Program<'_, 'a>,
     reach: Reach,
-    statement: &Statement<'a>,
-    operands: &[Operand<'a>],
+    statement: &Statement<'_, 'a>,
     out: &mut Vec<u8>,
 ) -> Result<(), AsmFault>
     ensures { EmitsOrRefuses (means program.now reach
-        (statement_of (operands_in operands.now) statement.now)) out.old.items out.new.items result }
+        (statement_of statement.now)) out.old.items out.new.items result }
 {
     match statement {
         Statement::Instruction(operation, fields, value) => emit_instruction(
             program, reach, *operation, *fields, value, out,
         ),
-        Statement::Values(width) if are_known(program, operands) => {
+        Statement::Values(width, operands) if are_known(program, operands) => {
             emit_values(program, *width, operands, out)
         }
-        Statement::Values(_) => Err(AsmFault::UnknownSymbol),
+        Statement::Values(_, _) => Err(AsmFault::UnknownSymbol),
         Statement::Bytes(directive, operand) => directive.push(reach.offset(), *operand, out),
         Statement::Nothing | Statement::Choice(_) | Statement::Constant(_, _) => Ok(()),
     }

@@ -1,13 +1,13 @@
-ghost use Rattle.std.specs.Prelude.{◌≡◌, ◌∷◌, ◌++◌, ◌==◌, ◌<◌, ◌≤◌, [], None, IfOk, IfErr, IfSome, Ok, length};
+ghost use Rattle.std.specs.Prelude.{◌≡◌, ◌∷◌, ◌++◌, ◌==◌, ◌<◌, ◌≤◌, [], None, IfOk, IfErr, IfSome, Ok, false, length};
 ghost use Rattle.std.specs.List.{position_or_len, slice_split};
 ghost use Rattle.std.specs.Option.{option_copied};
 ghost use Rattle.rv_asm.specs.Answer.{Follows, RefusedBy, RefusedAt};
 ghost use Rattle.rv_asm.specs.Faults.{body_fault, first_fault, first_fault_of, is_unmet, moved};
 ghost use Rattle.rv_asm.specs.Layout.{advance, behind, extended, layout, unlaid, unless_too_large, lines_of, statement_in, line_in};
 ghost use Rattle.rv_asm.specs.Kept.{keep, kept, lines_left, says_nothing};
-ghost use Rattle.rv_asm.specs.Placed.{place, place_body};
+ghost use Rattle.rv_asm.specs.Placed.{place};
 ghost use Rattle.rv_asm.specs.Read.{operands_in, statement_of, tokens_in};
-ghost use Rattle.rv_asm.specs.Statement.{statement};
+ghost use Rattle.rv_asm.specs.Statement.{and_then, is_data, operands_read, statement};
 ghost use Rattle.rv_asm.specs.Symbols.{found};
 
 use crate::fault::{AsmError, AsmFault};
@@ -15,7 +15,7 @@ use crate::operand::Operand;
 use crate::operation::Form;
 use crate::reach::{Reach, advance};
 use crate::record::{Record, TextLine};
-use crate::statement::{Statement, make_statement, needed, read};
+use crate::statement::{Statement, data, few_operands, make_statement, named_form, needed};
 use crate::symbols::{Definition, Symbols};
 use crate::token::{Token, tokenize};
 use std::alloc::Global;
@@ -82,20 +82,15 @@ impl<'a> Layout<'a> {
     }
 
     /// Adds a statement. The answer is whether it has no effect.
-    fn add_statement(
-        &mut self,
-        statement: &Statement<'a>,
-        operands: &[Operand<'a>],
-    ) -> Result<bool, AsmFault>
+    fn add_statement(&mut self, statement: &Statement<'_, 'a>) -> Result<bool, AsmFault>
         ensures moved { Follows (λ _. self.new.reach) result (unless_too_large
-            (advance (found self.old.symbols) (statement_of (operands_in operands.now) statement.now) self.old.reach)) }
+            (advance (found self.old.symbols) (statement_of statement.now) self.old.reach)) }
         ensures layout { IfOk result (λ _. layout_of self.new
-            ≡ behind (found self.old.symbols) self.old.reach (Ok (statement_of (operands_in operands.now) statement.now))) }
-        ensures idle { IfOk result (λ idle. idle
-            ≡ says_nothing (Ok (statement_of (operands_in operands.now) statement.now))) }
+            ≡ behind (found self.old.symbols) self.old.reach (Ok (statement_of statement.now))) }
+        ensures idle { IfOk result (λ idle. idle ≡ says_nothing (Ok (statement_of statement.now))) }
         ensures records { self.new.records ≡ self.old.records }
     {
-        self.reach = advance(&self.symbols, statement, operands, self.reach)?;
+        self.reach = advance(&self.symbols, statement, self.reach)?;
         match *statement {
             Statement::Nothing => Ok(true),
             Statement::Constant(name, number) => {
@@ -106,55 +101,65 @@ impl<'a> Layout<'a> {
         }
     }
 
-    /// Adds a form with its operands. The answer is whether its statement has no effect.
-    fn add_form(&mut self, form: Form, operands: &[Operand<'a>]) -> Result<bool, AsmFault>
-        ensures moved { Follows (λ _. self.new.reach) result
+    /// Adds a form that is no data, with its operands. The answer is whether its statement has no effect.
+    fn add_few(&mut self, form: Form, operands: &[Operand<'a>]) -> Result<bool, AsmFault>
+        ensures moved { is_data form ≡ false → Follows (λ _. self.new.reach) result
             (moved (found self.old.symbols) self.old.reach form (operands_in operands.now)) }
-        ensures layout { IfOk result (λ _.
+        ensures layout { is_data form ≡ false → IfOk result (λ _.
             layout_of self.new ≡ behind (found self.old.symbols) self.old.reach (statement form (operands_in operands.now))) }
-        ensures idle { IfOk result (λ idle. idle ≡ says_nothing (statement form (operands_in operands.now))) }
+        ensures idle { is_data form ≡ false → IfOk result (λ idle. idle ≡ says_nothing (statement form (operands_in operands.now))) }
         ensures records { self.new.records ≡ self.old.records }
     {
         if is_unmet(&self.symbols, needed(form, operands)) {
             return Err(AsmFault::BadOperands);
         }
         match make_statement(form, operands) {
-            Ok(statement) => self.add_statement(&statement, operands),
+            Ok(statement) => self.add_statement(&statement),
             Err(fault) => Err(fault),
         }
     }
 
-    /// Adds what stands after the labels of a line.
-    fn add_body(
+    /// Adds a form with the tokens of its operands. The answer is whether its statement has no effect.
+    fn add_form(
         &mut self,
         alloc: Global,
-        line: TextLine<'a>,
-        label_starts: bool,
-        body: &[Token<'a>],
-    ) -> Result<(), AsmFault>
+        form: Form,
+        tokens: &[Token<'a>],
+    ) -> Result<bool, AsmFault>
+        ensures moved { Follows (λ _. self.new.reach) result
+            (and_then (operands_read (tokens_in tokens.now)) (moved (found self.old.symbols) self.old.reach form)) }
+        ensures layout { IfOk result (λ _. layout_of self.new
+            ≡ behind (found self.old.symbols) self.old.reach (and_then (operands_read (tokens_in tokens.now)) (statement form))) }
+        ensures idle { IfOk result (λ idle. idle
+            ≡ says_nothing (and_then (operands_read (tokens_in tokens.now)) (statement form))) }
+        ensures records { self.new.records ≡ self.old.records }
+    {
+        if let Form::Values(width) = form {
+            return match data(width, tokens) {
+                Ok(statement) => self.add_statement(&statement),
+                Err(fault) => Err(fault),
+            };
+        }
+        match few_operands(alloc, tokens) {
+            Ok(operands) => self.add_few(form, operands.as_slice()),
+            Err(fault) => Err(fault),
+        }
+    }
+
+    /// Adds what stands after the labels of a line. The answer is whether its statement has no effect.
+    fn add_body(&mut self, alloc: Global, body: &[Token<'a>]) -> Result<bool, AsmFault>
         ensures added { IfOk result (λ _. body_fault (found self.old.symbols) self.old.reach (tokens_in body.now) ≡ None) }
         ensures layout { IfOk result (λ _.
             layout_of self.new ≡ behind (found self.old.symbols) self.old.reach (statement_in (tokens_in body.now))) }
-        ensures records { IfOk result (λ _. kept_in self.new.records.items ≡ kept_in self.old.records.items
-            ++ keep line.entry.number line.entry.bytes.now (place_body self.old.reach label_starts (statement_in (tokens_in body.now)))) }
+        ensures idle { IfOk result (λ idle. idle ≡ says_nothing (statement_in (tokens_in body.now))) }
+        ensures records { self.new.records ≡ self.old.records }
         ensures refused { RefusedBy (body_fault (found self.old.symbols) self.old.reach (tokens_in body.now)) result }
     {
         if self.symbols.redefines(body) {
             return Err(AsmFault::DuplicateSymbol);
         }
-        let reading = read(alloc, body)?;
-        let reach = self.reach;
-        let says_nothing = self.add_form(reading.form, reading.operands.as_slice())?;
-        if says_nothing && !label_starts {
-            return Ok(());
-        }
-        self.records.push(Record {
-            line,
-            reach,
-            label_starts,
-            reading,
-        })?;
-        Ok(())
+        let (form, tokens) = named_form(body)?;
+        self.add_form(alloc, form, tokens)
     }
 
     /// Adds a line.
@@ -166,9 +171,15 @@ impl<'a> Layout<'a> {
         ensures refused { RefusedBy (first_fault (layout_of self.old) (line_in line.entry.bytes.now)) result }
     {
         let tokens = tokenize(alloc, line.bytes)?;
-        let here = Definition::Label(self.reach.section, self.reach.offset());
-        let (body, starts) = self.symbols.define_labels(tokens.as_slice(), here)?;
-        self.add_body(alloc, line, starts, body)
+        let reach = self.reach;
+        let here = Definition::Label(reach.section, reach.offset());
+        let (body, label_starts) = self.symbols.define_labels(tokens.as_slice(), here)?;
+        let says_nothing = self.add_body(alloc, body)?;
+        if says_nothing && !label_starts {
+            return Ok(());
+        }
+        self.records.push(Record { line, reach })?;
+        Ok(())
     }
 
     /// The layout of a text, or its first fault in the first pass.

@@ -104,15 +104,6 @@ pub fn read_operand<'a>(tokens: &[Token<'a>]) -> Option<Operand<'a>>
     }
 }
 
-impl Token<'_> {
-    /// Whether the token is a comma.
-    fn is_comma(&self) -> bool
-        ensures { result ≡ is_comma (token_of self.now) }
-    {
-        matches!(*self, Token::Comma)
-    }
-}
-
 /// The pieces between the commas.
 fn pieces<'t, 'a>(
     alloc: Global,

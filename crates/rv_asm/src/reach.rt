@@ -2,15 +2,16 @@ ghost use Rattle.std.specs.Prelude.{◌≡◌, ◌+◌, ◌-◌, ◌*◌, ◌<�
 ghost use Rattle.std.specs.Prelude.{unsigned_abs, option_to_list};
 ghost use Rattle.rv_asm.specs.Layout.{offset, offset_in, grow_in, known, size, instruction_size, advance};
 ghost use Rattle.rv_asm.specs.Layout.{upper, lower, signed_word, load_number, load_address, unless_too_large};
-ghost use Rattle.rv_asm.specs.Read.{expression_of, operands_in, statement_of};
+ghost use Rattle.rv_asm.specs.Read.{expression_of, statement_of};
 ghost use Rattle.rv_asm.specs.Symbols.{found};
 ghost use Rattle.rv_isa.specs.Word.{modulo_word};
 ghost use Rattle.rv_isa.specs.declared.instructions.Instr.TheVariants.{OpImmediate};
 ghost use Rattle.rv_isa.specs.declared.operations.ImmediateOp.TheVariants.{Addi};
 
 use crate::fault::AsmFault;
-use crate::operand::{Expression, Operand};
+use crate::operand::Expression;
 use crate::operation::{Fields, Operation, Section};
+use crate::pieces::piece_count;
 use crate::statement::Statement;
 use crate::symbols::Symbols;
 use rv_isa::{Immediate, ImmediateOp, Instr, Reg, UpperImmediate};
@@ -173,20 +174,17 @@ fn instruction_size<'a>(
 }
 
 /// The bytes of a statement at an offset.
-fn size<'a>(
-    symbols: &Symbols<'a>,
-    offset: usize,
-    statement: &Statement<'a>,
-    operands: &[Operand<'a>],
-) -> u128
-    ensures size { result ≡ size (found symbols.now) offset (statement_of (operands_in operands.now) statement.now) }
+fn size<'a>(symbols: &Symbols<'a>, offset: usize, statement: &Statement<'_, 'a>) -> u128
+    ensures size { result ≡ size (found symbols.now) offset (statement_of statement.now) }
     ensures small { result < 2 ^ 100 }
 {
     match statement {
         Statement::Instruction(operation, fields, value) => {
             instruction_size(symbols, *operation, *fields, value) as u128
         }
-        Statement::Values(width) => u128::from(width.bytes()) * operands.len() as u128,
+        Statement::Values(width, operands) => {
+            u128::from(width.bytes()) * piece_count(operands) as u128
+        }
         Statement::Bytes(directive, operand) => directive.size(offset, *operand),
         _ => 0,
     }
@@ -195,16 +193,15 @@ fn size<'a>(
 /// How far the text has come after a statement, if it is not too large then.
 pub fn advance<'a>(
     symbols: &Symbols<'a>,
-    statement: &Statement<'a>,
-    operands: &[Operand<'a>],
+    statement: &Statement<'_, 'a>,
     mut reach: Reach,
 ) -> Result<Reach, AsmFault>
     ensures { result ≡ unless_too_large
-        (advance (found symbols.now) (statement_of (operands_in operands.now) statement.now) reach) }
+        (advance (found symbols.now) (statement_of statement.now) reach) }
 {
     if let Statement::Choice(section) = statement {
         reach.section = *section;
         return reach.grown(0);
     }
-    reach.grown(size(symbols, reach.offset(), statement, operands))
+    reach.grown(size(symbols, reach.offset(), statement))
 }

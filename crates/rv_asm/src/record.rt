@@ -1,5 +1,4 @@
 use crate::reach::Reach;
-use crate::statement::Reading;
 
 /// A line of the text.
 #[derive(Clone, Copy)]
@@ -9,14 +8,10 @@ pub struct TextLine<'a> {
     pub bytes: &'a [u8],
 }
 
-/// A line, as the first pass read it.
+/// A line in its place, which the second pass reads again.
 #[derive(Drop)]
 pub struct Record<'a> {
     pub line: TextLine<'a>,
     /// How far the text had come before the line.
     pub reach: Reach,
-    /// Whether one of its labels is `_start`.
-    pub label_starts: bool,
-    /// What stands after its labels.
-    pub reading: Reading<'a>,
 }

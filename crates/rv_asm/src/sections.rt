@@ -1,22 +1,23 @@
-ghost use Rattle.std.specs.Prelude.{◌≡◌, List, Ok, None, OnOk, IfOk, IfErr};
+ghost use Rattle.std.specs.Prelude.{◌≡◌, Ok, None, OnOk, IfOk, IfErr};
 ghost use Rattle.rv_asm.specs.Answer.{RefusedBy, RefusedAt};
 ghost use Rattle.rv_asm.specs.Emitted.{Appends, Emits};
 ghost use Rattle.rv_asm.specs.Faults.{second_fault};
 ghost use Rattle.rv_asm.specs.Kept.{first_with_fault};
+ghost use Rattle.rv_asm.specs.Layout.{statement_in};
 ghost use Rattle.rv_asm.specs.Meaning.{Spells, contents, line_cells, parts_in, start_address};
-ghost use Rattle.rv_asm.specs.Operand.{Operand};
-ghost use Rattle.rv_asm.specs.Placed.{constant_starts};
-ghost use Rattle.rv_asm.specs.Read.{statement_of};
+ghost use Rattle.rv_asm.specs.Placed.{constant_starts, place_body};
+ghost use Rattle.rv_asm.specs.Read.{statement_of, tokens_in};
 ghost use Rattle.rv_asm.specs.Symbols.{kept_in, layout_of, lines_in, placed_of};
 
 use crate::emit::emit;
 use crate::fault::{AsmError, AsmFault};
 use crate::operation::Section;
 use crate::program::Program;
-use crate::reach::modulo_word;
+use crate::reach::{Reach, modulo_word};
 use crate::record::Record;
-use crate::statement::{Statement, make_statement};
-use crate::symbols::{START, is_start};
+use crate::statement::{Statement, read_statement};
+use crate::symbols::{START, after_labels, is_start};
+use crate::token::{Token, tokenize};
 use std::alloc::Global;
 
 /// Where execution starts.
@@ -27,14 +28,43 @@ pub fn start_address(program: &Program<'_, '_>) -> u32
 }
 
 /// Whether a statement is a `.equ` of `_start`.
-fn constant_starts(statement: &Statement<'_>) -> bool
-    ensures { (operands : List Operand) → result ≡ constant_starts (Ok (statement_of operands statement.now)) }
+fn constant_starts(statement: &Statement<'_, '_>) -> bool
+    ensures { result ≡ constant_starts (Ok (statement_of statement.now)) }
 {
     matches!(statement, Statement::Constant(name, _) if is_start(name))
 }
 
+/// Appends what the tokens after labels mean.
+fn emit_body<'a>(
+    alloc: Global,
+    program: &Program<'_, 'a>,
+    reach: Reach,
+    label_starts: bool,
+    body: &[Token<'a>],
+    out: &mut Vec<u8>,
+) -> Result<(), AsmFault>
+    ensures emitted { IfOk result (λ _. Emits (line_cells program.now.base (layout_of program.now.layout.now)
+        (place_body reach label_starts (statement_in (tokens_in body.now)))) out.old.items out.new.items) }
+    ensures clean { IfOk result (λ _. second_fault program.now.base (layout_of program.now.layout.now)
+        (place_body reach label_starts (statement_in (tokens_in body.now))) ≡ None) }
+    ensures refused { RefusedBy (second_fault program.now.base (layout_of program.now.layout.now)
+        (place_body reach label_starts (statement_in (tokens_in body.now)))) result }
+{
+    let statement = match read_statement(alloc, body) {
+        Ok(statement) => statement,
+        Err(fault) => return Err(fault),
+    };
+    emit(program, reach, &statement, out)?;
+    let starts = label_starts || constant_starts(&statement);
+    if starts && start_address(program) % 4 != 0 {
+        return Err(AsmFault::Misaligned);
+    }
+    Ok(())
+}
+
 /// Appends what a line means.
 fn emit_line<'a>(
+    alloc: Global,
     program: &Program<'_, 'a>,
     line: &Record<'a>,
     out: &mut Vec<u8>,
@@ -46,17 +76,9 @@ fn emit_line<'a>(
     ensures refused { RefusedBy
         (second_fault program.now.base (layout_of program.now.layout.now) (placed_of line.now)) result }
 {
-    let operands = line.reading.operands.as_slice();
-    let statement = match make_statement(line.reading.form, operands) {
-        Ok(statement) => statement,
-        Err(fault) => return Err(fault),
-    };
-    emit(program, line.reach, &statement, operands, out)?;
-    let starts = line.label_starts || constant_starts(&statement);
-    if starts && start_address(program) % 4 != 0 {
-        return Err(AsmFault::Misaligned);
-    }
-    Ok(())
+    let tokens = tokenize(alloc, line.line.bytes)?;
+    let (body, label_starts) = after_labels(tokens.as_slice());
+    emit_body(alloc, program, line.reach, label_starts, body, out)
 }
 
 /// The bytes of the two sections.
@@ -68,7 +90,12 @@ pub struct Sections {
 
 impl Sections {
     /// Appends what a line means to the section that it stands in.
-    fn add<'a>(&mut self, program: &Program<'_, 'a>, line: &Record<'a>) -> Result<(), AsmFault>
+    fn add<'a>(
+        &mut self,
+        alloc: Global,
+        program: &Program<'_, 'a>,
+        line: &Record<'a>,
+    ) -> Result<(), AsmFault>
         ensures text { OnOk result (Appends (parts_in Section.Text line.now.reach.section
             (line_cells program.now.base (layout_of program.now.layout.now) (placed_of line.now)))
             self.old.text.items self.new.text.items) }
@@ -81,8 +108,8 @@ impl Sections {
             (second_fault program.now.base (layout_of program.now.layout.now) (placed_of line.now)) result }
     {
         match line.reach.section {
-            Section::Text => emit_line(program, line, &mut self.text),
-            Section::Data => emit_line(program, line, &mut self.data_bytes),
+            Section::Text => emit_line(alloc, program, line, &mut self.text),
+            Section::Data => emit_line(alloc, program, line, &mut self.data_bytes),
         }
     }
 
@@ -103,7 +130,7 @@ impl Sections {
             data_bytes: Vec::new(alloc),
         };
         for line in &program.layout.records {
-            if let Err(fault) = sections.add(program, line) {
+            if let Err(fault) = sections.add(alloc, program, line) {
                 return Err(AsmError::at(fault, line.line.number));
             }
         }

@@ -53,6 +53,20 @@ fn first_label<'a>(tokens: &[Token<'a>]) -> Option<&'a [u8]>
     }
 }
 
+/// The tokens after the labels of a line, and whether one of these is `_start`.
+pub fn after_labels<'t, 'a>(tokens: &'t [Token<'a>]) -> (&'t [Token<'a>], bool)
+    ensures body { tokens_in result.0.now ≡ body_of (tokens_in tokens.entry.now) }
+    ensures starts { result.1 ≡ list_any is_start (labels_of (tokens_in tokens.entry.now)) }
+{
+    let mut rest = tokens;
+    let mut starts = false;
+    while let Some(name) = first_label(rest) {
+        starts |= is_start(name);
+        rest = &rest[2..];
+    }
+    (rest, starts)
+}
+
 impl<'a> Symbols<'a> {
     /// No symbols.
     pub fn new(alloc: Global) -> Self

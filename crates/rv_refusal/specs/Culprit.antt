@@ -1,4 +1,5 @@
 -- From which token on a line is at fault.
+use denote.Ref.{Bor}
 use Rattle.std.specs.Prelude.{ℕ, ◌-◌, ◌==◌, List, [], ◌∷◌, length, Bool, true, false, not, ◌&&◌, if◌then◌else◌, Option, Some, None, codes, drop, option_and_then, option_map, pos, unwrap_or}
 use Rattle.std.specs.{List.before_first, List.find, List.list_all, List.position_or_len, Option.option_map_or, Option.option_or, Str.bytes_eq}
 use Rattle.rv_isa.specs.declared.operations.Width.{Width}
@@ -7,9 +8,11 @@ use Rattle.rv_asm.specs.Meaning.{fits_width}
 use Rattle.rv_asm.specs.Mnemonic.{form_named}
 use Rattle.rv_asm.specs.Names.{register_named}
 use Rattle.rv_asm.specs.Operand.{Operand, Value, Indirect, Number, Symbol, is_comma, operand}
+use Rattle.rv_asm.specs.Read.{tokens_in}
 use Rattle.rv_asm.specs.Statement.{is_between, is_implied, takes}
 use Rattle.rv_asm.specs.Token.{Token}
 use Rattle.rv_asm.specs.Token as token
+use Rattle.rv_asm.specs.declared.token.Token as read
 use Rattle.rv_asm.specs.declared.{fault.AsmFault.AsmFault, operation.Form.Form, operation.Place.Place}
 use Rattle.rv_asm.specs.declared.fault.AsmFault.TheVariants as fault
 use Rattle.rv_asm.specs.declared.operation.Form.TheVariants as form
@@ -24,6 +27,11 @@ later_operands (first ∷ rest) = if is_comma first then rest ∷ later_operands
 abbrev pub operands_on : List Token → List (List Token)
 operands_on [] = []
 operands_on (first ∷ rest) = (first ∷ rest) ∷ later_operands (first ∷ rest)
+
+-- the tokens from each operand on that is left, from those of the first one on
+abbrev pub operands_left : Option (Bor (List read.Token)) → List (List Token)
+operands_left None = []
+operands_left (Some tokens) = tokens_in tokens.now ∷ later_operands (tokens_in tokens.now)
 
 -- the operand that tokens begin with, if it is one
 abbrev pub operand_at : List Token → Option Operand

@@ -54,21 +54,12 @@ pub(crate) fn is_of_token(fault: AsmFault) -> bool
 }
 
 // How many bytes of a line with these tokens stand before the one at fault.
-fn culprit_place(
-    alloc: Global,
-    fault: AsmFault,
-    line: &[u8],
-    tokens: &[Token<'_>],
-) -> Result<Option<usize>, AllocError>
-    ensures { IfOk result (λ place. place ≡ culprit_place fault line.now (tokens_in tokens.now)) }
+fn culprit_place(fault: AsmFault, line: &[u8], tokens: &[Token<'_>]) -> Option<usize>
+    ensures { result ≡ culprit_place fault line.now (tokens_in tokens.now) }
 {
-    match culprit_on(alloc, fault, tokens)? {
-        Some(from) => {
-            let before = tokens.len().saturating_sub(from.len());
-            Ok(Some(token_place(line, before)))
-        }
-        None => Ok(None),
-    }
+    let from = culprit_on(fault, tokens)?;
+    let before = tokens.len().saturating_sub(from.len());
+    Some(token_place(line, before))
 }
 
 // How many bytes of a line stand before the token at fault.
@@ -80,7 +71,7 @@ fn fault_place(alloc: Global, fault: AsmFault, line: &[u8]) -> Result<Option<usi
         return Ok(Some(token_place(line, line.len())));
     }
     match tokenize(alloc, line) {
-        Ok(tokens) => culprit_place(alloc, fault, line, tokens.as_slice()),
+        Ok(tokens) => Ok(culprit_place(fault, line, tokens.as_slice())),
         Err(AsmFault::Memory) => Err(AllocError),
         Err(_) => Ok(None),
     }

@@ -1,17 +1,16 @@
-ghost use Rattle.std.specs.Prelude.{◌≡◌, IfOk, false, map, option_map};
+ghost use Rattle.std.specs.Prelude.{◌≡◌, false, option_map};
 ghost use Rattle.std.specs.List.{find, list_all};
 ghost use Rattle.std.specs.Option.{option_map_or};
 ghost use Rattle.rv_asm.specs.Layout.{body_of};
 ghost use Rattle.rv_asm.specs.Meaning.{fits_width};
 ghost use Rattle.rv_asm.specs.Read.{operand_of, tokens_in};
 ghost use Rattle.rv_asm.specs.Statement.{is_implied};
-ghost use Rattle.rv_refusal.specs.Culprit.{culprit_among, culprit_of, culprit_on, definition_on, defines, fixed_places, has_unknown_register, holds_register, holds_value, is_culprit, is_misfit, is_of_operands, is_past_csrs, is_too_wide, is_wrong_value, marked, may_be_out_of_range, only, operand_at, operand_of_fault, operands_on, unless_empty};
+ghost use Rattle.rv_refusal.specs.Culprit.{culprit_among, culprit_of, culprit_on, definition_on, defines, fixed_places, has_unknown_register, holds_register, holds_value, is_culprit, is_misfit, is_of_operands, is_past_csrs, is_too_wide, is_wrong_value, marked, may_be_out_of_range, only, operand_at, operand_of_fault, operands_left, operands_on, unless_empty};
 
-use crate::operand_tokens::{add_operands, from_register, operand_at};
+use crate::operand_tokens::{after_operand, from_register, operand_at, operand_count, operands_on};
 use crate::statement::after_labels;
 use rv_asm::{AsmFault, Expression, Form, Operand, Place, Token, form_named, register_named};
 use rv_isa::Width;
-use std::alloc::{AllocError, Global};
 
 fn holds_value(place: Place) -> bool
     ensures { result ≡ holds_value place }
@@ -101,27 +100,27 @@ fn culprit_among<'t, 'a>(
     fault: AsmFault,
     places: &[Place],
     last: Option<&'t [Token<'a>]>,
-    operands: &[&'t [Token<'a>]],
+    operands: Option<&'t [Token<'a>]>,
 ) -> Option<&'t [Token<'a>]>
     ensures { option_map (λ from. tokens_in from.now) result ≡ culprit_among fault places.now
-        (option_map (λ from. tokens_in from.now) last.entry) (map (λ from. tokens_in from.now) operands.now) }
+        (option_map (λ from. tokens_in from.now) last.entry) (operands_left operands.entry) }
 {
-    let [operand, others @ ..] = operands else {
+    let Some(operand) = operands else {
         if are_implied(places) {
             return last;
         }
         return None;
     };
     let [place, later @ ..] = places else {
-        return Some(*operand);
+        return Some(operand);
     };
     if place.is_implied() {
         return culprit_among(fault, later, last, operands);
     }
     if is_culprit(fault, *place, operand_at(operand)) {
-        return Some(*operand);
+        return Some(operand);
     }
-    culprit_among(fault, later, Some(*operand), others)
+    culprit_among(fault, later, Some(operand), after_operand(operand))
 }
 
 fn fits_width(width: Width, number: i64) -> bool
@@ -160,25 +159,27 @@ fn is_wrong_value(fault: AsmFault, width: Width, written: Option<Operand<'_>>) -
 fn wrong_value<'t, 'a>(
     fault: AsmFault,
     width: Width,
-    operands: &[&'t [Token<'a>]],
+    operands: Option<&'t [Token<'a>]>,
 ) -> Option<&'t [Token<'a>]>
     ensures { option_map (λ from. tokens_in from.now) result
-        ≡ find (λ from. is_wrong_value fault width (operand_at from)) (map (λ from. tokens_in from.now) operands.now) }
+        ≡ find (λ from. is_wrong_value fault width (operand_at from)) (operands_left operands.entry) }
 {
-    for operand in operands {
+    let mut rest = operands;
+    while let Some(operand) = rest {
         if is_wrong_value(fault, width, operand_at(operand)) {
-            return Some(*operand);
+            return Some(operand);
         }
+        rest = after_operand(operand);
     }
     None
 }
 
 // The only one of some operands.
-fn only<'t, 'a>(operands: &[&'t [Token<'a>]]) -> Option<&'t [Token<'a>]>
-    ensures { option_map (λ from. tokens_in from.now) result ≡ only (map (λ from. tokens_in from.now) operands.now) }
+fn only<'t, 'a>(operands: Option<&'t [Token<'a>]>) -> Option<&'t [Token<'a>]>
+    ensures { option_map (λ from. tokens_in from.now) result ≡ only (operands_left operands.entry) }
 {
     match operands {
-        [operand] => Some(*operand),
+        Some(operand) if after_operand(operand).is_none() => Some(operand),
         _ => None,
     }
 }
@@ -208,9 +209,9 @@ fn fixed_places(form: Form, count: usize) -> &'static [Place]
 fn culprit_of<'t, 'a>(
     fault: AsmFault,
     form: Form,
-    operands: &[&'t [Token<'a>]],
+    operands: Option<&'t [Token<'a>]>,
 ) -> Option<&'t [Token<'a>]>
-    ensures { option_map (λ from. tokens_in from.now) result ≡ culprit_of fault form (map (λ from. tokens_in from.now) operands.now) }
+    ensures { option_map (λ from. tokens_in from.now) result ≡ culprit_of fault form (operands_left operands.entry) }
 {
     match form {
         Form::Instruction(_, first, second, third) => {
@@ -223,7 +224,7 @@ fn culprit_of<'t, 'a>(
         Form::Bytes(_, place) => culprit_among(fault, &[place], None, operands),
         Form::Nothing | Form::Jal | Form::Jalr | Form::Choice(_) | Form::Global | Form::Constant =>
             {
-                let places = fixed_places(form, operands.len());
+                let places = fixed_places(form, operand_count(operands));
                 culprit_among(fault, places, None, operands)
             }
     }
@@ -251,43 +252,23 @@ fn marked<'t, 'a>(fault: AsmFault, tokens: &'t [Token<'a>]) -> &'t [Token<'a>]
     }
 }
 
-// The operand of a form with these tokens after its name for which a fault is reported, from its token at fault on.
-fn marked_among<'t, 'a>(
-    alloc: Global,
-    fault: AsmFault,
-    form: Form,
-    tokens: &'t [Token<'a>],
-) -> Result<Option<&'t [Token<'a>]>, AllocError>
-    ensures { IfOk result (λ operand. option_map (λ from. tokens_in from.now) operand
-        ≡ option_map (marked fault) (culprit_of fault form (operands_on (tokens_in tokens.entry.now)))) }
-{
-    let mut operands = Vec::new(alloc);
-    add_operands(&mut operands, tokens)?;
-    match culprit_of(fault, form, operands.as_slice()) {
-        Some(operand) => Ok(Some(marked(fault, operand))),
-        None => Ok(None),
-    }
-}
-
 /// The operand of a statement for which a fault is reported, from its token at fault on.
 #[tactic(auto, unfolding(crate::specs::Culprit::operand_of_fault))]
 pub(crate) fn operand_of_fault<'t, 'a>(
-    alloc: Global,
     fault: AsmFault,
     body: &'t [Token<'a>],
-) -> Result<Option<&'t [Token<'a>]>, AllocError>
-    ensures { IfOk result (λ operand. option_map (λ from. tokens_in from.now) operand ≡ operand_of_fault fault (tokens_in body.entry.now)) }
+) -> Option<&'t [Token<'a>]>
+    ensures { option_map (λ from. tokens_in from.now) result ≡ operand_of_fault fault (tokens_in body.entry.now) }
 {
     let [Token::Name(name), rest @ ..] = body else {
-        return Ok(None);
+        return None;
     };
     if !is_of_operands(fault) {
-        return Ok(None);
+        return None;
     }
-    match form_named(name) {
-        Some(form) => marked_among(alloc, fault, form, rest),
-        None => Ok(None),
-    }
+    let form = form_named(name)?;
+    let operand = culprit_of(fault, form, operands_on(rest))?;
+    Some(marked(fault, operand))
 }
 
 // Whether tokens begin with a label, or with a directive that defines a symbol.
@@ -328,18 +309,17 @@ fn unless_empty<'t, 'a>(tokens: &'t [Token<'a>], other: &'t [Token<'a>]) -> &'t 
 /// The tokens of a line from the one at fault on, if it is known.
 #[tactic(auto, unfolding(crate::specs::Culprit::culprit_on))]
 pub(crate) fn culprit_on<'t, 'a>(
-    alloc: Global,
     fault: AsmFault,
     tokens: &'t [Token<'a>],
-) -> Result<Option<&'t [Token<'a>]>, AllocError>
-    ensures { IfOk result (λ culprit. option_map (λ from. tokens_in from.now) culprit ≡ culprit_on fault (tokens_in tokens.entry.now)) }
+) -> Option<&'t [Token<'a>]>
+    ensures { option_map (λ from. tokens_in from.now) result ≡ culprit_on fault (tokens_in tokens.entry.now) }
 {
     if let AsmFault::DuplicateSymbol = fault {
-        return Ok(definition_on(tokens));
+        return definition_on(tokens);
     }
     let body = after_labels(tokens);
-    match operand_of_fault(alloc, fault, body) {
-        Ok(None) => Ok(Some(unless_empty(body, tokens))),
-        found => found,
+    match operand_of_fault(fault, body) {
+        Some(operand) => Some(operand),
+        None => Some(unless_empty(body, tokens)),
     }
 }

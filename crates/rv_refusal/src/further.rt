@@ -12,7 +12,7 @@ use crate::place::add_place;
 use crate::statement::after_labels;
 use crate::text::add_all;
 use itoa::Buffer;
-use rv_asm::{AsmFault, Token, first_line, make_statement, read, tokenize};
+use rv_asm::{AsmFault, Token, first_line, read_statement, tokenize};
 use std::alloc::{AllocError, Global};
 
 /// A line that has a fault, by its number.
@@ -34,8 +34,7 @@ fn try_statement(alloc: Global, body: &[Token<'_>]) -> Result<(), AsmFault>
     ensures clean { IfOk result (λ _. result_err (statement_in (tokens_in body.now)) ≡ None) }
     ensures refused { RefusedBy (result_err (statement_in (tokens_in body.now))) result }
 {
-    let reading = read(alloc, body)?;
-    match make_statement(reading.form, reading.operands.as_slice()) {
+    match read_statement(alloc, body) {
         Ok(_) => Ok(()),
         Err(fault) => Err(fault),
     }

@@ -1,12 +1,11 @@
-ghost use Rattle.std.specs.Prelude.{◌≡◌, ◌≤◌, ◌++◌, OnOk, false, length, map, option_map};
+ghost use Rattle.std.specs.Prelude.{◌≡◌, ◌<◌, ◌≤◌, IfSome, false, length, option_map};
 ghost use Rattle.std.specs.List.{before_first, position_or_len};
 ghost use Rattle.std.specs.Option.{option_map_or};
 ghost use Rattle.rv_asm.specs.Operand.{is_comma};
 ghost use Rattle.rv_asm.specs.Read.{operand_of, token_of, tokens_in};
-ghost use Rattle.rv_refusal.specs.Culprit.{from_register, has_base, operand_at, operands_on};
+ghost use Rattle.rv_refusal.specs.Culprit.{from_register, has_base, later_operands, operand_at, operands_left, operands_on};
 
 use rv_asm::{Operand, Token, read_operand};
-use std::alloc::AllocError;
 
 fn is_comma(token: &Token<'_>) -> bool
     ensures { result ≡ is_comma (token_of token.now) }
@@ -14,26 +13,43 @@ fn is_comma(token: &Token<'_>) -> bool
     matches!(*token, Token::Comma)
 }
 
-/// Adds the tokens from each operand on.
-pub(crate) fn add_operands<'t, 'a>(
-    operands: &mut Vec<&'t [Token<'a>]>,
-    tokens: &'t [Token<'a>],
-) -> Result<(), AllocError>
-    ensures { OnOk result (map (λ operand. tokens_in operand.now) operands.new.items
-        ≡ map (λ operand. tokens_in operand.now) operands.old.items ++ operands_on (tokens_in tokens.entry.now)) }
+/// The tokens from the first operand on, if there is one.
+pub(crate) fn operands_on<'t, 'a>(tokens: &'t [Token<'a>]) -> Option<&'t [Token<'a>]>
+    ensures { operands_left result ≡ operands_on (tokens_in tokens.entry.now) }
 {
     if tokens.is_empty() {
-        return Ok(());
+        None
+    } else {
+        Some(tokens)
     }
-    operands.push(tokens)?;
+}
+
+/// The tokens from the next operand on, if there is one.
+pub(crate) fn after_operand<'t, 'a>(tokens: &'t [Token<'a>]) -> Option<&'t [Token<'a>]>
+    ensures others { operands_left result ≡ later_operands (tokens_in tokens.entry.now) }
+    ensures shorter { IfSome result (λ rest. length rest.now < length tokens.entry.now) }
+{
     let mut rest = tokens;
     while let [first, others @ ..] = rest {
         if is_comma(first) {
-            operands.push(others)?;
+            return Some(others);
         }
         rest = others;
     }
-    Ok(())
+    None
+}
+
+/// How many operands there are from the first one's tokens on.
+pub(crate) fn operand_count(operands: Option<&[Token<'_>]>) -> usize
+    ensures { result ≡ length (operands_left operands.entry) }
+{
+    let mut count = 0;
+    let mut rest = operands;
+    while let Some(operand) = rest {
+        count += 1;
+        rest = after_operand(operand);
+    }
+    count
 }
 
 // How many tokens stand before the first comma.

@@ -29,21 +29,13 @@ fn names_csr(body: &[Token<'_>]) -> bool
 
 // The name at fault in a statement.
 #[tactic(auto, unfolding(crate::specs::Names::unknown_name))]
-fn unknown_name<'a>(
-    alloc: Global,
-    fault: AsmFault,
-    body: &[Token<'a>],
-) -> Result<Option<&'a [u8]>, AllocError>
-    ensures { IfOk result (λ name. option_copied name ≡ unknown_name fault (tokens_in body.now)) }
+fn unknown_name<'a>(fault: AsmFault, body: &[Token<'a>]) -> Option<&'a [u8]>
+    ensures { option_copied result ≡ unknown_name fault (tokens_in body.now) }
 {
     match fault {
-        AsmFault::UnknownMnemonic => Ok(first_name(body)),
-        AsmFault::BadOperands if !names_csr(body) => Ok(None),
-        _ => match operand_of_fault(alloc, fault, body) {
-            Ok(Some(operand)) => Ok(first_name(operand)),
-            Ok(None) => Ok(None),
-            Err(refused) => Err(refused),
-        },
+        AsmFault::UnknownMnemonic => first_name(body),
+        AsmFault::BadOperands if !names_csr(body) => None,
+        _ => first_name(operand_of_fault(fault, body)?),
     }
 }
 
@@ -53,7 +45,7 @@ fn unknown_on(alloc: Global, fault: AsmFault, line: &[u8]) -> Result<Option<&[u8
         ≡ option_and_then (λ tokens. unknown_name fault (body_of tokens)) (tokens_of line.entry.now)) }
 {
     match tokenize(alloc, line) {
-        Ok(tokens) => unknown_name(alloc, fault, after_labels(tokens.as_slice())),
+        Ok(tokens) => Ok(unknown_name(fault, after_labels(tokens.as_slice()))),
         Err(AsmFault::Memory) => Err(AllocError),
         Err(_) => Ok(None),
     }

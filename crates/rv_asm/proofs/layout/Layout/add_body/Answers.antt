@@ -1,12 +1,11 @@
-use Rattle.std.proofs.Common.{◌≡◌, ◌∙◌, Ok, ap, sym, append-nil}
-use Rattle.rv_asm.proofs.Kept.{nothing_said}
-use Rattle.rv_asm.specs.Layout.{statement_in}
+use Rattle.rv_asm.proofs.Few.{read_then, refused_by}
+use Rattle.rv_asm.specs.Faults.{moved}
 use Rattle.rv_asm.specs.Read.{tokens_in}
-use Rattle.rv_asm.specs.Statement.{Nothing}
-use Rattle.rv_asm.specs.Symbols.{kept_in}
+use Rattle.rv_asm.specs.Statement.{operands_read}
+use Rattle.rv_asm.specs.Symbols.{found}
 use Rattle.rv_asm.proofs.layout.Layout.add_body.Goals as goal
 
-pub returns-then-not-label_starts-clause-records : goal.returns-then-not-label_starts-clause-records
-returns-then-not-label_starts-clause-records c =
-    let nothing : statement_in (tokens_in c.args.body.now) ≡ Ok Nothing = rw (c.in_ok-reading.ensures, ← c.as_slice.ensures.value) (nothing_said _ (sym c.in_ok-says_nothing.ensures.idle ∙ c.if-says_nothing.true)) in
-    rw (nothing, c.if-not-label_starts.true) (ap (λ r. kept_in r.items) c.add_form.ensures.records ∙ sym (append-nil (kept_in c.args.self.now.records.items)))
+pub returns-clause-refused : goal.returns-clause-refused
+returns-clause-refused c =
+    rw (← c.redefines.ensures, c.if-redefines.false, c.in_ok-form.ensures.named, read_then (operands_read (tokens_in c.in_ok-form.tokens.now)) c.in_ok-form.form (moved (found c.args.self.now.symbols) c.args.self.now.reach))
+    (refused_by _ c.add_form.result _ c.add_form.ensures.moved)
