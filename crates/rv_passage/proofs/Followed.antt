@@ -1,53 +1,22 @@
 -- A table that follows a run: no cycle yet, and one cycle more.
-use Rattle.std.proofs.Common.{◌≡◌, ◌∙◌, ℕ, suc, ◌+◌, ◌^◌, ◌<◌, ◌≤◌, List, [], ◌∷◌, ◌++◌, length, vec_capacity, refl, ap, sym, subst, arith, inl, inr}
+use Rattle.std.proofs.Common.{◌≡◌, ◌∙◌, ℕ, ◌+◌, ◌^◌, ◌<◌, ◌≤◌, List, [], ◌∷◌, ◌++◌, length, vec_capacity, ap, sym, subst, arith}
 use Rattle.std.specs.Prelude.{IfOk, Result, Ok, Err}
-use Rattle.std.proofs.lemmas.Bool.{cases_Bool}
 use Rattle.rv_isa.specs.declared.lines.Arrival.{Arrival}
 use Rattle.rv_hardware.specs.Guided.{GuidedHardware}
 use Rattle.rv_hardware.specs.Hardware.{Hardware}
 use Rattle.rv_hardware.specs.History.{History, Moment}
-use Rattle.rv_hardware.specs.Lessons.{first_pc}
 use Rattle.rv_hardware.specs.declared.step.Step.{Step}
-use Rattle.rv_hardware.specs.declared.step.Step.TheVariants as step
 use Rattle.rv_passage.specs.Followed.{HasFollowed, HasOpen, IsRoomy}
-use Rattle.rv_passage.specs.Passage.{in_flight, is_in_flight, retired_by, trapped_by}
-use Rattle.rv_passage.specs.Table.{CanCount, Passages, after_cycle, numbered_from, passages_of, still_open, table_at, with_oldest, with_step, with_steps}
-use Rattle.rv_passage.specs.declared.passage.Passage.{Passage}
+use Rattle.rv_passage.specs.Passage.{in_flight}
+use Rattle.rv_passage.specs.Table.{CanCount, Passages, after_cycle, numbered_from, passages_of, still_open, table_at}
 use Rattle.rv_passage.specs.declared.table.Table.{Table}
+use Rattle.rv_passage.proofs.Moving.{length-numbered_from, steps-within}
 use Rattle.rv_passage.proofs.Walk.{last_cycle, passages_after-push}
 
 -- what comes of an Ok
 pub if_ok_by : {T E : Type 0} {P Q : T → Type 0} (r : Result T E) → ((x : T) → P x → Q x) → IfOk r P → IfOk r Q
 if_ok_by (Ok value) then fact = then value fact
 if_ok_by (Err error) then fact = tt
-
-length-numbered_from : (number : ℕ) (ps : List Passage) → length (numbered_from number ps) ≡ length ps
-length-numbered_from number [] = refl
-length-numbered_from number (p ∷ ps) = omega (arith, length-numbered_from (number + 1) ps)
-
-length-with_oldest : (change : Passage → Passage) (ps : List Passage) → length (with_oldest change ps) ≡ length ps
-length-with_oldest change [] = refl
-length-with_oldest change (p ∷ ps) = elim (cases_Bool (is_in_flight p)) [
-  | inl here ↦ rw here refl
-  | inr ended ↦ rw ended (ap suc (length-with_oldest change ps))
-]
-
--- the steps of a cycle fetch nothing
-record Stays (old new : Passages) : Type 0 where
-  pub rows : length new.rows ≡ length old.rows
-  pub fetched : new.fetched ≡ old.fetched
-
-step-stays : (s : Step) (next : ℕ) (t : Passages) → Stays t (with_step s next t)
-step-stays (step.Retired row) next t = record { rows = length-with_oldest (retired_by row t.retired next) t.rows; fetched = refl }
-step-stays (step.Trap pc cause value cycle) next t = record { rows = length-with_oldest (trapped_by cause cycle) t.rows; fetched = refl }
-step-stays (step.Interrupt pc cause cycle) next t = record { rows = refl; fetched = refl }
-
-steps-stay : (ss : List Step) (next : ℕ) (t : Passages) → Stays t (with_steps ss next t)
-steps-stay [] next t = record { rows = refl; fetched = refl }
-steps-stay (s ∷ ss) next t =
-    let first = step-stays s (first_pc ss next) t in
-    let rest = steps-stay ss next (with_step s (first_pc ss next) t) in
-    record { rows = rest.rows ∙ first.rows; fetched = rest.fetched ∙ first.fetched }
 
 -- no cycle yet
 pub followed_nothing : (keep : Passages → Passages) (h : Hardware) (table : Passages) → table ≡ table_at h → length table.rows ≤ 288 →
@@ -103,7 +72,7 @@ module _ {first now : Hardware} {moments : List Moment} {table : Table} (so_far 
   pub few_rows : (cycle : ℕ) (steps : List Step) (after : Hardware) (full : Table) → passages_of full ≡ after_cycle cycle steps after (passages_of table)
       → full.fetched ≤ table.fetched + 288 → length (passages_of full).rows ≤ 576
   few_rows cycle steps after full takes more =
-      let same = steps-stay steps after.pc (passages_of table) in
+      let same = steps-within steps after.pc (passages_of table) in
       omega (arith, ap (λ (t : Passages). t.fetched) takes, ap (λ (t : Passages). length t.rows) takes, same.rows, same.fetched, so_far.few, more)
 
 -- one more cycle

@@ -1,7 +1,10 @@
 pub mod InFlight
 mod YoungestLeft
 mod Moving
+mod MovesOn
+mod View
 pub mod Numbers
+pub mod Plain
 mod Dropped
 mod Youngest
 pub mod Walk

@@ -1,7 +1,7 @@
 -- The instructions in flight by their numbers alone, and what of a passage the hardware at the end of a cycle says by itself.
-use Rattle.std.specs.Prelude.{ℕ, zero, suc, nat_lt, if◌then◌else◌, List, [], ◌∷◌, filter, map, None}
+use Rattle.std.specs.Prelude.{ℕ, zero, suc, if◌then◌else◌, List, drop, filter, is_some, map, None}
 use Rattle.rv_passage.specs.Passage.{is_in_flight, nothing_awaited}
-use Rattle.rv_passage.specs.Table.{Passages}
+use Rattle.rv_passage.specs.Table.{Passages, next_before}
 use Rattle.rv_passage.specs.declared.passage.Passage.{Passage}
 
 -- the numbers of those in flight, in order of fetch
@@ -21,9 +21,9 @@ numbers_of t = record { in_flight = numbers_in_flight t.rows; fetched = t.fetche
 -- How many of so many instructions in flight before a cycle go on through it, where `now` is in flight at its end: as many as were
 -- fetched before it.
 abbrev pub kept_through : ℕ → List Passage → ℕ → ℕ
-kept_through cycle [] count = 0
-kept_through cycle (n ∷ now) zero = 0
-kept_through cycle (n ∷ now) (suc count) = if nat_lt n.fetched cycle then suc (kept_through cycle now count) else 0
+kept_through cycle now zero = 0
+kept_through cycle now (suc count) =
+    if is_some (next_before cycle now) then suc (kept_through cycle (drop 1 now) count) else 0
 
 -- a passage without what was noted at its fetch and its dispatch alone: what was predicted, and whose results it waits for
 abbrev pub plain : Passage → Passage

@@ -26,6 +26,14 @@ abbrev pub numbered_from : ℕ → List Passage → List Passage
 numbered_from number [] = []
 numbered_from number (p ∷ ps) = numbered number p ∷ numbered_from (number + 1) ps
 
+-- with other rows
+abbrev pub with_rows : List Passage → Passages → Passages
+with_rows rows t = record t { rows = rows }
+
+-- further instructions are fetched, and numbered on
+abbrev pub with_fetched : List Passage → Passages → Passages
+with_fetched now t = record t { rows = t.rows ++ numbered_from t.fetched now; fetched = t.fetched + length now }
+
 -- a table that begins with what is in flight
 abbrev pub table_from : List Passage → Passages
 table_from now = record { rows = numbered_from 0 now; interrupts = []; fetched = length now; retired = 0 }

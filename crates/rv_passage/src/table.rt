@@ -38,7 +38,7 @@ pub struct Table {
 
 impl Table {
     ghost use Rattle.rv_passage.specs.Numbers.{numbers_of};
-    ghost use Rattle.rv_passage.specs.Table.{AreMovedOn, AreShort, CanCount, HasRoom, after_steps, numbered_from, passages_of, still_open, table_from, with_oldest, with_step, with_steps, without_squashed};
+    ghost use Rattle.rv_passage.specs.Table.{AreMovedOn, AreShort, CanCount, HasRoom, after_steps, numbered_from, passages_of, still_open, table_from, with_fetched, with_oldest, with_rows, with_step, with_steps, without_squashed};
 
     /// A table that begins with what is in flight in two buffers, numbered from 0. It has room for two cycles.
     pub fn begin(alloc: Global, rob: &Rob, front: &Front) -> Result<Table, AllocError>
@@ -156,10 +156,10 @@ impl Table {
     // Forgets all but so many of the oldest.
     fn keep(&mut self, count: usize)
         requires { count ≤ length (passages_of self.old).rows }
-        ensures rows { (passages_of self.new).rows ≡ take count (passages_of self.old).rows }
+        ensures kept { passages_of self.new ≡ with_rows (take count (passages_of self.old).rows) (passages_of self.old) }
         ensures len { length self.new.rows.items ≤ length self.old.rows.items }
-        ensures others { (self.new.interrupts ≡ self.old.interrupts) × (self.new.fetched ≡ self.old.fetched) × (self.new.retired ≡ self.old.retired) }
         ensures capacity { vec_capacity self.new.rows ≡ vec_capacity self.old.rows }
+        ensures interrupts { self.new.interrupts ≡ self.old.interrupts }
     {
         self.rows.truncate(self.dropped + count);
     }
@@ -209,9 +209,10 @@ impl Table {
     fn move_rows_on(&mut self, cycle: u64, rob: &Rob, front: &Front) -> usize
         ensures rows { AreMovedOn cycle (in_buffers rob.now front.now) (passages_of self.old).rows (passages_of self.new).rows result }
         ensures kept { length (passages_of self.new).rows ≡ length (passages_of self.old).rows }
+        ensures others { passages_of self.new ≡ with_rows (passages_of self.new).rows (passages_of self.old) }
         ensures len { length self.new.rows.items ≡ length self.old.rows.items }
-        ensures others { (self.new.interrupts ≡ self.old.interrupts) × (self.new.fetched ≡ self.old.fetched) × (self.new.retired ≡ self.old.retired) }
         ensures capacity { vec_capacity self.new.rows ≡ vec_capacity self.old.rows }
+        ensures interrupts { self.new.interrupts ≡ self.old.interrupts }
     {
         move_kept_on(self.rows.as_mut_slice(), self.dropped, cycle, rob, front)
     }
@@ -260,10 +261,9 @@ impl Table {
         requires short { AreShort rob.now front.now }
         requires room { length self.old.rows.items + 288 ≤ vec_capacity self.old.rows }
         requires countable { self.old.fetched + 288 < 2 ^ 64 }
-        ensures rows { (passages_of self.new).rows ≡ (passages_of self.old).rows ++ numbered_from self.old.fetched (drop from (in_buffers rob.now front.now)) }
-        ensures fetched { self.new.fetched ≡ self.old.fetched + length (drop from (in_buffers rob.now front.now)) }
-        ensures others { (self.new.interrupts ≡ self.old.interrupts) × (self.new.retired ≡ self.old.retired) }
+        ensures appended { passages_of self.new ≡ with_fetched (drop from (in_buffers rob.now front.now)) (passages_of self.old) }
         ensures capacity { vec_capacity self.new.rows ≡ vec_capacity self.old.rows }
+        ensures interrupts { self.new.interrupts ≡ self.old.interrupts }
         ensures few { length (in_buffers rob.now front.now) ≤ 288 }
     {
         for place in from..count_in_flight(rob, front) {
@@ -275,11 +275,10 @@ impl Table {
     fn append(&mut self, mut now: Passage)
         requires room { length self.old.rows.items < vec_capacity self.old.rows }
         requires countable { self.old.fetched + 1 < 2 ^ 64 }
-        ensures rows { (passages_of self.new).rows ≡ (passages_of self.old).rows ++ numbered self.old.fetched now ∷ [] }
+        ensures appended { passages_of self.new ≡ with_fetched (now ∷ []) (passages_of self.old) }
         ensures len { length self.new.rows.items ≡ length self.old.rows.items + 1 }
-        ensures fetched { self.new.fetched ≡ self.old.fetched + 1 }
-        ensures others { (self.new.interrupts ≡ self.old.interrupts) × (self.new.retired ≡ self.old.retired) }
         ensures capacity { vec_capacity self.new.rows ≡ vec_capacity self.old.rows }
+        ensures interrupts { self.new.interrupts ≡ self.old.interrupts }
     {
         now.number = self.fetched;
         put_last(&mut self.rows, now);

@@ -1,7 +1,9 @@
 use Rattle.std.proofs.Common.{◌∙◌, ap, drop}
-use Rattle.rv_passage.proofs.Numbers.{drop_first}
+use Rattle.std.proofs.lemmas.List.{drop-take}
 use Rattle.rv_passage.proofs.table.Table.keep.Goals as goal
 
-pub returns-clause-rows : goal.returns-clause-rows
-returns-clause-rows c =
-    ap (drop c.args.self.now.dropped) c.truncate.ensures.items ∙ drop_first c.args.self.now.dropped c.args.count c.args.self.now.rows.items
+pub returns-clause-kept : goal.returns-clause-kept
+returns-clause-kept c =
+    let all = c.args.self.now in
+    let rows = ap (drop all.dropped) c.truncate.ensures.items ∙ drop-take all.dropped c.args.count all.rows.items in
+    λ i. record { rows = rows i; interrupts = all.interrupts.items; fetched = all.fetched; retired = all.retired }
