@@ -38,6 +38,7 @@ use Rattle.rv_sentences.specs.Work.{is_mispredicted_branch, is_retired_branch, w
 use Rattle.rv_sentences.specs.declared.{dispatches.Dispatches.Dispatches, exception.Exception.Exception, interruption.Interruption.Interruption}
 use Rattle.rv_sentences.specs.declared.work.Class.TheVariants.{Branch, Mispredicted}
 use Rattle.rv_sentences.proofs.DrainCounts.{drains_by-append, drains_of-le, drains_of-push}
+use Rattle.rv_sentences.proofs.DrainsGrow.{can_count_store, store_counts-push, waiting-push}
 use Rattle.rv_sentences.proofs.CountSums.{counted_within}
 use Rattle.rv_sentences.proofs.CountsGrow.{with_all_at}
 use Rattle.rv_sentences.proofs.LastStores.{stores_of-push, with_stores_of}
@@ -121,6 +122,8 @@ module _ (values : Values) where
       let heads = heads-push moment passes rows_are values in
       let idle = idle-push moment passes rows_are in
       let flusher = flusher-push moment passes rows_are in
+      let waiting = waiting-push moment passes in
+      let stores_drained = store_counts-push moment passes values (costs_of values) in
       let branches = with_all_at values (word_in Branch) rows (count_at (word_in Branch) left) (count_at (word_in Branch) (filter has_left rows ++ left)) (branch_words-left rows left) in
       let mispredicted = with_all_at values (word_in Mispredicted) rows (count_at (word_in Mispredicted) left) (count_at (word_in Mispredicted) (filter has_left rows ++ left)) (mispredicted_words-left rows left) in
       λ i. record {
@@ -143,6 +146,8 @@ module _ (values : Values) where
         branches = branches i;
         mispredicted = mispredicted i;
         outcomes = outcomes i;
+        waiting = waiting i;
+        stores = stores_drained i;
       }
 
   -- the steps of one more cycle can be counted
@@ -166,6 +171,7 @@ module _ (values : Values) where
     quick = omega (arith, count_by-le-length (λ p. is_hit (costs_of values) (retired_load_cost p)) left, fewer, some);
     drains = omega (arith, drains_of-le arrivals h moments, within);
     hits = omega (arith, drains_of-le arrivals h moments, count_by-le-length (λ (cost : ℕ). cost == values.cache.hit) (drains_of arrivals h moments), within);
+    stores = can_count_store values (costs_of values) arrivals h moments within;
     outcomes = can_take values (costs_of values) left rows (omega (arith, fewer, some));
     heads = omega (arith, counted_within itself values (accounts_of h moments), length-accounts h moments, within);
     idle = omega (arith, count_by-le-length is_idle (accounts_of h moments), length-accounts h moments, within);

@@ -70,7 +70,7 @@ cost_text listing progress fetched tale =
     cycle_text progress tale.retired ++ (dispatches_text progress.busy tale.dispatches.cycles ++
     (work_text fetched tale.work ++ (worst_text listing tale.branches tale.mispredicted ++ (stays_text tale.stays ++
     (awaited_text listing tale.awaited ++ (load_text tale.loads ++ (drain_text tale.drains ++
-    hotspots_text listing progress.cycles tale.idle tale.heads tale.outcomes)))))))
+    hotspots_text listing progress.cycles tale.idle tale.heads tale.outcomes tale.stores)))))))
 
 -- how a run ended, its exceptions, interrupts and lines never taken, its greatest waits, what became of its places for dispatch, and where its cycles went, by
 -- how many words were fetched among others

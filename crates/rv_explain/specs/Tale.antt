@@ -19,6 +19,7 @@ use Rattle.rv_counts.specs.Passing.{has_left}
 use Rattle.rv_sentences.specs.Access.{both}
 use Rattle.rv_sentences.specs.Dispatch.{dispatched_after, none_dispatched}
 use Rattle.rv_sentences.specs.Drain.{drains_by, drains_of}
+use Rattle.rv_sentences.specs.Drained.{CanCountStore, drained_of, oldest_drained, still_waiting, store_counts, waiting_of, with_drained, with_waiting}
 use Rattle.rv_sentences.specs.Exception.{exception_in, exceptions_of}
 use Rattle.rv_sentences.specs.Head.{account_of, accounts_of, flusher_in, flusher_of, is_idle, itself}
 use Rattle.rv_hardware.specs.History.{Moment, reports_of}
@@ -60,6 +61,8 @@ tale_of values arrivals h moments left = record {
   branches = notes_of values (count_at (word_in Branch) left);
   mispredicted = notes_of values (count_at (word_in Mispredicted) left);
   outcomes = notes_of values (outcomes_at (costs_of values) left);
+  waiting = waiting_of arrivals h moments;
+  stores = store_counts values (costs_of values) (drained_of arrivals h moments);
 }
 
 -- what is kept of a run that began with such hardware
@@ -89,6 +92,8 @@ tale_after number registers steps places drain lines after rows tale = record {
   branches = with_all (word_in Branch) rows tale.branches;
   mispredicted = with_all (word_in Mispredicted) rows tale.mispredicted;
   outcomes = with_passages tale.costs (filter has_left rows) tale.outcomes;
+  waiting = still_waiting drain (with_waiting (stores_in registers steps) tale.waiting);
+  stores = with_drained tale.costs (oldest_drained drain (with_waiting (stores_in registers steps) tale.waiting)) tale.stores;
 }
 
 -- what is kept of the cycles that were seen, of those values by which nothing was kept at first; with the registers, the end of
@@ -125,6 +130,7 @@ pub record HasRoom (tale : Tale) (more rows : ℕ) : Type 0 where
   pub drains : tale.drains.all + 1 < 2 ^ 64
   pub hits : tale.drains.quick + 1 < 2 ^ 64
   pub outcomes : CanTake tale.outcomes rows
+  pub stores : CanCountStore tale.stores
   pub heads : sum tale.heads.words + 1 < 2 ^ 64
   pub idle : tale.idle + 1 < 2 ^ 64
   pub branch_words : sum tale.branches.words + rows < 2 ^ 64

@@ -128,6 +128,7 @@ fn write_costs<W: Write>(
         progress.cycles,
         tale.idle,
         &tale.outcomes,
+        &tale.stores,
         &mut tale.heads,
     );
 }
@@ -221,7 +222,7 @@ fn write_told<W: Write>(
 /// branches and jumps retired, and how many of them were mispredicted, with the three lines that most of those come from;
 /// why instructions stayed in flight, and the line whose results were awaited most; what its loads and the drains of its
 /// stores cost; and the five lines that most cycles left at the head of the reorder buffer, or that had flushed it, with their
-/// loads. Where the program crashed, its first exception and the interrupts alone are told, unless the figures are asked for.
+/// loads and stores. Where the program crashed, its first exception and the interrupts alone are told, unless the figures are asked for.
 /// The description says where RAM lies, whose words are counted, and what loads and drains cost. The listing is that of the
 /// program, whose lines are shown.
 /// Answers why the run ended.

@@ -12,9 +12,9 @@ use rv_hardware::Step;
 use rv_isa::{Description, Kind, Lines};
 use rv_passage::{Passage, up_to_youngest_left};
 use rv_sentences::{
-    Accesses, Class, Dispatches, Exceptions, Interrupts, Outcomes, Raised, Stays, WordNotes, Work,
-    add_drain, add_loads, add_stays, count_left, count_one, count_words, idle_with,
-    interruption_in, note_stores,
+    Accesses, Class, Dispatches, Exceptions, Interrupts, Outcomes, Raised, Stays, StoreCounts,
+    WaitingStores, WordNotes, Work, add_drain, add_loads, add_stays, count_left, count_one,
+    count_words, idle_with, interruption_in, note_stores,
 };
 use std::alloc::{AllocError, Global};
 
@@ -51,6 +51,10 @@ pub(crate) struct Tale {
     pub(crate) mispredicted: WordNotes<u64>,
     /// The loads in each word that retired.
     pub(crate) outcomes: WordNotes<Outcomes>,
+    /// The retired stores that wait for their drains.
+    pub(crate) waiting: WaitingStores,
+    /// The drains of the stores in each word.
+    pub(crate) stores: StoreCounts,
 }
 
 impl Tale {
@@ -78,6 +82,8 @@ impl Tale {
             branches: WordNotes::new(alloc, description, 0)?,
             mispredicted: WordNotes::new(alloc, description, 0)?,
             outcomes: WordNotes::new(alloc, description, Outcomes::NONE)?,
+            waiting: WaitingStores::new(),
+            stores: StoreCounts::new(alloc, description)?,
         })
     }
 
@@ -122,7 +128,9 @@ impl Tale {
         self.work.add(rows);
         add_loads(&mut self.loads, &self.costs, rows);
         add_drain(&mut self.drains, self.costs.hit, drain);
-        note_stores(&mut self.last_stores, registers, steps);
+        note_stores(&mut self.last_stores, &mut self.waiting, registers, steps);
+        let drained = self.waiting.drain(drain);
+        self.stores.add(&self.costs, drained);
         count_words(&mut self.branches, rows, Class::Branch);
         count_words(&mut self.mispredicted, rows, Class::Mispredicted);
         count_left(&mut self.outcomes, &self.costs, rows);

@@ -3,6 +3,7 @@ pub mod CountSums
 pub mod CountsGrow
 pub mod DrainBegins
 pub mod DrainCounts
+pub mod DrainsGrow
 pub mod LastStores
 pub mod InterruptsGrow
 mod Joined

@@ -6,6 +6,7 @@ pub mod Head
 pub mod Access
 pub mod Load
 pub mod Drain
+pub mod Drained
 pub mod Stack
 pub mod Work
 pub mod Outcome

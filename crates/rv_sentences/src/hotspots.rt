@@ -1,6 +1,6 @@
 ghost use Rattle.std.specs.Prelude.{◌≡◌, ◌≤◌, sum};
 ghost use Rattle.std.specs.List.{flat_map};
-ghost use Rattle.rv_sentences.specs.Hotspot.{empty_text, has_loads, hotspot_text, hotspots_text, idle_text, load_counts, loads_there};
+ghost use Rattle.rv_sentences.specs.Hotspot.{counts_text, counts_there, empty_text, has_any, hotspot_text, hotspots_text, idle_text, loads_there, stores_there};
 ghost use Rattle.rv_text.specs.Said.{Says};
 
 use crate::greatest_lines::greatest_lines;
@@ -8,21 +8,22 @@ use crate::outcomes::Outcomes;
 use crate::place::write_place;
 use crate::spot::Spot;
 use crate::stack::write_share;
+use crate::store_counts::StoreCounts;
 use crate::word_notes::WordNotes;
 use rv_source::Listing;
 use rv_text::Sink;
 use std::io::Write;
 
-fn has_loads(outcomes: &Outcomes) -> bool
-    ensures { result ≡ has_loads outcomes.now }
+fn has_any(outcomes: &Outcomes) -> bool
+    ensures { result ≡ has_any outcomes.now }
 {
     !(outcomes.hits == 0 && outcomes.misses == 0)
 }
 
-fn write_load_counts<W: Write>(out: &mut Sink<'_, W>, outcomes: &Outcomes)
-    ensures { Says W.contents out.old out.new (load_counts outcomes.now) }
+fn write_counts<W: Write>(out: &mut Sink<'_, W>, name: &[u8], outcomes: &Outcomes)
+    ensures { Says W.contents out.old out.new (counts_text name.now outcomes.now) }
 {
-    out.put(b"       its loads: hits ");
+    out.put(name);
     out.put_decimal(outcomes.hits);
     out.put(b", misses ");
     out.put_decimal(outcomes.misses);
@@ -31,16 +32,31 @@ fn write_load_counts<W: Write>(out: &mut Sink<'_, W>, outcomes: &Outcomes)
     out.put(b"\n");
 }
 
+#[tactic(auto, unfolding(crate::specs::Hotspot::counts_there))]
+fn write_counts_there<W: Write>(out: &mut Sink<'_, W>, name: &[u8], outcomes: &Outcomes)
+    ensures { Says W.contents out.old out.new (counts_there name.now outcomes.now) }
+{
+    if has_any(outcomes) {
+        write_counts(out, name, outcomes);
+    }
+}
+
 // Writes the loads in a word, by what they cost.
 #[tactic(auto, unfolding(crate::specs::Hotspot::loads_there))]
 fn write_loads_there<W: Write>(out: &mut Sink<'_, W>, outcomes: Option<Outcomes>)
     ensures { Says W.contents out.old out.new (loads_there outcomes) }
 {
     if let Some(outcomes) = outcomes {
-        if has_loads(&outcomes) {
-            write_load_counts(out, &outcomes);
-        }
+        write_counts_there(out, b"       its loads: hits ", &outcomes);
     }
+}
+
+// Writes the drains of the stores in a word, by what they cost.
+#[tactic(auto, unfolding(crate::specs::Hotspot::stores_there))]
+fn write_stores_there<W: Write>(out: &mut Sink<'_, W>, outcomes: &Outcomes)
+    ensures { Says W.contents out.old out.new (stores_there outcomes.now) }
+{
+    write_counts_there(out, b"       its stores: hits ", outcomes);
 }
 
 #[tactic(auto, using(rv_text::proofs::Saying::saying), unfolding(crate::specs::Hotspot::hotspot_text))]
@@ -49,13 +65,15 @@ fn write_hotspot<W: Write>(
     listing: &Listing,
     all: u64,
     outcomes: &WordNotes<Outcomes>,
+    stores: &StoreCounts,
     hotspot: &Spot,
 )
-    ensures { Says W.contents out.old out.new (hotspot_text listing.now all outcomes.now hotspot.now) }
+    ensures { Says W.contents out.old out.new (hotspot_text listing.now all outcomes.now stores.now hotspot.now) }
 {
     write_place(out, listing, hotspot.address);
     write_share(out, "       ", hotspot.count, all);
     write_loads_there(out, outcomes.at(hotspot.address / 4));
+    write_stores_there(out, &stores.at(hotspot.address / 4));
 }
 
 #[tactic(auto, using(rv_text::proofs::Saying::saying))]
@@ -64,12 +82,13 @@ fn write_each<W: Write>(
     listing: &Listing,
     all: u64,
     outcomes: &WordNotes<Outcomes>,
+    stores: &StoreCounts,
     hotspots: &[Spot],
 )
-    ensures { Says W.contents out.old out.new (flat_map (hotspot_text listing.now all outcomes.now) hotspots.now) }
+    ensures { Says W.contents out.old out.new (flat_map (hotspot_text listing.now all outcomes.now stores.now) hotspots.now) }
 {
     for hotspot in hotspots {
-        write_hotspot(out, listing, all, outcomes, hotspot);
+        write_hotspot(out, listing, all, outcomes, stores, hotspot);
     }
 }
 
@@ -92,7 +111,7 @@ fn write_idle<W: Write>(out: &mut Sink<'_, W>, all: u64, idle: u64)
 }
 
 /// Writes the five lines that stood longest at the head, or had flushed the empty buffer, by the cycles on account of each word, each
-/// with its loads, and leaves no count of theirs; and how many cycles were idle, on account of none. The cycles of all words are no
+/// with its loads and stores, and leaves no count of theirs; and how many cycles were idle, on account of none. The cycles of all words are no
 /// more than there were.
 pub fn write_hotspots<W: Write>(
     out: &mut Sink<'_, W>,
@@ -100,15 +119,16 @@ pub fn write_hotspots<W: Write>(
     all: u64,
     idle: u64,
     outcomes: &WordNotes<Outcomes>,
+    stores: &StoreCounts,
     heads: &mut WordNotes<u64>,
 )
     requires heads { sum heads.old.words ≤ all }
-    ensures { Says W.contents out.old out.new (hotspots_text listing.now all idle heads.old outcomes.now) }
+    ensures { Says W.contents out.old out.new (hotspots_text listing.now all idle heads.old outcomes.now stores.now) }
 {
     out.put(
         b"The lines that stood longest at the head of the reorder buffer, or had flushed it, in cycles:\n",
     );
     let hotspots = greatest_lines(heads, listing, 5);
-    write_each(out, listing, all, outcomes, hotspots.as_slice());
+    write_each(out, listing, all, outcomes, stores, hotspots.as_slice());
     write_idle(out, all, idle);
 }

@@ -6,6 +6,7 @@
 
 mod accesses;
 mod dispatches;
+mod drained;
 mod drains;
 mod exception;
 mod exceptions;
@@ -29,15 +30,18 @@ mod stack;
 mod stay;
 mod stay_lines;
 mod stays;
+mod store_counts;
 mod stored;
 mod stores;
 mod untaken;
+mod waiting_stores;
 mod word_notes;
 mod work;
 mod worst;
 
 pub use accesses::Accesses;
 pub use dispatches::{Dispatches, write_dispatches};
+pub use drained::Drained;
 pub use drains::{add_drain, begun, write_drains};
 pub use exception::Exception;
 pub use exceptions::write_first;
@@ -58,8 +62,10 @@ pub use stack::{write_counts, write_stalls};
 pub use stay::Stay;
 pub use stay_lines::{write_awaited, write_greatest_waits, write_stays};
 pub use stays::{Stays, add_stays};
+pub use store_counts::StoreCounts;
 pub use stores::note_stores;
 pub use untaken::write_untaken;
+pub use waiting_stores::WaitingStores;
 pub use word_notes::{WordNotes, count_one};
 pub use work::{Class, Work, count_words, write_work};
 pub use worst::write_worst;

@@ -3,9 +3,11 @@ ghost use Rattle.std.specs.List.{slice_get};
 ghost use Rattle.rv_isa.specs.Operands.{sources_of};
 ghost use Rattle.std.specs.Option.{option_to_list};
 ghost use Rattle.rv_decode.specs.Decodes.{instruction_of};
+ghost use Rattle.rv_sentences.specs.Drained.{with_waiting};
 ghost use Rattle.rv_sentences.specs.LastStore.{registers_after, store_of, stored_at, stores_in, with_stores};
 
 use crate::stored::Stored;
+use crate::waiting_stores::WaitingStores;
 use crate::word_notes::WordNotes;
 use rv_decode::decode;
 use rv_hardware::Step;
@@ -83,28 +85,36 @@ fn write_register(registers: &mut [u32; 32], step: &Step)
     }
 }
 
-fn note_store(last_stores: &mut WordNotes<Option<u32>>, store: Option<Stored>)
-    ensures { last_stores.new ≡ with_stores (option_to_list store) last_stores.old }
+fn note_store(
+    last_stores: &mut WordNotes<Option<u32>>,
+    waiting: &mut WaitingStores,
+    store: Option<Stored>,
+)
+    ensures last { last_stores.new ≡ with_stores (option_to_list store) last_stores.old }
+    ensures waiting { waiting.new ≡ with_waiting (option_to_list store) waiting.old }
 {
     if let Some(store) = store {
         last_stores.set(store.address / 4, Some(store.pc));
+        waiting.enter(store.pc / 4);
     }
 }
 
-/// Keeps the stores that retired in some steps, by the registers before them.
+/// Keeps the stores that retired in some steps, by the registers before them: the last to each word, and those that wait for their drains.
 pub fn note_stores(
     last_stores: &mut WordNotes<Option<u32>>,
+    waiting: &mut WaitingStores,
     registers: &mut [u32; 32],
     steps: &[Step],
 )
-    ensures { last_stores.new ≡ with_stores (stores_in registers.old steps.now) last_stores.old }
+    ensures last { last_stores.new ≡ with_stores (stores_in registers.old steps.now) last_stores.old }
+    ensures waiting { waiting.new ≡ with_waiting (stores_in registers.old steps.now) waiting.old }
 {
     match steps {
         [] => {}
         [step, rest @ ..] => {
-            note_store(last_stores, store_of(registers, step));
+            note_store(last_stores, waiting, store_of(registers, step));
             write_register(registers, step);
-            note_stores(last_stores, registers, rest);
+            note_stores(last_stores, waiting, registers, rest);
         }
     }
 }

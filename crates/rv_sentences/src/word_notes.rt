@@ -1,6 +1,6 @@
 ghost use Rattle.std.specs.Prelude.{◌≡◌, ◌+◌, ◌<◌, ◌^◌, IfOk, slice_set, sum};
 ghost use Rattle.rv_sentences.specs.Spot.{first_greatest, line_counts, spot_at};
-ghost use Rattle.rv_sentences.specs.WordCount.{with_one};
+ghost use Rattle.rv_sentences.specs.WordCount.{count_in, with_one};
 ghost use Rattle.rv_sentences.specs.WordNotes.{note_at, notes_of, with_note};
 
 use crate::lines::join_lines;
@@ -79,6 +79,16 @@ pub fn count_one(counts: &mut WordNotes<u64>, word: Option<u32>)
     };
     if let Some(count) = counts.at(word) {
         counts.set(word, count + 1);
+    }
+}
+
+/// How much is counted at a word, nothing outside RAM.
+pub fn count_in(counts: &WordNotes<u64>, word: u32) -> u64
+    ensures { result ≡ count_in counts.now word }
+{
+    match counts.at(word) {
+        Some(count) => count,
+        None => 0,
     }
 }
 

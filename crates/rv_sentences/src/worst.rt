@@ -1,27 +1,16 @@
 ghost use Rattle.std.specs.Prelude.{◌≡◌, ◌<◌, ◌^◌, sum};
 ghost use Rattle.std.specs.List.{flat_map};
-ghost use Rattle.rv_sentences.specs.WordCount.{count_in};
 ghost use Rattle.rv_sentences.specs.Worst.{worst_line, worst_lines, worst_text};
 ghost use Rattle.rv_text.specs.Said.{Says};
 
 use crate::greatest_lines::greatest_lines;
 use crate::place::write_place;
 use crate::spot::Spot;
-use crate::word_notes::{WordNotes, count_by_line};
+use crate::word_notes::{WordNotes, count_by_line, count_in};
 use crate::work::write_part;
 use rv_source::Listing;
 use rv_text::Sink;
 use std::io::Write;
-
-// How much is counted at a word, nothing outside RAM.
-fn count_in(counts: &WordNotes<u64>, word: u32) -> u64
-    ensures { result ≡ count_in counts.now word }
-{
-    match counts.at(word) {
-        Some(count) => count,
-        None => 0,
-    }
-}
 
 // Writes a line, how many branches and jumps of it retired, and how many of them were mispredicted.
 fn write_line<W: Write>(

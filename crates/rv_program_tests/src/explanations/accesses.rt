@@ -82,3 +82,31 @@ fn the_loads_of_the_slowest_lines_are_told(rt: HostRuntime) {
     ];
     check_run(&rt, rt.alloc(), EXPLAIN, DIRTY_VICTIM, 0, &lines);
 }
+
+// A cache of one word. The first store brings its word in. The second one drops that, which is dirty, and the third one hits; while the first
+// one drains, both wait.
+const THREE_STORES: &str = "ram_base = 0
+cache.sets = 1
+cache.ways = 1
+cache.line = 4
+commit_width = 1
+%%
+sw x0,1024(x0)
+sw x0,1028(x0)
+sw x5,1028(x0)
+fence.i
+ebreak
+";
+
+#[test]
+fn the_stores_of_the_slowest_lines_are_told(rt: HostRuntime) {
+    let lines = [
+        "00000000, line 1: sw x0,1024(x0)",
+        "       its stores: hits 0, misses 1, write-backs 0",
+        "00000004, line 2: sw x0,1028(x0)",
+        "       its stores: hits 0, misses 1, write-backs 1",
+        "00000008, line 3: sw x5,1028(x0)",
+        "       its stores: hits 1, misses 0, write-backs 0",
+    ];
+    check_run(&rt, rt.alloc(), EXPLAIN, THREE_STORES, 0, &lines);
+}

@@ -14,8 +14,7 @@ loop-row-preserved c =
     let before = c.in-Some.before.now in
     let counts = c.loop-row.counts in
     let one = c.count_one.ensures ∙ ap (λ word. with_one word counts) c.word_in.ensures in
-    let is = ap (λ (ps : List Passage). with_all (word_in c.args.class) ps counts) c.in-Some.ensures.cases.0 ∙ with_all-last (word_in c.args.class) before row counts in
-    (
+    let is = ap (λ (ps : List Passage). with_all (word_in c.args.class) ps counts) c.in-Some.ensures.cases.0 ∙ with_all-last (word_in c.args.class) before row counts in (
       ap (with_all (word_in c.args.class) before) one ∙ sym is ∙ c.loop-row.invariant.0,
       omega (
         arith,

@@ -4,6 +4,7 @@ use Rattle.rv_isa.specs.declared.per_kind.PerKind.{PerKind}
 use Rattle.rv_isa.specs.declared.operations.Kind.TheVariants.{Mem}
 use Rattle.rv_units.specs.Pool.{Pool, is_free}
 use Rattle.rv_counts.specs.Counts.{one_more}
+use Rattle.rv_sentences.specs.Drained.{oldest_drained, still_waiting, with_drained}
 use Rattle.rv_sentences.specs.Head.{is_idle}
 use Rattle.rv_sentences.specs.Interrupt.{interrupts_after}
 use Rattle.rv_sentences.specs.Kinds.{kept_after}
@@ -32,6 +33,7 @@ returns c =
     let up = c.up_to_youngest_left-rows.ensures.kept in
     let left = left_same rows kept up in
     let free = c.free-has_unit.ensures ∙ ap (λ (units : PerKind Pool). is_free c.args.cycle (at_kind Mem units)) c.units.ensures in
+    let drained = c.drain-drained.ensures.drained ∙ ap (oldest_drained c.args.drain) c.note_stores.ensures.waiting in
     let heads = c.count_one.ensures ∙ ap (λ word. with_one word before.heads) c.account_of-account.ensures in
     λ i. record {
       retired = before.retired + c.count_retired.ensures i;
@@ -46,11 +48,13 @@ returns c =
       costs = before.costs;
       loads = (c.add_loads.ensures ∙ ap (both before.loads) (loads_same before.costs rows kept up)) i;
       drains = c.add_drain.ensures i;
-      last_stores = c.note_stores.ensures i;
+      last_stores = c.note_stores.ensures.last i;
       heads = heads i;
       idle = (c.idle_with-self.ensures ∙ ap (λ account. one_more (is_idle account) before.idle) c.account_of-account.ensures) i;
       flusher = c.flusher_in-self.ensures i;
       branches = (c.count_words.ensures ∙ noted_same (word_in Branch) no_branch rows kept before.branches up) i;
       mispredicted = (c.count_words-2.ensures ∙ noted_same (word_in Mispredicted) no_mispredicted rows kept before.mispredicted up) i;
       outcomes = (c.count_left.ensures ∙ ap (λ l. with_passages before.costs l before.outcomes) left) i;
+      waiting = (c.drain-drained.ensures.waiting ∙ ap (still_waiting c.args.drain) c.note_stores.ensures.waiting) i;
+      stores = (c.add-4.ensures ∙ ap (λ one. with_drained before.costs one before.stores) drained) i;
     }

@@ -30,4 +30,6 @@ returns c arrivals h = λ i. record {
   branches = c.in_ok-new-5.ensures i;
   mispredicted = c.in_ok-new-6.ensures i;
   outcomes = c.in_ok-new-7.ensures i;
+  waiting = c.new-10.ensures i;
+  stores = c.in_ok-new-8.ensures (costs_of c.args.description.now) i;
 }
