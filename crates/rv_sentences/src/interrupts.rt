@@ -1,4 +1,6 @@
-ghost use Rattle.std.specs.Prelude.{◌≡◌, ◌+◌, ◌<◌, ◌^◌, [], IfSome};
+ghost use Rattle.std.specs.Prelude.{◌≡◌, ◌+◌, ◌<◌, ◌^◌, None, true, [], IfSome};
+ghost use Rattle.std.specs.List.{list_all};
+ghost use Rattle.rv_hardware.specs.Step.{is_retirement};
 ghost use Rattle.rv_sentences.specs.Interrupt.{AreCountable, by_line, interrupts_after, interruption_in, interruption_of, line_with, with_interruption};
 
 use crate::interruption::Interruption;
@@ -29,14 +31,36 @@ fn interruption_of(step: &Step) -> Option<Interruption>
     }
 }
 
-/// The first interrupt among some steps.
-pub fn interruption_in(steps: &[Step]) -> Option<Interruption>
+// Whether nothing but retirements is among the steps: then no interrupt is.
+fn are_retirements(steps: &[Step]) -> bool
+    ensures exact { result ≡ list_all is_retirement steps.now }
+    ensures none { result ≡ true → interruption_in steps.now ≡ None }
+{
+    match steps {
+        [] => true,
+        [Step::Retired(_), rest @ ..] => are_retirements(rest),
+        [..] => false,
+    }
+}
+
+// The first interrupt, where there may be one.
+fn first_interruption(steps: &[Step]) -> Option<Interruption>
     ensures { result ≡ interruption_in steps.now }
 {
     match steps {
         [] => None,
-        [Step::Retired(_), rest @ ..] => interruption_in(rest),
-        [step, rest @ ..] => interruption_of(step).or(interruption_in(rest)),
+        [step, rest @ ..] => interruption_of(step).or(first_interruption(rest)),
+    }
+}
+
+/// The first interrupt among some steps.
+pub fn interruption_in(steps: &[Step]) -> Option<Interruption>
+    ensures { result ≡ interruption_in steps.now }
+{
+    if are_retirements(steps) {
+        None
+    } else {
+        first_interruption(steps)
     }
 }
 

@@ -1,0 +1,5 @@
+use Rattle.std.proofs.Common.{length}
+use Rattle.rv_sentences.proofs.interrupts.+are_retirements.Given as goal
+
+abbrev pub decreases-are_retirements : goal.decreases-are_retirements
+decreases-are_retirements l = length l.steps.now
