@@ -10,13 +10,7 @@ use std::alloc::{AllocError, Global};
 pub(crate) fn after_labels<'t, 'a>(tokens: &'t [Token<'a>]) -> &'t [Token<'a>]
     ensures { tokens_in result.now ≡ body_of (tokens_in tokens.entry.now) }
 {
-    let mut rest = tokens;
-    loop {
-        match rest {
-            [Token::Name(_), Token::Colon, others @ ..] => rest = others,
-            _ => return rest,
-        }
-    }
+    rv_asm::after_labels(tokens).0
 }
 
 /// The name that tokens begin with.
