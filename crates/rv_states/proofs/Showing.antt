@@ -17,7 +17,7 @@ use Rattle.rv_hardware.specs.History.{Moment, reports_of}
 use Rattle.rv_hardware.specs.Lessons.{lessons_of}
 use Rattle.rv_hardware.specs.declared.step.Step.{Step}
 use Rattle.rv_passage.specs.EndedRun.{IsEndedRun}
-use Rattle.rv_passage.specs.Numbers.{numbers_in_flight, numbers_of, plain, plainly}
+use Rattle.rv_passage.specs.Numbers.{Numbers, numbers_in_flight, numbers_of, plain, plainly}
 use Rattle.rv_passage.specs.Passage.{is_in_flight}
 use Rattle.rv_passage.specs.Table.{CanCount, Passages, after_cycle, passages_of, still_open, table_at}
 use Rattle.rv_passage.specs.Walk.{FollowedCycle, walk}
@@ -25,7 +25,8 @@ use Rattle.rv_passage.specs.declared.passage.Passage.{Passage}
 use Rattle.rv_passage.specs.declared.table.Table.{Table}
 use Rattle.rv_passage.proofs.EndedRun.{length-reports_of}
 use Rattle.rv_passage.proofs.Followed.{followed_nothing}
-use Rattle.rv_passage.proofs.Numbers.{numbers_now, numbers_on, plain_by_numbers, plain_on}
+use Rattle.rv_passage.proofs.Numbers.{numbers_now, numbers_on, plain_by_numbers}
+use Rattle.rv_passage.proofs.Plain.{plain_on}
 use Rattle.rv_passage.proofs.Walk.{passages_after-push}
 use Rattle.rv_source.specs.Listing.{Listed}
 use Rattle.rv_text.specs.Said.{Extends}
@@ -48,15 +49,18 @@ use Rattle.rv_view.proofs.EndedView.{cycles_seen-push}
 
 -- what is shown of one more cycle
 shown-more : (from : ℕ) (untaught : DescribedPredictor) (cycles : List FollowedCycle) (last : FollowedCycle) →
-    cycles_text from untaught (cycles ++ last ∷ []) ≡ cycles_text from untaught cycles ++ cycle_text from last (taught_by (fold taught_by untaught cycles) last)
+    let known = taught_by (fold taught_by untaught cycles) last in
+    cycles_text from untaught (cycles ++ last ∷ []) ≡ cycles_text from untaught cycles ++ cycle_text from last known
 shown-more from untaught [] last = append-nil (cycle_text from last (taught_by untaught last))
 shown-more from untaught (cycle ∷ cycles) last =
     let after = taught_by untaught cycle in
+    let added = cycle_text from last (taught_by (fold taught_by after cycles) last) in
     ap (λ l. cycle_text from cycle after ++ l) (shown-more from after cycles last)
-    ∙ sym (append_assoc (cycle_text from cycle after) (cycles_text from after cycles) (cycle_text from last (taught_by (fold taught_by after cycles) last)))
+    ∙ sym (append_assoc (cycle_text from cycle after) (cycles_text from after cycles) added)
 
 -- the whole text, from its parts
-parts-whole : (around head told stopped after : List ℕ) → (around ++ head) ++ (told ++ (stopped ++ after)) ≡ around ++ (((head ++ told) ++ stopped) ++ after)
+parts-whole : (around head told stopped after : List ℕ) →
+    (around ++ head) ++ (told ++ (stopped ++ after)) ≡ around ++ (((head ++ told) ++ stopped) ++ after)
 parts-whole around head told stopped after = simp append_assoc
 
 -- ---- what is shown of the rows
@@ -73,69 +77,58 @@ number_json number = begins (codes "number") (numeral number) ++ codes "}"
 
 number-alone : (p : Passage) → is_in_flight p ≡ true → instruction_json p ≡ number_json p.number
 unfolding instruction_json
-number-alone p flies = ap (λ b. begins (codes "number") (numeral p.number) ++ ((if b then [] else ended_text p) ++ codes "}")) flies
-
-numbers-open : (p : Passage) (rows : List Passage) → is_in_flight p ≡ true → numbers_in_flight (p ∷ rows) ≡ p.number ∷ numbers_in_flight rows
-numbers-open p rows flies = rw flies refl
-
-numbers-past : (p : Passage) (rows : List Passage) → is_in_flight p ≡ false → numbers_in_flight (p ∷ rows) ≡ numbers_in_flight rows
-numbers-past p rows ended = rw ended refl
+number-alone p flies =
+    ap (λ b. begins (codes "number") (numeral p.number) ++ ((if b then [] else ended_text p) ++ codes "}")) flies
 
 json-numbers : (rows : List Passage) → flat_map json_in_flight rows ≡ map number_json (numbers_in_flight rows)
 json-numbers [] = refl
-json-numbers (p ∷ rows) =
-    let later = flat_map json_in_flight rows in
-    elim (cases_Bool (is_in_flight p)) [
-      | inl flies ↦
-          ap (λ b. (if b then instruction_json p ∷ [] else []) ++ later) flies
-          ∙ (λ i. number-alone p flies i ∷ json-numbers rows i)
-          ∙ sym (ap (map number_json) (numbers-open p rows flies))
-      | inr ended ↦
-          ap (λ b. (if b then instruction_json p ∷ [] else []) ++ later) ended
-          ∙ json-numbers rows
-          ∙ sym (ap (map number_json) (numbers-past p rows ended))
-    ]
+json-numbers (p ∷ rows) = elim (cases_Bool (is_in_flight p)) [
+  | inl flies ↦ rw flies (λ i. number-alone p flies i ∷ json-numbers rows i)
+  | inr ended ↦ rw ended (json-numbers rows)
+]
 
-line-plain : (cycle : ℕ) (rows rows' : List Passage) (steps : List Step) (after : Hardware) (progress : Progress) (predictor : DescribedPredictor)
-    → map plain rows ≡ map plain rows' → cycle_line cycle rows steps after progress predictor ≡ cycle_line cycle rows' steps after progress predictor
-unfolding cycle_line
-line-plain cycle rows rows' steps after progress predictor same =
-    let is = json-plain rows ∙ ap (map instruction_json) same ∙ sym (json-plain rows') in
-    λ i. begins (codes "cycle") (numeral cycle) ++
-    (also (codes "instructions") (array (is i)) ++
-    (also (codes "steps") (array (map step_json steps)) ++
-    (rest_text after progress ++ (predictor_text predictor cycle steps after.front.entries ++ codes "}\n"))))
+module _ (from : ℕ) (rows rows' : List Passage) (after : Hardware) (progress : Progress)
+    (predictor : DescribedPredictor) where
+  line-plain : (cycle : ℕ) (steps : List Step) → map plain rows ≡ map plain rows' →
+      cycle_line cycle rows steps after progress predictor ≡ cycle_line cycle rows' steps after progress predictor
+  unfolding cycle_line
+  line-plain cycle steps same =
+      let is = json-plain rows ∙ ap (map instruction_json) same ∙ sym (json-plain rows') in
+      λ i. begins (codes "cycle") (numeral cycle) ++
+      (also (codes "instructions") (array (is i)) ++
+      (also (codes "steps") (array (map step_json steps)) ++
+      (rest_text after progress ++ (predictor_text predictor cycle steps after.front.entries ++ codes "}\n"))))
 
-shown-plain : (from cycle : ℕ) (rows rows' : List Passage) (steps : List Step) (after : Hardware) (progress : Progress) (predictor : DescribedPredictor)
-    → (nat_lt from progress.cycles ≡ true → map plain rows ≡ map plain rows') → shown_text from cycle rows steps after progress predictor ≡ shown_text from cycle rows' steps after progress predictor
-shown-plain from cycle rows rows' steps after progress predictor same =
-    let line = cycle_line cycle rows steps after progress predictor in
-    let line' = cycle_line cycle rows' steps after progress predictor in
-    elim (cases_Bool (nat_lt from progress.cycles)) [
-      | inl late ↦
-          ap (λ b. if b then line else []) late ∙ line-plain cycle rows rows' steps after progress predictor (same late)
-          ∙ sym (ap (λ b. if b then line' else []) late)
-      | inr early ↦ ap (λ b. if b then line else []) early ∙ sym (ap (λ b. if b then line' else []) early)
-    ]
+  shown-plain : (cycle : ℕ) (steps : List Step) →
+      (nat_lt from progress.cycles ≡ true → map plain rows ≡ map plain rows') →
+      let text = λ (shown : List Passage). shown_text from cycle shown steps after progress predictor in
+      text rows ≡ text rows'
+  shown-plain cycle steps same = elim (cases_Bool (nat_lt from progress.cycles)) [
+    | inl late ↦ rw late (line-plain cycle steps (same late))
+    | inr early ↦ rw early refl
+  ]
 
-begun-numbers : (from : ℕ) (rows rows' : List Passage) (h : Hardware) (progress : Progress) (predictor : DescribedPredictor)
-    → numbers_in_flight rows ≡ numbers_in_flight rows' → begun_text from rows h progress predictor ≡ begun_text from rows' h progress predictor
-unfolding window_text start_line
-begun-numbers from rows rows' h progress predictor same =
-    let is = json-numbers rows ∙ ap (map number_json) same ∙ sym (json-numbers rows') in
-    λ i. if progress.cycles == from then storage_text h ++ (predictor_lines predictor ++ (begins (codes "start") (numeral h.cycle) ++
-    (also (codes "instructions") (array (is i)) ++ (rest_text h progress ++ codes "}\n")))) else []
+  begun-numbers : numbers_in_flight rows ≡ numbers_in_flight rows' →
+      begun_text from rows after progress predictor ≡ begun_text from rows' after progress predictor
+  unfolding window_text start_line
+  begun-numbers same =
+      let is = json-numbers rows ∙ ap (map number_json) same ∙ sym (json-numbers rows') in
+      λ i. if progress.cycles == from then storage_text after ++ (predictor_lines predictor ++
+      (begins (codes "start") (numeral after.cycle) ++ (also (codes "instructions") (array (is i)) ++
+      (rest_text after progress ++ codes "}\n")))) else []
 
 -- of a cycle before the window nothing is shown
-shown-early : (from cycles : ℕ) (line window : List ℕ) → cycles < from → (if nat_lt from cycles then line else []) ++ (if cycles == from then window else []) ≡ []
+shown-early : (from cycles : ℕ) (line window : List ℕ) → cycles < from →
+    (if nat_lt from cycles then line else []) ++ (if cycles == from then window else []) ≡ []
 shown-early from cycles line window early =
     let before : nat_lt from cycles ≡ false = le-ltb from cycles (omega (arith, early)) in
     let other : (cycles == from) ≡ false = ne_eqb cycles from (λ is. absurd (omega (arith, is, early))) in
-    λ i. (if before i then line else []) ++ (if other i then window else [])
+    rw (before, other) refl
 
 -- ---- no cycle yet
 
-pub showing_nothing : {arrivals : List Arrival} {h : GuidedHardware} {table : Table} (from : ℕ) (untaught : DescribedPredictor) (failed : Bool) (held : Option (List ℕ)) → BeginsAt h.hardware table
+pub showing_nothing : {arrivals : List Arrival} {h : GuidedHardware} {table : Table}
+    (from : ℕ) (untaught : DescribedPredictor) (failed : Bool) (held : Option (List ℕ)) → BeginsAt h.hardware table
     → IsShowing from from untaught untaught table failed failed (watched arrivals h [] h) held held
 showing_nothing {h = h} {table = table} from untaught failed held begins =
     let nothing = followed_nothing still_open h.hardware (passages_of table) begins.passages begins.few in
@@ -155,8 +148,10 @@ showing_nothing {h = h} {table = table} from untaught failed held begins =
 
 -- ---- one more cycle
 
-module _ {seen : Watched} {cycle : ℕ} {steps : List Step} {after : Hardware} {progress : Progress} (shown : IsShown seen cycle steps after progress)
-    {from from' : ℕ} {untaught predictor : DescribedPredictor} {table : Table} {was failed : Bool} {before mid : Option (List ℕ)}
+module _ {seen : Watched} {cycle : ℕ} {steps : List Step} {after : Hardware} {progress : Progress}
+    (shown : IsShown seen cycle steps after progress)
+    {from from' : ℕ} {untaught predictor : DescribedPredictor} {table : Table} {was failed : Bool}
+    {before mid : Option (List ℕ)}
     (showing : IsShowing from from' untaught predictor table was failed seen before mid) where
   -- the counts of the table can go on
   pub can_count_on : CanCount (passages_of table)
@@ -171,126 +166,187 @@ module _ {seen : Watched} {cycle : ℕ} {steps : List Step} {after : Hardware} {
   abbrev moment : Moment
   moment = record { report = shown.report; after = after }
 
+  abbrev had : Passages
+  had = passages_of table
+
+  abbrev seen_now : Watched
+  seen_now = with_shown seen shown
+
+  -- what the cycles before it showed
+  abbrev told : List ℕ
+  told = cycles_text from untaught (cycles_seen seen)
+
+  -- the passages at its end, where such were kept before it
+  abbrev ended : Passages → Passages
+  ended passages = after_cycle cycle steps after passages
+
   -- so many cycles there are now
   so_many : progress.cycles ≡ length seen.moments + 1
-  so_many = omega (arith, ap (λ (p : Progress). p.cycles) shown.progress_is, length-append (reports_of seen.moments) (shown.report ∷ []), length-reports_of seen.moments)
+  so_many =
+      let reported = length-append (reports_of seen.moments) (shown.report ∷ []) in
+      omega (arith, ap (λ (p : Progress). p.cycles) shown.progress_is, reported, length-reports_of seen.moments)
 
   longer : length (seen.moments ++ moment ∷ []) ≡ length seen.moments + 1
   longer = length-append seen.moments (moment ∷ [])
 
-  -- the passages that are kept after it
-  kept-next : kept_of (with_shown seen shown) ≡ still_open (after_cycle cycle steps after (kept_of seen))
-  kept-next =
-      passages_after-push still_open shown.passes moment
-      ∙ (λ i. still_open (after_cycle (sym shown.number i) (sym shown.steps_are i) after (kept_of seen)))
-
   -- the passages at its end
-  rows_there : last.passages ≡ after_cycle cycle steps after (kept_of seen)
-  rows_there = λ i. after_cycle (sym shown.number i) (sym shown.steps_are i) after (kept_of seen)
+  ended_there : last.passages ≡ ended (kept_of seen)
+  ended_there = λ i. after_cycle (sym shown.number i) (sym shown.steps_are i) after (kept_of seen)
+
+  -- and those that are kept after it
+  kept-next : kept_of seen_now ≡ still_open (ended (kept_of seen))
+  kept-next = passages_after-push still_open shown.passes moment ∙ ap still_open ended_there
+
+  -- of a table that knew the numbers before it
+  numbers_then : numbers_of (ended had) ≡ numbers_of last.passages
+  numbers_then =
+      numbers_now cycle after.rob after.front steps after.pc had (kept_of seen) showing.followed.numbers
+      ∙ sym (ap numbers_of ended_there)
+
+  kept_then : numbers_of (still_open (ended had)) ≡ numbers_of (kept_of seen_now)
+  kept_then =
+      numbers_on cycle after.rob after.front steps after.pc had (kept_of seen) showing.followed.numbers
+      ∙ sym (ap numbers_of kept-next)
+
+  others_then : plainly (still_open (ended had)) ≡ plainly (kept_of seen_now)
+  others_then =
+      plain_by_numbers cycle after.rob after.front steps after.pc had (kept_of seen) showing.followed.numbers
+      ∙ sym (ap plainly kept-next)
+
+  -- of one that knew the rest, too
+  plain_then : from ≤ length seen.moments → plainly (ended had) ≡ plainly last.passages
+  plain_then late =
+      plain_on cycle after.rob after.front steps after.pc had (kept_of seen) (showing.followed.others late)
+      ∙ sym (ap plainly ended_there)
 
   -- a table that knows the numbers then, and the rest from the window's beginning on
-  following_on : (table' : Table) → numbers_of (passages_of table') ≡ numbers_of (still_open (after_cycle cycle steps after (passages_of table)))
-      → (from ≤ length seen.moments + 1 → plainly (passages_of table') ≡ plainly (still_open (after_cycle cycle steps after (kept_of seen))))
-      → table'.fetched ≤ table.fetched + 288 → table'.retired ≤ table.retired + 8 → length (passages_of table').rows ≤ 288 → length (passages_of table').interrupts ≡ 0
-      → vec_capacity table.rows ≤ vec_capacity table'.rows → vec_capacity table.interrupts ≤ vec_capacity table'.interrupts
-      → IsFollowing from table' (with_shown seen shown)
+  following_on : (table' : Table) → numbers_of (passages_of table') ≡ numbers_of (still_open (ended had))
+      → (from ≤ length seen.moments + 1 → plainly (passages_of table') ≡ plainly (kept_of seen_now))
+      → table'.fetched ≤ table.fetched + 288 → table'.retired ≤ table.retired + 8
+      → length (passages_of table').rows ≤ 288 → length (passages_of table').interrupts ≡ 0
+      → vec_capacity table.rows ≤ vec_capacity table'.rows
+      → vec_capacity table.interrupts ≤ vec_capacity table'.interrupts → IsFollowing from table' seen_now
   following_on table' numbers others fetched retired few quiet rows interrupts =
       let one = cycle_counts shown.cycled in
+      let room = showing.followed.room in
       record {
-        numbers = numbers ∙ numbers_on cycle steps after.rob after.front after.pc (passages_of table) (kept_of seen) showing.followed.numbers ∙ sym (ap numbers_of kept-next);
-        others = λ late. others (omega (arith, late, longer)) ∙ sym (ap plainly kept-next);
+        numbers = numbers ∙ kept_then;
+        others = λ late. others (omega (arith, late, longer));
         fetched = omega (arith, fetched, showing.followed.fetched, one);
         retired = omega (arith, retired, showing.followed.retired, one);
         few = few;
         room = record {
           room = record {
-            rows = omega (arith, few, rows, showing.followed.room.rows);
-            interrupts = omega (arith, quiet, interrupts, showing.followed.room.interrupts);
+            rows = omega (arith, few, rows, room.rows);
+            interrupts = omega (arith, quiet, interrupts, room.interrupts);
           };
-          rows = omega (arith, rows, showing.followed.room.rows);
-          interrupts = omega (arith, interrupts, showing.followed.room.interrupts);
+          rows = omega (arith, rows, room.rows);
+          interrupts = omega (arith, interrupts, room.interrupts);
         };
       }
 
   -- the predictor learns its lessons
-  module _ (taught : DescribedPredictor) (pc : ℕ) (pc_is : pc ≡ after.pc) (learns : taught ≡ after_lessons predictor (lessons_of steps pc)) where
+  module _ (taught : DescribedPredictor) (pc : ℕ) (pc_is : pc ≡ after.pc)
+      (learns : taught ≡ after_lessons predictor (lessons_of steps pc)) where
     knows : taught ≡ taught_by (fold taught_by untaught (cycles_seen seen)) last
     knows = learns ∙ (λ i. after_lessons (showing.known i) (lessons_of (shown.steps_are i) (pc_is i)))
 
-    known_on : taught ≡ fold taught_by untaught (cycles_seen (with_shown seen shown))
-    known_on = knows ∙ sym (fold_push taught_by untaught (cycles_seen seen) last) ∙ ap (fold taught_by untaught) (sym (cycles_seen-push seen shown))
+    known_on : taught ≡ fold taught_by untaught (cycles_seen seen_now)
+    known_on =
+        knows ∙ sym (fold_push taught_by untaught (cycles_seen seen) last)
+        ∙ ap (fold taught_by untaught) (sym (cycles_seen-push seen shown))
 
     -- its text
-    text_on : (more : List ℕ) → more ≡ cycle_text from last taught → cycles_text from untaught (cycles_seen seen) ++ more ≡ cycles_text from untaught (cycles_seen (with_shown seen shown))
+    text_on : (more : List ℕ) → more ≡ cycle_text from last taught →
+        told ++ more ≡ cycles_text from untaught (cycles_seen seen_now)
     text_on more is =
-        (λ i. cycles_text from untaught (cycles_seen seen) ++ (is ∙ ap (cycle_text from last) knows) i)
+        ap (λ l. told ++ l) (is ∙ ap (cycle_text from last) knows)
         ∙ sym (shown-more from untaught (cycles_seen seen) last)
         ∙ ap (cycles_text from untaught) (sym (cycles_seen-push seen shown))
 
     -- before the window
-    pub showing_early : (table' : Table) → progress.cycles < from' → IsNumberedOn cycle steps after table table' → IsShowing from from' untaught taught table' was failed (with_shown seen shown) before mid
+    pub showing_early : (table' : Table) → progress.cycles < from' → IsNumberedOn cycle steps after table table' →
+        IsShowing from from' untaught taught table' was failed seen_now before mid
     unfolding cycle_text
     showing_early table' early on =
-        let nothing : [] ≡ cycle_text from last taught =
-        sym (shown-early from (progress_of last.reports).cycles (cycle_line last.number last.passages.rows last.report.steps last.after (progress_of last.reports) taught) (window_text last.passages.rows last.after (progress_of last.reports) taught)
-        (omega (arith, early, showing.same, ap (λ (p : Progress). p.cycles) shown.progress_is))) in
+        let counts = progress_of last.reports in
+        let line = cycle_line last.number last.passages.rows last.report.steps last.after counts taught in
+        let window = window_text last.passages.rows last.after counts taught in
+        let count = ap (λ (p : Progress). p.cycles) shown.progress_is in
+        let is_early : counts.cycles < from = omega (arith, early, showing.same, count) in
+        let nothing : [] ≡ cycle_text from last taught = sym (shown-early from counts.cycles line window is_early) in
+        let never =
+        λ (late : from ≤ length seen.moments + 1). absurd (omega (arith, late, early, showing.same, so_many)) in
         record {
           same = showing.same;
           known = known_on;
-          followed = following_on table' on.followed (λ late. absurd (omega (arith, late, early, showing.same, so_many))) on.fetched on.retired on.few on.quiet on.rows on.interrupts;
-          said = extends_same (sym (append-nil (cycles_text from untaught (cycles_seen seen))) ∙ text_on [] nothing) showing.said;
+          followed = following_on table' on.followed never on.fetched on.retired on.few on.quiet on.rows on.interrupts;
+          said = extends_same (sym (append-nil told) ∙ text_on [] nothing) showing.said;
         }
 
+    -- what is shown of rows
+    abbrev shown_of : ℕ → ℕ → List Passage → List Step → Progress → List ℕ
+    shown_of start number rows taken counts =
+        shown_text start number rows taken after counts taught ++ begun_text start rows after counts taught
+
     -- from its beginning on
-    pub showing_on : (full kept : Table) (failed' : Bool) (held : Option (List ℕ)) (rows_now : List Passage) → IsFollowedOn cycle steps after table full → rows_now ≡ (passages_of full).rows → passages_of kept ≡ still_open (passages_of full)
-        → vec_capacity kept.rows ≡ vec_capacity full.rows → vec_capacity kept.interrupts ≡ vec_capacity full.interrupts
-        → Extends failed failed' mid held (shown_text from' cycle rows_now steps after progress taught ++ begun_text from' rows_now after progress taught)
-        → IsShowing from from' untaught taught kept was failed' (with_shown seen shown) before held
+    pub showing_on : (full kept : Table) (failed' : Bool) (held : Option (List ℕ)) (rows_now : List Passage) →
+        IsFollowedOn cycle steps after table full → rows_now ≡ (passages_of full).rows →
+        passages_of kept ≡ still_open (passages_of full) →
+        vec_capacity kept.rows ≡ vec_capacity full.rows → vec_capacity kept.interrupts ≡ vec_capacity full.interrupts →
+        Extends failed failed' mid held (shown_of from' cycle rows_now steps progress) →
+        IsShowing from from' untaught taught kept was failed' seen_now before held
     unfolding cycle_text
     showing_on full kept failed' held rows_now on rows_are opened rows interrupts says =
-        let all = on.followed in
-        let same_numbers : numbers_in_flight (passages_of full).rows ≡ numbers_in_flight last.passages.rows =
-        ap (λ (t : Passages). numbers_in_flight t.rows) all ∙ numbers_now cycle steps after.rob after.front after.pc (passages_of table) (kept_of seen) showing.followed.numbers
-        ∙ sym (ap (λ (t : Passages). numbers_in_flight t.rows) rows_there) in
-        let same_rows : nat_lt from progress.cycles ≡ true → map plain (passages_of full).rows ≡ map plain last.passages.rows =
-        λ late. ap (λ (t : Passages). map plain t.rows) all
-        ∙ ap (λ (t : Passages). t.rows) (plain_on cycle steps after.rob after.front after.pc (passages_of table) (kept_of seen) (showing.followed.others (omega (arith, ltb-true from progress.cycles late, so_many))))
-        ∙ sym (ap (λ (t : Passages). map plain t.rows) rows_there) in
-        let text : shown_text from' cycle rows_now steps after progress taught ++ begun_text from' rows_now after progress taught ≡ cycle_text from last taught =
-        (λ i. shown_text (showing.same i) cycle (rows_are i) steps after progress taught ++ begun_text (showing.same i) (rows_are i) after progress taught)
-        ∙ (λ i. shown-plain from cycle (passages_of full).rows last.passages.rows steps after progress taught same_rows i ++ begun-numbers from (passages_of full).rows last.passages.rows after progress taught same_numbers i)
-        ∙ (λ i. shown_text from (shown.number i) last.passages.rows (shown.steps_are i) after (shown.progress_is i) taught ++ begun_text from last.passages.rows after (shown.progress_is i) taught) in
+        let all = (passages_of full).rows in
+        let same_numbers = ap (λ (ns : Numbers). ns.in_flight) (ap numbers_of on.followed ∙ numbers_then) in
+        let same_rows : nat_lt from progress.cycles ≡ true → map plain all ≡ map plain last.passages.rows =
+        λ late. ap (λ (t : Passages). t.rows)
+        (ap plainly on.followed ∙ plain_then (omega (arith, ltb-true from progress.cycles late, so_many))) in
+        let shown_plain = shown-plain from all last.passages.rows after progress taught cycle steps same_rows in
+        let begun_plain = begun-numbers from all last.passages.rows after progress taught same_numbers in
+        let text : shown_of from' cycle rows_now steps progress ≡ cycle_text from last taught =
+        (λ i. shown_of (showing.same i) cycle (rows_are i) steps progress) ∙ (λ i. shown_plain i ++ begun_plain i)
+        ∙ (λ i. shown_of from (shown.number i) last.passages.rows (shown.steps_are i) (shown.progress_is i)) in
+        let left = opened ∙ ap still_open on.followed in
         record {
           same = showing.same;
           known = known_on;
-          followed = following_on kept (ap numbers_of (opened ∙ ap still_open all))
-              (λ late. ap plainly (opened ∙ ap still_open all) ∙ plain_by_numbers cycle steps after.rob after.front after.pc (passages_of table) (kept_of seen) showing.followed.numbers)
-              (omega (arith, on.fetched, ap (λ (t : Passages). t.fetched) opened)) (omega (arith, on.retired, ap (λ (t : Passages). t.retired) opened))
-              (omega (arith, on.few, ap (λ (t : Passages). length t.rows) opened)) (ap (λ (t : Passages). length t.interrupts) opened)
+          followed = following_on kept (ap numbers_of left) (λ late. ap plainly left ∙ others_then)
+              (omega (arith, on.fetched, ap (λ (t : Passages). t.fetched) opened))
+              (omega (arith, on.retired, ap (λ (t : Passages). t.retired) opened))
+              (omega (arith, on.few, ap (λ (t : Passages). length t.rows) opened))
+              (ap (λ (t : Passages). length t.interrupts) opened)
               (omega (arith, on.rows, rows)) (omega (arith, on.interrupts, interrupts));
           said = extends_same (text_on _ text) (extends_both showing.said says);
         }
 
 -- the states of a run that ended
-pub shown_to_the_end : {arrivals : List Arrival} {from limit : ℕ} {listing : Listed} {old new : GuidedHardware} {moments : List Moment} {stop : Stop} {untaught : DescribedPredictor} {rows : List Passage} {cycles : ℕ}
+pub shown_to_the_end : {arrivals : List Arrival} {from limit : ℕ} {listing : Listed} {old new : GuidedHardware}
+    {moments : List Moment} {stop : Stop} {untaught : DescribedPredictor} {rows : List Passage} {cycles : ℕ}
     {begun failed ended : Bool} {before mid held now : Option (List ℕ)} (form : Form)
-    → IsEndedRun arrivals limit old moments new stop → untaught ≡ untaught_predictor old.hardware.values → rows ≡ (table_at old.hardware).rows → cycles ≡ length (reports_of moments)
+    → IsEndedRun arrivals limit old moments new stop → untaught ≡ untaught_predictor old.hardware.values
+    → rows ≡ (table_at old.hardware).rows → cycles ≡ length (reports_of moments)
     → Extends false begun before mid (before_lines form ++ head_text from listing rows old.hardware untaught)
     → Extends begun failed mid held (cycles_text from untaught (walk still_open old.hardware moments))
     → Extends failed ended held now (stop_line cycles stop ++ after_lines form)
     → WritesStates arrivals from limit form listing old new stop ended before now
 unfolding states_text lines_text
-shown_to_the_end {from = from} {listing = listing} {old = old} {moments = moments} {stop = stop} {untaught = untaught} {rows = rows} {cycles = cycles} form run untaught_is rows_are cycles_are begins goes_on ends =
-    let around = before_lines form in
+shown_to_the_end {from = from} {listing = listing} {old = old} {moments = moments} {stop = stop} {untaught = untaught}
+    {rows = rows} form run untaught_is rows_are cycles_are begin goes_on ends =
     let known = untaught_predictor old.hardware.values in
-    let first_lines = head_text from listing (table_at old.hardware).rows old.hardware known in
-    let told = cycles_text from known (walk still_open old.hardware moments) in
-    let written = extends_both begins (extends_both goes_on ends) in
-    let whole : (around ++ head_text from listing rows old.hardware untaught) ++ (cycles_text from untaught (walk still_open old.hardware moments) ++ (stop_line cycles stop ++ after_lines form))
-    ≡ around ++ (states_text from listing old.hardware moments stop ++ after_lines form) =
-    (λ i. (around ++ head_text from listing (rows_are i) old.hardware (untaught_is i)) ++ (cycles_text from (untaught_is i) (walk still_open old.hardware moments) ++ (stop_line ((cycles_are ∙ length-reports_of moments) i) stop ++ after_lines form)))
-    ∙ parts-whole around first_lines told (stop_line (length moments) stop) (after_lines form) in (
-      around ++ (states_text from listing old.hardware moments stop ++ after_lines form),
+    let head = head_text from listing (table_at old.hardware).rows old.hardware known in
+    let seen = walk still_open old.hardware moments in
+    let text = states_text from listing old.hardware moments stop in
+    let begun : before_lines form ++ head_text from listing rows old.hardware untaught ≡ before_lines form ++ head =
+    λ i. before_lines form ++ head_text from listing (rows_are i) old.hardware (untaught_is i) in
+    let told = ap (λ (predictor : DescribedPredictor). cycles_text from predictor seen) untaught_is in
+    let stopped = ap (λ (n : ℕ). stop_line n stop ++ after_lines form) (cycles_are ∙ length-reports_of moments) in
+    let rest = extends_both (extends_same told goes_on) (extends_same stopped ends) in
+    let written = extends_both (extends_same begun begin) rest in
+    let last = stop_line (length moments) stop in
+    let whole = parts-whole (before_lines form) head (cycles_text from known seen) last (after_lines form) in (
+      before_lines form ++ (text ++ after_lines form),
       record {
         moments = moments;
         run = run;
