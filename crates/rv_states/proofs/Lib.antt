@@ -1,3 +1,4 @@
+mod Given
 mod Markup
 pub mod OneText
 mod Showing
