@@ -100,6 +100,7 @@ fn write_end<W: Write>(out: &mut Sink<'_, W>, totals: &Totals, pipeline: &Pipeli
 }
 
 // What the report of a run shows after the trace.
+#[tactic(auto, using(rv_text::proofs::Saying::says_both), unfolding(crate::specs::RunReport::end_text))]
 pub(crate) fn say_totals<W: Write>(
     totals: &Totals,
     pipeline: &Pipeline,

@@ -24,6 +24,7 @@ pub(crate) fn write_reason<W: Write>(out: &mut Sink<'_, W>, stop: Stop)
 }
 
 /// Writes the line that says why a run ended.
+#[tactic(auto, using(rv_text::proofs::Saying::says_both), unfolding(crate::specs::State::stop_line, rv_text::specs::Line::line_of))]
 pub(crate) fn write_stop<W: Write>(out: &mut Sink<'_, W>, stop: Stop)
     ensures { Says W.contents out.old out.new (stop_line stop) }
 {
