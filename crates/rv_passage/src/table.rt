@@ -1,6 +1,6 @@
-ghost use Rattle.std.specs.Prelude.{◌≡◌, ◌+◌, ◌≤◌, ◌<◌, ◌^◌, ◌++◌, [], ◌∷◌, drop, filter, length, take, vec_capacity, IfOk};
+ghost use Rattle.std.specs.Prelude.{◌≡◌, ◌+◌, ◌≤◌, ◌<◌, ◌^◌, [], ◌∷◌, drop, filter, length, take, vec_capacity, IfOk};
 ghost use Rattle.rv_hardware.specs.Lessons.{first_pc};
-ghost use Rattle.rv_passage.specs.Passage.{in_buffers, is_in_flight, numbered, trapped_by};
+ghost use Rattle.rv_passage.specs.Passage.{in_buffers, is_in_flight, trapped_by};
 
 use crate::in_flight::{MOST_IN_FLIGHT, count_in_flight, count_kept, present_at};
 use crate::kept::{move_kept_on, retire_kept, trap_kept};
@@ -38,7 +38,7 @@ pub struct Table {
 
 impl Table {
     ghost use Rattle.rv_passage.specs.Numbers.{numbers_of};
-    ghost use Rattle.rv_passage.specs.Table.{AreMovedOn, AreShort, CanCount, HasRoom, after_steps, numbered_from, passages_of, still_open, table_from, with_fetched, with_oldest, with_rows, with_step, with_steps, without_squashed};
+    ghost use Rattle.rv_passage.specs.Table.{AreMovedOn, AreShort, CanCount, HasRoom, after_steps, passages_of, still_open, table_from, with_fetched, with_oldest, with_rows, with_step, with_steps, without_squashed};
 
     /// A table that begins with what is in flight in two buffers, numbered from 0. It has room for two cycles.
     pub fn begin(alloc: Global, rob: &Rob, front: &Front) -> Result<Table, AllocError>
