@@ -1,8 +1,22 @@
+mod Accounts
+mod Advances
+mod Backwards
 mod Brought
+mod Cycles
+mod EventLists
 mod Forgotten
+mod Leavings
+mod Lives
+mod Meetings
+mod News
 mod Nothing
 pub mod OnePath
+mod Passing
 mod Pathing
+mod Waits
+mod Walks
+mod Windows
 mod Within
-mod WithinCycle
-mod WithinLists
+mod WordChanges
+mod WordPlaces
+mod WordWaits

@@ -1,55 +1,75 @@
--- An event of a run, and the cycles of the path that leads to it, by what its events waited for.
-use Rattle.std.specs.Prelude.{ℕ, ◌+◌, ◌-◌, List, replicate, slice_set, Option, None, Some}
-use Rattle.std.specs.List.{slice_index_or}
+-- An event of a run, by the event that it waited for last, and why.
+use Rattle.std.specs.Prelude.{ℕ, Bool, true, false, if◌then◌else◌, List, [], ◌∷◌, Option, None, Some}
 use Rattle.std.specs.Option.{unwrap_or}
-use Rattle.rv_path.specs.Cause.{place_of}
-use Rattle.rv_path.specs.declared.{cause.Cause.Cause, event.Wait.Wait}
+use Rattle.rv_path.specs.declared.{cause.Cause.Cause, event.Event.Event, point.Point.Point, point.Reason.Reason, point.Stage.Stage, event.Waited.Waited}
 use Rattle.rv_path.specs.declared.cause.Cause.TheVariants as cause
-
--- the cycles of the run before it, how many of them each cause has, and why the fetch began anew, from there to the first issue or commit
-pub record Reached : Type 0 where
-  pub cycle : ℕ
-  pub account : List ℕ
-  pub refill : Option Cause
-
--- so many cycles more of a cause
-abbrev pub with_cycles : Cause → ℕ → List ℕ → List ℕ
-with_cycles cause cycles account = slice_set account (place_of cause) (slice_index_or account (place_of cause) 0 + cycles)
-
--- An event that waited last for another one, by its cycle and by why. All between the two is of that cause, or, where the fetch began
--- anew, of that one's.
-abbrev pub waited_for : ℕ → Cause → Reached → Reached
-waited_for cycle cause event = record {
-  cycle = event.cycle + (cycle - event.cycle);
-  account = with_cycles (unwrap_or event.refill cause) (cycle - event.cycle) event.account;
-  refill = event.refill;
-}
-
--- The same by the cause that has the cycles between the two, and why the fetch began anew then.
-abbrev pub by_wait : Wait → Option Cause → Reached → Reached
-by_wait wait refill event = record {
-  cycle = event.cycle + (wait.cycle - event.cycle);
-  account = with_cycles wait.cause (wait.cycle - event.cycle) event.account;
-  refill = refill;
-}
-
--- an event that waited for another one, or is that one again
-abbrev pub reached_by : Reached → Option Wait → Option Cause → Reached
-reached_by event None refill = record event { refill = refill }
-reached_by event (Some wait) refill = by_wait wait refill event
-
--- no more of it is a refill
-abbrev pub settled : Reached → Reached
-settled event = record event { refill = None }
-
--- fetch began anew with it
-abbrev pub refilling : Cause → Reached → Reached
-refilling cause event = record event { refill = Some cause }
+use Rattle.rv_path.specs.declared.point.Stage.TheVariants as stage
 
 -- the beginning of a run
-abbrev pub nothing_yet : Reached
-nothing_yet = record { cycle = 0; account = replicate 35 0; refill = None }
+abbrev pub nothing_yet : Event
+nothing_yet = record {
+  at = record { stage = stage.Begin; number = 0 };
+  cycle = 0;
+  before = None;
+  reason = record { cause = cause.BeforeFirst; address = None };
+  refill = None;
+}
 
--- an event that waited for none
-abbrev pub first_event : ℕ → Reached
-first_event cycle = waited_for cycle cause.BeforeFirst nothing_yet
+-- a refill goes on with the fetch and the dispatch of words
+abbrev pub goes_on_through : Stage → Bool
+goes_on_through stage.Fetch = true
+goes_on_through stage.Dispatch = true
+goes_on_through _ = false
+
+-- it ends with the first issue or commit, whose wait it still is
+abbrev pub ends_with : Stage → Bool
+ends_with stage.Issue = true
+ends_with stage.Commit = true
+ends_with other = goes_on_through other
+
+-- The event of a point after so many cycles, that waited last for another one: on account of the refill, where there is one, or of this
+-- cause and address.
+abbrev pub event_after : Point → ℕ → Option ℕ → Cause → Event → Event
+event_after at cycle address why event = record {
+  at = at;
+  cycle = cycle;
+  before = Some event.at;
+  reason = unwrap_or (if ends_with at.stage then event.refill else None) (record { cause = why; address = address });
+  refill = if goes_on_through at.stage then event.refill else None;
+}
+
+-- it waited for another one, or is that one again
+abbrev pub event_by : Point → ℕ → Option ℕ → Event → Option Cause → Event
+event_by at cycle address event None = event
+event_by at cycle address event (Some why) = event_after at cycle address why event
+
+abbrev pub event_from : Point → ℕ → Option ℕ → Waited → Event
+event_from at cycle address waited = event_by at cycle address waited.event waited.cause
+
+-- what is new of it
+abbrev pub new_by : Point → ℕ → Option ℕ → Event → Option Cause → List Event
+new_by at cycle address event None = []
+new_by at cycle address event (Some why) = event_after at cycle address why event ∷ []
+
+abbrev pub new_from : Point → ℕ → Option ℕ → Waited → List Event
+new_from at cycle address waited = new_by at cycle address waited.event waited.cause
+
+-- one waited for another event, or is that one again
+abbrev pub waits : Cause → Event → Waited
+waits why event = record { event = event; cause = Some why }
+
+abbrev pub again : Event → Waited
+again event = record { event = event; cause = None }
+
+abbrev pub again_by : Option Event → Option Waited
+again_by None = None
+again_by (Some event) = Some (again event)
+
+-- fetch began anew with it
+abbrev pub refilling : Reason → Event → Event
+refilling reason event = record event { refill = Some reason }
+
+-- some more events, oldest first, after others, newest first
+abbrev pub with_events : List Event → List Event → List Event
+with_events [] events = events
+with_events (event ∷ more) events = with_events more (event ∷ events)

@@ -1,18 +1,19 @@
 -- Who holds the port of the cache and the units after a cycle.
-use Rattle.std.specs.Prelude.{ℕ, ◌+◌, ◌==◌, ◌&&◌, not, nat_lt, Bool, false, if◌then◌else◌, List, [], ◌∷◌, ◌++◌, filter, Option, Some, None}
+use Rattle.std.specs.Prelude.{ℕ, ◌+◌, ◌==◌, ◌&&◌, not, nat_le, nat_lt, Bool, false, if◌then◌else◌, List, [], ◌∷◌, ◌++◌, filter, Option, Some, None}
 use Rattle.std.specs.Option.{option_or, unwrap_or}
 use Rattle.rv_isa.specs.Instruction.{kind_of_word}
 use Rattle.rv_isa.specs.PerKind.{at_kind}
 use Rattle.rv_isa.specs.declared.{issues.Issue.Issue, operations.Kind.Kind, values.Values.Values}
 use Rattle.rv_passage.specs.declared.passage.Passage.{Passage}
-use Rattle.rv_path.specs.Event.{Reached}
+use Rattle.rv_path.specs.Event.{again_by, waits}
 use Rattle.rv_path.specs.Leaving.{lines_event}
 use Rattle.rv_path.specs.Lookup.{Journey, first_of}
-use Rattle.rv_path.specs.Setting.{Setting, after_port, last_left, waits}
-use Rattle.rv_path.specs.declared.{before.DrainHold.DrainHold, before.Facts.Facts, before.PortHold.PortHold, before.UnitHold.UnitHold, leaving.Leaving.Leaving, way.Way.Way}
+use Rattle.rv_path.specs.Setting.{Setting, after_port, last_left, made}
+use Rattle.rv_path.specs.declared.{before.DrainHold.DrainHold, before.Facts.Facts, before.Holder.Holder, before.PortHold.PortHold, before.UnitHold.UnitHold, event.Event.Event, event.Waited.Waited, leaving.Leaving.Leaving, way.Way.Way}
 use Rattle.rv_path.specs.Way.{issued_by}
 use Rattle.rv_path.specs.declared.before.Holder.TheVariants as holder
 use Rattle.rv_path.specs.declared.cause.Cause.TheVariants as cause
+use Rattle.rv_path.specs.declared.point.Stage.TheVariants as stage
 use Rattle.rv_path.specs.declared.sought.Sought.TheVariants as sought
 
 -- the port was taken in the cycle: it is held beyond it, and was not so before
@@ -30,13 +31,16 @@ is_begun s None = false
 is_begun s (Some end) = not (ends_at end s.before.facts.drain_end)
 
 -- the store that begins to drain retired in the cycle, where none waited before
-abbrev pub at_its_commit : Setting → Leaving → Option Reached
-at_its_commit s leaving = if s.before.facts.is_store_waiting then None else leaving.store
+abbrev pub at_its_commit : Setting → Leaving → Option Waited
+at_its_commit s leaving = if s.before.facts.is_store_waiting then None else again_by leaving.store
 
 -- the event by which a store begins to drain
-abbrev pub drain_event : Setting → Leaving → Reached
-drain_event s leaving =
-    unwrap_or (option_or (at_its_commit s leaving) (after_port s)) (waits s cause.Other (last_left s.before.left))
+abbrev pub drain_wait : Setting → Leaving → Waited
+drain_wait s leaving =
+    unwrap_or (option_or (at_its_commit s leaving) (after_port s)) (waits cause.Other (last_left s.before.left))
+
+abbrev pub drain_event : Setting → Leaving → Event
+drain_event s leaving = made s (record { stage = stage.Drain; number = s.elapsed }) None (drain_wait s leaving)
 
 -- the drain that begins in the cycle takes the port
 abbrev pub drains : Setting → Facts → Bool
@@ -92,6 +96,25 @@ new_holds number values [] ways = []
 new_holds number values (p ∷ ps) [] = []
 new_holds number values (p ∷ ps) (w ∷ ws) = hold_of number values p w p.issue ++ new_holds number values ps ws
 
--- who holds units after the cycle
-abbrev pub holds_now : Setting → List Way → List UnitHold
-holds_now s ways = filter (goes_beyond s.number) s.holds ++ new_holds s.number s.values s.rows ways
+-- who holds units after a cycle of a number with these rows, of those that did before it
+abbrev pub holds_now : ℕ → Values → List Passage → List Way → List UnitHold → List UnitHold
+holds_now number values rows ways holds = filter (goes_beyond number) holds ++ new_holds number values rows ways
+
+-- the event from which the port is held, but for a load's, which is its issue
+abbrev pub taken_event : Holder → Event → List Event
+taken_event holder.Drain event = event ∷ []
+taken_event holder.Load event = []
+taken_event holder.Lines event = event ∷ []
+
+abbrev pub port_event : Option PortHold → List Event
+port_event None = []
+port_event (Some hold) = taken_event hold.holder hold.event
+
+-- those holds that an event of a later cycle may wait for
+abbrev pub port_kept : ℕ → Option PortHold → Option PortHold
+port_kept number None = None
+port_kept number (Some hold) = if nat_lt number hold.until then Some hold else None
+
+abbrev pub drain_kept : ℕ → Option DrainHold → Option DrainHold
+drain_kept number None = None
+drain_kept number (Some drain) = if nat_le number drain.until then Some drain else None

@@ -1,93 +1,113 @@
 -- What is kept of the path while a run goes on.
-use Rattle.std.specs.Prelude.{◌≡◌, ℕ, ◌+◌, ◌-◌, ◌≤◌, Bool, if◌then◌else◌, List, [], ◌∷◌, ◌++◌, drop, filter, length, replicate, vec_capacity, Option, Some, None}
+use Rattle.std.specs.Prelude.{◌≡◌, ℕ, ◌+◌, ◌-◌, ◌≤◌, if◌then◌else◌, List, [], ◌∷◌, ◌++◌, drop, length, vec_capacity, Option, Some, None}
 use Rattle.std.specs.List.{list_all}
 use Rattle.std.specs.Option.{option_or}
-use Rattle.rv_isa.specs.declared.values.Values.{Values}
 use Rattle.rv_passage.specs.Passage.{is_in_flight}
 use Rattle.rv_passage.specs.declared.passage.Passage.{Passage}
 use Rattle.rv_core.specs.Watching.{Watched}
 use Rattle.rv_view.specs.Viewing.{cycles_seen}
-use Rattle.rv_path.specs.Event.{Reached}
+use Rattle.rv_path.specs.Live.{live_points}
+use Rattle.rv_path.specs.Window.{AllPass, HasRoomForEvents, IsWindow, Passes}
+use Rattle.rv_path.specs.Within.{AreKnown}
 use Rattle.rv_hardware.specs.Hardware.{Hardware}
 use Rattle.rv_hardware.specs.declared.step.Step.{Step}
 use Rattle.rv_path.specs.Fetching.{fetch_event}
-use Rattle.rv_path.specs.Holding.{goes_beyond, new_holds}
+use Rattle.rv_path.specs.Holding.{drain_kept, holds_now, port_kept}
 use Rattle.rv_path.specs.Leaving.{is_interrupted, leaving_of}
 use Rattle.rv_path.specs.Moving.{all_moved}
-use Rattle.rv_path.specs.Path.{Known, before_next, fetched_ways, known_in, known_of, setting_in, still_in_flight}
+use Rattle.rv_path.specs.Path.{Known, before_next, known_in, known_of, made_in, still_in_flight, with_fetched}
 use Rattle.rv_path.specs.Setting.{Setting}
-use Rattle.rv_path.specs.Way.{way_from}
 use Rattle.rv_view.specs.declared.shown_cycle.ShownCycle.{ShownCycle}
-use Rattle.rv_path.specs.declared.{before.Before.Before, before.UnitHold.UnitHold, leaving.Leaving.Leaving, path.Path.Path, seeing.Seen.Seen, way.Way.Way}
+use Rattle.rv_path.specs.declared.{before.Before.Before, before.UnitHold.UnitHold, event.Event.Event, path.Path.Path, point.Point.Point, seeing.Seen.Seen, way.Way.Way, window.Window.Window}
 
 -- the events of the instructions in flight
 abbrev pub ways_of : Path → List Way
 ways_of path = drop path.dropped path.ways.items
 
--- what a path has of the cycles so far
-abbrev pub known_of_path : Path → Known
-known_of_path path = record { ways = ways_of path; holds = path.holds.items; before = path.before }
+-- what a path has of the cycles so far, beside all events
+abbrev pub known_of_path : Path → List Event → Known
+known_of_path path events = record { ways = ways_of path; holds = path.holds.items; before = path.before; events = events }
 
 -- a path changed in nothing but the events of the instructions in flight, the holds of units, or what is known beside
 abbrev pub AreSameButWays : Path → Path → Type 0
-AreSameButWays old new = (new.holds ≡ old.holds) × (new.next ≡ old.next) × (new.before ≡ old.before)
+AreSameButWays old new = (new.holds ≡ old.holds) × (new.next ≡ old.next) × (new.before ≡ old.before) × (new.window ≡ old.window) × (new.live ≡ old.live)
 
 abbrev pub AreSameButHolds : Path → Path → Type 0
-AreSameButHolds old new = (new.ways ≡ old.ways) × (new.dropped ≡ old.dropped) × (new.next ≡ old.next) × (new.before ≡ old.before)
+AreSameButHolds old new =
+    (new.ways ≡ old.ways) × (new.dropped ≡ old.dropped) × (new.next ≡ old.next) × (new.before ≡ old.before) × (new.window ≡ old.window) × (new.live ≡ old.live)
 
 abbrev pub AreSameButBefore : Path → Path → Type 0
-AreSameButBefore old new = (new.ways ≡ old.ways) × (new.dropped ≡ old.dropped) × (new.next ≡ old.next) × (new.holds ≡ old.holds)
+AreSameButBefore old new =
+    (new.ways ≡ old.ways) × (new.dropped ≡ old.dropped) × (new.next ≡ old.next) × (new.holds ≡ old.holds) × (new.window ≡ old.window) × (new.live ≡ old.live)
 
--- so many words that one event fetched, if some were
-abbrev pub ways_by : Option Reached → ℕ → List Way
-ways_by None count = []
-ways_by (Some event) count = replicate count (way_from event)
+abbrev pub AreSameButWindow : Path → Path → Type 0
+AreSameButWindow old new =
+    (new.ways ≡ old.ways) × (new.dropped ≡ old.dropped) × (new.next ≡ old.next) × (new.holds ≡ old.holds) × (new.before ≡ old.before)
+
+abbrev pub AreSameButLive : Path → Path → Type 0
+AreSameButLive old new = AreSameButWindow old new × (new.window ≡ old.window)
+
+-- the points of the events for which one of a later cycle may wait
+abbrev pub live_of : Path → List Point
+live_of path = live_points (ways_of path) path.holds.items path.before
+
+-- the paths to them that a window stands for are still the same
+abbrev pub ArePathsKept : Path → Path → Type 0
+ArePathsKept old new =
+    AllPass old.window (live_of old)
+    → ((all : List Event) → IsWindow old.window all → IsWindow new.window all) × AllPass new.window (live_of old)
+
+-- a window has so many events more
+abbrev pub IsFollowed : List Event → Window → Window → Type 0
+IsFollowed made old new = (new.events.items ≡ old.events.items ++ made) × (new.root ≡ old.root) × (new.account ≡ old.account)
 
 -- what is known beside, with what a cycle brings
-abbrev pub before_with : Seen → Before → Before
-before_with seen before = record {
+abbrev pub before_with : ℕ → Seen → Before → Before
+before_with number seen before = record {
   left = option_or seen.left before.left;
-  port = option_or seen.port before.port;
-  drain = option_or seen.drain before.drain;
+  port = option_or seen.port (port_kept number before.port);
+  drain = option_or seen.drain (drain_kept number before.drain);
   facts = seen.facts;
 }
-
--- the event by which words were fetched in a cycle, if some were, is the one by the definition
-abbrev pub IsFetchEvent : Setting → List Way → Bool → Leaving → Hardware → Option Reached → Type 0
-IsFetchEvent s ways interrupted leaving after event =
-    ways_by event (length s.rows - length ways) ≡ fetched_ways s ways (fetch_event s ways interrupted leaving after)
 
 -- what a cycle brings, where the events of the instructions that were in flight before it stand so after it
 pub record IsSeen (s : Setting) (steps : List Step) (after : Hardware) (old ways : List Way) (seen : Seen) : Type 0 where
   pub moved : ways ≡ all_moved s (leaving_of s old) old
-  pub before : before_with seen s.before ≡ before_next s ways steps after (leaving_of s old)
-  pub fetched : IsFetchEvent s ways (is_interrupted steps) (leaving_of s old) after seen.fetch
+  pub before : before_with s.number seen s.before ≡ before_next s ways steps after (leaving_of s old)
+  pub fetched : seen.fetch ≡ fetch_event s ways (is_interrupted steps) (leaving_of s old) after
 
--- the events of all instructions of a cycle, with the words that were fetched in it
-abbrev pub with_fetched : Seen → List Passage → List Way → List Way
-with_fetched seen rows ways = ways ++ ways_by seen.fetch (length rows - length ways)
+-- what is known after a cycle that is shown, that brought this, where those events stand as they do after it
+abbrev pub holds_shown : ShownCycle → Known → List UnitHold
+holds_shown cycle known = holds_now cycle.number cycle.pipeline.now.values cycle.rows.now known.ways known.holds
 
--- what is known after a cycle of such a number, machine and rows that brought this, where those events stand as they do after it
-abbrev pub known_seen : ℕ → Values → List Passage → Seen → Known → Known
-known_seen number values rows seen known = record {
-  ways = still_in_flight rows (with_fetched seen rows known.ways);
-  holds = filter (goes_beyond number) known.holds ++ new_holds number values rows known.ways;
-  before = before_with seen known.before;
+abbrev pub known_brought : ShownCycle → Seen → Known → Known
+known_brought cycle seen known = record known {
+  ways = still_in_flight cycle.rows.now (with_fetched seen.fetch cycle.rows.now known.ways);
+  holds = holds_shown cycle known;
+  before = before_with cycle.number seen known.before;
 }
 
--- the same of a cycle that is shown, and who holds units then
-abbrev pub known_brought : ShownCycle → Seen → Known → Known
-known_brought cycle seen known = known_seen cycle.number cycle.pipeline.now.values cycle.rows.now seen known
+-- what stands in a cycle that is shown
+abbrev pub setting_by : ShownCycle → List UnitHold → Before → Setting
+setting_by cycle holds before = record {
+  number = cycle.number;
+  elapsed = cycle.progress.now.cycles - 1;
+  values = cycle.pipeline.now.values;
+  rows = cycle.rows.now;
+  holds = holds;
+  before = before;
+}
 
-abbrev pub holds_shown : ShownCycle → Known → List UnitHold
-holds_shown cycle known =
-    filter (goes_beyond cycle.number) known.holds ++ new_holds cycle.number cycle.pipeline.now.values cycle.rows.now known.ways
+abbrev pub setting_shown : ShownCycle → Known → Setting
+setting_shown cycle known = setting_by cycle known.holds known.before
 
--- what a cycle makes of what is known, as it is shown
+-- the events that it makes
+abbrev pub made_shown : ShownCycle → Known → List Event
+made_shown cycle known = made_in (setting_shown cycle known) known.ways cycle.steps.now cycle.pipeline.now
+
+-- what it makes of what is known
 abbrev pub known_shown : ShownCycle → Known → Known
-known_shown cycle known =
-    known_in (setting_in cycle.number (cycle.progress.now.cycles - 1) cycle.rows.now cycle.pipeline.now known)
-    known.ways cycle.steps.now cycle.pipeline.now
+known_shown cycle known = known_in (setting_shown cycle known) known.ways known.events cycle.steps.now cycle.pipeline.now
 
 -- how many left the hardware, if all of those are older than all that did not
 abbrev pub one_more : Option ℕ → Option ℕ
@@ -99,12 +119,22 @@ forgotten_in [] = Some 0
 forgotten_in (p ∷ ps) =
     if is_in_flight p then (if list_all is_in_flight ps then Some 0 else None) else one_more (forgotten_in ps)
 
--- room for what a cycle may add
-pub record HasRoom (path : Path) : Type 0 where
+-- room for what a cycle may add, and for its events
+pub record HasRoomForWays (path : Path) : Type 0 where
   pub ways : length path.ways.items + 576 ≤ vec_capacity path.ways
   pub next : 576 ≤ vec_capacity path.next
   pub holds : length path.holds.items + 576 ≤ vec_capacity path.holds
 
--- the events of the instructions in flight after the cycles so far, and all else that is known then
-pub record IsOnPath (path : Path) (seen : Watched) : Type 0 where
-  pub known : known_of_path path ≡ known_of seen.first.hardware (cycles_seen seen)
+pub record HasRoom (path : Path) : Type 0 where
+  pub ways : HasRoomForWays path
+  pub events : HasRoomForEvents (length (ways_of path) + 6) path.window
+
+-- The events of the instructions in flight after the cycles so far, and all else that is known then. The window stands for all events of
+-- the run, for each path that an event of a later cycle may wait for.
+pub record IsKnown (path : Path) (k : Known) : Type 0 where
+  pub known : known_of_path path k.events ≡ k
+  pub window : IsWindow path.window k.events
+  pub passes : AreKnown (λ event. Passes path.window (Some event.at)) k
+
+abbrev pub IsOnPath : Path → Watched → Type 0
+IsOnPath path seen = IsKnown path (known_of seen.first.hardware (cycles_seen seen))

@@ -1,6 +1,6 @@
 -- The instructions that leave the hardware in a cycle, and the lines that the oldest one writes back.
-use Rattle.std.specs.Prelude.{ℕ, ◌==◌, ◌&&◌, not, Bool, true, false, if◌then◌else◌, List, [], ◌∷◌, count_by, Option, Some, None}
-use Rattle.std.specs.Option.{option_or, unwrap_or}
+use Rattle.std.specs.Prelude.{ℕ, ◌==◌, ◌&&◌, not, Bool, true, false, if◌then◌else◌, List, [], ◌∷◌, ◌++◌, count_by, Option, Some, None}
+use Rattle.std.specs.Option.{option_or, option_to_list, unwrap_or}
 use Rattle.std.specs.List.{list_any}
 use Rattle.rv_hardware.specs.Step.{is_interrupt}
 use Rattle.rv_hardware.specs.declared.step.Step.{Step}
@@ -9,13 +9,14 @@ use Rattle.rv_isa.specs.Instruction.{is_branch_or_jump, is_fence_i, is_serialisi
 use Rattle.rv_passage.specs.Prediction.{differ, next_of}
 use Rattle.rv_passage.specs.declared.passage.{Ending.Ending, Passage.Passage}
 use Rattle.rv_passage.specs.declared.passage.Ending.TheVariants.{InFlight, Retired, Trapped, Squashed}
-use Rattle.rv_path.specs.Event.{Reached, first_event, settled}
-use Rattle.rv_path.specs.Setting.{Setting, after_stores, is_hold_of, left_before, port_ended, waits}
+use Rattle.rv_path.specs.Event.{again, waits}
+use Rattle.rv_path.specs.Setting.{Setting, after_stores, is_hold_of, left_before, made, made_of, port_ended, since_left}
 use Rattle.rv_path.specs.Sought.{is_end, is_just_before, is_sought}
 use Rattle.rv_path.specs.Way.{broadcast_by, dispatched_by}
-use Rattle.rv_path.specs.declared.{before.Left.Left, before.PortHold.PortHold, cause.Cause.Cause, leaving.Leaving.Leaving, way.Way.Way}
+use Rattle.rv_path.specs.declared.{before.Left.Left, before.PortHold.PortHold, cause.Cause.Cause, event.Event.Event, point.Reason.Reason, event.Waited.Waited, leaving.Leaving.Leaving, way.Way.Way}
 use Rattle.rv_path.specs.declared.before.Holder.TheVariants as holder
 use Rattle.rv_path.specs.declared.cause.Cause.TheVariants as cause
+use Rattle.rv_path.specs.declared.point.Stage.TheVariants as stage
 use Rattle.rv_path.specs.declared.sought.Sought.TheVariants as sought
 
 -- the cycle in which its result was known: that of its broadcast, or of its dispatch where it uses no unit
@@ -23,36 +24,40 @@ abbrev pub known_in : Passage → Option ℕ
 known_in p = option_or p.broadcast p.dispatched
 
 -- a FENCE.I that its own lines kept
-abbrev pub own_lines : Setting → Option PortHold → Option Reached
-own_lines s None = None
-own_lines s (Some hold) = Some (waits s cause.LinesWritten hold.event)
+abbrev pub own_lines : Option PortHold → Option Waited
+own_lines None = None
+own_lines (Some hold) = Some (waits cause.LinesWritten hold.event)
 
-abbrev pub after_own_lines : Setting → Passage → Option Reached
-after_own_lines s p = if is_hold_of holder.Lines p.number (port_ended s) then own_lines s (port_ended s) else None
+abbrev pub after_own_lines : Setting → Passage → Option Waited
+after_own_lines s p = if is_hold_of holder.Lines p.number (port_ended s) then own_lines (port_ended s) else None
 
 -- the first to leave in a cycle, where others left in the cycle before
-abbrev pub after_left : Setting → Left → Reached
+abbrev pub after_left : Setting → Left → Waited
 after_left s left =
-    if left.count == s.values.commit_width then waits s cause.CommitWidth left.event else waits s cause.CommitInOrder left.event
+    if left.count == s.values.commit_width then waits cause.CommitWidth left.event else waits cause.CommitInOrder left.event
 
-abbrev pub after_left_before : Setting → Option Left → Option Reached
+abbrev pub after_left_before : Setting → Option Left → Option Waited
 after_left_before s None = None
 after_left_before s (Some left) = Some (after_left s left)
 
 -- what the first to leave in a cycle waited for last: a FENCE.I for its lines and the older stores, any other for the older instructions
-abbrev pub first_to_leave : Setting → Passage → Option Reached
+abbrev pub first_to_leave : Setting → Passage → Option Waited
 first_to_leave s p =
     if is_fence_i p.instruction then option_or (after_own_lines s p) (after_stores s) else after_left_before s (left_before s)
 
 -- one leaves after others of the same cycle, or is the first
-abbrev pub leaves_after : Setting → Option Reached → Passage → Way → Reached
-leaves_after s (Some event) p w = event
-leaves_after s None p w = settled (unwrap_or (first_to_leave s p) (waits s cause.Other (dispatched_by w)))
+abbrev pub leaves_after : Setting → Option Event → Passage → Way → Waited
+leaves_after s (Some event) p w = again event
+leaves_after s None p w = unwrap_or (first_to_leave s p) (waits cause.Other (dispatched_by w))
 
--- the event by which an instruction leaves the hardware, after the one before it in the cycle
-abbrev pub leaving_event : Setting → Option Reached → Passage → Way → Reached
-leaving_event s earlier p w =
-    if is_just_before s.number (known_in p) then settled (waits s cause.Commit (broadcast_by w)) else leaves_after s earlier p w
+-- what an instruction waited for that leaves the hardware, after the one before it in the cycle
+abbrev pub leaving_wait : Setting → Option Event → Passage → Way → Waited
+leaving_wait s earlier p w =
+    if is_just_before s.number (known_in p) then waits cause.Commit (broadcast_by w) else leaves_after s earlier p w
+
+-- the event by which it leaves
+abbrev pub leaving_event : Setting → Option Event → Passage → Way → Event
+leaving_event s earlier p w = made_of s stage.Commit p (leaving_wait s earlier p w)
 
 -- it retired
 abbrev pub is_retirement : Ending → Bool
@@ -79,17 +84,22 @@ cause_of_flush s p (Retired order cycle written next) =
     if is_serialising p.instruction then Some cause.RefillSerialising
     else (if flushes_late s p then Some cause.RefillPrediction else None)
 
+-- on its account
+abbrev pub flush_by : Passage → Option Cause → Option Reason
+flush_by p None = None
+flush_by p (Some why) = Some (record { cause = why; address = Some p.pc })
+
 -- the events of those that left so far: of the first, the last, and the first store, and whether the fetch begins anew
 abbrev pub none_left : Leaving
 none_left = record { first = None; last = None; store = None; refill = None }
 
 -- one more
-abbrev pub with_event : Setting → Reached → Passage → Leaving → Leaving
+abbrev pub with_event : Setting → Event → Passage → Leaving → Leaving
 with_event s event p leaving = record {
   first = option_or leaving.first (Some event);
   last = Some event;
   store = if is_retired_store p then option_or leaving.store (Some event) else leaving.store;
-  refill = cause_of_flush s p p.ending;
+  refill = flush_by p (cause_of_flush s p p.ending);
 }
 
 -- one more instruction, if it left
@@ -107,19 +117,15 @@ abbrev pub leaving_of : Setting → List Way → Leaving
 leaving_of s ways = with_rows s s.rows ways none_left
 
 -- an interrupt came so long after the last step
-abbrev pub interrupt_after : Setting → Option Left → Reached
-interrupt_after s None = first_event s.elapsed
-interrupt_after s (Some left) = settled (waits s cause.UntilInterrupt left.event)
-
-abbrev pub interrupt_event : Setting → Reached
-interrupt_event s = interrupt_after s s.before.left
+abbrev pub interrupt_event : Setting → Event
+interrupt_event s = made s (record { stage = stage.Interrupt; number = s.elapsed }) None (since_left cause.UntilInterrupt s.before.left)
 
 -- an interrupt is among the steps of the cycle
 abbrev pub is_interrupted : List Step → Bool
 is_interrupted steps = list_any is_interrupt steps
 
 -- so many left in the cycle, the last by this event
-abbrev pub left_by : Setting → ℕ → Option Reached → Option Left
+abbrev pub left_by : Setting → ℕ → Option Event → Option Left
 left_by s count None = None
 left_by s count (Some event) = Some (record { cycle = s.number; count = count; event = event })
 
@@ -129,10 +135,17 @@ newly_left s interrupted leaving =
     if interrupted then left_by s 0 (Some (interrupt_event s)) else left_by s (count_by (is_sought sought.Ended) s.rows) leaving.last
 
 -- The oldest instruction begins to write lines back: when it is the oldest, and the older stores and the port let it.
-abbrev pub lines_after : Setting → Option Reached → Passage → Way → Reached
-lines_after s (Some event) p w = event
-lines_after s None p w = unwrap_or (after_stores s) (waits s cause.Other (settled (dispatched_by w)))
+abbrev pub lines_after : Setting → Option Event → Way → Waited
+lines_after s (Some event) w = again event
+lines_after s None w = unwrap_or (after_stores s) (waits cause.Other (dispatched_by w))
 
-abbrev pub lines_event : Setting → Leaving → Passage → Way → Reached
-lines_event s leaving p w =
-    if is_just_before s.number p.dispatched then waits s cause.Commit (settled (dispatched_by w)) else lines_after s leaving.last p w
+abbrev pub lines_wait : Setting → Leaving → Passage → Way → Waited
+lines_wait s leaving p w =
+    if is_just_before s.number p.dispatched then waits cause.Commit (dispatched_by w) else lines_after s leaving.last w
+
+abbrev pub lines_event : Setting → Leaving → Passage → Way → Event
+lines_event s leaving p w = made_of s stage.Lines p (lines_wait s leaving p w)
+
+-- the events of those that leave: others of the cycle wait for these alone
+abbrev pub left_events : Leaving → List Event
+left_events leaving = option_to_list leaving.first ++ (option_to_list leaving.store ++ option_to_list leaving.last)

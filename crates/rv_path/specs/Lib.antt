@@ -1,6 +1,12 @@
 pub mod Cause
+pub mod Point
 pub mod Event
 pub mod Way
+pub mod Walk
+pub mod Account
+pub mod Words
+pub mod Window
+pub mod Meeting
 pub mod Sought
 pub mod Lookup
 pub mod Before
@@ -11,7 +17,10 @@ pub mod Moving
 pub mod Fetching
 pub mod Holding
 pub mod Path
+pub mod Live
 pub mod Within
 pub mod Keeping
 pub mod Text
+pub mod Lines
+pub mod Ranks
 pub mod Run

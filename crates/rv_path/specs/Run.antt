@@ -8,27 +8,29 @@ use Rattle.rv_hardware.specs.Guided.{GuidedHardware, guided}
 use Rattle.rv_hardware.specs.Hardware.{Hardware}
 use Rattle.rv_hardware.specs.History.{Moment}
 use Rattle.rv_passage.specs.EndedRun.{IsEndedRun}
-use Rattle.rv_path.specs.Path.{account_of}
-use Rattle.rv_path.specs.Text.{path_text}
+use Rattle.rv_path.specs.Account.{Accounted}
+use Rattle.rv_path.specs.Path.{account_of_run}
+use Rattle.rv_path.specs.Lines.{account_text}
+use Rattle.rv_source.specs.Listing.{Listed}
 
 -- so many cycles are those of a run that ended for a reason, and so many of them each cause has on its path, which are all of them
-pub record IsAccounted (arrivals : List Arrival) (limit : ℕ) (old new : GuidedHardware) (stop : Stop) (cycles : ℕ) (account : List ℕ) : Type 0 where
+pub record IsAccounted (arrivals : List Arrival) (limit : ℕ) (old new : GuidedHardware) (stop : Stop) (cycles : ℕ) (account : Accounted) : Type 0 where
   pub moments : List Moment
   pub run : IsEndedRun arrivals limit old moments new stop
   pub cycles_are : cycles ≡ length moments
-  pub account_is : account ≡ account_of old.hardware moments
-  pub adds_up : sum account ≡ cycles
+  pub account_is : account ≡ account_of_run old.hardware moments
+  pub adds_up : sum account.causes ≡ cycles
 
 -- a text is that of the path of a run that ended for a reason
-pub record IsPath (arrivals : List Arrival) (limit : ℕ) (old new : GuidedHardware) (stop : Stop) (text : List ℕ) : Type 0 where
+pub record IsPath (arrivals : List Arrival) (limit : ℕ) (listing : Listed) (old new : GuidedHardware) (stop : Stop) (text : List ℕ) : Type 0 where
   pub cycles : ℕ
-  pub account : List ℕ
+  pub account : Accounted
   pub accounted : IsAccounted arrivals limit old new stop cycles account
-  pub text_is : text ≡ path_text cycles account
+  pub text_is : text ≡ account_text listing cycles account
 
 -- of hardware that a described predictor guides there is one path, whatever it leaves
-abbrev pub HasOnePath : List Arrival → ℕ → Type 0
-HasOnePath arrivals limit =
+abbrev pub HasOnePath : List Arrival → ℕ → Listed → Type 0
+HasOnePath arrivals limit listing =
     (h : Hardware) (predictor : DescribedPredictor) (new new' : GuidedHardware) (stop stop' : Stop) (text text' : List ℕ) → h.cycle + limit ≤ 2 ^ 40 →
-    IsPath arrivals limit (guided h (guide_of predictor)) new stop text → IsPath arrivals limit (guided h (guide_of predictor)) new' stop' text' →
+    IsPath arrivals limit listing (guided h (guide_of predictor)) new stop text → IsPath arrivals limit listing (guided h (guide_of predictor)) new' stop' text' →
     (stop ≡ stop') × (text ≡ text')

@@ -1,40 +1,51 @@
--- No event of a path comes later than the one that waited for it: all that is known after some cycles lies within them.
+-- What holds of each event from which others may wait, and that all that is known after some cycles lies within them.
 use Rattle.std.specs.Prelude.{ℕ, ◌≤◌, IfSome, List, [], ◌∷◌, length}
 use Rattle.rv_hardware.specs.Hardware.{Hardware}
 use Rattle.rv_hardware.specs.History.{Moment}
 use Rattle.rv_passage.specs.Table.{still_open}
 use Rattle.rv_passage.specs.Walk.{walk}
 use Rattle.rv_path.specs.Path.{Known, known_of}
-use Rattle.rv_path.specs.declared.{before.Before.Before, before.UnitHold.UnitHold, way.Way.Way}
+use Rattle.rv_path.specs.Setting.{last_left}
+use Rattle.rv_path.specs.Walk.{AreInTime}
+use Rattle.rv_path.specs.declared.{before.Before.Before, before.UnitHold.UnitHold, event.Event.Event, way.Way.Way}
 
--- the events of an instruction come within so many cycles
-pub record IsWayWithin (cycles : ℕ) (way : Way) : Type 0 where
-  pub fetch : way.fetch.cycle ≤ cycles
-  pub dispatch : IfSome way.dispatch (λ event. event.cycle ≤ cycles)
-  pub issue : IfSome way.issue (λ event. event.cycle ≤ cycles)
-  pub broadcast : IfSome way.broadcast (λ event. event.cycle ≤ cycles)
+-- something holds of the events of an instruction
+pub record IsWayOf (P : Event → Type 0) (way : Way) : Type 0 where
+  pub fetch : P way.fetch
+  pub dispatch : IfSome way.dispatch P
+  pub issue : IfSome way.issue P
+  pub broadcast : IfSome way.broadcast P
 
--- those of several
-abbrev pub AreWaysWithin : ℕ → List Way → Type 0
-AreWaysWithin cycles [] = Unit {0}
-AreWaysWithin cycles (way ∷ ways) = IsWayWithin cycles way × AreWaysWithin cycles ways
+-- of those of several
+abbrev pub AreWaysOf : (Event → Type 0) → List Way → Type 0
+AreWaysOf P [] = Unit {0}
+AreWaysOf P (way ∷ ways) = IsWayOf P way × AreWaysOf P ways
 
--- those from which units are held
-abbrev pub AreHoldsWithin : ℕ → List UnitHold → Type 0
-AreHoldsWithin cycles [] = Unit {0}
-AreHoldsWithin cycles (hold ∷ holds) = (hold.event.cycle ≤ cycles) × AreHoldsWithin cycles holds
+-- of those from which units are held
+abbrev pub AreHoldsOf : (Event → Type 0) → List UnitHold → Type 0
+AreHoldsOf P [] = Unit {0}
+AreHoldsOf P (hold ∷ holds) = P hold.event × AreHoldsOf P holds
 
--- the last that left, and those from which the port is held
-pub record IsBeforeWithin (cycles : ℕ) (before : Before) : Type 0 where
-  pub left : IfSome before.left (λ left. left.event.cycle ≤ cycles)
-  pub port : IfSome before.port (λ hold. hold.event.cycle ≤ cycles)
-  pub drain : IfSome before.drain (λ drain. drain.event.cycle ≤ cycles)
+-- of the last that left, or the beginning of the run, and of those from which the port is held
+pub record IsBeforeOf (P : Event → Type 0) (before : Before) : Type 0 where
+  pub left : P (last_left before.left)
+  pub port : IfSome before.port (λ hold. P hold.event)
+  pub drain : IfSome before.drain (λ drain. P drain.event)
 
--- all that is known
+-- of all that an event of the next cycle may wait for
+pub record AreKnown (P : Event → Type 0) (known : Known) : Type 0 where
+  pub ways : AreWaysOf P known.ways
+  pub holds : AreHoldsOf P known.holds
+  pub before : IsBeforeOf P known.before
+
+-- an event comes within so many cycles
+abbrev pub IsWithin : ℕ → Event → Type 0
+IsWithin cycles event = event.cycle ≤ cycles
+
+-- All that is known does. Of all events of the run no older one comes after a newer one, and so none after one that waited for it.
 pub record AreWithin (cycles : ℕ) (known : Known) : Type 0 where
-  pub ways : AreWaysWithin cycles known.ways
-  pub holds : AreHoldsWithin cycles known.holds
-  pub before : IsBeforeWithin cycles known.before
+  pub live : AreKnown (IsWithin cycles) known
+  pub events : AreInTime cycles known.events
 
 -- whatever cycles follow one another, what is known after them comes within them
 abbrev pub ComesInTime : Type 0

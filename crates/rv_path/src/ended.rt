@@ -2,9 +2,9 @@ ghost use Rattle.std.specs.Prelude.{◌≡◌, ◌+◌, ◌<◌, ◌≤◌, List
 ghost use Rattle.std.specs.Option.{option_to_list};
 ghost use Rattle.std.specs.List.{list_all};
 ghost use Rattle.rv_passage.specs.Passage.{is_in_flight};
-ghost use Rattle.rv_path.specs.Keeping.{forgotten_in, ways_by};
+ghost use Rattle.rv_path.specs.Keeping.{forgotten_in};
 ghost use Rattle.rv_path.specs.declared.way.Way.{Way};
-ghost use Rattle.rv_path.specs.Path.{AreForgotten, still_in_flight, way_if};
+ghost use Rattle.rv_path.specs.Path.{AreForgotten, still_in_flight, way_if, ways_by};
 
 use crate::event::Event;
 use crate::way::Way;

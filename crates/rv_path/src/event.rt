@@ -1,169 +1,136 @@
-ghost use Rattle.std.specs.Prelude.{◌≡◌, sum};
-ghost use Rattle.rv_path.specs.Event.{by_wait, nothing_yet, reached_by, refilling, settled, waited_for};
+ghost use Rattle.std.specs.Prelude.{◌≡◌};
+ghost use Rattle.std.specs.Option.{option_to_list};
+ghost use Rattle.rv_path.specs.Event.{again, ends_with, event_after, event_from, goes_on_through, new_from, refilling, waits};
 
-use crate::cause::{CAUSES, Cause};
-use std::marker::Model;
+use crate::cause::Cause;
+use crate::point::{Point, Reason, Stage};
 
-/// An event of a run: the cycles of the run before it, and how many of them each cause has on the path that leads to it.
+/// An event of a run.
 #[derive(Clone, Copy)]
-pub struct Event {
-    cycle: u64,
-    account: [u64; CAUSES],
-    // Why the fetch began anew, from there to the first issue or commit.
-    refill: Option<Cause>,
+pub(crate) struct Event {
+    pub(crate) at: Point,
+    /// The cycles of the run before it.
+    pub(crate) cycle: u64,
+    /// The event that it waited for last; none for the beginning of the run.
+    pub(crate) before: Option<Point>,
+    /// On whose account the cycles between the two are.
+    pub(crate) reason: Reason,
+    /// Why the fetch began anew, from there to the first issue or commit.
+    pub(crate) refill: Option<Reason>,
 }
 
-// All cycles before it have a cause.
-impl Model for Event {
-    ghost use Rattle.std.specs.Prelude.{◌≡◌, sum};
-    ghost use Rattle.rv_path.specs.Event.{Reached};
+/// What an event of a cycle waited for last, and why; or which event it is again.
+#[derive(Clone, Copy)]
+pub(crate) struct Waited {
+    pub(crate) event: Event,
+    pub(crate) cause: Option<Cause>,
+}
 
-    ghost Value = { Reached };
+// A refill goes on with the fetch and the dispatch of words.
+fn goes_on_through(stage: Stage) -> bool
+    ensures { result ≡ goes_on_through stage }
+{
+    matches!(stage, Stage::Fetch | Stage::Dispatch)
+}
 
-    ghost view = { λ event. record { cycle = event.cycle; account = event.account; refill = event.refill } };
-
-    ghost invariant = { λ event. sum event.account ≡ event.cycle };
-
-    ghost inverse = { λ reached. record { cycle = reached.cycle; account = reached.account; refill = reached.refill } };
+// It ends with the first issue or commit, whose wait it still is.
+fn ends_with(stage: Stage) -> bool
+    ensures { result ≡ ends_with stage }
+{
+    matches!(
+        stage,
+        Stage::Fetch | Stage::Dispatch | Stage::Issue | Stage::Commit
+    )
 }
 
 impl Event {
     /// The beginning of a run.
     pub(crate) const BEGIN: Event = Event {
+        at: Point {
+            stage: Stage::Begin,
+            number: 0,
+        },
         cycle: 0,
-        account: [0; CAUSES],
+        before: None,
+        reason: Reason {
+            cause: Cause::BeforeFirst,
+            address: None,
+        },
         refill: None,
     };
 
-    /// How many cycles each cause has.
-    pub(crate) fn account(&self) -> [u64; CAUSES]
-        ensures account { result ≡ self.now.account }
-        ensures adds_up { sum result ≡ self.now.cycle }
+    // The one of a point after so many cycles, of an address, that waited last for this one.
+    fn then(&self, at: Point, cycle: u64, address: Option<u32>, cause: Cause) -> Event
+        ensures { result ≡ event_after at cycle address cause self.now }
     {
-        self.account
-    }
-
-    // An event that waited for this one until a cycle, on account of a cause.
-    fn by_wait(&self, wait: Wait, refill: Option<Cause>) -> Event
-        ensures { result ≡ by_wait wait refill self.now }
-    {
-        let cycles = wait.cycle.saturating_sub(self.cycle);
-        let mut account = self.account;
-        account[wait.cause.place()] += cycles;
+        let own = Reason { cause, address };
+        let reason = match self.refill {
+            Some(refill) if ends_with(at.stage) => refill,
+            _ => own,
+        };
+        let refill = if goes_on_through(at.stage) {
+            self.refill
+        } else {
+            None
+        };
         Event {
-            cycle: self.cycle + cycles,
-            account,
+            at,
+            cycle,
+            before: Some(self.at),
+            reason,
             refill,
         }
     }
 
-    // An event that waited for this one, or is this one again.
-    fn reached_by(&self, wait: Option<Wait>, refill: Option<Cause>) -> Event
-        ensures { result ≡ reached_by self.now wait refill }
+    /// The same, as one with which the fetch began anew.
+    pub(crate) fn refilling(self, reason: Reason) -> Event
+        ensures { result ≡ refilling reason self }
     {
-        match wait {
-            Some(wait) => self.by_wait(wait, refill),
-            None => Event { refill, ..*self },
+        Event {
+            refill: Some(reason),
+            ..self
         }
-    }
-
-    /// The fetch began anew with this one, for a cause, and waited until a cycle.
-    pub(crate) fn anew(&self, cycle: u64, cause: Cause) -> Event
-        ensures { result ≡ waited_for cycle cause (refilling cause self.now) }
-    {
-        self.by_wait(Wait { cycle, cause }, Some(cause))
     }
 }
 
-/// Until which cycle an event waited, and the cause that has these cycles.
-#[derive(Clone, Copy)]
-struct Wait {
-    cycle: u64,
-    cause: Cause,
-}
-
-/// An event of a cycle, by the one that it waited for last, or is again, where that is not the beginning of the run.
-#[derive(Drop)]
-pub(crate) struct Waited<'a> {
-    before: Option<&'a Event>,
-    wait: Option<Wait>,
-    refill: Option<Cause>,
-}
-
-impl<'a> Model for Waited<'a> {
-    ghost use Rattle.std.specs.Prelude.{option_copied};
-    ghost use Rattle.std.specs.Option.{unwrap_or};
-    ghost use Rattle.rv_path.specs.Event.{Reached, nothing_yet, reached_by};
-
-    ghost Value = { Reached };
-
-    ghost view = { λ waited. reached_by (unwrap_or (option_copied waited.before) nothing_yet) waited.wait waited.refill };
-}
-
-impl<'a> Waited<'a> {
-    /// An event again.
-    pub(crate) fn again(before: &'a Event) -> Waited<'a>
-        ensures { result ≡ before.now }
+impl Waited {
+    /// An event waited for another one.
+    pub(crate) fn after(event: &Event, cause: Cause) -> Waited
+        ensures { result ≡ waits cause event.now }
     {
         Waited {
-            before: Some(before),
-            wait: None,
-            refill: before.refill,
+            event: *event,
+            cause: Some(cause),
         }
     }
 
-    /// One that waited last for another one until a cycle, and why.
-    pub(crate) fn after(before: &'a Event, cycle: u64, cause: Cause) -> Waited<'a>
-        ensures { result ≡ waited_for cycle cause before.now }
+    /// It is another one again.
+    pub(crate) fn again(event: &Event) -> Waited
+        ensures { result ≡ again event.now }
     {
-        let cause = before.refill.unwrap_or(cause);
         Waited {
-            before: Some(before),
-            wait: Some(Wait { cycle, cause }),
-            refill: before.refill,
+            event: *event,
+            cause: None,
         }
     }
 
-    /// One that waited last for another one, no more of which is a refill.
-    pub(crate) fn after_settled(before: &'a Event, cycle: u64, cause: Cause) -> Waited<'a>
-        ensures { result ≡ waited_for cycle cause (settled before.now) }
+    /// The event at a point after so many cycles, of an address.
+    pub(crate) fn event(&self, at: Point, cycle: u64, address: Option<u32>) -> Event
+        ensures { result ≡ event_from at cycle address self.now }
     {
-        Waited {
-            before: Some(before),
-            wait: Some(Wait { cycle, cause }),
-            refill: None,
+        match self.cause {
+            Some(cause) => self.event.then(at, cycle, address, cause),
+            None => self.event,
         }
     }
 
-    /// One that waited for none but the beginning of the run.
-    pub(crate) fn after_begin(cycle: u64, cause: Cause) -> Waited<'a>
-        ensures { result ≡ waited_for cycle cause nothing_yet }
+    /// It, if it is new.
+    pub(crate) fn new_event(&self, at: Point, cycle: u64, address: Option<u32>) -> Option<Event>
+        ensures { option_to_list result ≡ new_from at cycle address self.now }
     {
-        Waited {
-            before: None,
-            wait: Some(Wait { cycle, cause }),
-            refill: None,
-        }
-    }
-
-    /// The same one, no more of which is a refill.
-    pub(crate) fn settled(self) -> Waited<'a>
-        ensures { result ≡ settled self.entry }
-    {
-        Waited {
-            before: self.before,
-            wait: self.wait,
-            refill: None,
-        }
-    }
-
-    /// The event.
-    pub(crate) fn event(&self) -> Event
-        ensures { result ≡ self.now }
-    {
-        match self.before {
-            Some(before) => before.reached_by(self.wait, self.refill),
-            None => Event::BEGIN.reached_by(self.wait, self.refill),
+        match self.cause {
+            Some(cause) => Some(self.event.then(at, cycle, address, cause)),
+            None => None,
         }
     }
 }

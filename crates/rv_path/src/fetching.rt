@@ -1,11 +1,12 @@
 ghost use Rattle.std.specs.Prelude.{◌≡◌, option_copied};
-ghost use Rattle.rv_path.specs.Fetching.{after_flush, after_mend, after_redirection, after_room, after_word, anew, fetch_event, goes_on, is_jump, is_mended};
+ghost use Rattle.rv_path.specs.Fetching.{after_flush, after_mend, after_redirection, after_room, after_word, anew, fetch_wait, goes_on, is_jump, is_mended};
 ghost use Rattle.rv_path.specs.Setting.{setting_of};
 
 use crate::cause::Cause;
 use crate::event::{Event, Waited};
 use crate::leaving::{Leaving, differ, interrupt_event, mends_early};
-use crate::scene::Scene;
+use crate::point::Reason;
+use crate::scene::{Scene, since_left};
 use crate::sought::{Sought, count, is_at, last_of, one_before};
 use crate::way::{Found, Way};
 use rv_core::Pipeline;
@@ -13,17 +14,17 @@ use rv_passage::Passage;
 use rv_rob::Entry;
 
 // Fetch began anew with an event.
-fn anew(scene: &Scene<'_>, cause: Cause, event: &Event) -> Event
-    ensures { result ≡ anew (setting_of scene.now) cause event.now }
+fn anew(reason: Reason, event: &Event) -> Waited
+    ensures { result ≡ anew reason event.now }
 {
-    event.anew(scene.elapsed, cause)
+    Waited::after(&event.refilling(reason), reason.cause)
 }
 
-fn after_flush(scene: &Scene<'_>, leaving: &Leaving) -> Option<Event>
-    ensures { result ≡ after_flush (setting_of scene.now) leaving.now }
+fn after_flush(leaving: &Leaving) -> Option<Waited>
+    ensures { result ≡ after_flush leaving.now }
 {
     match (leaving.refill, &leaving.last) {
-        (Some(cause), Some(event)) => Some(anew(scene, cause, event)),
+        (Some(reason), Some(event)) => Some(anew(reason, event)),
         _ => None,
     }
 }
@@ -39,7 +40,7 @@ fn is_mended(scene: &Scene<'_>, row: &Passage, entry: Option<&Entry>) -> bool
     }
 }
 
-fn after_mend(scene: &Scene<'_>, ways: &[Way], pipeline: &Pipeline) -> Option<Event>
+fn after_mend(scene: &Scene<'_>, ways: &[Way], pipeline: &Pipeline) -> Option<Waited>
     ensures { result ≡ after_mend (setting_of scene.now) ways.now pipeline.now }
 {
     if !mends_early(scene) {
@@ -47,31 +48,36 @@ fn after_mend(scene: &Scene<'_>, ways: &[Way], pipeline: &Pipeline) -> Option<Ev
     }
     match last_of(Sought::Entry, scene.rows, ways) {
         Some(found) if is_mended(scene, found.row(), pipeline.reorder_buffer().youngest()) => {
-            Some(anew(scene, Cause::RefillPrediction, found.way().broadcast()))
+            let reason = Reason {
+                cause: Cause::RefillPrediction,
+                address: Some(found.row().pc),
+            };
+            Some(anew(reason, found.way().broadcast()))
         }
         _ => None,
     }
 }
 
-// The event by which fetch began anew, if it did.
+// Fetch began anew, if it did.
 fn after_redirection(
     scene: &Scene<'_>,
     ways: &[Way],
     interrupted: bool,
     leaving: &Leaving,
     pipeline: &Pipeline,
-) -> Option<Event>
-    ensures { result ≡ after_redirection (setting_of scene.now) ways.now interrupted leaving.now pipeline.now }
+    first: &Passage,
+) -> Option<Waited>
+    ensures { result ≡ after_redirection (setting_of scene.now) ways.now interrupted leaving.now pipeline.now first.now }
 {
     if interrupted {
-        return Some(anew(
-            scene,
-            Cause::RefillInterrupt,
-            &interrupt_event(scene).event(),
-        ));
+        let reason = Reason {
+            cause: Cause::RefillInterrupt,
+            address: Some(first.pc),
+        };
+        return Some(anew(reason, &interrupt_event(scene)));
     }
-    if let Some(event) = after_flush(scene, leaving) {
-        return Some(event);
+    if let Some(waited) = after_flush(leaving) {
+        return Some(waited);
     }
     after_mend(scene, ways, pipeline)
 }
@@ -83,7 +89,7 @@ fn is_jump(row: &Passage) -> bool
 }
 
 // What ended the fetches of the cycle before, but for the buffer.
-fn after_word<'a>(scene: &'a Scene<'_>, last: &Found<'a>) -> Option<Waited<'a>>
+fn after_word<'a>(scene: &'a Scene<'_>, last: &Found<'a>) -> Option<Waited>
     ensures { result ≡ after_word (setting_of scene.now) last.now }
 {
     if u128::from(last.row().fetched) + 1 != u128::from(scene.number) {
@@ -91,16 +97,16 @@ fn after_word<'a>(scene: &'a Scene<'_>, last: &Found<'a>) -> Option<Waited<'a>>
     }
     let sought = Sought::FetchedBefore(scene.number);
     if count(sought, scene.rows) == scene.values.fetch_width as usize {
-        Some(scene.waits(Cause::FetchWidth, &last.way().fetch))
+        Some(Waited::after(&last.way().fetch, Cause::FetchWidth))
     } else if is_jump(last.row()) {
-        Some(scene.waits(Cause::FetchJump, &last.way().fetch))
+        Some(Waited::after(&last.way().fetch, Cause::FetchJump))
     } else {
         None
     }
 }
 
 // The buffer was full until the word left it that stands as many before as it holds.
-fn after_room<'a>(scene: &'a Scene<'_>, ways: &'a [Way]) -> Option<Waited<'a>>
+fn after_room<'a>(scene: &'a Scene<'_>, ways: &'a [Way]) -> Option<Waited>
     ensures { result ≡ after_room (setting_of scene.now) ways.now }
 {
     let held = scene.values.fetch_buffer as usize;
@@ -117,33 +123,34 @@ fn after_room<'a>(scene: &'a Scene<'_>, ways: &'a [Way]) -> Option<Waited<'a>>
 }
 
 // The fetch goes on after the last word.
-fn goes_on<'a>(scene: &'a Scene<'_>, ways: &'a [Way], last: Option<Found<'a>>) -> Waited<'a>
+fn goes_on<'a>(scene: &'a Scene<'_>, ways: &'a [Way], last: Option<Found<'a>>) -> Waited
     ensures { result ≡ goes_on (setting_of scene.now) ways.now last.entry }
 {
     let Some(last) = last else {
-        return scene.first();
+        return since_left(Cause::Other, &scene.before.left);
     };
-    if let Some(event) = after_word(scene, &last) {
-        return event;
+    if let Some(waited) = after_word(scene, &last) {
+        return waited;
     }
     match after_room(scene, ways) {
-        Some(event) => event,
-        None => scene.waits(Cause::Other, &last.way().fetch),
+        Some(waited) => waited,
+        None => Waited::after(&last.way().fetch, Cause::Other),
     }
 }
 
-/// The event by which words are fetched in the cycle, after the instructions with these events.
-pub(crate) fn fetch_event(
+/// What words waited for that are fetched in the cycle, after the instructions with these events.
+pub(crate) fn fetch_wait(
     scene: &Scene<'_>,
     ways: &[Way],
     interrupted: bool,
     leaving: &Leaving,
     pipeline: &Pipeline,
-) -> Event
-    ensures { result ≡ fetch_event (setting_of scene.now) ways.now interrupted leaving.now pipeline.now }
+    first: &Passage,
+) -> Waited
+    ensures { result ≡ fetch_wait (setting_of scene.now) ways.now interrupted leaving.now pipeline.now first.now }
 {
-    match after_redirection(scene, ways, interrupted, leaving, pipeline) {
-        Some(event) => event,
-        None => goes_on(scene, ways, one_before(ways.len(), scene.rows, ways)).event(),
+    match after_redirection(scene, ways, interrupted, leaving, pipeline, first) {
+        Some(waited) => waited,
+        None => goes_on(scene, ways, one_before(ways.len(), scene.rows, ways)),
     }
 }

@@ -1,13 +1,14 @@
 ghost use Rattle.std.specs.Prelude.{◌≡◌, ◌+◌, ◌<◌, ◌^◌, ◌≤◌, ◌++◌, filter, length, vec_capacity};
 ghost use Rattle.std.specs.Option.{option_to_list};
-ghost use Rattle.rv_path.specs.Holding.{at_its_commit, drain_begun, drain_event, ends_at, goes_beyond, hold_of, hold_of_kind, is_begun, is_taken, lines_hold, load_hold, new_holds, port_taken, taken_by};
+ghost use Rattle.rv_path.specs.Holding.{at_its_commit, drain_begun, drain_event, drain_kept, drain_wait, ends_at, goes_beyond, hold_of, hold_of_kind, is_begun, is_taken, lines_hold, load_hold, new_holds, port_event, port_kept, port_taken, taken_by};
 ghost use Rattle.rv_path.specs.Setting.{setting_of};
 
 use crate::before::{DrainHold, Facts, Holder, PortHold, UnitHold};
 use crate::cause::Cause;
-use crate::event::Waited;
+use crate::event::{Event, Waited};
 use crate::leaving::{Leaving, lines_event};
-use crate::scene::{Scene, after_last_left};
+use crate::point::{Point, Stage};
+use crate::scene::{Scene, last_left};
 use crate::sought::{Sought, first_of, kind_of};
 use crate::way::{Found, Way};
 use rv_isa::{Issue, Kind, Values};
@@ -39,7 +40,7 @@ fn is_begun(scene: &Scene<'_>, end: Option<u64>) -> bool
     }
 }
 
-fn at_its_commit<'a>(scene: &Scene<'_>, leaving: &'a Leaving) -> Option<Waited<'a>>
+fn at_its_commit(scene: &Scene<'_>, leaving: &Leaving) -> Option<Waited>
     ensures { result ≡ at_its_commit (setting_of scene.now) leaving.now }
 {
     if scene.before.facts.is_store_waiting {
@@ -51,17 +52,27 @@ fn at_its_commit<'a>(scene: &Scene<'_>, leaving: &'a Leaving) -> Option<Waited<'
     }
 }
 
+fn drain_wait(scene: &Scene<'_>, leaving: &Leaving) -> Waited
+    ensures { result ≡ drain_wait (setting_of scene.now) leaving.now }
+{
+    if let Some(waited) = at_its_commit(scene, leaving) {
+        return waited;
+    }
+    if let Some(waited) = scene.after_port() {
+        return waited;
+    }
+    Waited::after(&last_left(&scene.before.left), Cause::Other)
+}
+
 // The event by which a store begins to drain.
-fn drain_event<'a>(scene: &'a Scene<'_>, leaving: &'a Leaving) -> Waited<'a>
+fn drain_event(scene: &Scene<'_>, leaving: &Leaving) -> Event
     ensures { result ≡ drain_event (setting_of scene.now) leaving.now }
 {
-    if let Some(event) = at_its_commit(scene, leaving) {
-        return event;
-    }
-    if let Some(event) = scene.after_port() {
-        return event;
-    }
-    after_last_left(&scene.before.left, scene.elapsed, Cause::Other)
+    let at = Point {
+        stage: Stage::Drain,
+        number: scene.elapsed,
+    };
+    scene.made(at, None, &drain_wait(scene, leaving))
 }
 
 /// The store that begins to drain in the cycle.
@@ -71,7 +82,7 @@ pub(crate) fn drain_begun(scene: &Scene<'_>, leaving: &Leaving, facts: &Facts) -
     if is_taken(scene, facts) && is_begun(scene, facts.drain_end) {
         Some(DrainHold {
             until: facts.port_free,
-            event: drain_event(scene, leaving).event(),
+            event: drain_event(scene, leaving),
         })
     } else {
         None
@@ -103,7 +114,7 @@ fn lines_hold(
     match head {
         Some(head) => Some(PortHold {
             until,
-            event: lines_event(scene, leaving, head.row(), head.way()).event(),
+            event: lines_event(scene, leaving, head.row(), head.way()),
             holder: Holder::Lines,
             number: head.row().number,
         }),
@@ -119,7 +130,7 @@ fn taken_by(scene: &Scene<'_>, ways: &[Way], leaving: &Leaving, facts: &Facts) -
     if is_begun(scene, facts.drain_end) {
         return Some(PortHold {
             until,
-            event: drain_event(scene, leaving).event(),
+            event: drain_event(scene, leaving),
             holder: Holder::Drain,
             number: 0,
         });
@@ -238,4 +249,37 @@ pub(crate) fn push_holds(
     };
     push_hold(hold_of(number, values, row, way), holds);
     push_holds(number, values, other_rows, other_ways, holds);
+}
+
+/// The event from which the port is held, but for a load's, which is its issue.
+pub(crate) fn port_event(hold: &Option<PortHold>) -> Option<Event>
+    ensures { option_to_list result ≡ port_event hold.now }
+{
+    match hold {
+        Some(hold) => match hold.holder {
+            Holder::Drain | Holder::Lines => Some(hold.event),
+            Holder::Load => None,
+        },
+        None => None,
+    }
+}
+
+/// The hold of the port, if an event of a later cycle may wait for it.
+pub(crate) fn port_kept(number: u64, hold: &Option<PortHold>) -> Option<PortHold>
+    ensures { result ≡ port_kept number hold.now }
+{
+    match hold {
+        Some(hold) if number < hold.until => Some(*hold),
+        _ => None,
+    }
+}
+
+/// The drain, if an event of a later cycle may wait for it.
+pub(crate) fn drain_kept(number: u64, drain: &Option<DrainHold>) -> Option<DrainHold>
+    ensures { result ≡ drain_kept number drain.now }
+{
+    match drain {
+        Some(drain) if number <= drain.until => Some(*drain),
+        _ => None,
+    }
 }

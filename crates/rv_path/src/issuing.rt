@@ -1,5 +1,5 @@
-ghost use Rattle.std.specs.Prelude.{◌≡◌, option_copied, slice_get};
-ghost use Rattle.rv_path.specs.Issuing.{after_broadcast, after_bus, after_issues, after_operands, after_producer, after_stores_known, after_units, after_units_of, broadcast_at, broadcast_event, execution_cause, has_ended, hold_among, issue_after, issued_at, issue_event, older_hold};
+ghost use Rattle.std.specs.Prelude.{◌≡◌, option_copied};
+ghost use Rattle.rv_path.specs.Issuing.{after_broadcast, after_bus, after_issues, after_operands, after_producer, after_stores_known, after_units, after_units_of, broadcast_wait, execution_cause, has_ended, hold_among, issue_after, issue_wait, older_hold};
 ghost use Rattle.rv_path.specs.Setting.{setting_of};
 
 use crate::before::{Holder, UnitHold};
@@ -13,15 +13,11 @@ use crate::way::{Found, Way};
 use rv_isa::Kind;
 use rv_passage::{Passage, Producer};
 
-fn after_broadcast<'a>(
-    scene: &'a Scene<'_>,
-    cause: Cause,
-    found: Option<Found<'a>>,
-) -> Option<Waited<'a>>
-    ensures { result ≡ after_broadcast (setting_of scene.now) cause found.entry }
+fn after_broadcast(cause: Cause, found: Option<Found<'_>>) -> Option<Waited>
+    ensures { result ≡ after_broadcast cause found.entry }
 {
     match found {
-        Some(found) => Some(scene.waits(cause, found.way().broadcast())),
+        Some(found) => Some(Waited::after(found.way().broadcast(), cause)),
         None => None,
     }
 }
@@ -30,12 +26,11 @@ fn after_producer<'a>(
     scene: &'a Scene<'_>,
     ways: &'a [Way],
     producer: &Option<Producer>,
-) -> Option<Waited<'a>>
+) -> Option<Waited>
     ensures { result ≡ after_producer (setting_of scene.now) ways.now producer.now }
 {
     match producer {
         Some(producer) if is_just_before(scene.number, producer.broadcast) => after_broadcast(
-            scene,
             Cause::Operand,
             first_of(Sought::Number(producer.number), scene.rows, ways),
         ),
@@ -43,7 +38,7 @@ fn after_producer<'a>(
     }
 }
 
-fn after_operands<'a>(scene: &'a Scene<'_>, ways: &'a [Way], row: &Passage) -> Option<Waited<'a>>
+fn after_operands<'a>(scene: &'a Scene<'_>, ways: &'a [Way], row: &Passage) -> Option<Waited>
     ensures { result ≡ after_operands (setting_of scene.now) ways.now row.now }
 {
     match after_producer(scene, ways, &row.producers.first) {
@@ -52,11 +47,7 @@ fn after_operands<'a>(scene: &'a Scene<'_>, ways: &'a [Way], row: &Passage) -> O
     }
 }
 
-fn after_stores_known<'a>(
-    scene: &'a Scene<'_>,
-    ways: &'a [Way],
-    row: &Passage,
-) -> Option<Waited<'a>>
+fn after_stores_known<'a>(scene: &'a Scene<'_>, ways: &'a [Way], row: &Passage) -> Option<Waited>
     ensures { result ≡ after_stores_known (setting_of scene.now) ways.now row.now }
 {
     if !is_load(&row.instruction) {
@@ -64,7 +55,7 @@ fn after_stores_known<'a>(
     }
     match first_of(Sought::StoreBefore(scene.number), scene.rows, ways) {
         Some(store) if store.row().number < row.number => {
-            Some(scene.waits(Cause::StoreAddress, store.way().broadcast()))
+            Some(Waited::after(store.way().broadcast(), Cause::StoreAddress))
         }
         _ => None,
     }
@@ -100,7 +91,7 @@ fn hold_among<'a>(scene: &Scene<'_>, kind: Kind, holds: &'a [UnitHold]) -> Optio
     }
 }
 
-fn after_issues<'a>(scene: &'a Scene<'_>, ways: &'a [Way], kind: Kind) -> Option<Waited<'a>>
+fn after_issues<'a>(scene: &'a Scene<'_>, ways: &'a [Way], kind: Kind) -> Option<Waited>
     ensures { result ≡ after_issues (setting_of scene.now) ways.now kind }
 {
     let sought = Sought::IssuedBefore(kind, scene.number);
@@ -108,29 +99,25 @@ fn after_issues<'a>(scene: &'a Scene<'_>, ways: &'a [Way], kind: Kind) -> Option
         return None;
     }
     match last_of(sought, scene.rows, ways) {
-        Some(found) => Some(scene.waits(Cause::busy(kind), found.way().issued())),
+        Some(found) => Some(Waited::after(found.way().issued(), Cause::busy(kind))),
         None => None,
     }
 }
 
 // An instruction that waited for a unit.
-fn after_units<'a>(scene: &'a Scene<'_>, ways: &'a [Way], kind: Kind) -> Option<Waited<'a>>
+fn after_units<'a>(scene: &'a Scene<'_>, ways: &'a [Way], kind: Kind) -> Option<Waited>
     ensures { result ≡ after_units (setting_of scene.now) ways.now kind }
 {
     if scene.values.kinds.get(kind).pipelined {
         return after_issues(scene, ways, kind);
     }
     match hold_among(scene, kind, scene.holds) {
-        Some(hold) => Some(scene.waits(Cause::busy(kind), &hold.event)),
+        Some(hold) => Some(Waited::after(&hold.event, Cause::busy(kind))),
         None => None,
     }
 }
 
-fn after_units_of<'a>(
-    scene: &'a Scene<'_>,
-    ways: &'a [Way],
-    kind: Option<Kind>,
-) -> Option<Waited<'a>>
+fn after_units_of<'a>(scene: &'a Scene<'_>, ways: &'a [Way], kind: Option<Kind>) -> Option<Waited>
     ensures { result ≡ after_units_of (setting_of scene.now) ways.now kind }
 {
     match kind {
@@ -139,7 +126,7 @@ fn after_units_of<'a>(
     }
 }
 
-fn issue_after<'a>(scene: &'a Scene<'_>, ways: &'a [Way], row: &Passage) -> Option<Waited<'a>>
+fn issue_after<'a>(scene: &'a Scene<'_>, ways: &'a [Way], row: &Passage) -> Option<Waited>
     ensures { result ≡ issue_after (setting_of scene.now) ways.now row.now }
 {
     if let Some(event) = after_operands(scene, ways, row) {
@@ -154,23 +141,21 @@ fn issue_after<'a>(scene: &'a Scene<'_>, ways: &'a [Way], row: &Passage) -> Opti
     scene.after_port()
 }
 
-/// The event by which an instruction is issued.
-pub(crate) fn issue_event<'a>(
+/// What an instruction waited for that is issued.
+pub(crate) fn issue_wait<'a>(
     scene: &'a Scene<'_>,
     ways: &'a [Way],
     row: &Passage,
     way: &'a Way,
-) -> Waited<'a>
-    ensures { result ≡ issue_event (setting_of scene.now) ways.now row.now way.now }
+) -> Waited
+    ensures { result ≡ issue_wait (setting_of scene.now) ways.now row.now way.now }
 {
     if is_just_before(scene.number, row.dispatched) {
-        return scene
-            .waits(Cause::DispatchToIssue, way.dispatched())
-            .settled();
+        return Waited::after(way.dispatched(), Cause::DispatchToIssue);
     }
     match issue_after(scene, ways, row) {
-        Some(event) => event.settled(),
-        None => scene.waits(Cause::Other, way.dispatched()).settled(),
+        Some(waited) => waited,
+        None => Waited::after(way.dispatched(), Cause::Other),
     }
 }
 
@@ -193,54 +178,30 @@ fn execution_cause(scene: &Scene<'_>, row: &Passage) -> Cause
     }
 }
 
-fn after_bus<'a>(scene: &'a Scene<'_>, ways: &'a [Way]) -> Option<Waited<'a>>
+fn after_bus<'a>(scene: &'a Scene<'_>, ways: &'a [Way]) -> Option<Waited>
     ensures { result ≡ after_bus (setting_of scene.now) ways.now }
 {
     let sought = Sought::BroadcastBefore(scene.number);
     if count(sought, scene.rows) != scene.values.bus_width as usize {
         return None;
     }
-    after_broadcast(scene, Cause::BusFull, last_of(sought, scene.rows, ways))
+    after_broadcast(Cause::BusFull, last_of(sought, scene.rows, ways))
 }
 
-// The event by which a result is broadcast.
-fn broadcast_event<'a>(
+/// What a result waited for that is broadcast.
+pub(crate) fn broadcast_wait<'a>(
     scene: &'a Scene<'_>,
     ways: &'a [Way],
     row: &Passage,
     way: &'a Way,
-) -> Waited<'a>
-    ensures { result ≡ broadcast_event (setting_of scene.now) ways.now row.now way.now }
+) -> Waited
+    ensures { result ≡ broadcast_wait (setting_of scene.now) ways.now row.now way.now }
 {
     if is_ready_at(scene.number, row) {
-        return scene
-            .waits(execution_cause(scene, row), way.issued())
-            .settled();
+        return Waited::after(way.issued(), execution_cause(scene, row));
     }
     match after_bus(scene, ways) {
-        Some(event) => event.settled(),
-        None => scene.waits(Cause::Other, way.issued()).settled(),
+        Some(waited) => waited,
+        None => Waited::after(way.issued(), Cause::Other),
     }
-}
-
-/// An instruction is issued, where the events of all stand so.
-pub(crate) fn issue_at(scene: &Scene<'_>, row: &Passage, place: usize, ways: &mut [Way])
-    ensures { ways.new ≡ issued_at (setting_of scene.now) row.now place (slice_get ways.old place) ways.old }
-{
-    let Some(way) = ways.get(place) else {
-        return;
-    };
-    let event = issue_event(scene, ways, row, way).event();
-    ways[place].issue = Some(event);
-}
-
-/// Its result is broadcast.
-pub(crate) fn broadcast_at(scene: &Scene<'_>, row: &Passage, place: usize, ways: &mut [Way])
-    ensures { ways.new ≡ broadcast_at (setting_of scene.now) row.now place (slice_get ways.old place) ways.old }
-{
-    let Some(way) = ways.get(place) else {
-        return;
-    };
-    let event = broadcast_event(scene, ways, row, way).event();
-    ways[place].broadcast = Some(event);
 }

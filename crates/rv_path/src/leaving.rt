@@ -1,6 +1,6 @@
 ghost use Rattle.std.specs.Prelude.{◌≡◌};
-ghost use Rattle.rv_path.specs.Leaving.{cause_of_flush, flushes_late, interrupt_event, is_interrupted, is_retired_store, leaving_event, leaving_of, lines_event, newly_left, with_event, with_row, with_rows};
-ghost use Rattle.rv_path.specs.Leaving.{after_own_lines, after_left, first_to_leave, known_in, leaves_after, left_by};
+ghost use Rattle.rv_path.specs.Leaving.{cause_of_flush, flushes_late, interrupt_event, is_interrupted, is_retired_store, leaving_event, leaving_of, leaving_wait, lines_event, lines_wait, newly_left, with_event, with_row, with_rows};
+ghost use Rattle.rv_path.specs.Leaving.{after_own_lines, after_left, first_to_leave, flush_by, known_in, leaves_after, left_by};
 ghost use Rattle.rv_isa.specs.Instruction.{is_branch_or_jump};
 ghost use Rattle.rv_hardware.specs.Broadcast.{mends_early};
 ghost use Rattle.rv_passage.specs.Prediction.{differ};
@@ -9,7 +9,8 @@ ghost use Rattle.rv_path.specs.Setting.{setting_of};
 use crate::before::{Holder, Left};
 use crate::cause::Cause;
 use crate::event::{Event, Waited};
-use crate::scene::Scene;
+use crate::point::{Point, Reason, Stage};
+use crate::scene::{Scene, since_left};
 use crate::sought::{
     Sought, count, is_fence_i, is_just_before, is_serialising, is_sought, is_store,
 };
@@ -26,7 +27,7 @@ pub(crate) struct Leaving {
     /// That of the first store.
     pub(crate) store: Option<Event>,
     /// Why the fetch begins anew at the last, if it does.
-    pub(crate) refill: Option<Cause>,
+    pub(crate) refill: Option<Reason>,
 }
 
 fn known_in(row: &Passage) -> Option<u64>
@@ -35,19 +36,19 @@ fn known_in(row: &Passage) -> Option<u64>
     row.broadcast.or(row.dispatched)
 }
 
-fn after_own_lines<'a>(scene: &'a Scene<'_>, row: &Passage) -> Option<Waited<'a>>
+fn after_own_lines<'a>(scene: &'a Scene<'_>, row: &Passage) -> Option<Waited>
     ensures { result ≡ after_own_lines (setting_of scene.now) row.now }
 {
     if !scene.has_held(Holder::Lines, row.number) {
         return None;
     }
     match scene.port_ended() {
-        Some(hold) => Some(scene.waits(Cause::LinesWritten, &hold.event)),
+        Some(hold) => Some(Waited::after(&hold.event, Cause::LinesWritten)),
         None => None,
     }
 }
 
-fn after_left<'a>(scene: &Scene<'_>, left: &'a Left) -> Waited<'a>
+fn after_left<'a>(scene: &Scene<'_>, left: &'a Left) -> Waited
     ensures { result ≡ after_left (setting_of scene.now) left.now }
 {
     let cause = if left.count == scene.values.commit_width as usize {
@@ -55,10 +56,10 @@ fn after_left<'a>(scene: &Scene<'_>, left: &'a Left) -> Waited<'a>
     } else {
         Cause::CommitInOrder
     };
-    scene.waits(cause, &left.event)
+    Waited::after(&left.event, cause)
 }
 
-fn first_to_leave<'a>(scene: &'a Scene<'_>, row: &Passage) -> Option<Waited<'a>>
+fn first_to_leave<'a>(scene: &'a Scene<'_>, row: &Passage) -> Option<Waited>
     ensures { result ≡ first_to_leave (setting_of scene.now) row.now }
 {
     if is_fence_i(&row.instruction) {
@@ -78,29 +79,29 @@ fn leaves_after<'a>(
     earlier: &'a Option<Event>,
     row: &Passage,
     way: &'a Way,
-) -> Waited<'a>
+) -> Waited
     ensures { result ≡ leaves_after (setting_of scene.now) earlier.now row.now way.now }
 {
     if let Some(event) = earlier {
         return Waited::again(event);
     }
     match first_to_leave(scene, row) {
-        Some(event) => event.settled(),
-        None => scene.waits(Cause::Other, way.dispatched()).settled(),
+        Some(waited) => waited,
+        None => Waited::after(way.dispatched(), Cause::Other),
     }
 }
 
-// The event by which an instruction leaves the hardware, after the one before it in the cycle.
-fn leaving_event<'a>(
+// What an instruction waited for that leaves the hardware, after the one before it in the cycle.
+fn leaving_wait<'a>(
     scene: &'a Scene<'_>,
     earlier: &'a Leaving,
     row: &Passage,
     way: &'a Way,
-) -> Waited<'a>
-    ensures { result ≡ leaving_event (setting_of scene.now) earlier.now.last row.now way.now }
+) -> Waited
+    ensures { result ≡ leaving_wait (setting_of scene.now) earlier.now.last row.now way.now }
 {
     if is_just_before(scene.number, known_in(row)) {
-        scene.waits(Cause::Commit, way.broadcast()).settled()
+        Waited::after(way.broadcast(), Cause::Commit)
     } else {
         leaves_after(scene, &earlier.last, row, way)
     }
@@ -164,6 +165,19 @@ fn cause_of_flush(scene: &Scene<'_>, row: &Passage) -> Option<Cause>
     }
 }
 
+// On its account.
+fn flush_by(row: &Passage, cause: Option<Cause>) -> Option<Reason>
+    ensures { result ≡ flush_by row.now cause }
+{
+    match cause {
+        Some(cause) => Some(Reason {
+            cause,
+            address: Some(row.pc),
+        }),
+        None => None,
+    }
+}
+
 impl Leaving {
     // One more instruction leaves by an event.
     fn add_event(&mut self, scene: &Scene<'_>, event: Event, row: &Passage)
@@ -176,14 +190,14 @@ impl Leaving {
             self.first = Some(event);
         }
         self.last = Some(event);
-        self.refill = cause_of_flush(scene, row);
+        self.refill = flush_by(row, cause_of_flush(scene, row));
     }
 
     // The event by which one more leaves.
     fn next_event(&self, scene: &Scene<'_>, row: &Passage, way: &Way) -> Event
         ensures { result ≡ leaving_event (setting_of scene.now) self.now.last row.now way.now }
     {
-        leaving_event(scene, self, row, way).event()
+        scene.made_of(Stage::Commit, row, &leaving_wait(scene, self, row, way))
     }
 
     // One more instruction, if it left.
@@ -226,13 +240,15 @@ impl Leaving {
 }
 
 /// An interrupt, which came so long after the last step.
-pub(crate) fn interrupt_event<'a>(scene: &'a Scene<'_>) -> Waited<'a>
+pub(crate) fn interrupt_event(scene: &Scene<'_>) -> Event
     ensures { result ≡ interrupt_event (setting_of scene.now) }
 {
-    if let Some(left) = &scene.before.left {
-        return scene.waits(Cause::UntilInterrupt, &left.event).settled();
-    }
-    scene.first()
+    let at = Point {
+        stage: Stage::Interrupt,
+        number: scene.elapsed,
+    };
+    let waited = since_left(Cause::UntilInterrupt, &scene.before.left);
+    scene.made(at, None, &waited)
 }
 
 /// Whether an interrupt was taken in a cycle.
@@ -265,7 +281,7 @@ pub(crate) fn newly_left(scene: &Scene<'_>, interrupted: bool, leaving: &Leaving
     ensures { result ≡ newly_left (setting_of scene.now) interrupted leaving.now }
 {
     if interrupted {
-        return left_by(scene, 0, Some(interrupt_event(scene).event()));
+        return left_by(scene, 0, Some(interrupt_event(scene)));
     }
     if leaving.last.is_none() {
         return None;
@@ -273,23 +289,24 @@ pub(crate) fn newly_left(scene: &Scene<'_>, interrupted: bool, leaving: &Leaving
     left_by(scene, count(Sought::Ended, scene.rows), leaving.last)
 }
 
-/// The oldest instruction begins to write lines back.
-pub(crate) fn lines_event<'a>(
-    scene: &'a Scene<'_>,
-    leaving: &'a Leaving,
-    row: &Passage,
-    way: &'a Way,
-) -> Waited<'a>
-    ensures { result ≡ lines_event (setting_of scene.now) leaving.now row.now way.now }
+fn lines_wait(scene: &Scene<'_>, leaving: &Leaving, row: &Passage, way: &Way) -> Waited
+    ensures { result ≡ lines_wait (setting_of scene.now) leaving.now row.now way.now }
 {
     if is_just_before(scene.number, row.dispatched) {
-        return scene.waits_settled(Cause::Commit, way.dispatched());
+        return Waited::after(way.dispatched(), Cause::Commit);
     }
     if let Some(event) = &leaving.last {
         return Waited::again(event);
     }
     match scene.after_stores() {
-        Some(event) => event,
-        None => scene.waits_settled(Cause::Other, way.dispatched()),
+        Some(waited) => waited,
+        None => Waited::after(way.dispatched(), Cause::Other),
     }
+}
+
+/// The oldest instruction begins to write lines back.
+pub(crate) fn lines_event(scene: &Scene<'_>, leaving: &Leaving, row: &Passage, way: &Way) -> Event
+    ensures { result ≡ lines_event (setting_of scene.now) leaving.now row.now way.now }
+{
+    scene.made_of(Stage::Lines, row, &lines_wait(scene, leaving, row, way))
 }

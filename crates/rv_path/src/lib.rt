@@ -1,9 +1,13 @@
 //! The critical path of a run: each event of it (a fetch, a dispatch, an issue, a broadcast, a commit, the start of a drain or of a
-//! write-back of lines, an interrupt) waited last for one other event, and so the path that leads to it has each cycle of the run on
-//! account of exactly one cause. Its model is what is known of these paths between two cycles; `specs/` defines what an event waited
-//! for, and what a cycle makes of the paths. The text is a function of the path to the last retirement, trap or interrupt.
+//! write-back of lines, an interrupt) waited last for one other event, which it names, and so the path that is walked back from the run's
+//! end has each cycle of the run on account of exactly one cause. Its model is what is known between two cycles: the events for which later
+//! ones may wait, and all events of the run, of which only the last are kept, with the account of the path to where all later paths meet.
+//! `specs/` defines what an event waited for, and what a cycle makes of what is known. The text is a function of the path to the last
+//! retirement, trap or interrupt.
 #![tactic(auto)]
 
+mod account;
+mod account_text;
 mod before;
 mod cause;
 mod ended;
@@ -12,14 +16,20 @@ mod fetching;
 mod holding;
 mod issuing;
 mod leaving;
+mod lines;
+mod live;
+mod meeting;
 mod moving;
 mod path;
+mod point;
 mod running;
 mod scene;
 mod seeing;
 mod sought;
 mod text;
 mod way;
+mod window;
+mod word_cycles;
 mod written;
 
 pub use cause::{CAUSES, Cause};

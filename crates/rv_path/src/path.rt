@@ -1,16 +1,20 @@
-ghost use Rattle.std.specs.Prelude.{◌≡◌, ◌+◌, ◌<◌, ◌^◌, ◌≤◌, [], length, replicate, vec_capacity, IfOk, IfSome, sum};
+ghost use Rattle.std.specs.Prelude.{◌≡◌, ◌+◌, ◌<◌, ◌^◌, ◌≤◌, [], length, replicate, vec_capacity, IfOk, IfSome};
 ghost use Rattle.rv_path.specs.Event.{nothing_yet};
 ghost use Rattle.rv_path.specs.Path.{AreForgotten, end_of, still_in_flight};
 ghost use Rattle.rv_path.specs.Way.{way_from};
 
+use crate::account::Account;
 use crate::before::{Before, Facts, UnitHold};
-use crate::cause::{CAUSES, Cause};
+use crate::cause::Cause;
 use crate::ended::{count_ended, push_fetched, push_in_flight};
-use crate::event::Event;
-use crate::holding::{drop_ended, push_holds};
-use crate::scene::{Scene, after_last_left};
-use crate::seeing::{Seen, see_kept};
+use crate::event::{Event, Waited};
+use crate::holding::{drain_kept, drop_ended, port_kept, push_holds};
+use crate::live::gather;
+use crate::point::{Point, Stage};
+use crate::scene::last_left;
+use crate::seeing::{Seen, see_shown};
 use crate::way::Way;
+use crate::window::Window;
 use rv_core::Pipeline;
 use rv_passage::Passage;
 use rv_view::ShownCycle;
@@ -19,6 +23,12 @@ use std::mem::swap;
 
 /// The most instructions of a cycle: those that were in flight before it, and those that were fetched in it.
 const MOST_IN_CYCLE: usize = 576;
+
+/// How many events a window has room for at first: it drops what all paths share where it is full.
+const WINDOW: usize = 8192;
+
+/// The most new events of a cycle beside one of each instruction that was in flight before it.
+const MOST_BESIDE: usize = 6;
 
 /// What is known of the path that leads to each event of a run, between two cycles.
 #[derive(Drop)]
@@ -31,12 +41,23 @@ pub(crate) struct Path {
     next: Vec<Way>,
     holds: Vec<UnitHold>,
     before: Before,
+    window: Window,
+    // Room for the points of the events for which one of a later cycle may wait.
+    live: Vec<Point>,
     ghost within: { dropped ≤ length ways.items },
 }
 
 impl Path {
-    ghost use Rattle.rv_path.specs.Keeping.{AreSameButBefore, AreSameButHolds, AreSameButWays, HasRoom, before_with, holds_shown, known_brought, known_of_path, known_shown, ways_of, with_fetched};
-    ghost use Rattle.rv_path.specs.Path.{known_at};
+    ghost use Rattle.rv_path.specs.Keeping.{AreSameButBefore, AreSameButHolds, AreSameButLive, AreSameButWays, AreSameButWindow, HasRoom, HasRoomForWays, IsFollowed, ArePathsKept, live_of, before_with, holds_shown, known_brought, known_of_path, known_shown, made_shown, ways_of};
+    ghost use Rattle.std.specs.Prelude.{List, ◌++◌};
+    ghost use Rattle.std.specs.Prelude.{◌∷◌, OnOk, Some};
+    ghost use Rattle.rv_path.specs.Account.{account_of};
+    ghost use Rattle.rv_path.specs.Event.{with_events};
+    ghost use Rattle.rv_path.specs.Setting.{last_left};
+    ghost use Rattle.rv_path.specs.Walk.{path_to};
+    ghost use Rattle.rv_path.specs.Window.{HasRoomForEvents, IsWindow, Passes, accounted};
+    ghost use Rattle.rv_path.specs.Path.{known_at, with_fetched};
+    ghost use Rattle.rv_path.specs.declared.event.Event.{Event};
 
     /// That of a pipeline in which so many instructions are in flight, before the first cycle. The only error is out of memory.
     pub(crate) fn begin(
@@ -48,11 +69,15 @@ impl Path {
         ensures ways { IfOk result (λ path. ways_of path ≡ replicate in_flight (way_from nothing_yet)) }
         ensures holds { IfOk result (λ path. path.holds.items ≡ []) }
         ensures before { IfOk result (λ path. path.before ≡ (known_at pipeline.now).before) }
+        ensures window { IfOk result (λ path. IsWindow path.window (nothing_yet ∷ [])) }
+        ensures passes { IfOk result (λ path. Passes path.window (Some nothing_yet.at)) }
     {
         let mut ways = Vec::with_capacity(alloc, 2 * MOST_IN_CYCLE)?;
         push_fetched(in_flight, &Some(Event::BEGIN), &mut ways);
         let next = Vec::with_capacity(alloc, 2 * MOST_IN_CYCLE)?;
         let holds = Vec::with_capacity(alloc, MOST_IN_CYCLE)?;
+        let mut window = Window::begin(alloc, WINDOW)?;
+        window.push(Event::BEGIN);
         Ok(Path {
             ways,
             dropped: 0,
@@ -64,17 +89,48 @@ impl Path {
                 drain: None,
                 facts: Facts::of(pipeline),
             },
+            window,
+            live: Vec::new(alloc),
         })
     }
 
     /// Makes room for what a further cycle may add. The only error is out of memory, which changes nothing that is known.
     pub(crate) fn make_room(&mut self) -> Result<(), AllocError>
-        ensures same { known_of_path self.new ≡ known_of_path self.old }
+        ensures same { (events : List Event) → known_of_path self.new events ≡ known_of_path self.old events }
+        ensures kept { ArePathsKept self.old self.new }
         ensures room { IfOk result (λ done. HasRoom self.new) }
     {
         self.ways.reserve(MOST_IN_CYCLE)?;
         self.next.reserve(MOST_IN_CYCLE)?;
-        self.holds.reserve(MOST_IN_CYCLE)
+        self.holds.reserve(MOST_IN_CYCLE)?;
+        self.make_window_room()
+    }
+
+    // Makes room for the events of a further cycle.
+    fn make_window_room(&mut self) -> Result<(), AllocError>
+        ensures others { AreSameButWindow self.old self.new }
+        ensures kept { ArePathsKept self.old self.new }
+        ensures room { IfOk result (λ done. HasRoomForEvents (length (ways_of self.new) + 6) self.new.window) }
+    {
+        let more = self.ways.len() - self.dropped + MOST_BESIDE;
+        if self.window.has_room(more) {
+            return Ok(());
+        }
+        self.gather_live()?;
+        self.window.make_room(more, &mut self.live)
+    }
+
+    // The points of the events for which one of a later cycle may wait.
+    fn gather_live(&mut self) -> Result<(), AllocError>
+        ensures others { AreSameButLive self.old self.new }
+        ensures live { OnOk result (self.new.live.items ≡ live_of self.old) }
+    {
+        gather(
+            &self.ways.as_slice()[self.dropped..],
+            self.holds.as_slice(),
+            &self.before,
+            &mut self.live,
+        )
     }
 
     /// Follows the path through one more cycle. Asks for no memory.
@@ -82,36 +138,31 @@ impl Path {
         requires room { HasRoom self.old }
         requires few { length cycle.now.rows.now ≤ 576 }
         requires cycles { cycle.now.number < 2 ^ 40 }
-        ensures known { known_of_path self.new ≡ known_shown cycle.now (known_of_path self.old) }
+        ensures known { (events : List Event) → known_of_path self.new (with_events (made_shown cycle.now (known_of_path self.old events)) events) ≡ known_shown cycle.now (known_of_path self.old events) }
+        ensures made { IsFollowed (made_shown cycle.now (known_of_path self.old [])) self.old.window self.new.window }
     {
-        let scene = Scene {
-            number: cycle.number,
-            elapsed: cycle.progress.cycles.saturating_sub(1),
-            values: cycle.pipeline.values(),
-            rows: cycle.rows,
-            holds: self.holds.as_slice(),
-            before: &self.before,
-        };
-        let seen = see_kept(
-            &scene,
-            cycle.steps,
-            cycle.pipeline,
+        let seen = see_shown(
+            cycle,
+            self.holds.as_slice(),
+            &self.before,
             self.dropped,
             self.ways.as_mut_slice(),
+            &mut self.window.events,
         );
         self.take(cycle, &seen);
     }
 
     // What was seen of a cycle is known after it.
     fn take(&mut self, cycle: &ShownCycle<'_>, seen: &Seen)
-        requires room { HasRoom self.old }
+        requires room { HasRoomForWays self.old }
         requires few { length cycle.now.rows.now ≤ 576 }
         requires cycles { cycle.now.number < 2 ^ 40 }
-        ensures { known_of_path self.new ≡ known_brought cycle.now seen.now (known_of_path self.old) }
+        ensures known { (events : List Event) → known_of_path self.new events ≡ known_brought cycle.now seen.now (known_of_path self.old events) }
+        ensures window { self.new.window ≡ self.old.window }
     {
         self.take_holds(cycle);
         self.take_fetched(cycle.rows, seen);
-        self.take_before(seen);
+        self.take_before(cycle.number, seen);
         self.drop_ended(cycle.rows);
     }
 
@@ -119,7 +170,7 @@ impl Path {
     fn take_holds(&mut self, cycle: &ShownCycle<'_>)
         requires room { length self.old.holds.items + length cycle.now.rows.now ≤ vec_capacity self.old.holds }
         requires cycles { cycle.now.number < 2 ^ 40 }
-        ensures holds { self.new.holds.items ≡ holds_shown cycle.now (known_of_path self.old) }
+        ensures holds { self.new.holds.items ≡ holds_shown cycle.now (known_of_path self.old []) }
         ensures others { AreSameButHolds self.old self.new }
     {
         drop_ended(cycle.number, &mut self.holds);
@@ -135,7 +186,7 @@ impl Path {
     // The words that were fetched in a cycle are in flight.
     fn take_fetched(&mut self, rows: &[Passage], seen: &Seen)
         requires room { length self.old.ways.items + length rows.now ≤ vec_capacity self.old.ways }
-        ensures ways { ways_of self.new ≡ with_fetched seen.now rows.now (ways_of self.old) }
+        ensures ways { ways_of self.new ≡ with_fetched seen.now.fetch rows.now (ways_of self.old) }
         ensures others { AreSameButWays self.old self.new }
     {
         let fetched = rows.len().saturating_sub(self.ways.len() - self.dropped);
@@ -143,19 +194,21 @@ impl Path {
     }
 
     // All else that is known after a cycle.
-    fn take_before(&mut self, seen: &Seen)
-        ensures before { self.new.before ≡ before_with seen.now self.old.before }
+    fn take_before(&mut self, number: u64, seen: &Seen)
+        ensures before { self.new.before ≡ before_with number seen.now self.old.before }
         ensures others { AreSameButBefore self.old self.new }
     {
         if seen.left.is_some() {
             self.before.left = seen.left;
         }
-        if seen.port.is_some() {
-            self.before.port = seen.port;
-        }
-        if seen.drain.is_some() {
-            self.before.drain = seen.drain;
-        }
+        self.before.port = match seen.port {
+            Some(hold) => Some(hold),
+            None => port_kept(number, &self.before.port),
+        };
+        self.before.drain = match seen.drain {
+            Some(drain) => Some(drain),
+            None => drain_kept(number, &self.before.drain),
+        };
         self.before.facts = seen.facts;
     }
 
@@ -179,7 +232,7 @@ impl Path {
     fn drop_ended(&mut self, rows: &[Passage])
         requires room { length rows.now ≤ vec_capacity self.old.next }
         ensures ways { ways_of self.new ≡ still_in_flight rows.now (ways_of self.old) }
-        ensures others { (self.new.holds ≡ self.old.holds) × (self.new.before ≡ self.old.before) }
+        ensures others { (self.new.holds ≡ self.old.holds) × (self.new.before ≡ self.old.before) × (self.new.window ≡ self.old.window) }
     {
         match self.forgotten(rows) {
             Some(count) => self.dropped += count,
@@ -191,7 +244,7 @@ impl Path {
     fn move_to_next(&mut self, rows: &[Passage])
         requires room { length rows.now ≤ vec_capacity self.old.next }
         ensures ways { ways_of self.new ≡ still_in_flight rows.now (ways_of self.old) }
-        ensures others { (self.new.holds ≡ self.old.holds) × (self.new.before ≡ self.old.before) }
+        ensures others { (self.new.holds ≡ self.old.holds) × (self.new.before ≡ self.old.before) × (self.new.window ≡ self.old.window) }
     {
         self.next.clear();
         push_in_flight(rows, &self.ways.as_slice()[self.dropped..], &mut self.next);
@@ -200,13 +253,30 @@ impl Path {
         self.dropped = 0;
     }
 
-    /// How many of the cycles of a run each cause has on the path, after the last of so many.
-    pub(crate) fn account(&self, cycles: u64) -> [u64; CAUSES]
-        ensures account { result ≡ (end_of cycles self.now.before).account }
-        ensures adds_up { sum result ≡ (end_of cycles self.now.before).cycle }
+    /// The account of the path to the end of a run of so many cycles. The only error is out of memory.
+    pub(crate) fn into_account(self, cycles: u64) -> Result<Account, AllocError>
+        ensures { IfOk result (λ account. (all : List Event) → IsWindow self.window all → Passes self.window (Some (last_left self.before.left).at) → accounted account ≡ account_of (end_of cycles self.before ∷ path_to all (Some (last_left self.before.left).at))) }
     {
-        after_last_left(&self.before.left, cycles, Cause::AfterLast)
-            .event()
-            .account()
+        let Path {
+            ways: _,
+            dropped: _,
+            next: _,
+            holds: _,
+            before,
+            window,
+            live: _,
+        } = self;
+        window.into_account(&end_of(cycles, &before))
     }
+}
+
+// The end of a run of so many cycles, which comes after the last event.
+fn end_of(cycles: u64, before: &Before) -> Event
+    ensures { result ≡ end_of cycles before.now }
+{
+    let at = Point {
+        stage: Stage::End,
+        number: 0,
+    };
+    Waited::after(&last_left(&before.left), Cause::AfterLast).event(at, cycles, None)
 }

@@ -1,8 +1,9 @@
 ghost use Rattle.std.specs.Prelude.{IfOk};
 ghost use Rattle.rv_hardware.specs.Guided.{guided};
 ghost use Rattle.rv_path.specs.Run.{IsAccounted};
+ghost use Rattle.rv_path.specs.Window.{accounted};
 
-use crate::cause::CAUSES;
+use crate::account::Account;
 use crate::path::Path;
 use rv_arch::Stop;
 use rv_core::Pipeline;
@@ -14,12 +15,12 @@ use std::alloc::{AllocError, Global};
 use std::io;
 use std::io::Write;
 
-/// Why a run ended, its cycles, and how many of them each cause has.
-#[derive(Clone, Copy)]
+/// Why a run ended, its cycles, and on whose account they are.
+#[derive(Drop)]
 pub(crate) struct Accounted {
     pub(crate) stop: Stop,
     pub(crate) cycles: u64,
-    pub(crate) account: [u64; CAUSES],
+    pub(crate) account: Account,
 }
 
 // The view that follows the path, and says nothing.
@@ -60,7 +61,7 @@ pub(crate) fn run_accounted(
     arrivals: &Arrivals,
     limit: u64,
 ) -> Result<Accounted, AllocError>
-    ensures accounted { IfOk result (λ done. IsAccounted arrivals.now limit (guided pipeline.old (known predictor.old)) (guided pipeline.new (known predictor.new)) done.stop done.cycles done.account) }
+    ensures accounted { IfOk result (λ done. IsAccounted arrivals.now limit (guided pipeline.old (known predictor.old)) (guided pipeline.new (known predictor.new)) done.stop done.cycles (accounted done.account)) }
 {
     let following = Following::begin(alloc, pipeline)?;
     let path = Path::begin(alloc, pipeline, following.rows().len())?;
@@ -82,7 +83,7 @@ pub(crate) fn run_accounted(
     );
     let stop = stop?;
     let cycles = progress.cycles;
-    let account = view.path.account(cycles);
+    let account = view.path.into_account(cycles)?;
     Ok(Accounted {
         stop,
         cycles,

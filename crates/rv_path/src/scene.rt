@@ -1,10 +1,11 @@
 ghost use Rattle.std.specs.Prelude.{◌≡◌, option_copied};
-ghost use Rattle.rv_path.specs.Event.{waited_for};
-ghost use Rattle.rv_path.specs.Setting.{is_hold_of, last_left};
+ghost use Rattle.std.specs.Option.{option_to_list};
+ghost use Rattle.rv_path.specs.Setting.{is_hold_of, last_left, since_left};
 
 use crate::before::{Before, Holder, Left, PortHold, UnitHold};
 use crate::cause::Cause;
 use crate::event::{Event, Waited};
+use crate::point::{Point, Stage};
 use crate::sought::is_just_before;
 use rv_isa::Values;
 use rv_passage::Passage;
@@ -35,28 +36,29 @@ fn is_hold_of(holder: Holder, number: u64, hold: Option<&PortHold>) -> bool
 }
 
 impl<'a> Scene<'a> {
-    ghost use Rattle.rv_path.specs.Setting.{after_drain_at, after_drain_before, after_leaving, after_port, after_stores, is_hold_of, left_before, port_ended, setting_of, waits};
-    ghost use Rattle.rv_path.specs.Event.{first_event, settled};
+    ghost use Rattle.rv_path.specs.Setting.{after_drain_at, after_drain_before, after_leaving, after_port, after_stores, is_hold_of, left_before, made, made_of, new_of, port_ended, setting_of};
 
-    /// An event of the cycle that waited last for another one, and why.
-    pub(crate) fn waits<'e>(&self, cause: Cause, event: &'e Event) -> Waited<'e>
-        ensures { result ≡ waits (setting_of self.now) cause event.now }
+    /// The event of the cycle at a point, of an address, by what it waited for.
+    pub(crate) fn made(&self, at: Point, address: Option<u32>, waited: &Waited) -> Event
+        ensures { result ≡ made (setting_of self.now) at address waited.now }
     {
-        Waited::after(event, self.elapsed, cause)
+        waited.event(at, self.elapsed, address)
     }
 
-    /// One that waited last for another one that was settled.
-    pub(crate) fn waits_settled<'e>(&self, cause: Cause, event: &'e Event) -> Waited<'e>
-        ensures { result ≡ waits (setting_of self.now) cause (settled event.now) }
+    /// That of an instruction.
+    pub(crate) fn made_of(&self, stage: Stage, row: &Passage, waited: &Waited) -> Event
+        ensures { result ≡ made_of (setting_of self.now) stage row.now waited.now }
     {
-        Waited::after_settled(event, self.elapsed, cause)
+        let number = row.number;
+        self.made(Point { stage, number }, Some(row.pc), waited)
     }
 
-    /// An event of the cycle that waited for none.
-    pub(crate) fn first(&self) -> Waited<'_>
-        ensures { result ≡ first_event (setting_of self.now).elapsed }
+    /// That, if it is new.
+    pub(crate) fn new_of(&self, stage: Stage, row: &Passage, waited: &Waited) -> Option<Event>
+        ensures { option_to_list result ≡ new_of (setting_of self.now) stage row.now waited.now }
     {
-        Waited::after_begin(self.elapsed, Cause::BeforeFirst)
+        let number = row.number;
+        waited.new_event(Point { stage, number }, self.elapsed, Some(row.pc))
     }
 
     /// The hold of the port, if it ended when the cycle began.
@@ -70,11 +72,11 @@ impl<'a> Scene<'a> {
     }
 
     /// An event that came when the port was free again.
-    pub(crate) fn after_port(&self) -> Option<Waited<'_>>
+    pub(crate) fn after_port(&self) -> Option<Waited>
         ensures { result ≡ after_port (setting_of self.now) }
     {
         match self.port_ended() {
-            Some(hold) => Some(self.waits(hold.holder.cause(), &hold.event)),
+            Some(hold) => Some(Waited::after(&hold.event, hold.holder.cause())),
             None => None,
         }
     }
@@ -98,38 +100,38 @@ impl<'a> Scene<'a> {
         }
     }
 
-    fn after_leaving(&self) -> Option<Waited<'_>>
-        ensures { result ≡ after_leaving (setting_of self.now) (left_before (setting_of self.now)) }
+    fn after_leaving(&self) -> Option<Waited>
+        ensures { result ≡ after_leaving (left_before (setting_of self.now)) }
     {
         match self.left_before() {
-            Some(left) => Some(self.waits(Cause::CommitInOrder, &left.event)),
+            Some(left) => Some(Waited::after(&left.event, Cause::CommitInOrder)),
             None => None,
         }
     }
 
     /// An event that came when a store had drained, in this cycle.
-    pub(crate) fn after_drain(&self, cause: Cause) -> Option<Waited<'_>>
+    pub(crate) fn after_drain(&self, cause: Cause) -> Option<Waited>
         ensures { result ≡ after_drain_at (setting_of self.now) cause self.now.number self.now.before.now.drain }
     {
         match &self.before.drain {
-            Some(drain) if drain.until == self.number => Some(self.waits(cause, &drain.event)),
+            Some(drain) if drain.until == self.number => Some(Waited::after(&drain.event, cause)),
             _ => None,
         }
     }
 
-    fn after_drain_before(&self) -> Option<Waited<'_>>
+    fn after_drain_before(&self) -> Option<Waited>
         ensures { result ≡ after_drain_before (setting_of self.now) self.now.before.now.drain }
     {
         match &self.before.drain {
             Some(drain) if is_just_before(self.number, Some(drain.until)) => {
-                Some(self.waits(Cause::PortStore, &drain.event))
+                Some(Waited::after(&drain.event, Cause::PortStore))
             }
             _ => None,
         }
     }
 
     /// What a FENCE.I waits for that is the oldest: the older stores, the port, or to be the oldest.
-    pub(crate) fn after_stores(&self) -> Option<Waited<'_>>
+    pub(crate) fn after_stores(&self) -> Option<Waited>
         ensures { result ≡ after_stores (setting_of self.now) }
     {
         if let Some(event) = self.after_drain_before() {
@@ -142,12 +144,22 @@ impl<'a> Scene<'a> {
     }
 }
 
-/// An event that waited for the last one that left the hardware, or for the beginning of the run.
-pub(crate) fn after_last_left(left: &Option<Left>, cycle: u64, cause: Cause) -> Waited<'_>
-    ensures { result ≡ waited_for cycle cause (last_left left.now) }
+/// The last event that left the hardware, or the beginning of the run.
+pub(crate) fn last_left(left: &Option<Left>) -> Event
+    ensures { result ≡ last_left left.now }
 {
     match left {
-        Some(left) => Waited::after(&left.event, cycle, cause),
-        None => Waited::after_begin(cycle, cause),
+        Some(left) => left.event,
+        None => Event::BEGIN,
+    }
+}
+
+/// A wait for that, or of the first event of all.
+pub(crate) fn since_left(cause: Cause, left: &Option<Left>) -> Waited
+    ensures { result ≡ since_left cause left.now }
+{
+    match left {
+        Some(left) => Waited::after(&left.event, cause),
+        None => Waited::after(&Event::BEGIN, Cause::BeforeFirst),
     }
 }

@@ -1,19 +1,24 @@
-ghost use Rattle.std.specs.Prelude.{◌≡◌, ◌≤◌, drop, length};
-ghost use Rattle.rv_path.specs.Keeping.{IsFetchEvent, IsSeen, before_with};
-ghost use Rattle.rv_path.specs.Leaving.{is_interrupted};
-ghost use Rattle.rv_path.specs.Path.{before_next};
+ghost use Rattle.std.specs.Prelude.{◌≡◌, ◌+◌, ◌++◌, ◌≤◌, drop, length, option_copied, vec_capacity};
+ghost use Rattle.std.specs.Option.{option_to_list};
+ghost use Rattle.rv_path.specs.Fetching.{fetch_event, fetched_by, new_fetched};
+ghost use Rattle.rv_path.specs.Keeping.{IsSeen, before_with, setting_by};
+ghost use Rattle.rv_path.specs.Leaving.{is_interrupted, left_events};
+ghost use Rattle.rv_path.specs.Path.{before_next, interrupt_taken, made_in, new_beside};
 ghost use Rattle.rv_path.specs.Setting.{setting_of};
 
-use crate::before::{DrainHold, Facts, Left, PortHold};
+use crate::before::{Before, DrainHold, Facts, Left, PortHold, UnitHold};
 use crate::event::Event;
-use crate::fetching::fetch_event;
-use crate::holding::{drain_begun, port_taken};
-use crate::leaving::{Leaving, is_interrupted, newly_left};
-use crate::moving::move_all;
+use crate::fetching::fetch_wait;
+use crate::holding::{drain_begun, port_event, port_taken};
+use crate::leaving::{Leaving, interrupt_event, is_interrupted, newly_left};
+use crate::moving::{move_all, push_event};
+use crate::point::Stage;
 use crate::scene::Scene;
 use crate::way::Way;
 use rv_core::Pipeline;
 use rv_hardware::Step;
+use rv_passage::Passage;
+use rv_view::ShownCycle;
 
 /// What a cycle brings beside the events of the instructions that were in flight before it, and the holds of units.
 #[derive(Clone, Copy)]
@@ -26,65 +31,171 @@ pub(crate) struct Seen {
     pub(crate) fetch: Option<Event>,
 }
 
-// The event by which words were fetched, if some were.
-fn fetched(
-    scene: &Scene<'_>,
-    ways: &[Way],
-    interrupted: bool,
-    leaving: &Leaving,
-    pipeline: &Pipeline,
-) -> Option<Event>
-    ensures { IsFetchEvent (setting_of scene.now) ways.now interrupted leaving.now pipeline.now result }
+// Appends up to three events.
+fn push_three(
+    first: Option<Event>,
+    second: Option<Event>,
+    third: Option<Event>,
+    events: &mut Vec<Event>,
+)
+    requires room { length events.old.items + 3 ≤ vec_capacity events.old }
+    ensures items { events.new.items ≡ events.old.items ++ (option_to_list first ++ (option_to_list second ++ option_to_list third)) }
+    ensures few { length events.new.items ≤ length events.old.items + 3 }
+    ensures capacity { vec_capacity events.old ≤ vec_capacity events.new }
 {
-    if ways.len() < scene.rows.len() {
-        Some(fetch_event(scene, ways, interrupted, leaving, pipeline))
+    push_event(first, events);
+    push_event(second, events);
+    push_event(third, events);
+}
+
+// Appends the events of those that leave.
+fn push_left(leaving: &Leaving, events: &mut Vec<Event>)
+    requires room { length events.old.items + 3 ≤ vec_capacity events.old }
+    ensures items { events.new.items ≡ events.old.items ++ left_events leaving.now }
+    ensures few { length events.new.items ≤ length events.old.items + 3 }
+    ensures capacity { vec_capacity events.old ≤ vec_capacity events.new }
+{
+    push_three(leaving.first, leaving.store, leaving.last, events);
+}
+
+// The interrupt, if one was taken.
+fn interrupt_taken(scene: &Scene<'_>, interrupted: bool) -> Option<Event>
+    ensures { option_to_list result ≡ interrupt_taken (setting_of scene.now) interrupted }
+{
+    if interrupted {
+        Some(interrupt_event(scene))
     } else {
         None
     }
 }
 
-// What a cycle brings, where the events of the instructions that were in flight before it stand as they do after it.
+/// The event by which words were fetched, if some were, and that again if it is new.
+#[derive(Clone, Copy)]
+struct Fetched {
+    event: Option<Event>,
+    new_event: Option<Event>,
+}
+
+// Of which this word was the first.
+fn fetched_by(
+    scene: &Scene<'_>,
+    ways: &[Way],
+    interrupted: bool,
+    leaving: &Leaving,
+    pipeline: &Pipeline,
+    first: Option<&Passage>,
+) -> Fetched
+    ensures event { result.event ≡ fetched_by (setting_of scene.now) ways.now interrupted leaving.now pipeline.now (option_copied first.entry) }
+    ensures new_event { option_to_list result.new_event ≡ new_fetched (setting_of scene.now) ways.now interrupted leaving.now pipeline.now (option_copied first.entry) }
+{
+    match first {
+        Some(first) => {
+            let waited = fetch_wait(scene, ways, interrupted, leaving, pipeline, first);
+            Fetched {
+                event: Some(scene.made_of(Stage::Fetch, first, &waited)),
+                new_event: scene.new_of(Stage::Fetch, first, &waited),
+            }
+        }
+        None => Fetched {
+            event: None,
+            new_event: None,
+        },
+    }
+}
+
+// What a cycle brings, where the events of the instructions that were in flight before it stand as they do after it. Appends the new
+// ones of the others.
 fn notice(
     scene: &Scene<'_>,
     ways: &[Way],
     leaving: &Leaving,
     steps: &[Step],
     pipeline: &Pipeline,
+    events: &mut Vec<Event>,
 ) -> Seen
-    ensures before { before_with result scene.now.before.now ≡ before_next (setting_of scene.now) ways.now steps.now pipeline.now leaving.now }
-    ensures fetch { IsFetchEvent (setting_of scene.now) ways.now (is_interrupted steps.now) leaving.now pipeline.now result.fetch }
+    requires room { length events.old.items + 3 ≤ vec_capacity events.old }
+    ensures before { before_with scene.now.number result scene.now.before.now ≡ before_next (setting_of scene.now) ways.now steps.now pipeline.now leaving.now }
+    ensures fetch { result.fetch ≡ fetch_event (setting_of scene.now) ways.now (is_interrupted steps.now) leaving.now pipeline.now }
+    ensures items { events.new.items ≡ events.old.items ++ new_beside (setting_of scene.now) ways.now steps.now pipeline.now leaving.now }
+    ensures capacity { vec_capacity events.old ≤ vec_capacity events.new }
 {
     let interrupted = is_interrupted(steps);
     let facts = Facts::of(pipeline);
+    let interrupt = interrupt_taken(scene, interrupted);
+    let port = port_taken(scene, ways, leaving, &facts);
+    let first = scene.rows.get(ways.len());
+    let fetched = fetched_by(scene, ways, interrupted, leaving, pipeline, first);
+    push_three(interrupt, port_event(&port), fetched.new_event, events);
     Seen {
         left: newly_left(scene, interrupted, leaving),
-        port: port_taken(scene, ways, leaving, &facts),
+        port,
         drain: drain_begun(scene, leaving, &facts),
         facts,
-        fetch: fetched(scene, ways, interrupted, leaving, pipeline),
+        fetch: fetched.event,
     }
 }
 
-// Adds the events of the cycle to those of the instructions that were in flight before it, and answers what it brings beside.
-fn see(scene: &Scene<'_>, steps: &[Step], pipeline: &Pipeline, ways: &mut [Way]) -> Seen
-    ensures { IsSeen (setting_of scene.now) steps.now pipeline.now ways.old ways.new result }
+// Adds the events of the cycle to those of the instructions that were in flight before it, appends all new ones, and answers what the
+// cycle brings beside.
+fn see(
+    scene: &Scene<'_>,
+    steps: &[Step],
+    pipeline: &Pipeline,
+    ways: &mut [Way],
+    events: &mut Vec<Event>,
+) -> Seen
+    requires room { length events.old.items + length ways.old + 6 ≤ vec_capacity events.old }
+    ensures seen { IsSeen (setting_of scene.now) steps.now pipeline.now ways.old ways.new result }
+    ensures items { events.new.items ≡ events.old.items ++ made_in (setting_of scene.now) ways.old steps.now pipeline.now }
+    ensures capacity { vec_capacity events.old ≤ vec_capacity events.new }
 {
     let leaving = Leaving::of(scene, ways);
-    move_all(scene, &leaving, ways);
-    notice(scene, ways, &leaving, steps, pipeline)
+    push_left(&leaving, events);
+    move_all(scene, &leaving, ways, events);
+    notice(scene, ways, &leaving, steps, pipeline, events)
 }
 
-/// The same of the ways after those that are dropped.
-pub(crate) fn see_kept(
+// The same of the ways after those that are dropped.
+fn see_kept(
     scene: &Scene<'_>,
     steps: &[Step],
     pipeline: &Pipeline,
     dropped: usize,
     ways: &mut [Way],
+    events: &mut Vec<Event>,
 ) -> Seen
-    requires { dropped ≤ length ways.old }
-    ensures { IsSeen (setting_of scene.now) steps.now pipeline.now (drop dropped ways.old) (drop dropped ways.new) result }
+    requires few { dropped ≤ length ways.old }
+    requires room { length events.old.items + length (drop dropped ways.old) + 6 ≤ vec_capacity events.old }
+    ensures seen { IsSeen (setting_of scene.now) steps.now pipeline.now (drop dropped ways.old) (drop dropped ways.new) result }
+    ensures items { events.new.items ≡ events.old.items ++ made_in (setting_of scene.now) (drop dropped ways.old) steps.now pipeline.now }
+    ensures capacity { vec_capacity events.old ≤ vec_capacity events.new }
 {
     let (_, kept) = ways.split_at_mut(dropped);
-    see(scene, steps, pipeline, kept)
+    see(scene, steps, pipeline, kept, events)
+}
+
+/// The same of a cycle that is shown.
+pub(crate) fn see_shown(
+    cycle: &ShownCycle<'_>,
+    holds: &[UnitHold],
+    before: &Before,
+    dropped: usize,
+    ways: &mut [Way],
+    events: &mut Vec<Event>,
+) -> Seen
+    requires few { dropped ≤ length ways.old }
+    requires room { length events.old.items + length (drop dropped ways.old) + 6 ≤ vec_capacity events.old }
+    ensures seen { IsSeen (setting_by cycle.now holds.now before.now) cycle.now.steps.now cycle.now.pipeline.now (drop dropped ways.old) (drop dropped ways.new) result }
+    ensures items { events.new.items ≡ events.old.items ++ made_in (setting_by cycle.now holds.now before.now) (drop dropped ways.old) cycle.now.steps.now cycle.now.pipeline.now }
+    ensures capacity { vec_capacity events.old ≤ vec_capacity events.new }
+{
+    let scene = Scene {
+        number: cycle.number,
+        elapsed: cycle.progress.cycles.saturating_sub(1),
+        values: cycle.pipeline.values(),
+        rows: cycle.rows,
+        holds,
+        before,
+    };
+    see_kept(&scene, cycle.steps, cycle.pipeline, dropped, ways, events)
 }

@@ -1,4 +1,5 @@
 use crate::event::Event;
+use crate::point::Stage;
 use rv_passage::Passage;
 use std::marker::Model;
 
@@ -14,7 +15,7 @@ pub(crate) struct Way {
 
 impl Way {
     ghost use Rattle.std.specs.Prelude.{◌≡◌};
-    ghost use Rattle.rv_path.specs.Way.{broadcast_by, dispatched_by, issued_by, way_from};
+    ghost use Rattle.rv_path.specs.Way.{broadcast_by, dispatched_by, issued_by, way_from, with_stage};
 
     /// That of an instruction that was fetched by this event.
     pub(crate) fn from(fetch: Event) -> Way
@@ -25,6 +26,27 @@ impl Way {
             dispatch: None,
             issue: None,
             broadcast: None,
+        }
+    }
+
+    /// It with an event at a stage.
+    pub(crate) fn with_stage(self, stage: Stage, event: Event) -> Way
+        ensures { result ≡ with_stage stage event self }
+    {
+        match stage {
+            Stage::Dispatch => Way {
+                dispatch: Some(event),
+                ..self
+            },
+            Stage::Issue => Way {
+                issue: Some(event),
+                ..self
+            },
+            Stage::Broadcast => Way {
+                broadcast: Some(event),
+                ..self
+            },
+            _ => self,
         }
     }
 

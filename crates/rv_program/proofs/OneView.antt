@@ -35,5 +35,5 @@ one_view_of listed predictor (Profile limit) within ended ended' text text' is i
     let same = one_profile listed.job.arrivals limit listed.job.description listed.listing (hardware_of listed.job) predictor is.end is'.end ended.stop ended'.stop text text' (omega (arith, within)) is.shows.0 is'.shows.0 in
     (whole same.0 is.shows.1 is'.shows.1, same.1)
 one_view_of listed predictor (Path limit) within ended ended' text text' is is' =
-    let same = one_path listed.job.arrivals limit (hardware_of listed.job) predictor is.end is'.end ended.stop ended'.stop text text' (omega (arith, within)) is.shows.0 is'.shows.0 in
+    let same = one_path listed.job.arrivals limit listed.listing (hardware_of listed.job) predictor is.end is'.end ended.stop ended'.stop text text' (omega (arith, within)) is.shows.0 is'.shows.0 in
     (whole same.0 is.shows.1 is'.shows.1, same.1)

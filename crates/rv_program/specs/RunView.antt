@@ -33,7 +33,7 @@ IsShown (Explanation figures limit) listed old new ended text =
     IsExplanation listed.job.arrivals limit figures listed.job.description listed.listing old new ended.stop text × (ended.over ≡ None)
 IsShown (Profile limit) listed old new ended text =
     IsProfile listed.job.arrivals limit listed.job.description listed.listing old new ended.stop text × (ended.over ≡ None)
-IsShown (Path limit) listed old new ended text = IsPath listed.job.arrivals limit old new ended.stop text × (ended.over ≡ None)
+IsShown (Path limit) listed old new ended text = IsPath listed.job.arrivals limit listed.listing old new ended.stop text × (ended.over ≡ None)
 
 -- the most cycles of a view's run
 abbrev pub limit_of : RunView → ℕ

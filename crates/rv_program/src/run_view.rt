@@ -108,7 +108,7 @@ fn write_view<W: Write>(
             writer,
         )),
         RunView::Path { limit } => whole_run(write_path(
-            alloc, pipeline, predictor, arrivals, *limit, writer,
+            alloc, pipeline, predictor, arrivals, *limit, listing, writer,
         )),
         RunView::Profile { limit } => whole_run(write_profile(
             alloc,

@@ -1,13 +1,20 @@
-use crate::machine::{described, narrow, no_arrivals, pipeline};
+use crate::machine::{described, listing, narrow, no_arrivals, pipeline};
 use rv_front::NotTaken;
 use rv_isa::Values;
 use rv_path::write_path;
 use std::alloc::Global;
 use std::process::Abort;
 
-// The path of a program's run.
-fn path_of(rt: &impl Abort, alloc: Global, values: Values, program: &[u8]) -> Vec<u8> {
+// The path of a run of a program with these lines.
+fn path_of(
+    rt: &impl Abort,
+    alloc: Global,
+    values: Values,
+    program: &[u8],
+    lines: &[&str],
+) -> Vec<u8> {
     let arrivals = no_arrivals(rt, alloc);
+    let listing = listing(rt, alloc, lines);
     let mut pipeline = pipeline(rt, alloc, &described(rt, values), program);
     let mut output = Vec::new(alloc);
     write_path(
@@ -16,6 +23,7 @@ fn path_of(rt: &impl Abort, alloc: Global, values: Values, program: &[u8]) -> Ve
         &mut NotTaken,
         &arrivals,
         100,
+        &listing,
         &mut output,
     )
     .expect(rt, "room");
@@ -37,16 +45,24 @@ front end 1 12.5 %\n\
 dispatch to issue 1 12.5 %\n\
 operand 1 12.5 %\n\
 commit 1 12.5 %\n\
-commit width 1 12.5 %\n";
+commit width 1 12.5 %\n\
+The lines of the program with the most cycles on the path:\n\
+80000000, line 1: addi x1, x0, 1\n       cycles 3 37.5 %\n\
+\x20      front end 1 12.5 %\n       dispatch to issue 1 12.5 %\n       execution: alu 1 12.5 %\n\
+80000004, line 2: addi x2, x1, 1\n       cycles 3 37.5 %\n\
+\x20      operand 1 12.5 %\n       execution: alu 1 12.5 %\n       commit 1 12.5 %\n\
+80000008, line 3: ebreak\n       cycles 1 12.5 %\n\
+\x20      commit width 1 12.5 %\n";
 
 #[test]
 fn an_operand_is_waited_for(rt: HostRuntime) {
-    let output = path_of(&rt, rt.alloc(), narrow(), &CHAIN);
+    let lines = ["addi x1, x0, 1", "addi x2, x1, 1", "ebreak"];
+    let output = path_of(&rt, rt.alloc(), narrow(), &CHAIN, &lines);
     assert_eq!(&rt; output.as_slice(), CHAIN_PATH);
 }
 
 // beq x0,x0,8; addi x4,x0,1; ebreak: the branch retires in cycle 4, and the breakpoint is fetched in that cycle, dispatched in 5
-// and traps in 6.
+// and traps in 6. The refill is the branch's, whose prediction was wrong.
 const BRANCH: [u8; 12] = [
     0x63, 0x04, 0x00, 0x00, 0x13, 0x02, 0x10, 0x00, 0x73, 0x00, 0x10, 0x00,
 ];
@@ -59,11 +75,15 @@ refill: wrong prediction 2 28.5 %\n\
 front end 1 14.2 %\n\
 dispatch to issue 1 14.2 %\n\
 execution: alu 1 14.2 %\n\
-commit 1 14.2 %\n";
+commit 1 14.2 %\n\
+The lines of the program with the most cycles on the path:\n\
+80000000, line 1: beq x0, x0, 8\n       cycles 6 85.7 %\n\
+\x20      refill: wrong prediction 2 28.5 %\n       front end 1 14.2 %\n       dispatch to issue 1 14.2 %\n";
 
 #[test]
 fn what_follows_a_wrong_prediction_is_a_refill(rt: HostRuntime) {
-    let output = path_of(&rt, rt.alloc(), narrow(), &BRANCH);
+    let lines = ["beq x0, x0, 8", "addi x4, x0, 1", "ebreak"];
+    let output = path_of(&rt, rt.alloc(), narrow(), &BRANCH, &lines);
     assert_eq!(&rt; output.as_slice(), BRANCH_PATH);
 }
 
@@ -81,12 +101,17 @@ front end 1 16.6 %\n\
 dispatch to issue 1 16.6 %\n\
 execution: alu 1 16.6 %\n\
 common data bus full 1 16.6 %\n\
-commit 1 16.6 %\n";
+commit 1 16.6 %\n\
+The lines of the program with the most cycles on the path:\n\
+80000000, line 1: addi x1, x0, 1\n       cycles 3 50.0 %\n\
+\x20      front end 1 16.6 %\n       dispatch to issue 1 16.6 %\n       execution: alu 1 16.6 %\n\
+80000004, which no line of the program fills\n       cycles 2 33.3 %\n\
+\x20      common data bus full 1 16.6 %\n       commit 1 16.6 %\n";
 
 #[test]
 fn a_result_waits_for_a_full_bus(rt: HostRuntime) {
     let mut values = Values::standard();
     values.bus_width = 1;
-    let output = path_of(&rt, rt.alloc(), values, &PAIR);
+    let output = path_of(&rt, rt.alloc(), values, &PAIR, &["addi x1, x0, 1"]);
     assert_eq!(&rt; output.as_slice(), PAIR_PATH);
 }

@@ -1,5 +1,5 @@
-"""The critical path on a page: the table of causes beside the command `path`; waits, marks and keys beside examples/python/path, a second reader of
-the rules, which has the run from its beginning."""
+"""The critical path on a page: the table of causes beside the command `path`, whose lines of the program the second reader counts too; waits,
+marks and keys beside examples/python/path, a second reader of the rules, which has the run from its beginning."""
 import importlib.util
 import json
 import re
@@ -8,6 +8,7 @@ from pathlib import Path
 
 SCRIPT = Path(__file__).resolve().parents[4] / "examples/python/path"
 ENDS = ("before the first event", "after the last step")
+HEADING = "The lines of the program with the most cycles on the path:\n"
 # (the letters of the marks, by the beginnings and ends of the causes' names)
 LETTERS = (("r", r"refill"), ("b", r".*bus full"), ("n", r".* full"), ("u", r".* busy"), ("o", r"operand|address"), ("e", r"execution"),
            ("l", r"load"), ("p", r"port|lines"), ("c", r"commit|drain"), ("f", r"fetch|dispatch|front"), ("i", r"until the interrupt"), ("-", r""))
@@ -72,6 +73,13 @@ rules = script()
 
 def letter_of(cause):
     return next(letter for letter, name in LETTERS if re.match(name, cause))
+
+
+def printed_lines(text):
+    """The lines as the program prints them: the address, the cycles, and those of the three greatest causes."""
+    for block in re.findall(r"(?m)^[0-9a-f]{8}, .*\n(?:  .*\n)+", text):
+        total, *causes = [int(count) for count in re.findall(r"(?m)\d+(?= \d+\.\d %$)", block)]
+        yield int(block[:8], 16), total, sorted(causes, reverse=True)
 
 
 class Known:
@@ -178,7 +186,12 @@ class PathCheck:
         self.same("the greatest cause first", counts, sorted(counts, reverse=True))
         if self.first == 0:
             said = [f"cycles {total}", *(f"{cause} {count} {share.rstrip('%')} %" for _, cause, count, share, *_ in rows[-2:] + rows[:-2])]
-            self.same("what the command path prints", said, self.known.printed.splitlines())
+            causes, _, lines = self.known.printed.partition(HEADING)
+            self.same("what the command path prints", said, causes.splitlines())
+            # (of a drain the program names no line)
+            most = rules.most_of(rules.words_of(self.known.path.steps()[1], drains=False))
+            wanted = [(address, counts.total(), sorted(counts.values(), reverse=True)[:3]) for address, counts in most]
+            self.same("lines that the command path prints", list(printed_lines(lines)), wanted)
         end = self.known.path.ends()
         inside = end is not None and self.known.at(end) >= self.first
         note = f"to {words_of(end, None)} in {self.known.at(end)}" if inside else "no step here"

@@ -1,11 +1,25 @@
-use Rattle.std.proofs.Common.{◌≡◌, ◌∙◌, ◌+◌, suc, ap, arith}
-use Rattle.rv_path.specs.Moving.{moved_at, moved_up_to}
+use Rattle.std.proofs.Common.{◌≡◌, ◌∙◌, ◌+◌, ◌++◌, suc, ap, arith, append_assoc}
+use Rattle.rv_path.specs.Moving.{moved_at, moved_up_to, new_at, new_up_to}
 use Rattle.rv_path.specs.Setting.{setting_of}
 use Rattle.rv_path.proofs.moving.move_all.Goals as goal
+
+pub push_event-requires : goal.push_event-requires
+push_event-requires c =
+    omega (arith, c.requires.room, c.loop-place.invariant.2, c.loop-place.invariant.3, c.loop-place.auto.ways, c.loop-place.auto.place-end)
 
 pub loop-place-preserved : goal.loop-place-preserved
 loop-place-preserved c =
     let s = setting_of c.args.scene.now in
     let leaving = c.args.leaving.now in
-    let next : suc c.loop-place.place ≡ c.loop-place.place + 1 = omega arith in
-    c.move_at.ensures ∙ ap (moved_at s leaving c.loop-place.place) c.loop-place.invariant ∙ ap (λ n. moved_up_to s leaving n c.args.ways.now) next
+    let place = c.loop-place.place in
+    let ways = c.args.ways.now in
+    let events = c.args.events.now.items in
+    let so-far = c.loop-place.invariant in
+    let next : suc place ≡ place + 1 = omega arith in (
+      c.move_at.ensures.ways ∙ ap (moved_at s leaving place) so-far.0 ∙ ap (λ n. moved_up_to s leaving n ways) next,
+      c.push_event.ensures.items ∙ (λ i. so-far.1 i ++ (c.move_at.ensures.new_event ∙ ap (new_at s leaving place) so-far.0) i)
+          ∙ append_assoc events (new_up_to s leaving place ways) (new_at s leaving place (moved_up_to s leaving place ways))
+          ∙ ap (λ n. events ++ new_up_to s leaving n ways) next,
+      omega (arith, c.push_event.ensures.few, so-far.2),
+      omega (arith, c.push_event.ensures.capacity, so-far.3),
+    )

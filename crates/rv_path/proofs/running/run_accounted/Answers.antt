@@ -1,10 +1,20 @@
+use Rattle.std.proofs.Common.{◌≡◌, rules}
 use Rattle.rv_view.proofs.EndedView.{ended_by}
-use Rattle.rv_path.proofs.Pathing.{accounted}
+use Rattle.rv_passage.specs.Table.{table_at}
+use Rattle.rv_path.specs.Window.{accounted}
+use Rattle.rv_path.proofs.Pathing.{accounted_run, pathing_nothing}
 use Rattle.rv_path.proofs.running.run_accounted.Goals as goal
+
+pub run_view-view-requires-clause-ready : goal.run_view-view-requires-clause-ready
+run_view-view-requires-clause-ready g c =
+    let begun = c.in_ok-path.ensures in
+    let rows_are : c.rows.result.now ≡ (table_at c.args.pipeline.now).rows = search rules in
+    pathing_nothing c.args.pipeline.now c.in_ok-path.path c.rows.result.now rows_are begun.ways begun.holds begun.before begun.window begun.passes
 
 pub returns : goal.returns
 returns g c =
     let run = c.run_view-view.ensures in
     record {
-      accounted = accounted c.run_view-view.result.view.path c.account-account.result run.viewed.sees (ended_by run c.in_ok-stop.stop c.in_ok-stop.was) run.counted c.account-account.ensures.account c.account-account.ensures.adds_up;
+      accounted = accounted_run c.run_view-view.result.view.path (accounted c.in_ok-account.account) run.viewed.sees
+          (ended_by run c.in_ok-stop.stop c.in_ok-stop.was) run.counted c.in_ok-account.ensures;
     }

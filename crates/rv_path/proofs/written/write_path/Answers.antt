@@ -4,16 +4,16 @@ use Rattle.rv_path.proofs.written.write_path.Goals as goal
 
 -- whatever was written
 pub returns-in_default-clause-one_path : goal.returns-in_default-clause-one_path
-returns-in_default-clause-one_path g c = one_path c.args.arrivals.now c.args.limit
+returns-in_default-clause-one_path g c = one_path c.args.arrivals.now c.args.limit c.args.listing.now
 
 pub returns-in_default-run_accounted-clause-one_path : goal.returns-in_default-run_accounted-clause-one_path
-returns-in_default-run_accounted-clause-one_path g c = one_path c.args.arrivals.now c.args.limit
+returns-in_default-run_accounted-clause-one_path g c = one_path c.args.arrivals.now c.args.limit c.args.listing.now
 
-pub returns-in-Ok-write_ranked-clause-one_path : goal.returns-in-Ok-write_ranked-clause-one_path
-returns-in-Ok-write_ranked-clause-one_path g c = one_path c.args.arrivals.now c.args.limit
+pub returns-in-Ok-write_account-clause-one_path : goal.returns-in-Ok-write_account-clause-one_path
+returns-in-Ok-write_account-clause-one_path g c = one_path c.args.arrivals.now c.args.limit c.args.listing.now
 
 pub returns-clause-one_path : goal.returns-clause-one_path
-returns-clause-one_path g c = one_path c.args.arrivals.now c.args.limit
+returns-clause-one_path g c = one_path c.args.arrivals.now c.args.limit c.args.listing.now
 
 pub returns-in_default-clause-in_time : goal.returns-in_default-clause-in_time
 returns-in_default-clause-in_time g c = comes_in_time
@@ -21,8 +21,8 @@ returns-in_default-clause-in_time g c = comes_in_time
 pub returns-in_default-run_accounted-clause-in_time : goal.returns-in_default-run_accounted-clause-in_time
 returns-in_default-run_accounted-clause-in_time g c = comes_in_time
 
-pub returns-in-Ok-write_ranked-clause-in_time : goal.returns-in-Ok-write_ranked-clause-in_time
-returns-in-Ok-write_ranked-clause-in_time g c = comes_in_time
+pub returns-in-Ok-write_account-clause-in_time : goal.returns-in-Ok-write_account-clause-in_time
+returns-in-Ok-write_account-clause-in_time g c = comes_in_time
 
 pub returns-clause-in_time : goal.returns-clause-in_time
 returns-clause-in_time g c = comes_in_time

@@ -1,0 +1,47 @@
+use Rattle.std.proofs.Common.{◌∙◌, ◌++◌, List, ap, arith, drop, length, subst}
+use Rattle.std.proofs.lemmas.List.{with_items_is}
+use Rattle.rv_path.specs.Event.{with_events}
+use Rattle.rv_path.specs.Holding.{holds_now}
+use Rattle.rv_path.specs.Keeping.{IsSeen, before_with, made_shown, known_of_path, setting_by}
+use Rattle.rv_path.specs.Path.{made_in, still_in_flight, with_fetched}
+use Rattle.rv_path.specs.declared.{before.UnitHold.UnitHold, way.Way.Way, window.Window.Window}
+use Rattle.rv_path.proofs.Brought.{known-seen}
+use Rattle.rv_path.proofs.path.Path.follow.Goals as goal
+
+pub returns-clause-known : goal.returns-clause-known
+returns-clause-known c events =
+    let cycle = c.args.cycle.now in
+    let steps = cycle.steps.now in
+    let after = cycle.pipeline.now in
+    let path = c.args.self.now in
+    let before = path.before in
+    let made = made_shown cycle (known_of_path path events) in
+    let now = drop path.dropped c.see_shown-seen.new.ways in
+    let seen = c.see_shown-seen.result in
+    let items =
+    with_items_is path.ways c.see_shown-seen.new.ways
+    (omega (arith, c.see_shown-seen.auto.ways, c.as_mut_slice.ensures.len, path.ways.ok.0, ap (λ (ws : List Way). length ws) c.as_mut_slice.ensures.value)) in
+    let is =
+    subst (λ (holds : List UnitHold). IsSeen (setting_by cycle holds before) steps after (drop path.dropped path.ways.items) now seen) c.as_slice.ensures.value
+    (subst (λ (ways : List Way). IsSeen (setting_by cycle c.as_slice.result.now before) steps after (drop path.dropped ways) now seen) c.as_mut_slice.ensures.value
+    c.see_shown-seen.ensures.seen) in
+    c.take.ensures.known (with_events made events)
+    ∙ (λ i. record {
+      ways = still_in_flight cycle.rows.now (with_fetched seen.fetch cycle.rows.now (drop path.dropped (items i)));
+      holds = holds_now cycle.number after.values cycle.rows.now (drop path.dropped (items i)) path.holds.items;
+      before = before_with cycle.number seen before;
+      events = with_events made events;
+    })
+    ∙ known-seen (setting_by cycle path.holds.items before) steps after (drop path.dropped path.ways.items) now seen events is
+
+pub returns-clause-made : goal.returns-clause-made
+returns-clause-made c =
+    let cycle = c.args.cycle.now in
+    let path = c.args.self.now in
+    let before = path.before in
+    let old = path.window.events.items in (
+      ap (λ (window : Window). window.events.items) c.take.ensures.window ∙ c.see_shown-seen.ensures.items
+          ∙ (λ i. old ++ made_in (setting_by cycle (c.as_slice.ensures.value i) before) (drop path.dropped (c.as_mut_slice.ensures.value i)) cycle.steps.now cycle.pipeline.now),
+      ap (λ (window : Window). window.root) c.take.ensures.window,
+      ap (λ (window : Window). window.account) c.take.ensures.window,
+    )

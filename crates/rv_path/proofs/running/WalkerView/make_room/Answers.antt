@@ -1,0 +1,5 @@
+use Rattle.rv_path.proofs.Pathing.{pathing_still}
+use Rattle.rv_path.proofs.running.WalkerView.make_room.Goals as goal
+
+pub returns-clause-kept : goal.returns-clause-kept
+returns-clause-kept c start seen on = pathing_still _ _ _ c.make_room.ensures.same c.make_room.ensures.kept on
