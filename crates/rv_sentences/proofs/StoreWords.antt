@@ -4,7 +4,7 @@ use Rattle.std.specs.List.{list_all}
 use Rattle.std.proofs.lemmas.Bool.{and_parts}
 use Rattle.rv_isa.specs.Instruction.{is_store}
 use Rattle.rv_isa.specs.declared.instructions.Instr.{Instr}
-use Rattle.rv_decode.specs.Decodes.{by_rows, has_fields, instruction_of}
+use Rattle.rv_decode.specs.Decodes.{by_rows, instruction_of}
 use Rattle.rv_decode.specs.InstructionTable.{Row, table}
 use Rattle.rv_decode.specs.Operand.{funct3, funct7, opcode}
 use Rattle.rv_decode.proofs.Rows.{instruction_of-by_rows}
