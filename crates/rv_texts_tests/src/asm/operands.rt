@@ -1,5 +1,7 @@
-use super::{each_has_fault, each_means, is_refused, means};
-use rv_asm::AsmFault;
+use super::{each_has_fault, each_is_refused, each_means, is_refused, means};
+use rv_asm::{
+    AsmFault, Statement, after_labels, first_piece, piece_count, read_statement, tokenize,
+};
 use std::test::Fail;
 
 #[test]
@@ -115,6 +117,75 @@ fn operands_of_another_count_or_shape_are_refused(rt: HostRuntime) -> Result<(),
     each_has_fault(rt.alloc(), AsmFault::BadOperands, &CASES)?;
     is_refused(rt.alloc(), ".equ a,5\ncsrr x1,a", AsmFault::BadOperands, 2)?;
     is_refused(rt.alloc(), ".equ a,1\n.zero a", AsmFault::BadOperands, 2)
+}
+
+#[test]
+fn a_statement_that_is_no_data_has_three_operands_at_most(rt: HostRuntime) -> Result<(), Fail> {
+    const CASES: [&str; 12] = [
+        "lui x1,1,2,3",
+        "add x99,x2,x3,x4",
+        "jal x99,a,b,c",
+        "jalr x1,x2,0,0",
+        "li x99,1,2,3",
+        "ecall a,b,c,d",
+        ".text 1,2,3,4",
+        ".globl a,b,c,d",
+        ".equ a,1,2,3",
+        ".zero 1,2,3,4",
+        ".asciz \"a\",\"b\",\"c\",\"d\"",
+        "add ,,,,,,,,",
+    ];
+    each_has_fault(rt.alloc(), AsmFault::BadOperands, &CASES)
+}
+
+#[test]
+fn data_has_any_number_of_operands(rt: HostRuntime) -> Result<(), Fail> {
+    const MEANT: [(&str, &[u32]); 3] = [
+        (".byte 1,2,3,4,5,6,7,8", &[0x04030201, 0x08070605]),
+        (".equ n,7\n.half n,n+1,n-8,-2", &[0x00080007, 0xfffeffff]),
+        (
+            "a: .word a,b-4,1\nb: nop",
+            &[0x80000000, 0x80000008, 1, 0x13],
+        ),
+    ];
+    const REFUSED: [(&str, AsmFault, usize); 6] = [
+        (".byte 1,2,3,4,", AsmFault::BadOperands, 1),
+        (".byte 1,2,3,4 5", AsmFault::BadOperands, 1),
+        (".byte 1,(x1),3,4,5", AsmFault::BadOperands, 1),
+        (".byte ,", AsmFault::BadOperands, 1),
+        (".byte 1,2,3,4,nowhere", AsmFault::UnknownSymbol, 1),
+        ("nop\n.byte 1,2,3,4,256", AsmFault::OutOfRange, 2),
+    ];
+    each_means(rt.alloc(), &MEANT)?;
+    each_is_refused(rt.alloc(), &REFUSED)
+}
+
+#[test]
+fn a_statement_is_read_from_the_tokens_behind_its_labels(rt: HostRuntime) -> Result<(), Fail> {
+    let alloc = rt.alloc();
+    let tokens = tokenize(alloc, b"a: _start: .byte 1, n + 2, 3 # three")?;
+    let (body, starts) = after_labels(tokens.as_slice());
+    assert!(rt; starts);
+    assert_eq!(rt; body.len(), 8);
+    match read_statement(alloc, body)? {
+        Statement::Values(_, operands) => {
+            assert_eq!(rt; piece_count(operands), 3);
+            let (first, behind) = first_piece(operands);
+            assert_eq!(rt; first.len(), 1);
+            assert_eq!(rt; behind.map(|rest| rest.len()), Some(5));
+        }
+        _ => return Err("a statement of data".into()),
+    }
+    let added = tokenize(alloc, b"add a0, a1, a2")?;
+    let (body, starts) = after_labels(added.as_slice());
+    assert!(rt; !starts);
+    match read_statement(alloc, body)? {
+        Statement::Instruction(_, fields, _) => {
+            assert_eq!(rt; fields.rs2.number(), 12);
+        }
+        _ => return Err("an instruction".into()),
+    }
+    Ok(())
 }
 
 #[test]
