@@ -35,7 +35,8 @@ again_have P None is = tt
 again_have P (Some event) is = is
 
 -- an instruction that is found has an event at a stage
-pub stage_has : (P : Event → Type 0) (stage : Stage) (event : Event) (w : Way) → P event → IsWayOf P w → IsWayOf P (with_stage stage event w)
+pub stage_has : (P : Event → Type 0) (stage : Stage) (event : Event) (w : Way) → P event → IsWayOf P w
+    → IsWayOf P (with_stage stage event w)
 stage_has P stage.Dispatch event w is are = record { fetch = are.fetch; dispatch = is; issue = are.issue; broadcast = are.broadcast }
 stage_has P stage.Issue event w is are = record { fetch = are.fetch; dispatch = are.dispatch; issue = is; broadcast = are.broadcast }
 stage_has P stage.Broadcast event w is are = record { fetch = are.fetch; dispatch = are.dispatch; issue = are.issue; broadcast = is }
@@ -93,7 +94,8 @@ module _ (s : Setting) (P : Event → Type 0) (holds : AreHoldsOf P s.holds) (be
       (after_previous_V last (one_before_have P place s.rows ws ws-are)) (room_for_V p))
       is.fetch)
 
-  pub advance_has : (place : ℕ) (p : Passage) (w : Way) → IsWayOf P w → IfSome (advance_of s leaving ws place p w) (λ (it : Advance). P it.waited.event)
+  pub advance_has : (place : ℕ) (p : Passage) (w : Way) → IsWayOf P w
+      → IfSome (advance_of s leaving ws place p w) (λ (it : Advance). P it.waited.event)
   advance_has place p w is =
       let OA = λ (o : Option Advance). IfSome o (λ (it : Advance). P it.waited.event) in
       if_with OA (is_at s.number p.dispatched) (dispatch_wait_V p place w is)
@@ -149,7 +151,8 @@ module _ (s : Setting) (P : List Event → Event → Type 0) (kept : IsKept s.el
       advanced_K all ws place j (advance_of s leaving ws place j.row j.way) known is
       (advance_has s (P all) known.holds known.before ws known.ways leaving known.gone place j.row j.way is)
 
-  moved_at_K : (all : List Event) (ws : List Way) (place : ℕ) → K all ws → K (with_events (new_at s leaving place ws) all) (moved_at s leaving place ws)
+  moved_at_K : (all : List Event) (ws : List Way) (place : ℕ) → K all ws
+      → K (with_events (new_at s leaving place ws) all) (moved_at s leaving place ws)
   moved_at_K all ws place known =
       let row = slice_get s.rows place in
       let way = slice_get ws place in

@@ -81,7 +81,8 @@ drain_kept_has Q number None is = tt
 drain_kept_has Q number (Some drain) is =
     if_with (λ (o : Option DrainHold). IfSome o (λ (drain : DrainHold). Q drain.event)) (nat_le number drain.until) is tt
 
-left_or : (Q : Event → Type 0) (new old : Option Left) → IfSome new (λ left. Q left.event) → Q (last_left old) → Q (last_left (option_or new old))
+left_or : (Q : Event → Type 0) (new old : Option Left) → IfSome new (λ left. Q left.event) → Q (last_left old)
+    → Q (last_left (option_or new old))
 left_or Q None old new-is old-is = old-is
 left_or Q (Some left) old new-is old-is = new-is
 
@@ -155,7 +156,8 @@ module _ (s : Setting) (P : Event → Type 0) (refilled : (reason : Reason) (eve
 
 -- the holds of units that begin in a cycle, and that of the port
 module _ (s : Setting) (P : Event → Type 0) where
-  hold_of_kind_has : (p : Passage) (w : Way) (issue : Issue) (o : Option Kind) → IsWayOf P w → AreHoldsOf P (hold_of_kind s.values p w issue o)
+  hold_of_kind_has : (p : Passage) (w : Way) (issue : Issue) (o : Option Kind) → IsWayOf P w
+      → AreHoldsOf P (hold_of_kind s.values p w issue o)
   hold_of_kind_has p w issue None is = tt
   hold_of_kind_has p w issue (Some kind) is =
       if_with (AreHoldsOf P) (at_kind kind s.values.kinds).pipelined tt (issued_have P w is, tt)
@@ -178,7 +180,8 @@ module _ (s : Setting) (P : Event → Type 0) where
   load_hold_has N until (Some load) is = issued_have P load.way is
 
   lines_hold_has : (N : Event → Type 0) (leaving : Leaving) (until : ℕ) (o : Option Journey)
-      → ((p : Passage) (w : Way) → IsWayOf P w → N (lines_event s leaving p w)) → OJ P o → IfSome (lines_hold s leaving until o) (IsTakenBy P N)
+      → ((p : Passage) (w : Way) → IsWayOf P w → N (lines_event s leaving p w)) → OJ P o
+      → IfSome (lines_hold s leaving until o) (IsTakenBy P N)
   lines_hold_has N leaving until None new is = tt
   lines_hold_has N leaving until (Some head) new is = new head.row head.way is
 
@@ -201,7 +204,8 @@ module _ (s : Setting) (P : List Event → Event → Type 0) (kept : IsKept s.el
   left_by_has Q count None is = tt
   left_by_has Q count (Some event) is = is
 
-  newly_left_has : (Q : Event → Type 0) (interrupted : Bool) (leaving : Leaving) → AllOf Q (interrupt_taken s interrupted) → AreLeavingOf Q leaving
+  newly_left_has : (Q : Event → Type 0) (interrupted : Bool) (leaving : Leaving) → AllOf Q (interrupt_taken s interrupted)
+      → AreLeavingOf Q leaving
       → IfSome (newly_left s interrupted leaving) (λ left. Q left.event)
   newly_left_has Q true leaving are gone = are.0
   newly_left_has Q false leaving are gone = left_by_has Q (count_by (is_sought sought.Ended) s.rows) leaving.last gone.last
@@ -220,13 +224,15 @@ module _ (s : Setting) (P : List Event → Event → Type 0) (kept : IsKept s.el
     fetched_waits : (first : Passage) → P all (fetch_wait s ws interrupted leaving after first).event
     fetched_waits first = fetch_wait_V s (P all) (kept.refilled all) ws leaving known interrupted after first taken
 
-    pub fetch_has : (o : Option Passage) → IfSome (fetched_by s ws interrupted leaving after o) (P (with_events (new_fetched s ws interrupted leaving after o) all))
+    pub fetch_has : (o : Option Passage)
+        → IfSome (fetched_by s ws interrupted leaving after o) (P (with_events (new_fetched s ws interrupted leaving after o) all))
     fetch_has None = tt
     fetch_has (Some first) =
         wait_has s.elapsed P kept all (record { stage = stage.Fetch; number = first.number }) (Some first.pc)
         (fetch_wait s ws interrupted leaving after first) (fetched_waits first)
 
-    pub fetch_still : (o : Option Passage) (event : Event) → P all event → P (with_events (new_fetched s ws interrupted leaving after o) all) event
+    pub fetch_still : (o : Option Passage) (event : Event) → P all event
+        → P (with_events (new_fetched s ws interrupted leaving after o) all) event
     fetch_still None event is = is
     fetch_still (Some first) event is =
         wait_still s.elapsed P kept all (record { stage = stage.Fetch; number = first.number }) (Some first.pc)
@@ -295,7 +301,8 @@ module _ (s : Setting) (P : List Event → Event → Type 0) (kept : IsKept s.el
 
   -- what is known after the cycle
   pub cycle_keeps : (all : List Event) (old : List Way) (steps : List Step) (after : Hardware) → AreHoldsOf (P all) s.holds
-      → IsBeforeOf (P all) s.before → AreWaysOf (P all) old → AreKnown (P (known_in s old all steps after).events) (known_in s old all steps after)
+      → IsBeforeOf (P all) s.before → AreWaysOf (P all) old
+      → AreKnown (P (known_in s old all steps after).events) (known_in s old all steps after)
   cycle_keeps all old steps after holds before old-are =
       let interrupted = is_interrupted steps in
       let leaving = leaving_of s old in
@@ -327,4 +334,5 @@ module _ (s : Setting) (P : List Event → Event → Type 0) (kept : IsKept s.el
       let known-end = known_by_implies (P beside) (P end) on s leaving now known-beside in
       let events = in_turn left moves interrupts ports (new_fetched s now interrupted leaving after first) all in
       subst (λ (all-now : List Event). AreKnown (P all-now) (known_in s old all steps after)) (sym events)
-      (known_next (P end) now steps after leaving known-end fetch (all_imply (P beside) (P end) on interrupts interrupts-beside) ports-end port old all)
+      (known_next (P end) now steps after leaving known-end fetch (all_imply (P beside) (P end) on interrupts interrupts-beside)
+      ports-end port old all)

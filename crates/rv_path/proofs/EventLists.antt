@@ -36,13 +36,15 @@ pub sought_have : (P : Event → Type 0) (sought : Sought) (p : Passage) (w : Wa
 sought_have P sought p w within =
     if_with (OJ P) (is_sought sought p) within tt
 
-pub first_have : (P : Event → Type 0) (sought : Sought) (ps : List Passage) (ws : List Way) → AreWaysOf P ws → IfSome (first_of sought ps ws) (J P)
+pub first_have : (P : Event → Type 0) (sought : Sought) (ps : List Passage) (ws : List Way) → AreWaysOf P ws
+    → IfSome (first_of sought ps ws) (J P)
 first_have P sought [] ws within = tt
 first_have P sought (p ∷ ps) [] within = tt
 first_have P sought (p ∷ ps) (w ∷ ws) within =
     if_with (OJ P) (is_sought sought p) within.0 (first_have P sought ps ws within.1)
 
-pub last_have : (P : Event → Type 0) (sought : Sought) (ps : List Passage) (ws : List Way) → AreWaysOf P ws → IfSome (last_of sought ps ws) (J P)
+pub last_have : (P : Event → Type 0) (sought : Sought) (ps : List Passage) (ws : List Way) → AreWaysOf P ws
+    → IfSome (last_of sought ps ws) (J P)
 last_have P sought [] ws within = tt
 last_have P sought (p ∷ ps) [] within = tt
 last_have P sought (p ∷ ps) (w ∷ ws) within =
@@ -83,13 +85,15 @@ journey_have P None w within = tt
 journey_have P (Some p) None within = tt
 journey_have P (Some p) (Some w) within = within
 
-pub one_before_have : (P : Event → Type 0) (place : ℕ) (ps : List Passage) (ws : List Way) → AreWaysOf P ws → IfSome (one_before place ps ws) (J P)
+pub one_before_have : (P : Event → Type 0) (place : ℕ) (ps : List Passage) (ws : List Way) → AreWaysOf P ws
+    → IfSome (one_before place ps ws) (J P)
 one_before_have P place ps ws within =
     if_with (OJ P) (place == 0) tt
     (journey_have P (slice_get ps (place - 1)) (slice_get ws (place - 1)) (get_have P ws (place - 1) within))
 
 -- and where one is put in another's place, all still are
-pub set_have : (P : Event → Type 0) (ws : List Way) (place : ℕ) (w : Way) → AreWaysOf P ws → IsWayOf P w → AreWaysOf P (slice_set ws place w)
+pub set_have : (P : Event → Type 0) (ws : List Way) (place : ℕ) (w : Way) → AreWaysOf P ws → IsWayOf P w
+    → AreWaysOf P (slice_set ws place w)
 set_have P [] place w ws-are w-is = tt
 set_have P (v ∷ ws) zero w ws-are w-is = (w-is, ws-are.1)
 set_have P (v ∷ ws) (suc place) w ws-are w-is = (ws-are.0, set_have P ws place w ws-are.1 w-is)

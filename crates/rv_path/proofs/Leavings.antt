@@ -42,7 +42,8 @@ left_events_are Q leaving are =
       last = some_all Q leaving.last (all_back Q store last others);
     }
 
-pub leaving_implies : (P Q : Event → Type 0) → ((event : Event) → P event → Q event) → (leaving : Leaving) → AreLeavingOf P leaving → AreLeavingOf Q leaving
+pub leaving_implies : (P Q : Event → Type 0) → ((event : Event) → P event → Q event) → (leaving : Leaving) → AreLeavingOf P leaving
+    → AreLeavingOf Q leaving
 leaving_implies P Q implies leaving are =
     left_events_are Q leaving (all_imply P Q implies (left_events leaving) (left_events_have P leaving are))
 
@@ -63,7 +64,8 @@ module _ (s : Setting) (P : Event → Type 0) (holds : AreHoldsOf P s.holds) (be
   waits_VR : (stage : Stage) (p : Passage) (why : Cause) (event : Event) → P event → VR stage p (waits why event)
   waits_VR stage p why event is = made_new P s.elapsed (record { stage = stage; number = p.number }) (Some p.pc) why event is
 
-  leaves_after_V : (earlier : Option Event) (p : Passage) (w : Way) → IfSome earlier N → IsWayOf P w → VR stage.Commit p (leaves_after s earlier p w)
+  leaves_after_V : (earlier : Option Event) (p : Passage) (w : Way) → IfSome earlier N → IsWayOf P w
+      → VR stage.Commit p (leaves_after s earlier p w)
   leaves_after_V (Some event) p w earlier-is w-is = earlier-is
   leaves_after_V None p w earlier-is w-is =
       unwrap_with (VR stage.Commit p) (first_to_leave s p) (waits cause.Other (dispatched_by w))
@@ -75,7 +77,8 @@ module _ (s : Setting) (P : Event → Type 0) (holds : AreHoldsOf P s.holds) (be
       if_with (VR stage.Commit p) (is_just_before s.number (known_in p))
       (waits_VR stage.Commit p cause.Commit (broadcast_by w) (broadcast_have P w w-is)) (leaves_after_V earlier p w earlier-is w-is)
 
-  with_event_N : (event : Event) (p : Passage) (leaving : Leaving) → N event → AreLeavingOf N leaving → AreLeavingOf N (with_event s event p leaving)
+  with_event_N : (event : Event) (p : Passage) (leaving : Leaving) → N event → AreLeavingOf N leaving
+      → AreLeavingOf N (with_event s event p leaving)
   with_event_N event p leaving is are = record {
     first = or_with N leaving.first (Some event) are.first is;
     last = is;
@@ -87,7 +90,8 @@ module _ (s : Setting) (P : Event → Type 0) (holds : AreHoldsOf P s.holds) (be
       if_with (AreLeavingOf N) (is_end p.ending)
       (with_event_N (leaving_event s leaving.last p w) p leaving (leaving_event_N leaving.last p w are.last w-is) are) are
 
-  with_rows_N : (ps : List Passage) (ws : List Way) (leaving : Leaving) → AreWaysOf P ws → AreLeavingOf N leaving → AreLeavingOf N (with_rows s ps ws leaving)
+  with_rows_N : (ps : List Passage) (ws : List Way) (leaving : Leaving) → AreWaysOf P ws → AreLeavingOf N leaving
+      → AreLeavingOf N (with_rows s ps ws leaving)
   with_rows_N [] ws leaving ws-are are = are
   with_rows_N (p ∷ ps) [] leaving ws-are are = are
   with_rows_N (p ∷ ps) (w ∷ ws) leaving ws-are are = with_rows_N ps ws (with_row s p w leaving) ws-are.1 (with_row_N p w leaving ws-are.0 are)
@@ -114,7 +118,8 @@ module _ (s : Setting) (P : Event → Type 0) (holds : AreHoldsOf P s.holds) (be
       (after_port_V s P (V at None) (waits_V at None) holds before))
       (waits_V at None cause.Other last before.left)
 
-  lines_after_V : (earlier : Option Event) (p : Passage) (w : Way) → IfSome earlier N → IsWayOf P w → VR stage.Lines p (lines_after s earlier w)
+  lines_after_V : (earlier : Option Event) (p : Passage) (w : Way) → IfSome earlier N → IsWayOf P w
+      → VR stage.Lines p (lines_after s earlier w)
   lines_after_V (Some event) p w earlier-is w-is = earlier-is
   lines_after_V None p w earlier-is w-is =
       unwrap_with (VR stage.Lines p) (after_stores s) (waits cause.Other (dispatched_by w))

@@ -48,7 +48,8 @@ pub all_imply : (P Q : Event → Type 0) → ((event : Event) → P event → Q 
 all_imply P Q implies [] are = tt
 all_imply P Q implies (e ∷ es) are = (implies e are.0, all_imply P Q implies es are.1)
 
-pub new_implies : (P Q : Event → Type 0) (cycles : ℕ) → ((event : Event) → P event → Q event) → (event : Event) → IsNew P cycles event → IsNew Q cycles event
+pub new_implies : (P Q : Event → Type 0) (cycles : ℕ) → ((event : Event) → P event → Q event) → (event : Event) → IsNew P cycles event
+    → IsNew Q cycles event
 new_implies P Q cycles implies event is = record { of = is.of; has = implies is.of is.has; cycle = is.cycle; before = is.before }
 
 -- some and then others come before all
@@ -62,7 +63,8 @@ pub made_new : (P : Event → Type 0) (cycles : ℕ) (at : Point) (address : Opt
 made_new P cycles at address why event is = record { of = event; has = is; cycle = refl; before = refl }
 
 module _ (cycles : ℕ) (P : List Event → Event → Type 0) (kept : IsKept cycles P) where
-  new_still : (all : List Event) (event other : Event) → IsNew (P all) cycles event → IsNew (P all) cycles other → IsNew (P (event ∷ all)) cycles other
+  new_still : (all : List Event) (event other : Event) → IsNew (P all) cycles event → IsNew (P all) cycles other
+      → IsNew (P (event ∷ all)) cycles other
   new_still all event other new is = record { of = is.of; has = kept.others all event is.of new is.has; cycle = is.cycle; before = is.before }
 
   all_still : (all : List Event) (event : Event) (es : List Event) → IsNew (P all) cycles event → AllOf (IsNew (P all) cycles) es

@@ -77,7 +77,8 @@ pathing_still path path' k same kept on =
 -- what is known after a cycle that is shown
 pub followed_on : (path path' : Path) (cycle : ShownCycle) (k : Known) → IsKnown path k
     → ((events : List Event) → known_of_path path' (with_events (made_shown cycle (known_of_path path events)) events) ≡ known_shown cycle (known_of_path path events))
-    → IsFollowed (made_shown cycle (known_of_path path [])) path.window path'.window → IsKnown path' (known_shown cycle (known_of_path path k.events))
+    → IsFollowed (made_shown cycle (known_of_path path [])) path.window path'.window
+    → IsKnown path' (known_shown cycle (known_of_path path k.events))
 followed_on path path' cycle k on followed made_is =
     let old = known_of_path path k.events in
     let made = made_shown cycle old in
@@ -85,7 +86,8 @@ followed_on path path' cycle k on followed made_is =
     let root = path.window.root in
     let kept = kept_events path.window in
     let here : AreKnown (PassesIn path) old = subst (AreKnown (PassesIn path)) (sym on.known) on.passes in
-    let lead = cycle_keeps s (Leads root) (leads_kept s.elapsed root) kept old.ways cycle.steps.now cycle.pipeline.now here.holds here.before here.ways in
+    let lead =
+    cycle_keeps s (Leads root) (leads_kept s.elapsed root) kept old.ways cycle.steps.now cycle.pipeline.now here.holds here.before here.ways in
     let pass = known_implies (Leads root (with_events made kept)) (PassesIn path') (passes_followed made path.window path'.window made_is)
     (known_in s old.ways kept cycle.steps.now cycle.pipeline.now) lead in
     record {
@@ -103,15 +105,18 @@ pathing_on {seen = seen} {cycle = cycle} next path path' on followed made_is =
     let after = cycle.pipeline.now in
     let first = seen.first.hardware in
     let k = known_of first (cycles_seen seen) in
+    let elapsed = ap (λ (p : Progress). p.cycles - 1) shown.progress_is in
     let same : known_shown cycle (known_of_path path k.events) ≡ known_of first (cycles_seen (with_shown seen shown)) =
-    (λ i. known_in (setting_in (shown.number i) ((ap (λ (p : Progress). p.cycles - 1) shown.progress_is) i) (next.rows_are i) after (on.known i)) (on.known i).ways (on.known i).events (shown.steps_are i) after)
+    (λ i. known_in (setting_in (shown.number i) (elapsed i) (next.rows_are i) after (on.known i)) (on.known i).ways (on.known i).events
+    (shown.steps_are i) after)
     ∙ sym (fold-append known_after (known_at first) (cycles_seen seen) (cycle_shown seen shown ∷ []))
     ∙ ap (known_of first) (sym (cycles_seen-push seen shown)) in
     subst (IsKnown path') same (followed_on path path' cycle k on followed made_is)
 
 -- the account of the run
 pub accounted_run : {arrivals : List Arrival} {limit : ℕ} {old new : GuidedHardware} {moments : List Moment} {stop : Stop} {progress : Progress} (path : Path) (account : Accounted)
-    → IsOnPath path (watched arrivals old moments new) → IsEndedRun arrivals limit old moments new stop → progress ≡ progress_of (reports_of moments)
+    → IsOnPath path (watched arrivals old moments new) → IsEndedRun arrivals limit old moments new stop
+    → progress ≡ progress_of (reports_of moments)
     → ((all : List Event) → IsWindow path.window all → PassesIn path (last_left path.before.left) → account ≡ account_of (end_of progress.cycles path.before ∷ path_to all (Some (last_left path.before.left).at)))
     → IsAccounted arrivals limit old new stop progress.cycles account
 accounted_run {arrivals = arrivals} {old = old} {new = new} {moments = moments} {progress = progress} path account on run counted accounts =
@@ -131,5 +136,7 @@ accounted_run {arrivals = arrivals} {old = old} {new = new} {moments = moments} 
       run = run;
       cycles_are = cycles;
       account_is = account_is;
-      adds_up = ap (λ (a : Accounted). sum a.causes) account_is ∙ adds_up (end_of n k.before ∷ to_end) ∙ cycles-all (end_of n k.before) to_end in-time ∙ sym cycles;
+      adds_up =
+          ap (λ (a : Accounted). sum a.causes) account_is ∙ adds_up (end_of n k.before ∷ to_end)
+          ∙ cycles-all (end_of n k.before) to_end in-time ∙ sym cycles;
     }

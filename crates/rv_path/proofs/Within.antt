@@ -15,7 +15,7 @@ use Rattle.rv_path.specs.Within.{AreHoldsOf, AreWaysOf, AreWithin, ComesInTime, 
 use Rattle.rv_path.specs.declared.{event.Event.Event, way.Way.Way}
 use Rattle.rv_path.proofs.Cycles.{cycle_keeps}
 use Rattle.rv_path.proofs.EventLists.{before_implies, holds_imply, known_implies, replicate_have, ways_imply}
-use Rattle.rv_path.proofs.News.{IsKept}
+use Rattle.rv_path.proofs.News.{IsKept, IsNew}
 
 -- an event comes within so many cycles, and so do all, in their order
 abbrev pub InTime : ℕ → List Event → Event → Type 0
@@ -25,9 +25,11 @@ InTime cycles all event = AreInTime cycles all × IsWithin cycles event
 in_time_kept : (cycles : ℕ) → IsKept cycles (InTime cycles)
 in_time_kept cycles = record {
   refilled = λ all reason event is. is;
-  newest = λ all event new. ((omega (arith, new.cycle), subst (λ (n : ℕ). AreInTime n all) (sym new.cycle) new.has.0), omega (arith, new.cycle));
-  others = λ all event other new is. ((omega (arith, new.cycle), subst (λ (n : ℕ). AreInTime n all) (sym new.cycle) new.has.0), is.1);
-}
+  newest = λ all event new. (put all event new, omega (arith, new.cycle));
+  others = λ all event other new is. (put all event new, is.1);
+} where
+  put : (all : List Event) (event : Event) → IsNew (InTime cycles all) cycles event → AreInTime cycles (event ∷ all)
+  put all event new = (omega (arith, new.cycle), subst (λ (n : ℕ). AreInTime n all) (sym new.cycle) new.has.0)
 
 -- what lies within some cycles lies within more
 later : (cycles more : ℕ) → cycles ≤ more → (event : Event) → IsWithin cycles event → IsWithin more event

@@ -30,15 +30,18 @@ known_of_path path events = record { ways = ways_of path; holds = path.holds.ite
 
 -- a path changed in nothing but the events of the instructions in flight, the holds of units, or what is known beside
 abbrev pub AreSameButWays : Path → Path → Type 0
-AreSameButWays old new = (new.holds ≡ old.holds) × (new.next ≡ old.next) × (new.before ≡ old.before) × (new.window ≡ old.window) × (new.live ≡ old.live)
+AreSameButWays old new =
+    (new.holds ≡ old.holds) × (new.next ≡ old.next) × (new.before ≡ old.before) × (new.window ≡ old.window) × (new.live ≡ old.live)
 
 abbrev pub AreSameButHolds : Path → Path → Type 0
 AreSameButHolds old new =
-    (new.ways ≡ old.ways) × (new.dropped ≡ old.dropped) × (new.next ≡ old.next) × (new.before ≡ old.before) × (new.window ≡ old.window) × (new.live ≡ old.live)
+    (new.ways ≡ old.ways) × (new.dropped ≡ old.dropped) × (new.next ≡ old.next) × (new.before ≡ old.before)
+    × (new.window ≡ old.window) × (new.live ≡ old.live)
 
 abbrev pub AreSameButBefore : Path → Path → Type 0
 AreSameButBefore old new =
-    (new.ways ≡ old.ways) × (new.dropped ≡ old.dropped) × (new.next ≡ old.next) × (new.holds ≡ old.holds) × (new.window ≡ old.window) × (new.live ≡ old.live)
+    (new.ways ≡ old.ways) × (new.dropped ≡ old.dropped) × (new.next ≡ old.next) × (new.holds ≡ old.holds)
+    × (new.window ≡ old.window) × (new.live ≡ old.live)
 
 abbrev pub AreSameButWindow : Path → Path → Type 0
 AreSameButWindow old new =

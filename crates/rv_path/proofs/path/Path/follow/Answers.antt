@@ -21,10 +21,10 @@ returns-clause-known c events =
     let items =
     with_items_is path.ways c.see_shown-seen.new.ways
     (omega (arith, c.see_shown-seen.auto.ways, c.as_mut_slice.ensures.len, path.ways.ok.0, ap (λ (ws : List Way). length ws) c.as_mut_slice.ensures.value)) in
+    let Is = λ (holds : List UnitHold) (ways : List Way). IsSeen (setting_by cycle holds before) steps after (drop path.dropped ways) now seen in
     let is =
-    subst (λ (holds : List UnitHold). IsSeen (setting_by cycle holds before) steps after (drop path.dropped path.ways.items) now seen) c.as_slice.ensures.value
-    (subst (λ (ways : List Way). IsSeen (setting_by cycle c.as_slice.result.now before) steps after (drop path.dropped ways) now seen) c.as_mut_slice.ensures.value
-    c.see_shown-seen.ensures.seen) in
+    subst (λ (holds : List UnitHold). Is holds path.ways.items) c.as_slice.ensures.value
+    (subst (Is c.as_slice.result.now) c.as_mut_slice.ensures.value c.see_shown-seen.ensures.seen) in
     c.take.ensures.known (with_events made events)
     ∙ (λ i. record {
       ways = still_in_flight cycle.rows.now (with_fetched seen.fetch cycle.rows.now (drop path.dropped (items i)));
