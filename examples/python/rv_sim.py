@@ -210,7 +210,7 @@ def path_lines(assembly, description=None, *, arrivals=None, limit=None):
     no line of the program stands at the address), cycles, and the cycles of its greatest causes by their names."""
     rows = []
     for line in path_texts(assembly, description, arrivals, limit)[1]:
-        found = re.fullmatch(r"([0-9a-f]{8})(?:, line (\d+): (.*))?", line)
+        found = re.fullmatch(r"([0-9a-f]{8}), (?:line (\d+): (.*)|which no line of the program fills)", line)
         if found:
             rows.append({"address": int(found[1], 16), "line": found[2] and int(found[2]), "text": found[3], "causes": {}})
         else:
