@@ -1,8 +1,5 @@
 use super::{each_has_fault, each_is_refused, each_means, is_refused, means};
-use rv_asm::{
-    AsmFault, Statement, after_labels, first_piece, piece_count, read_statement, tokenize,
-};
-use std::alloc::Global;
+use rv_asm::AsmFault;
 use std::test::Fail;
 
 #[test]
@@ -159,29 +156,6 @@ fn data_has_any_number_of_operands(rt: HostRuntime) -> Result<(), Fail> {
     ];
     each_means(rt.alloc(), &MEANT)?;
     each_is_refused(rt.alloc(), &REFUSED)
-}
-
-// How many operands the data has that a line spells behind its labels, and how many tokens the first of them.
-fn operands_in(alloc: Global, text: &[u8]) -> Result<(usize, usize), Fail> {
-    let tokens = tokenize(alloc, text)?;
-    let (body, _) = after_labels(tokens.as_slice());
-    match read_statement(alloc, body)? {
-        Statement::Values(_, operands) => {
-            let (first, _) = first_piece(operands);
-            Ok((piece_count(operands), first.len()))
-        }
-        _ => Ok((0, 0)),
-    }
-}
-
-#[test]
-fn a_statement_is_read_from_the_tokens_behind_its_labels(rt: HostRuntime) -> Result<(), Fail> {
-    let (count, first) = operands_in(rt.alloc(), b"a: _start: .byte n + 2, 1, 3 # three")?;
-    assert_eq!(rt; count, 3);
-    assert_eq!(rt; first, 3);
-    let (count, _) = operands_in(rt.alloc(), b"a: add a0, a1, a2")?;
-    assert_eq!(rt; count, 0);
-    Ok(())
 }
 
 #[test]
