@@ -88,7 +88,7 @@ class Known:
     def __init__(self, facts, lines, printed):
         self.first, self.last = facts.first, lines[-1]["cycles"] - 1
         self.run = rules.Run(lines)
-        self.path, self.printed = rules.Path(self.run), printed.partition("The lines of the program")[0]
+        self.path, self.printed = rules.Path(self.run), printed
         self.steps = self.steps_to(self.path.ends())
         self.causes = {event: cause for event, _, cause, *_ in self.steps}
 
