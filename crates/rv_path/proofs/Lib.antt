@@ -19,4 +19,5 @@ mod Windows
 mod Within
 mod WordChanges
 mod WordPlaces
+mod WordSums
 mod WordWaits

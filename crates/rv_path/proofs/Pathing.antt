@@ -1,5 +1,5 @@
 -- A path that follows a run: no cycle yet, room for one more, one cycle more, and the end.
-use Rattle.std.proofs.Common.{◌≡◌, ◌∙◌, ℕ, ◌-◌, List, [], ◌∷◌, Some, drop, length, replicate, ap, subst, sym}
+use Rattle.std.proofs.Common.{◌≡◌, ◌∙◌, ℕ, ◌-◌, ◌≤◌, List, [], ◌∷◌, Some, drop, length, replicate, ap, arith, subst, sym}
 use Rattle.std.specs.Prelude.{sum}
 use Rattle.std.proofs.lemmas.List.Sums.{fold-append}
 use Rattle.rv_isa.specs.declared.lines.Arrival.{Arrival}
@@ -17,7 +17,7 @@ use Rattle.rv_passage.proofs.EndedRun.{length-reports_of}
 use Rattle.rv_view.specs.Viewing.{IsNextCycle, cycle_shown, cycles_seen}
 use Rattle.rv_view.specs.declared.shown_cycle.ShownCycle.{ShownCycle}
 use Rattle.rv_view.proofs.EndedView.{cycles_seen-push}
-use Rattle.rv_path.specs.Account.{Accounted, account_of}
+use Rattle.rv_path.specs.Account.{Accounted, AreWithin, account_of, words_cycles}
 use Rattle.rv_path.specs.Event.{nothing_yet, with_events}
 use Rattle.rv_path.specs.Keeping.{ArePathsKept, IsFollowed, IsKnown, IsOnPath, known_of_path, known_shown, made_shown, setting_shown}
 use Rattle.rv_path.specs.Path.{Known, end_of, known_after, known_at, known_in, known_of, setting_in}
@@ -27,7 +27,7 @@ use Rattle.rv_path.specs.Walk.{path_to}
 use Rattle.rv_path.specs.Way.{way_from}
 use Rattle.rv_path.specs.Window.{IsWindow, Passes, kept_events}
 use Rattle.rv_path.specs.Within.{AreKnown}
-use Rattle.rv_path.specs.declared.{before.Before.Before, event.Event.Event, path.Path.Path}
+use Rattle.rv_path.specs.declared.{before.Before.Before, event.Event.Event, path.Path.Path, word_cycles.WordCycles.WordCycles}
 use Rattle.rv_path.proofs.Accounts.{adds_up, cycles-all}
 use Rattle.rv_path.proofs.Cycles.{cycle_keeps}
 use Rattle.rv_path.proofs.EventLists.{known_implies, replicate_have}
@@ -35,6 +35,7 @@ use Rattle.rv_path.proofs.Lives.{live_in, live_out}
 use Rattle.rv_path.proofs.Passing.{Leads, leads_kept, passes_followed, window_followed}
 use Rattle.rv_path.proofs.Walks.{path-in_time}
 use Rattle.rv_path.proofs.Within.{comes_in_time}
+use Rattle.rv_path.proofs.WordSums.{words-within, words_add_up}
 
 -- a path to the event passes the window of a path
 abbrev pub PassesIn : Path → Event → Type 0
@@ -130,13 +131,19 @@ accounted_run {arrivals = arrivals} {old = old} {new = new} {moments = moments} 
     let account_is =
     accounts k.events on.window passes
     ∙ (λ i. account_of (end_of (cycles i) (before i) ∷ path_to k.events (Some (last_left (before i).left).at))) in
+    let whole = end_of n k.before ∷ to_end in
     let in-time = path-in_time n k.events (Some (last_left k.before.left).at) (comes_in_time old.hardware moments).events in
+    let all : (account_of whole).cycles ≡ progress.cycles = cycles-all (end_of n k.before) to_end in-time ∙ sym cycles in
+    let words_are : account.words ≡ (account_of whole).words = ap (λ (a : Accounted). a.words) account_is in
     record {
       moments = moments;
       run = run;
       cycles_are = cycles;
       account_is = account_is;
       adds_up =
-          ap (λ (a : Accounted). sum a.causes) account_is ∙ adds_up (end_of n k.before ∷ to_end)
-          ∙ cycles-all (end_of n k.before) to_end in-time ∙ sym cycles;
+          ap (λ (a : Accounted). sum a.causes) account_is ∙ adds_up whole ∙ all;
+      each_word =
+          subst (λ (w : List WordCycles). AreWithin progress.cycles w) (sym words_are)
+          (subst (λ (m : ℕ). AreWithin m (account_of whole).words) all (words_add_up whole));
+      all_words = subst (λ (w : List WordCycles). words_cycles w ≤ progress.cycles) (sym words_are) (omega (arith, words-within whole, all));
     }

@@ -13,7 +13,8 @@ more-within cycles more why word is = record {
   within = omega (arith, is.within);
 }
 
-within-word : (address : Option ℕ) (cycles more : ℕ) (why : Cause) (words : List WordCycles) → AreWithin cycles words → AreWithin (cycles + more) (with_word address why more words)
+-- with a wait they have no more than with its cycles
+pub within-word : (address : Option ℕ) (cycles more : ℕ) (why : Cause) (words : List WordCycles) → AreWithin cycles words → AreWithin (cycles + more) (with_word address why more words)
 within-word None cycles more why words within = within-later cycles (cycles + more) (omega arith) words within
 within-word (Some address) cycles more why words within = within-change address (with_more why more) cycles (cycles + more) (omega arith) (more-within cycles more why) words within
 

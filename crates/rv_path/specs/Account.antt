@@ -2,7 +2,7 @@
 use Rattle.std.specs.Prelude.{◌≡◌, ℕ, ◌+◌, ◌-◌, ◌^◌, ◌<◌, ◌≤◌, ◌==◌, nat_lt, if◌then◌else◌, List, [], ◌∷◌, length, replicate, slice_set, sum, Option, Some, None}
 use Rattle.std.proofs.Props.{props}
 use Rattle.std.specs.Coded.{×_prop, Unit-prop}
-use Rattle.std.specs.List.{slice_index_or}
+use Rattle.std.specs.List.{slice_index_or, sum_by}
 use Rattle.rv_path.specs.Cause.{place_of}
 use Rattle.rv_path.specs.declared.{cause.Cause.Cause, point.Reason.Reason, event.Event.Event, word_cycles.WordCycles.WordCycles}
 
@@ -61,6 +61,10 @@ nothing_accounted = record { cycles = 0; causes = replicate 35 0; words = [] }
 -- the account of a path from the beginning of the run
 abbrev pub account_of : List Event → Accounted
 account_of path = with_path path nothing_accounted
+
+-- the cycles of all words together
+abbrev pub words_cycles : List WordCycles → ℕ
+words_cycles words = sum_by (λ word. word.cycles) words
 
 -- the cycles of a word are those of its causes, and no more than so many
 pub record IsWithin (cycles : ℕ) (word : WordCycles) : Type 0 where

@@ -8,18 +8,21 @@ use Rattle.rv_hardware.specs.Guided.{GuidedHardware, guided}
 use Rattle.rv_hardware.specs.Hardware.{Hardware}
 use Rattle.rv_hardware.specs.History.{Moment}
 use Rattle.rv_passage.specs.EndedRun.{IsEndedRun}
-use Rattle.rv_path.specs.Account.{Accounted}
+use Rattle.rv_path.specs.Account.{Accounted, AreWithin, words_cycles}
 use Rattle.rv_path.specs.Path.{account_of_run}
 use Rattle.rv_path.specs.Lines.{account_text}
 use Rattle.rv_source.specs.Listing.{Listed}
 
--- so many cycles are those of a run that ended for a reason, and so many of them each cause has on its path, which are all of them
+-- So many cycles are those of a run that ended for a reason, and so many of them each cause has on its path, which are all of them. A word of
+-- the program has those of its causes, and all words together have no more than the run.
 pub record IsAccounted (arrivals : List Arrival) (limit : ℕ) (old new : GuidedHardware) (stop : Stop) (cycles : ℕ) (account : Accounted) : Type 0 where
   pub moments : List Moment
   pub run : IsEndedRun arrivals limit old moments new stop
   pub cycles_are : cycles ≡ length moments
   pub account_is : account ≡ account_of_run old.hardware moments
   pub adds_up : sum account.causes ≡ cycles
+  pub each_word : AreWithin cycles account.words
+  pub all_words : words_cycles account.words ≤ cycles
 
 -- a text is that of the path of a run that ended for a reason
 pub record IsPath (arrivals : List Arrival) (limit : ℕ) (listing : Listed) (old new : GuidedHardware) (stop : Stop) (text : List ℕ) : Type 0 where
