@@ -7,16 +7,16 @@ use Rattle.rv_isa.specs.PerKind.{at_kind}
 use Rattle.rv_isa.specs.declared.operations.Kind.{Kind}
 use Rattle.rv_passage.specs.Result.{issued_in}
 use Rattle.rv_passage.specs.declared.passage.Passage.{Passage}
-use Rattle.rv_path.specs.Event.{again_by, waits, with_events}
+use Rattle.rv_path.specs.Event.{Wait, again_by, waits, with_events}
 use Rattle.rv_path.specs.Lookup.{Journey, first_of, journey_of, one_before}
-use Rattle.rv_path.specs.Moving.{advance_of, advanced, after_previous, dispatch_wait, issue_of, moved_at, moved_by, moved_up_to}
+use Rattle.rv_path.specs.Moving.{Move, advance_of, advanced, after_previous, dispatch_wait, issue_of, moved_at, moved_by, moved_up_to}
 use Rattle.rv_path.specs.Moving.{new_advanced, new_at, new_at_one, new_up_to, room_by_drain, room_by_issue, room_by_leaving, room_for}
 use Rattle.rv_path.specs.Setting.{Setting, made_of}
 use Rattle.rv_path.specs.Sought.{is_at, is_just_before, is_sought}
 use Rattle.rv_path.specs.Way.{with_stage}
 use Rattle.rv_path.specs.Within.{AreHoldsOf, AreWaysOf, IsBeforeOf, IsWayOf}
-use Rattle.rv_path.specs.declared.{cause.Cause.Cause, event.Event.Event, event.Waited.Waited, leaving.Leaving.Leaving}
-use Rattle.rv_path.specs.declared.{moving.Advance.Advance, point.Point.Point, point.Stage.Stage, way.Way.Way}
+use Rattle.rv_path.specs.declared.{cause.Cause.Cause, event.Event.Event, leaving.Leaving.Leaving}
+use Rattle.rv_path.specs.declared.{point.Point.Point, point.Stage.Stage, way.Way.Way}
 use Rattle.rv_path.specs.declared.cause.Cause.TheVariants as cause
 use Rattle.rv_path.specs.declared.point.Stage.TheVariants as stage
 use Rattle.rv_path.specs.declared.sought.Sought.TheVariants as sought
@@ -27,7 +27,7 @@ use Rattle.rv_path.proofs.News.{IsKept, IsNew, new_implies, wait_has, wait_still
 use Rattle.rv_path.proofs.Waits.{after_drain_V, broadcast_wait_V, dispatched_have, issue_wait_V, issued_have}
 
 -- what a wait is for is a known one
-abbrev pub WaitsFor : (Event → Type 0) → Waited → Type 0
+abbrev pub WaitsFor : (Event → Type 0) → Wait → Type 0
 WaitsFor P waited = P waited.event
 
 pub again_have : (P : Event → Type 0) (o : Option Event) → IfSome o P → IfSome (again_by o) (WaitsFor P)
@@ -50,10 +50,10 @@ stage_has P stage.End event w is are = are
 
 module _ (s : Setting) (P : Event → Type 0) (holds : AreHoldsOf P s.holds) (before : IsBeforeOf P s.before)
     (ws : List Way) (ws-are : AreWaysOf P ws) (leaving : Leaving) (gone : AreLeavingOf P leaving) where
-  abbrev V : Waited → Type 0
+  abbrev V : Wait → Type 0
   V waited = WaitsFor P waited
 
-  abbrev O : Option Waited → Type 0
+  abbrev O : Option Wait → Type 0
   O waited = IfSome waited V
 
   waits_V : (why : Cause) (event : Event) → P event → V (waits why event)
@@ -95,9 +95,9 @@ module _ (s : Setting) (P : Event → Type 0) (holds : AreHoldsOf P s.holds) (be
       is.fetch)
 
   pub advance_has : (place : ℕ) (p : Passage) (w : Way) → IsWayOf P w
-      → IfSome (advance_of s leaving ws place p w) (λ (it : Advance). P it.waited.event)
+      → IfSome (advance_of s leaving ws place p w) (λ (it : Move). P it.waited.event)
   advance_has place p w is =
-      let OA = λ (o : Option Advance). IfSome o (λ (it : Advance). P it.waited.event) in
+      let OA = λ (o : Option Move). IfSome o (λ (it : Move). P it.waited.event) in
       if_with OA (is_at s.number p.dispatched) (dispatch_wait_V p place w is)
       (if_with OA (is_at s.number (issued_in p)) (issue_wait_V s P V waits_V holds before ws ws-are p w is)
       (if_with OA (is_at s.number p.broadcast) (broadcast_wait_V s P V waits_V holds before ws ws-are p w is) tt))
@@ -125,8 +125,8 @@ module _ (s : Setting) (P : List Event → Event → Type 0) (kept : IsKept s.el
   K all ws = IsKnownBy (P all) s leaving ws
 
   -- one advances
-  advanced_K : (all : List Event) (ws : List Way) (place : ℕ) (j : Journey) (o : Option Advance) → K all ws → J (P all) j
-      → IfSome o (λ (it : Advance). P all it.waited.event) → K (with_events (new_advanced s j.row o) all) (advanced s place j o ws)
+  advanced_K : (all : List Event) (ws : List Way) (place : ℕ) (j : Journey) (o : Option Move) → K all ws → J (P all) j
+      → IfSome o (λ (it : Move). P all it.waited.event) → K (with_events (new_advanced s j.row o) all) (advanced s place j o ws)
   advanced_K all ws place j None known is has = known
   advanced_K all ws place j (Some it) known is has =
       let at : Point = record { stage = it.stage; number = j.row.number } in

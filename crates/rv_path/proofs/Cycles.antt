@@ -12,7 +12,7 @@ use Rattle.rv_passage.specs.declared.passage.Passage.{Passage}
 use Rattle.rv_rob.specs.ReorderBuffer.{youngest}
 use Rattle.rv_rob.specs.declared.entry.Entry.{Entry}
 use Rattle.rv_path.specs.Before.{facts_of}
-use Rattle.rv_path.specs.Event.{waits, with_events}
+use Rattle.rv_path.specs.Event.{Wait, waits, with_events}
 use Rattle.rv_path.specs.Fetching.{after_flush, after_mend, after_redirection, after_room, after_word, anew_by, fetch_event, fetch_wait}
 use Rattle.rv_path.specs.Fetching.{fetched_by, goes_on, is_jump, is_mended, mend_of, new_fetched, room_of}
 use Rattle.rv_path.specs.Holding.{drain_begun, drain_event, goes_beyond, hold_of, hold_of_kind, is_begun, is_taken}
@@ -26,7 +26,7 @@ use Rattle.rv_path.specs.Sought.{is_at, is_sought}
 use Rattle.rv_path.specs.Way.{broadcast_by, way_from}
 use Rattle.rv_path.specs.Within.{AreHoldsOf, AreKnown, AreWaysOf, IsBeforeOf, IsWayOf}
 use Rattle.rv_path.specs.declared.{before.DrainHold.DrainHold, before.Facts.Facts, before.Holder.Holder, before.Left.Left, before.PortHold.PortHold}
-use Rattle.rv_path.specs.declared.{event.Event.Event, event.Waited.Waited, leaving.Leaving.Leaving, point.Reason.Reason, way.Way.Way}
+use Rattle.rv_path.specs.declared.{event.Event.Event, leaving.Leaving.Leaving, point.Reason.Reason, way.Way.Way}
 use Rattle.rv_path.specs.declared.before.Holder.TheVariants as holder
 use Rattle.rv_path.specs.declared.cause.Cause.TheVariants as cause
 use Rattle.rv_path.specs.declared.point.Stage.TheVariants as stage
@@ -99,10 +99,10 @@ drain_has Q false begun drain hold other by same are = tt
 -- how the fetch goes on, where all that is known has something
 module _ (s : Setting) (P : Event → Type 0) (refilled : (reason : Reason) (event : Event) → P event → P (record event { refill = Some reason }))
     (ws : List Way) (leaving : Leaving) (known : IsKnownBy P s leaving ws) where
-  abbrev V : Waited → Type 0
+  abbrev V : Wait → Type 0
   V waited = WaitsFor P waited
 
-  abbrev O : Option Waited → Type 0
+  abbrev O : Option Wait → Type 0
   O waited = IfSome waited V
 
   anew_by_V : (why : Option Reason) (o : Option Event) → IfSome o P → O (anew_by why o)

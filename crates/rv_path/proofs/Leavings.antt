@@ -3,7 +3,7 @@ use Rattle.std.proofs.Common.{ℕ, List, [], ◌∷◌, ◌++◌, Option, Some, 
 use Rattle.std.specs.Prelude.{IfSome}
 use Rattle.std.specs.Option.{option_or, option_to_list}
 use Rattle.rv_passage.specs.declared.passage.Passage.{Passage}
-use Rattle.rv_path.specs.Event.{again_by, waits}
+use Rattle.rv_path.specs.Event.{Wait, again_by, waits}
 use Rattle.rv_path.specs.Holding.{at_its_commit, drain_event}
 use Rattle.rv_path.specs.Leaving.{first_to_leave, interrupt_event, is_retired_store, known_in, leaves_after, leaving_event, leaving_of}
 use Rattle.rv_path.specs.Leaving.{left_events, lines_after, lines_event, none_left, with_event, with_row, with_rows}
@@ -11,7 +11,7 @@ use Rattle.rv_path.specs.Setting.{Setting, after_port, after_stores, last_left, 
 use Rattle.rv_path.specs.Sought.{is_end, is_just_before}
 use Rattle.rv_path.specs.Way.{broadcast_by, dispatched_by}
 use Rattle.rv_path.specs.Within.{AreHoldsOf, AreWaysOf, IsBeforeOf, IsWayOf}
-use Rattle.rv_path.specs.declared.{cause.Cause.Cause, event.Event.Event, event.Waited.Waited, leaving.Leaving.Leaving, point.Point.Point}
+use Rattle.rv_path.specs.declared.{cause.Cause.Cause, event.Event.Event, leaving.Leaving.Leaving, point.Point.Point}
 use Rattle.rv_path.specs.declared.{point.Stage.Stage, way.Way.Way}
 use Rattle.rv_path.specs.declared.cause.Cause.TheVariants as cause
 use Rattle.rv_path.specs.declared.point.Stage.TheVariants as stage
@@ -52,10 +52,10 @@ module _ (s : Setting) (P : Event → Type 0) (holds : AreHoldsOf P s.holds) (be
   N event = IsNew P s.elapsed event
 
   -- what is made at a point is new
-  abbrev V : Point → Option ℕ → Waited → Type 0
+  abbrev V : Point → Option ℕ → Wait → Type 0
   V at address waited = N (made s at address waited)
 
-  abbrev VR : Stage → Passage → Waited → Type 0
+  abbrev VR : Stage → Passage → Wait → Type 0
   VR stage p waited = N (made_of s stage p waited)
 
   waits_V : (at : Point) (address : Option ℕ) (why : Cause) (event : Event) → P event → V at address (waits why event)
@@ -114,7 +114,7 @@ module _ (s : Setting) (P : Event → Type 0) (holds : AreHoldsOf P s.holds) (be
       let last = last_left s.before.left in
       unwrap_with (V at None) (option_or (at_its_commit s leaving) (after_port s)) (waits cause.Other last)
       (or_with (V at None) (at_its_commit s leaving) (after_port s)
-      (if_with (λ (o : Option Waited). IfSome o (V at None)) s.before.facts.is_store_waiting tt (again_N at leaving.store gone.store))
+      (if_with (λ (o : Option Wait). IfSome o (V at None)) s.before.facts.is_store_waiting tt (again_N at leaving.store gone.store))
       (after_port_V s P (V at None) (waits_V at None) holds before))
       (waits_V at None cause.Other last before.left)
 

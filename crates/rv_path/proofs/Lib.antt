@@ -7,7 +7,9 @@ mod EventLists
 mod Forgotten
 mod Leavings
 mod Lives
+mod Lookups
 mod Meetings
+mod Moves
 mod News
 mod Nothing
 pub mod OnePath

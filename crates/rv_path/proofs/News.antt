@@ -2,8 +2,8 @@
 use Rattle.std.proofs.Common.{◌≡◌, ℕ, List, [], ◌∷◌, ◌++◌, Option, Some, None, refl}
 use Rattle.std.specs.Prelude.{IfSome}
 use Rattle.std.specs.Option.{option_to_list}
-use Rattle.rv_path.specs.Event.{event_by, event_from, new_by, new_from, refilling, waits, with_events}
-use Rattle.rv_path.specs.declared.{cause.Cause.Cause, event.Event.Event, event.Waited.Waited, point.Point.Point, point.Reason.Reason}
+use Rattle.rv_path.specs.Event.{Wait, event_by, event_from, new_by, new_from, refilling, waits, with_events}
+use Rattle.rv_path.specs.declared.{cause.Cause.Cause, event.Event.Event, point.Point.Point, point.Reason.Reason}
 
 -- a new event comes after so many cycles, and waited for one of which something holds
 pub record IsNew (P : Event → Type 0) (cycles : ℕ) (event : Event) : Type 0 where
@@ -97,10 +97,10 @@ module _ (cycles : ℕ) (P : List Event → Event → Type 0) (kept : IsKept cyc
   by_still all at address event (Some why) is other held =
       kept.others all _ other (made_new (P all) cycles at address why event is) held
 
-  pub wait_has : (all : List Event) (at : Point) (address : Option ℕ) (waited : Waited) → P all waited.event
+  pub wait_has : (all : List Event) (at : Point) (address : Option ℕ) (waited : Wait) → P all waited.event
       → P (with_events (new_from at cycles address waited) all) (event_from at cycles address waited)
   wait_has all at address waited is = by_have all at address waited.event waited.cause is
 
-  pub wait_still : (all : List Event) (at : Point) (address : Option ℕ) (waited : Waited) → P all waited.event
+  pub wait_still : (all : List Event) (at : Point) (address : Option ℕ) (waited : Wait) → P all waited.event
       → (other : Event) → P all other → P (with_events (new_from at cycles address waited) all) other
   wait_still all at address waited is = by_still all at address waited.event waited.cause is

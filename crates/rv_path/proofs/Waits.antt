@@ -7,7 +7,7 @@ use Rattle.rv_isa.specs.PerKind.{at_kind}
 use Rattle.rv_isa.specs.declared.operations.Kind.{Kind}
 use Rattle.rv_passage.specs.Result.{ready_in}
 use Rattle.rv_passage.specs.declared.{passage.Passage.Passage, producers.Producer.Producer}
-use Rattle.rv_path.specs.Event.{nothing_yet, waits}
+use Rattle.rv_path.specs.Event.{Wait, nothing_yet, waits}
 use Rattle.rv_path.specs.Issuing.{after_broadcast, after_bus, after_hold_of, after_issue, after_older_store, after_operands, after_producer}
 use Rattle.rv_path.specs.Issuing.{after_stores_known, after_units, after_units_of, broadcast_wait, execution_cause, has_ended, hold_among}
 use Rattle.rv_path.specs.Issuing.{issue_after, issue_wait, older_hold}
@@ -19,7 +19,7 @@ use Rattle.rv_path.specs.Sought.{is_at, is_just_before, is_sought}
 use Rattle.rv_path.specs.Way.{broadcast_by, dispatched_by, issued_by}
 use Rattle.rv_path.specs.Within.{AreHoldsOf, AreWaysOf, IsBeforeOf, IsWayOf}
 use Rattle.rv_path.specs.declared.{before.DrainHold.DrainHold, before.Left.Left, before.PortHold.PortHold, before.UnitHold.UnitHold}
-use Rattle.rv_path.specs.declared.{cause.Cause.Cause, event.Event.Event, event.Waited.Waited, sought.Sought.Sought, way.Way.Way}
+use Rattle.rv_path.specs.declared.{cause.Cause.Cause, event.Event.Event, sought.Sought.Sought, way.Way.Way}
 use Rattle.rv_path.specs.declared.before.Holder.TheVariants as holder
 use Rattle.rv_path.specs.declared.cause.Cause.TheVariants as cause
 use Rattle.rv_path.specs.declared.sought.Sought.TheVariants as sought
@@ -36,9 +36,9 @@ pub broadcast_have : (P : Event → Type 0) (w : Way) → IsWayOf P w → P (bro
 broadcast_have P w is = unwrap_with P w.broadcast (issued_by w) is.broadcast (issued_have P w is)
 
 -- of a cycle, where something holds of all that is known when it begins
-module _ (s : Setting) (P : Event → Type 0) (V : Waited → Type 0) (waits_V : (why : Cause) (event : Event) → P event → V (waits why event))
+module _ (s : Setting) (P : Event → Type 0) (V : Wait → Type 0) (waits_V : (why : Cause) (event : Event) → P event → V (waits why event))
     (holds : AreHoldsOf P s.holds) (before : IsBeforeOf P s.before) where
-  abbrev O : Option Waited → Type 0
+  abbrev O : Option Wait → Type 0
   O waited = IfSome waited V
 
   abbrev OH : Option PortHold → Type 0

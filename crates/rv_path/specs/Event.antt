@@ -1,9 +1,14 @@
 -- An event of a run, by the event that it waited for last, and why.
 use Rattle.std.specs.Prelude.{ℕ, Bool, true, false, if◌then◌else◌, List, [], ◌∷◌, Option, None, Some}
 use Rattle.std.specs.Option.{unwrap_or}
-use Rattle.rv_path.specs.declared.{cause.Cause.Cause, event.Event.Event, point.Point.Point, point.Reason.Reason, point.Stage.Stage, event.Waited.Waited}
+use Rattle.rv_path.specs.declared.{cause.Cause.Cause, event.Event.Event, point.Point.Point, point.Reason.Reason, point.Stage.Stage}
 use Rattle.rv_path.specs.declared.cause.Cause.TheVariants as cause
 use Rattle.rv_path.specs.declared.point.Stage.TheVariants as stage
+
+-- what an event waited for last, and why; or which event it is again
+pub record Wait : Type 0 where
+  pub event : Event
+  pub cause : Option Cause
 
 -- the beginning of a run
 abbrev pub nothing_yet : Event
@@ -43,7 +48,7 @@ abbrev pub event_by : Point → ℕ → Option ℕ → Event → Option Cause �
 event_by at cycle address event None = event
 event_by at cycle address event (Some why) = event_after at cycle address why event
 
-abbrev pub event_from : Point → ℕ → Option ℕ → Waited → Event
+abbrev pub event_from : Point → ℕ → Option ℕ → Wait → Event
 event_from at cycle address waited = event_by at cycle address waited.event waited.cause
 
 -- what is new of it
@@ -51,23 +56,35 @@ abbrev pub new_by : Point → ℕ → Option ℕ → Event → Option Cause → 
 new_by at cycle address event None = []
 new_by at cycle address event (Some why) = event_after at cycle address why event ∷ []
 
-abbrev pub new_from : Point → ℕ → Option ℕ → Waited → List Event
+abbrev pub new_from : Point → ℕ → Option ℕ → Wait → List Event
 new_from at cycle address waited = new_by at cycle address waited.event waited.cause
 
 -- one waited for another event, or is that one again
-abbrev pub waits : Cause → Event → Waited
+abbrev pub waits : Cause → Event → Wait
 waits why event = record { event = event; cause = Some why }
 
-abbrev pub again : Event → Waited
+abbrev pub again : Event → Wait
 again event = record { event = event; cause = None }
 
-abbrev pub again_by : Option Event → Option Waited
+abbrev pub again_by : Option Event → Option Wait
 again_by None = None
 again_by (Some event) = Some (again event)
 
 -- fetch began anew with it
 abbrev pub refilling : Reason → Event → Event
 refilling reason event = record event { refill = Some reason }
+
+abbrev pub anew : Reason → Event → Wait
+anew reason event = waits reason.cause (refilling reason event)
+
+-- it did so, or not
+abbrev pub refilling_by : Option Reason → Event → Event
+refilling_by None event = event
+refilling_by (Some reason) event = refilling reason event
+
+-- an event, where something is so
+abbrev pub event_if : Bool → Event → List Event
+event_if is event = if is then event ∷ [] else []
 
 -- some more events, oldest first, after others, newest first
 abbrev pub with_events : List Event → List Event → List Event

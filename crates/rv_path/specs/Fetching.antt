@@ -7,28 +7,25 @@ use Rattle.rv_passage.specs.Prediction.{differ}
 use Rattle.rv_passage.specs.declared.passage.Passage.{Passage}
 use Rattle.rv_rob.specs.ReorderBuffer.{youngest}
 use Rattle.rv_rob.specs.declared.entry.Entry.{Entry}
-use Rattle.rv_path.specs.Event.{again, refilling, waits}
+use Rattle.rv_path.specs.Event.{Wait, again, anew, waits}
 use Rattle.rv_path.specs.Leaving.{interrupt_event}
 use Rattle.rv_path.specs.Lookup.{Journey, last_of, one_before}
 use Rattle.rv_path.specs.Setting.{Setting, made_of, new_of, since_left}
 use Rattle.rv_path.specs.Sought.{is_at, is_sought}
-use Rattle.rv_path.specs.declared.{event.Event.Event, point.Reason.Reason, event.Waited.Waited, leaving.Leaving.Leaving, way.Way.Way}
+use Rattle.rv_path.specs.declared.{event.Event.Event, point.Reason.Reason, leaving.Leaving.Leaving, way.Way.Way}
 use Rattle.rv_path.specs.Way.{broadcast_by, dispatched_by}
 use Rattle.rv_path.specs.declared.cause.Cause.TheVariants as cause
 use Rattle.rv_path.specs.declared.point.Stage.TheVariants as stage
 use Rattle.rv_path.specs.declared.sought.Sought.TheVariants as sought
 
 -- fetch began anew with an event
-abbrev pub anew : Reason → Event → Waited
-anew reason event = waits reason.cause (refilling reason event)
-
-abbrev pub anew_by : Option Reason → Option Event → Option Waited
+abbrev pub anew_by : Option Reason → Option Event → Option Wait
 anew_by None event = None
 anew_by (Some reason) None = None
 anew_by (Some reason) (Some event) = Some (anew reason event)
 
 -- it began anew at the last that left
-abbrev pub after_flush : Leaving → Option Waited
+abbrev pub after_flush : Leaving → Option Wait
 after_flush leaving = anew_by leaving.refill leaving.last
 
 -- the youngest instruction was broadcast in the cycle, and its prediction put right
@@ -36,7 +33,7 @@ abbrev pub is_mended : Setting → Passage → Option Entry → Bool
 is_mended s p None = false
 is_mended s p (Some entry) = is_at s.number p.broadcast && differ p.predicted (Some entry.predicted_next)
 
-abbrev pub mend_of : Setting → Option Entry → Option Journey → Option Waited
+abbrev pub mend_of : Setting → Option Entry → Option Journey → Option Wait
 mend_of s entry None = None
 mend_of s entry (Some journey) =
     if is_mended s journey.row entry
@@ -44,14 +41,18 @@ mend_of s entry (Some journey) =
     else None
 
 -- it began anew there
-abbrev pub after_mend : Setting → List Way → Hardware → Option Waited
+abbrev pub after_mend : Setting → List Way → Hardware → Option Wait
 after_mend s ways after =
     if mends_early s.values.recovery then mend_of s (youngest after.rob.entries) (last_of sought.Entry s.rows ways) else None
 
--- fetch began anew, if it did: at an interrupt on account of the first word of its handler
-abbrev pub after_redirection : Setting → List Way → Bool → Leaving → Hardware → Passage → Option Waited
+-- at an interrupt on account of the first word of its handler
+abbrev pub handler_wait : Event → Passage → Wait
+handler_wait interrupt first = anew (record { cause = cause.RefillInterrupt; address = Some first.pc }) interrupt
+
+-- fetch began anew, if it did
+abbrev pub after_redirection : Setting → List Way → Bool → Leaving → Hardware → Passage → Option Wait
 after_redirection s ways interrupted leaving after first =
-    if interrupted then Some (anew (record { cause = cause.RefillInterrupt; address = Some first.pc }) (interrupt_event s))
+    if interrupted then Some (handler_wait (interrupt_event s) first)
     else option_or (after_flush leaving) (after_mend s ways after)
 
 -- the last word of the cycle before was predicted to lead elsewhere
@@ -59,7 +60,7 @@ abbrev pub is_jump : Passage → Bool
 is_jump p = differ p.predicted (Some ((p.pc + 4) % 2 ^ 32))
 
 -- what ended the fetches of the cycle before, but for the buffer
-abbrev pub after_word : Setting → Journey → Option Waited
+abbrev pub after_word : Setting → Journey → Option Wait
 after_word s last =
     if last.row.fetched + 1 == s.number
     then (
@@ -68,25 +69,25 @@ after_word s last =
     else None
 
 -- a word left the buffer in the cycle
-abbrev pub room_of : Setting → Option Passage → Option Way → Option Waited
+abbrev pub room_of : Setting → Option Passage → Option Way → Option Wait
 room_of s None way = None
 room_of s (Some p) None = None
 room_of s (Some p) (Some way) = if is_at s.number p.dispatched then Some (again (dispatched_by way)) else None
 
 -- the buffer was full until the word left it that stands as many before as it holds
-abbrev pub after_room : Setting → List Way → Option Waited
+abbrev pub after_room : Setting → List Way → Option Wait
 after_room s ways =
     if nat_le s.values.fetch_buffer (length ways)
     then room_of s (slice_get s.rows (length ways - s.values.fetch_buffer)) (slice_get ways (length ways - s.values.fetch_buffer))
     else None
 
 -- the fetch goes on after the last word, or where there is none, after the last that left
-abbrev pub goes_on : Setting → List Way → Option Journey → Waited
+abbrev pub goes_on : Setting → List Way → Option Journey → Wait
 goes_on s ways None = since_left cause.Other s.before.left
 goes_on s ways (Some last) = unwrap_or (option_or (after_word s last) (after_room s ways)) (waits cause.Other last.way.fetch)
 
 -- What words waited for that are fetched in the cycle, after those that were in flight before it: fetch began anew, or goes on.
-abbrev pub fetch_wait : Setting → List Way → Bool → Leaving → Hardware → Passage → Waited
+abbrev pub fetch_wait : Setting → List Way → Bool → Leaving → Hardware → Passage → Wait
 fetch_wait s ways interrupted leaving after first =
     unwrap_or (after_redirection s ways interrupted leaving after first) (goes_on s ways (one_before (length ways) s.rows ways))
 

@@ -5,11 +5,11 @@ use Rattle.rv_isa.specs.Instruction.{kind_of_word}
 use Rattle.rv_isa.specs.PerKind.{at_kind}
 use Rattle.rv_isa.specs.declared.{issues.Issue.Issue, operations.Kind.Kind, values.Values.Values}
 use Rattle.rv_passage.specs.declared.passage.Passage.{Passage}
-use Rattle.rv_path.specs.Event.{again_by, waits}
+use Rattle.rv_path.specs.Event.{Wait, again_by, waits}
 use Rattle.rv_path.specs.Leaving.{lines_event}
 use Rattle.rv_path.specs.Lookup.{Journey, first_of}
 use Rattle.rv_path.specs.Setting.{Setting, after_port, last_left, made}
-use Rattle.rv_path.specs.declared.{before.DrainHold.DrainHold, before.Facts.Facts, before.Holder.Holder, before.PortHold.PortHold, before.UnitHold.UnitHold, event.Event.Event, event.Waited.Waited, leaving.Leaving.Leaving, way.Way.Way}
+use Rattle.rv_path.specs.declared.{before.DrainHold.DrainHold, before.Facts.Facts, before.Holder.Holder, before.PortHold.PortHold, before.UnitHold.UnitHold, event.Event.Event, leaving.Leaving.Leaving, way.Way.Way}
 use Rattle.rv_path.specs.Way.{issued_by}
 use Rattle.rv_path.specs.declared.before.Holder.TheVariants as holder
 use Rattle.rv_path.specs.declared.cause.Cause.TheVariants as cause
@@ -31,11 +31,11 @@ is_begun s None = false
 is_begun s (Some end) = not (ends_at end s.before.facts.drain_end)
 
 -- the store that begins to drain retired in the cycle, where none waited before
-abbrev pub at_its_commit : Setting → Leaving → Option Waited
+abbrev pub at_its_commit : Setting → Leaving → Option Wait
 at_its_commit s leaving = if s.before.facts.is_store_waiting then None else again_by leaving.store
 
 -- the event by which a store begins to drain
-abbrev pub drain_wait : Setting → Leaving → Waited
+abbrev pub drain_wait : Setting → Leaving → Wait
 drain_wait s leaving =
     unwrap_or (option_or (at_its_commit s leaving) (after_port s)) (waits cause.Other (last_left s.before.left))
 

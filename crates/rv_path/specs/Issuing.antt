@@ -7,23 +7,23 @@ use Rattle.rv_isa.specs.declared.{issues.Issue.Issue, operations.Kind.Kind}
 use Rattle.rv_passage.specs.Result.{ready_in}
 use Rattle.rv_passage.specs.declared.{passage.Passage.Passage, producers.Producer.Producer}
 use Rattle.rv_path.specs.Cause.{busy_of, execution_of}
-use Rattle.rv_path.specs.Event.{waits}
+use Rattle.rv_path.specs.Event.{Wait, waits}
 use Rattle.rv_path.specs.Lookup.{Journey, first_of, last_of}
 use Rattle.rv_path.specs.Setting.{Setting, after_port, is_hold_of, port_ended}
 use Rattle.rv_path.specs.Sought.{is_at, is_just_before, is_sought}
 use Rattle.rv_path.specs.Way.{broadcast_by, dispatched_by, issued_by}
-use Rattle.rv_path.specs.declared.{before.UnitHold.UnitHold, cause.Cause.Cause, event.Waited.Waited, way.Way.Way}
+use Rattle.rv_path.specs.declared.{before.UnitHold.UnitHold, cause.Cause.Cause, way.Way.Way}
 use Rattle.rv_path.specs.declared.before.Holder.TheVariants as holder
 use Rattle.rv_path.specs.declared.cause.Cause.TheVariants as cause
 use Rattle.rv_path.specs.declared.sought.Sought.TheVariants as sought
 
 -- an event that waited for the broadcast of an instruction
-abbrev pub after_broadcast : Cause → Option Journey → Option Waited
+abbrev pub after_broadcast : Cause → Option Journey → Option Wait
 after_broadcast cause None = None
 after_broadcast cause (Some journey) = Some (waits cause (broadcast_by journey.way))
 
 -- an operand was broadcast in the cycle just before
-abbrev pub after_producer : Setting → List Way → Option Producer → Option Waited
+abbrev pub after_producer : Setting → List Way → Option Producer → Option Wait
 after_producer s ways None = None
 after_producer s ways (Some producer) =
     if is_just_before s.number producer.broadcast
@@ -31,16 +31,16 @@ after_producer s ways (Some producer) =
     else None
 
 -- of the first two that the instruction waits for
-abbrev pub after_operands : Setting → List Way → Passage → Option Waited
+abbrev pub after_operands : Setting → List Way → Passage → Option Wait
 after_operands s ways p = option_or (after_producer s ways p.producers.first) (after_producer s ways p.producers.second)
 
 -- the address of an older store was broadcast then
-abbrev pub after_older_store : Setting → Passage → Option Journey → Option Waited
+abbrev pub after_older_store : Setting → Passage → Option Journey → Option Wait
 after_older_store s p None = None
 after_older_store s p (Some store) =
     if nat_lt store.row.number p.number then Some (waits cause.StoreAddress (broadcast_by store.way)) else None
 
-abbrev pub after_stores_known : Setting → List Way → Passage → Option Waited
+abbrev pub after_stores_known : Setting → List Way → Passage → Option Wait
 after_stores_known s ways p =
     if is_load p.instruction then after_older_store s p (first_of (sought.StoreBefore s.number) s.rows ways) else None
 
@@ -59,37 +59,37 @@ hold_among s kind [] = None
 hold_among s kind (hold ∷ holds) =
     if has_ended s kind hold then Some (older_hold hold (hold_among s kind holds)) else hold_among s kind holds
 
-abbrev pub after_hold_of : Kind → Option UnitHold → Option Waited
+abbrev pub after_hold_of : Kind → Option UnitHold → Option Wait
 after_hold_of kind None = None
 after_hold_of kind (Some hold) = Some (waits (busy_of kind) hold.event)
 
 -- the last that was issued in the cycle just before took the last of the units
-abbrev pub after_issue : Kind → Option Journey → Option Waited
+abbrev pub after_issue : Kind → Option Journey → Option Wait
 after_issue kind None = None
 after_issue kind (Some journey) = Some (waits (busy_of kind) (issued_by journey.way))
 
-abbrev pub after_issues : Setting → List Way → Kind → Option Waited
+abbrev pub after_issues : Setting → List Way → Kind → Option Wait
 after_issues s ways kind =
     if count_by (is_sought (sought.IssuedBefore kind s.number)) s.rows == (at_kind kind s.values.kinds).units
     then after_issue kind (last_of (sought.IssuedBefore kind s.number) s.rows ways)
     else None
 
 -- the units of a kind were held by others
-abbrev pub after_units : Setting → List Way → Kind → Option Waited
+abbrev pub after_units : Setting → List Way → Kind → Option Wait
 after_units s ways kind =
     if (at_kind kind s.values.kinds).pipelined then after_issues s ways kind else after_hold_of kind (hold_among s kind s.holds)
 
-abbrev pub after_units_of : Setting → List Way → Option Kind → Option Waited
+abbrev pub after_units_of : Setting → List Way → Option Kind → Option Wait
 after_units_of s ways None = None
 after_units_of s ways (Some kind) = after_units s ways kind
 
 -- what an instruction waited for after its dispatch, of these the first
-abbrev pub issue_after : Setting → List Way → Passage → Option Waited
+abbrev pub issue_after : Setting → List Way → Passage → Option Wait
 issue_after s ways p =
     option_or (after_operands s ways p) (option_or (after_stores_known s ways p) (option_or (after_units_of s ways (kind_of_word p.instruction)) (after_port s)))
 
 -- what an instruction waited for that is issued
-abbrev pub issue_wait : Setting → List Way → Passage → Way → Waited
+abbrev pub issue_wait : Setting → List Way → Passage → Way → Wait
 issue_wait s ways p w =
     if is_just_before s.number p.dispatched then waits cause.DispatchToIssue (dispatched_by w)
     else unwrap_or (issue_after s ways p) (waits cause.Other (dispatched_by w))
@@ -110,14 +110,14 @@ execution_cause s p =
     else execution_cause_of s p (kind_of_word p.instruction)
 
 -- as many results as the bus is wide went first
-abbrev pub after_bus : Setting → List Way → Option Waited
+abbrev pub after_bus : Setting → List Way → Option Wait
 after_bus s ways =
     if count_by (is_sought (sought.BroadcastBefore s.number)) s.rows == s.values.bus_width
     then after_broadcast cause.BusFull (last_of (sought.BroadcastBefore s.number) s.rows ways)
     else None
 
 -- what a result waited for that is broadcast
-abbrev pub broadcast_wait : Setting → List Way → Passage → Way → Waited
+abbrev pub broadcast_wait : Setting → List Way → Passage → Way → Wait
 broadcast_wait s ways p w =
     if is_at s.number (ready_in p) then waits (execution_cause s p) (issued_by w)
     else unwrap_or (after_bus s ways) (waits cause.Other (issued_by w))

@@ -9,11 +9,11 @@ use Rattle.rv_isa.specs.Instruction.{is_branch_or_jump, is_fence_i, is_serialisi
 use Rattle.rv_passage.specs.Prediction.{differ, next_of}
 use Rattle.rv_passage.specs.declared.passage.{Ending.Ending, Passage.Passage}
 use Rattle.rv_passage.specs.declared.passage.Ending.TheVariants.{InFlight, Retired, Trapped, Squashed}
-use Rattle.rv_path.specs.Event.{again, waits}
+use Rattle.rv_path.specs.Event.{Wait, again, waits}
 use Rattle.rv_path.specs.Setting.{Setting, after_stores, is_hold_of, left_before, made, made_of, port_ended, since_left}
 use Rattle.rv_path.specs.Sought.{is_end, is_just_before, is_sought}
 use Rattle.rv_path.specs.Way.{broadcast_by, dispatched_by}
-use Rattle.rv_path.specs.declared.{before.Left.Left, before.PortHold.PortHold, cause.Cause.Cause, event.Event.Event, point.Reason.Reason, event.Waited.Waited, leaving.Leaving.Leaving, way.Way.Way}
+use Rattle.rv_path.specs.declared.{before.Left.Left, before.PortHold.PortHold, cause.Cause.Cause, event.Event.Event, point.Reason.Reason, leaving.Leaving.Leaving, way.Way.Way}
 use Rattle.rv_path.specs.declared.before.Holder.TheVariants as holder
 use Rattle.rv_path.specs.declared.cause.Cause.TheVariants as cause
 use Rattle.rv_path.specs.declared.point.Stage.TheVariants as stage
@@ -24,34 +24,34 @@ abbrev pub known_in : Passage → Option ℕ
 known_in p = option_or p.broadcast p.dispatched
 
 -- a FENCE.I that its own lines kept
-abbrev pub own_lines : Option PortHold → Option Waited
+abbrev pub own_lines : Option PortHold → Option Wait
 own_lines None = None
 own_lines (Some hold) = Some (waits cause.LinesWritten hold.event)
 
-abbrev pub after_own_lines : Setting → Passage → Option Waited
+abbrev pub after_own_lines : Setting → Passage → Option Wait
 after_own_lines s p = if is_hold_of holder.Lines p.number (port_ended s) then own_lines (port_ended s) else None
 
 -- the first to leave in a cycle, where others left in the cycle before
-abbrev pub after_left : Setting → Left → Waited
+abbrev pub after_left : Setting → Left → Wait
 after_left s left =
     if left.count == s.values.commit_width then waits cause.CommitWidth left.event else waits cause.CommitInOrder left.event
 
-abbrev pub after_left_before : Setting → Option Left → Option Waited
+abbrev pub after_left_before : Setting → Option Left → Option Wait
 after_left_before s None = None
 after_left_before s (Some left) = Some (after_left s left)
 
 -- what the first to leave in a cycle waited for last: a FENCE.I for its lines and the older stores, any other for the older instructions
-abbrev pub first_to_leave : Setting → Passage → Option Waited
+abbrev pub first_to_leave : Setting → Passage → Option Wait
 first_to_leave s p =
     if is_fence_i p.instruction then option_or (after_own_lines s p) (after_stores s) else after_left_before s (left_before s)
 
 -- one leaves after others of the same cycle, or is the first
-abbrev pub leaves_after : Setting → Option Event → Passage → Way → Waited
+abbrev pub leaves_after : Setting → Option Event → Passage → Way → Wait
 leaves_after s (Some event) p w = again event
 leaves_after s None p w = unwrap_or (first_to_leave s p) (waits cause.Other (dispatched_by w))
 
 -- what an instruction waited for that leaves the hardware, after the one before it in the cycle
-abbrev pub leaving_wait : Setting → Option Event → Passage → Way → Waited
+abbrev pub leaving_wait : Setting → Option Event → Passage → Way → Wait
 leaving_wait s earlier p w =
     if is_just_before s.number (known_in p) then waits cause.Commit (broadcast_by w) else leaves_after s earlier p w
 
@@ -102,9 +102,12 @@ with_event s event p leaving = record {
   refill = flush_by p (cause_of_flush s p p.ending);
 }
 
+abbrev pub with_left : Setting → Passage → Way → Leaving → Leaving
+with_left s p w leaving = with_event s (leaving_event s leaving.last p w) p leaving
+
 -- one more instruction, if it left
 abbrev pub with_row : Setting → Passage → Way → Leaving → Leaving
-with_row s p w leaving = if is_end p.ending then with_event s (leaving_event s leaving.last p w) p leaving else leaving
+with_row s p w leaving = if is_end p.ending then with_left s p w leaving else leaving
 
 -- some more
 abbrev pub with_rows : Setting → List Passage → List Way → Leaving → Leaving
@@ -135,11 +138,11 @@ newly_left s interrupted leaving =
     if interrupted then left_by s 0 (Some (interrupt_event s)) else left_by s (count_by (is_sought sought.Ended) s.rows) leaving.last
 
 -- The oldest instruction begins to write lines back: when it is the oldest, and the older stores and the port let it.
-abbrev pub lines_after : Setting → Option Event → Way → Waited
+abbrev pub lines_after : Setting → Option Event → Way → Wait
 lines_after s (Some event) w = again event
 lines_after s None w = unwrap_or (after_stores s) (waits cause.Other (dispatched_by w))
 
-abbrev pub lines_wait : Setting → Leaving → Passage → Way → Waited
+abbrev pub lines_wait : Setting → Leaving → Passage → Way → Wait
 lines_wait s leaving p w =
     if is_just_before s.number p.dispatched then waits cause.Commit (dispatched_by w) else lines_after s leaving.last w
 

@@ -1,33 +1,33 @@
 -- The events by which instructions are dispatched, and what a cycle makes of the events of those that were in flight before it.
-use Rattle.std.specs.Prelude.{ℕ, zero, suc, ◌+◌, ◌==◌, ◌&&◌, if◌then◌else◌, List, [], ◌++◌, length, count_by, Option, Some, None, slice_get, slice_set}
+use Rattle.std.specs.Prelude.{ℕ, zero, suc, ◌+◌, ◌==◌, ◌&&◌, ◌||◌, Bool, false, if◌then◌else◌, List, [], ◌++◌, length, count_by, Option, Some, None, slice_get, slice_set}
 use Rattle.std.specs.Option.{option_or, unwrap_or}
 use Rattle.rv_isa.specs.Instruction.{kind_of_word}
 use Rattle.rv_isa.specs.PerKind.{at_kind}
 use Rattle.rv_isa.specs.declared.operations.Kind.{Kind}
 use Rattle.rv_passage.specs.Result.{issued_in}
 use Rattle.rv_passage.specs.declared.passage.Passage.{Passage}
-use Rattle.rv_path.specs.Event.{again, again_by, waits}
+use Rattle.rv_path.specs.Event.{Wait, again, again_by, waits}
 use Rattle.rv_path.specs.Issuing.{broadcast_wait, issue_wait}
 use Rattle.rv_path.specs.Lookup.{Journey, first_of, journey_of, one_before}
 use Rattle.rv_path.specs.Setting.{Setting, after_drain_at, made_of, new_of}
 use Rattle.rv_path.specs.Sought.{is_at, is_just_before, is_sought}
 use Rattle.rv_path.specs.Way.{dispatched_by, issued_by, with_stage}
-use Rattle.rv_path.specs.declared.{event.Event.Event, event.Waited.Waited, leaving.Leaving.Leaving, moving.Advance.Advance, way.Way.Way}
+use Rattle.rv_path.specs.declared.{event.Event.Event, leaving.Leaving.Leaving, point.Stage.Stage, way.Way.Way}
 use Rattle.rv_path.specs.declared.cause.Cause.TheVariants as cause
 use Rattle.rv_path.specs.declared.point.Stage.TheVariants as stage
 use Rattle.rv_path.specs.declared.sought.Sought.TheVariants as sought
 
 -- the reorder buffer was full when the cycle began: the first to leave made room
-abbrev pub room_by_leaving : Setting → Leaving → Option Waited
+abbrev pub room_by_leaving : Setting → Leaving → Option Wait
 room_by_leaving s leaving = if count_by (is_sought (sought.Buffered s.number)) s.rows == s.values.rob then again_by leaving.first else None
 
 -- the event by which an instruction was issued that is looked for
-abbrev pub issue_of : Option Journey → Option Waited
+abbrev pub issue_of : Option Journey → Option Wait
 issue_of None = None
 issue_of (Some journey) = Some (again (issued_by journey.way))
 
 -- its stations were full then: the first to be issued made room
-abbrev pub room_by_issue : Setting → List Way → Option Kind → Option Waited
+abbrev pub room_by_issue : Setting → List Way → Option Kind → Option Wait
 room_by_issue s ways None = None
 room_by_issue s ways (Some kind) =
     if count_by (is_sought (sought.Stationed kind s.number)) s.rows == (at_kind kind s.values.kinds).stations
@@ -35,35 +35,52 @@ room_by_issue s ways (Some kind) =
     else None
 
 -- the store queue was full then: the store that had drained made room
-abbrev pub room_by_drain : Setting → Option Waited
+abbrev pub room_by_drain : Setting → Option Wait
 room_by_drain s =
     if s.before.facts.stores == s.values.store_queue then after_drain_at s cause.StoreQueueFull s.number s.before.drain else None
 
 -- what a word waited for that did not come after another one, of these the first
-abbrev pub room_for : Setting → List Way → Leaving → Passage → Option Waited
+abbrev pub room_for : Setting → List Way → Leaving → Passage → Option Wait
 room_for s ways leaving p =
     option_or (room_by_leaving s leaving) (option_or (room_by_issue s ways (kind_of_word p.instruction)) (room_by_drain s))
 
 -- as many words as the dispatch is wide went first in the cycle before, and the last of them was the one before it
-abbrev pub after_width : Setting → Journey → Option Waited
+abbrev pub after_width : Setting → Journey → Option Wait
 after_width s last =
     if is_just_before s.number last.row.dispatched && count_by (is_sought (sought.DispatchedBefore s.number)) s.rows == s.values.dispatch_width
     then Some (waits cause.DispatchWidth (dispatched_by last.way))
     else None
 
 -- it goes with the one before it, or waited for its width
-abbrev pub after_previous : Setting → Option Journey → Option Waited
+abbrev pub after_previous : Setting → Option Journey → Option Wait
 after_previous s None = None
 after_previous s (Some last) = if is_at s.number last.row.dispatched then Some (again (dispatched_by last.way)) else after_width s last
 
 -- what the word at a place waited for that is dispatched
-abbrev pub dispatch_wait : Setting → List Way → Leaving → Passage → ℕ → Way → Waited
+abbrev pub dispatch_wait : Setting → List Way → Leaving → Passage → ℕ → Way → Wait
 dispatch_wait s ways leaving p place w =
     if p.fetched + 1 == s.number then waits cause.FrontEnd w.fetch
     else unwrap_or (option_or (after_previous s (one_before place s.rows ways)) (room_for s ways leaving p)) (waits cause.Other w.fetch)
 
+-- what an instruction comes to, and what that waited for
+pub record Move : Type 0 where
+  pub stage : Stage
+  pub waited : Wait
+
+-- it comes to something in a cycle
+abbrev pub advances : ℕ → Passage → Bool
+advances number p = is_at number p.dispatched || (is_at number (issued_in p) || is_at number p.broadcast)
+
+-- the one at a place does
+abbrev pub advances_by : ℕ → Option Passage → Bool
+advances_by number None = false
+advances_by number (Some p) = advances number p
+
+abbrev pub advances_at : Setting → ℕ → Bool
+advances_at s place = advances_by s.number (slice_get s.rows place)
+
 -- what comes of an instruction in the cycle: it is dispatched, issued or broadcast, and waited for this; or nothing of that
-abbrev pub advance_of : Setting → Leaving → List Way → ℕ → Passage → Way → Option Advance
+abbrev pub advance_of : Setting → Leaving → List Way → ℕ → Passage → Way → Option Move
 advance_of s leaving ways place p w =
     if is_at s.number p.dispatched then Some (record { stage = stage.Dispatch; waited = dispatch_wait s ways leaving p place w })
     else (if is_at s.number (issued_in p) then Some (record { stage = stage.Issue; waited = issue_wait s ways p w })
@@ -71,11 +88,11 @@ advance_of s leaving ways place p w =
     else None))
 
 -- it has the event, and that is new or was known
-abbrev pub advanced : Setting → ℕ → Journey → Option Advance → List Way → List Way
+abbrev pub advanced : Setting → ℕ → Journey → Option Move → List Way → List Way
 advanced s place j None ways = ways
 advanced s place j (Some it) ways = slice_set ways place (with_stage it.stage (made_of s it.stage j.row it.waited) j.way)
 
-abbrev pub new_advanced : Setting → Passage → Option Advance → List Event
+abbrev pub new_advanced : Setting → Passage → Option Move → List Event
 new_advanced s p None = []
 new_advanced s p (Some it) = new_of s it.stage p it.waited
 

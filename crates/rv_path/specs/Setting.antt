@@ -4,8 +4,8 @@ use Rattle.std.specs.Option.{option_or}
 use Rattle.rv_isa.specs.declared.{values.Values.Values}
 use Rattle.rv_passage.specs.declared.passage.Passage.{Passage}
 use Rattle.rv_path.specs.Before.{is_same_holder, port_cause}
-use Rattle.rv_path.specs.Event.{event_from, new_from, nothing_yet, waits}
-use Rattle.rv_path.specs.declared.{before.Before.Before, before.DrainHold.DrainHold, before.Holder.Holder, before.Left.Left, before.PortHold.PortHold, before.UnitHold.UnitHold, cause.Cause.Cause, event.Event.Event, point.Point.Point, point.Stage.Stage, event.Waited.Waited, scene.Scene.Scene}
+use Rattle.rv_path.specs.Event.{Wait, event_from, new_from, nothing_yet, waits}
+use Rattle.rv_path.specs.declared.{before.Before.Before, before.DrainHold.DrainHold, before.Holder.Holder, before.Left.Left, before.PortHold.PortHold, before.UnitHold.UnitHold, cause.Cause.Cause, event.Event.Event, point.Point.Point, point.Stage.Stage, scene.Scene.Scene}
 use Rattle.rv_path.specs.declared.cause.Cause.TheVariants as cause
 
 -- The number of the cycle, and how many there were before it; what the description says; the instructions as they stand at its end; who
@@ -30,15 +30,15 @@ setting_of scene = record {
 }
 
 -- the event of the cycle at a point, of an address, by what it waited for
-abbrev pub made : Setting → Point → Option ℕ → Waited → Event
+abbrev pub made : Setting → Point → Option ℕ → Wait → Event
 made s at address waited = event_from at s.elapsed address waited
 
 -- that of an instruction
-abbrev pub made_of : Setting → Stage → Passage → Waited → Event
+abbrev pub made_of : Setting → Stage → Passage → Wait → Event
 made_of s stage p waited = made s (record { stage = stage; number = p.number }) (Some p.pc) waited
 
 -- the same where it is new
-abbrev pub new_of : Setting → Stage → Passage → Waited → List Event
+abbrev pub new_of : Setting → Stage → Passage → Wait → List Event
 new_of s stage p waited = new_from (record { stage = stage; number = p.number }) s.elapsed (Some p.pc) waited
 
 -- the hold of the port, if it ended when the cycle began
@@ -50,12 +50,12 @@ abbrev pub port_ended : Setting → Option PortHold
 port_ended s = hold_ended s s.before.port
 
 -- an event that waited for the port
-abbrev pub after_hold : Option PortHold → Option Waited
+abbrev pub after_hold : Option PortHold → Option Wait
 after_hold None = None
 after_hold (Some hold) = Some (waits (port_cause hold.holder) hold.event)
 
 -- that came when the port was free again
-abbrev pub after_port : Setting → Option Waited
+abbrev pub after_port : Setting → Option Wait
 after_port s = after_hold (port_ended s)
 
 -- a hold is that of an instruction, as a load or by its lines
@@ -72,23 +72,23 @@ abbrev pub left_before : Setting → Option Left
 left_before s = left_just_before s s.before.left
 
 -- an event that waited for the older ones to leave
-abbrev pub after_leaving : Option Left → Option Waited
+abbrev pub after_leaving : Option Left → Option Wait
 after_leaving None = None
 after_leaving (Some left) = Some (waits cause.CommitInOrder left.event)
 
 -- the store that drained until some cycle
-abbrev pub after_drain_at : Setting → Cause → ℕ → Option DrainHold → Option Waited
+abbrev pub after_drain_at : Setting → Cause → ℕ → Option DrainHold → Option Wait
 after_drain_at s cause cycle None = None
 after_drain_at s cause cycle (Some drain) = if drain.until == cycle then Some (waits cause drain.event) else None
 
 -- one that drained until the cycle just before
-abbrev pub after_drain_before : Setting → Option DrainHold → Option Waited
+abbrev pub after_drain_before : Setting → Option DrainHold → Option Wait
 after_drain_before s None = None
 after_drain_before s (Some drain) = if drain.until + 1 == s.number then Some (waits cause.PortStore drain.event) else None
 
 -- What a FENCE.I waits for that is the oldest: the older stores, which leave the queue after the commit of a cycle, then the port, and
 -- before both to be the oldest.
-abbrev pub after_stores : Setting → Option Waited
+abbrev pub after_stores : Setting → Option Wait
 after_stores s =
     option_or (after_drain_before s s.before.drain) (option_or (after_port s) (after_leaving (left_before s)))
 
@@ -98,6 +98,6 @@ last_left None = nothing_yet
 last_left (Some left) = left.event
 
 -- an event that waited for that, or that is the first of all
-abbrev pub since_left : Cause → Option Left → Waited
+abbrev pub since_left : Cause → Option Left → Wait
 since_left why None = waits cause.BeforeFirst nothing_yet
 since_left why (Some left) = waits why left.event

@@ -1,9 +1,10 @@
-ghost use Rattle.std.specs.Prelude.{◌≡◌};
+ghost use Rattle.std.specs.Prelude.{◌≡◌, ◌+◌, ◌≤◌, ◌++◌, is_some, length, vec_capacity};
 ghost use Rattle.std.specs.Option.{option_to_list};
-ghost use Rattle.rv_path.specs.Event.{again, ends_with, event_after, event_from, goes_on_through, new_from, refilling, waits};
+ghost use Rattle.rv_path.specs.Event.{again, anew, ends_with, event_after, event_by, event_from, event_if, goes_on_through, refilling, waits};
 
 use crate::cause::Cause;
 use crate::point::{Point, Reason, Stage};
+use std::marker::Model;
 
 /// An event of a run.
 #[derive(Clone, Copy)]
@@ -19,11 +20,24 @@ pub(crate) struct Event {
     pub(crate) refill: Option<Reason>,
 }
 
+/// The beginning of a run.
+pub(crate) static BEGIN: Event = Event::BEGIN;
+
 /// What an event of a cycle waited for last, and why; or which event it is again.
-#[derive(Clone, Copy)]
-pub(crate) struct Waited {
-    pub(crate) event: Event,
-    pub(crate) cause: Option<Cause>,
+#[derive(Drop)]
+pub(crate) struct Waited<'a> {
+    event: &'a Event,
+    // Why the fetch began anew with it, if it did.
+    anew: Option<Reason>,
+    cause: Option<Cause>,
+}
+
+impl<'a> Model for Waited<'a> {
+    ghost use Rattle.rv_path.specs.Event.{Wait, refilling_by};
+
+    ghost Value = { Wait };
+
+    ghost view = { λ waited. record { event = refilling_by waited.anew waited.event.now; cause = waited.cause } };
 }
 
 // A refill goes on with the fetch and the dispatch of words.
@@ -82,6 +96,32 @@ impl Event {
         }
     }
 
+    // That, or this one again.
+    #[inline(always)]
+    fn by(&self, at: Point, cycle: u64, address: Option<u32>, cause: Option<Cause>) -> Event
+        ensures { result ≡ event_by at cycle address self.now cause }
+    {
+        match cause {
+            Some(cause) => self.then(at, cycle, address, cause),
+            None => *self,
+        }
+    }
+
+    // The same after this one as one with which the fetch began anew, which is rare.
+    #[inline(never)]
+    fn by_anew(
+        &self,
+        reason: Reason,
+        at: Point,
+        cycle: u64,
+        address: Option<u32>,
+        cause: Option<Cause>,
+    ) -> Event
+        ensures { result ≡ event_by at cycle address (refilling reason self.now) cause }
+    {
+        self.refilling(reason).by(at, cycle, address, cause)
+    }
+
     /// The same, as one with which the fetch began anew.
     pub(crate) fn refilling(self, reason: Reason) -> Event
         ensures { result ≡ refilling reason self }
@@ -93,44 +133,78 @@ impl Event {
     }
 }
 
-impl Waited {
+impl<'a> Waited<'a> {
     /// An event waited for another one.
-    pub(crate) fn after(event: &Event, cause: Cause) -> Waited
+    pub(crate) fn after(event: &'a Event, cause: Cause) -> Waited<'a>
         ensures { result ≡ waits cause event.now }
     {
         Waited {
-            event: *event,
+            event,
+            anew: None,
             cause: Some(cause),
         }
     }
 
     /// It is another one again.
-    pub(crate) fn again(event: &Event) -> Waited
+    pub(crate) fn again(event: &'a Event) -> Waited<'a>
         ensures { result ≡ again event.now }
     {
         Waited {
-            event: *event,
+            event,
+            anew: None,
             cause: None,
         }
+    }
+
+    /// Fetch began anew with another one.
+    pub(crate) fn anew(reason: Reason, event: &'a Event) -> Waited<'a>
+        ensures { result ≡ anew reason event.now }
+    {
+        Waited {
+            event,
+            anew: Some(reason),
+            cause: Some(reason.cause),
+        }
+    }
+
+    /// Whether it is new.
+    pub(crate) fn is_new(&self) -> bool
+        ensures { result ≡ is_some self.now.cause }
+    {
+        self.cause.is_some()
     }
 
     /// The event at a point after so many cycles, of an address.
     pub(crate) fn event(&self, at: Point, cycle: u64, address: Option<u32>) -> Event
         ensures { result ≡ event_from at cycle address self.now }
     {
-        match self.cause {
-            Some(cause) => self.event.then(at, cycle, address, cause),
-            None => self.event,
+        match self.anew {
+            Some(reason) => self.event.by_anew(reason, at, cycle, address, self.cause),
+            None => self.event.by(at, cycle, address, self.cause),
         }
     }
+}
 
-    /// It, if it is new.
-    pub(crate) fn new_event(&self, at: Point, cycle: u64, address: Option<u32>) -> Option<Event>
-        ensures { option_to_list result ≡ new_from at cycle address self.now }
-    {
-        match self.cause {
-            Some(cause) => Some(self.event.then(at, cycle, address, cause)),
-            None => None,
-        }
+/// Appends an event, if there is one.
+pub(crate) fn push_event(event: &Option<Event>, events: &mut Vec<Event>)
+    requires room { length events.old.items + 1 ≤ vec_capacity events.old }
+    ensures items { events.new.items ≡ events.old.items ++ option_to_list event.now }
+    ensures few { length events.new.items ≤ length events.old.items + 1 }
+    ensures capacity { vec_capacity events.old ≤ vec_capacity events.new }
+{
+    if let Some(event) = event {
+        events.push(*event).unwrap();
+    }
+}
+
+/// Appends an event, where something is so.
+pub(crate) fn push_event_if(is: bool, event: &Event, events: &mut Vec<Event>)
+    requires room { length events.old.items + 1 ≤ vec_capacity events.old }
+    ensures items { events.new.items ≡ events.old.items ++ event_if is event.now }
+    ensures few { length events.new.items ≤ length events.old.items + 1 }
+    ensures capacity { vec_capacity events.old ≤ vec_capacity events.new }
+{
+    if is {
+        events.push(*event).unwrap();
     }
 }

@@ -1,10 +1,10 @@
-ghost use Rattle.std.specs.Prelude.{◌≡◌, option_copied};
-ghost use Rattle.rv_path.specs.Fetching.{after_flush, after_mend, after_redirection, after_room, after_word, anew, fetch_wait, goes_on, is_jump, is_mended};
+ghost use Rattle.std.specs.Prelude.{◌≡◌, false, option_copied};
+ghost use Rattle.rv_path.specs.Fetching.{after_flush, after_mend, after_redirection, after_room, after_word, fetch_wait, goes_on, handler_wait, is_jump, is_mended};
 ghost use Rattle.rv_path.specs.Setting.{setting_of};
 
 use crate::cause::Cause;
 use crate::event::{Event, Waited};
-use crate::leaving::{Leaving, differ, interrupt_event, mends_early};
+use crate::leaving::{Leaving, differ, mends_early};
 use crate::point::Reason;
 use crate::scene::{Scene, since_left};
 use crate::sought::{Sought, count, is_at, last_of, one_before};
@@ -13,18 +13,11 @@ use rv_core::Pipeline;
 use rv_passage::Passage;
 use rv_rob::Entry;
 
-// Fetch began anew with an event.
-fn anew(reason: Reason, event: &Event) -> Waited
-    ensures { result ≡ anew reason event.now }
-{
-    Waited::after(&event.refilling(reason), reason.cause)
-}
-
-fn after_flush(leaving: &Leaving) -> Option<Waited>
+fn after_flush(leaving: &Leaving) -> Option<Waited<'_>>
     ensures { result ≡ after_flush leaving.now }
 {
     match (leaving.refill, &leaving.last) {
-        (Some(reason), Some(event)) => Some(anew(reason, event)),
+        (Some(reason), Some(event)) => Some(Waited::anew(reason, event)),
         _ => None,
     }
 }
@@ -40,7 +33,7 @@ fn is_mended(scene: &Scene<'_>, row: &Passage, entry: Option<&Entry>) -> bool
     }
 }
 
-fn after_mend(scene: &Scene<'_>, ways: &[Way], pipeline: &Pipeline) -> Option<Waited>
+fn after_mend<'a>(scene: &'a Scene<'_>, ways: &'a [Way], pipeline: &Pipeline) -> Option<Waited<'a>>
     ensures { result ≡ after_mend (setting_of scene.now) ways.now pipeline.now }
 {
     if !mends_early(scene) {
@@ -52,34 +45,26 @@ fn after_mend(scene: &Scene<'_>, ways: &[Way], pipeline: &Pipeline) -> Option<Wa
                 cause: Cause::RefillPrediction,
                 address: Some(found.row().pc),
             };
-            Some(anew(reason, found.way().broadcast()))
+            Some(Waited::anew(reason, found.way().broadcast()))
         }
         _ => None,
     }
 }
 
-// Fetch began anew, if it did.
-fn after_redirection(
-    scene: &Scene<'_>,
-    ways: &[Way],
-    interrupted: bool,
-    leaving: &Leaving,
+// Fetch began anew where an instruction left, or was broadcast.
+fn after_redirection<'a>(
+    scene: &'a Scene<'_>,
+    ways: &'a [Way],
+    leaving: &'a Leaving,
     pipeline: &Pipeline,
     first: &Passage,
-) -> Option<Waited>
-    ensures { result ≡ after_redirection (setting_of scene.now) ways.now interrupted leaving.now pipeline.now first.now }
+) -> Option<Waited<'a>>
+    ensures { result ≡ after_redirection (setting_of scene.now) ways.now false leaving.now pipeline.now first.now }
 {
-    if interrupted {
-        let reason = Reason {
-            cause: Cause::RefillInterrupt,
-            address: Some(first.pc),
-        };
-        return Some(anew(reason, &interrupt_event(scene)));
+    match after_flush(leaving) {
+        Some(waited) => Some(waited),
+        None => after_mend(scene, ways, pipeline),
     }
-    if let Some(waited) = after_flush(leaving) {
-        return Some(waited);
-    }
-    after_mend(scene, ways, pipeline)
 }
 
 fn is_jump(row: &Passage) -> bool
@@ -89,7 +74,7 @@ fn is_jump(row: &Passage) -> bool
 }
 
 // What ended the fetches of the cycle before, but for the buffer.
-fn after_word<'a>(scene: &'a Scene<'_>, last: &Found<'a>) -> Option<Waited>
+fn after_word<'a>(scene: &'a Scene<'_>, last: &Found<'a>) -> Option<Waited<'a>>
     ensures { result ≡ after_word (setting_of scene.now) last.now }
 {
     if u128::from(last.row().fetched) + 1 != u128::from(scene.number) {
@@ -106,7 +91,7 @@ fn after_word<'a>(scene: &'a Scene<'_>, last: &Found<'a>) -> Option<Waited>
 }
 
 // The buffer was full until the word left it that stands as many before as it holds.
-fn after_room<'a>(scene: &'a Scene<'_>, ways: &'a [Way]) -> Option<Waited>
+fn after_room<'a>(scene: &'a Scene<'_>, ways: &'a [Way]) -> Option<Waited<'a>>
     ensures { result ≡ after_room (setting_of scene.now) ways.now }
 {
     let held = scene.values.fetch_buffer as usize;
@@ -123,7 +108,7 @@ fn after_room<'a>(scene: &'a Scene<'_>, ways: &'a [Way]) -> Option<Waited>
 }
 
 // The fetch goes on after the last word.
-fn goes_on<'a>(scene: &'a Scene<'_>, ways: &'a [Way], last: Option<Found<'a>>) -> Waited
+fn goes_on<'a>(scene: &'a Scene<'_>, ways: &'a [Way], last: Option<Found<'a>>) -> Waited<'a>
     ensures { result ≡ goes_on (setting_of scene.now) ways.now last.entry }
 {
     let Some(last) = last else {
@@ -138,19 +123,29 @@ fn goes_on<'a>(scene: &'a Scene<'_>, ways: &'a [Way], last: Option<Found<'a>>) -
     }
 }
 
-/// What words waited for that are fetched in the cycle, after the instructions with these events.
-pub(crate) fn fetch_wait(
-    scene: &Scene<'_>,
-    ways: &[Way],
-    interrupted: bool,
-    leaving: &Leaving,
+/// What words waited for that are fetched in the cycle, after the instructions with these events, where no interrupt was taken.
+pub(crate) fn fetch_wait<'a>(
+    scene: &'a Scene<'_>,
+    ways: &'a [Way],
+    leaving: &'a Leaving,
     pipeline: &Pipeline,
     first: &Passage,
-) -> Waited
-    ensures { result ≡ fetch_wait (setting_of scene.now) ways.now interrupted leaving.now pipeline.now first.now }
+) -> Waited<'a>
+    ensures { result ≡ fetch_wait (setting_of scene.now) ways.now false leaving.now pipeline.now first.now }
 {
-    match after_redirection(scene, ways, interrupted, leaving, pipeline, first) {
+    match after_redirection(scene, ways, leaving, pipeline, first) {
         Some(waited) => waited,
         None => goes_on(scene, ways, one_before(ways.len(), scene.rows, ways)),
     }
+}
+
+/// The same where one was taken, by its event.
+pub(crate) fn handler_wait<'a>(interrupt: &'a Event, first: &Passage) -> Waited<'a>
+    ensures { result ≡ handler_wait interrupt.now first.now }
+{
+    let reason = Reason {
+        cause: Cause::RefillInterrupt,
+        address: Some(first.pc),
+    };
+    Waited::anew(reason, interrupt)
 }

@@ -40,7 +40,7 @@ fn is_begun(scene: &Scene<'_>, end: Option<u64>) -> bool
     }
 }
 
-fn at_its_commit(scene: &Scene<'_>, leaving: &Leaving) -> Option<Waited>
+fn at_its_commit<'a>(scene: &Scene<'_>, leaving: &'a Leaving) -> Option<Waited<'a>>
     ensures { result ≡ at_its_commit (setting_of scene.now) leaving.now }
 {
     if scene.before.facts.is_store_waiting {
@@ -52,7 +52,7 @@ fn at_its_commit(scene: &Scene<'_>, leaving: &Leaving) -> Option<Waited>
     }
 }
 
-fn drain_wait(scene: &Scene<'_>, leaving: &Leaving) -> Waited
+fn drain_wait<'a>(scene: &'a Scene<'_>, leaving: &'a Leaving) -> Waited<'a>
     ensures { result ≡ drain_wait (setting_of scene.now) leaving.now }
 {
     if let Some(waited) = at_its_commit(scene, leaving) {
@@ -61,7 +61,7 @@ fn drain_wait(scene: &Scene<'_>, leaving: &Leaving) -> Waited
     if let Some(waited) = scene.after_port() {
         return waited;
     }
-    Waited::after(&last_left(&scene.before.left), Cause::Other)
+    Waited::after(last_left(&scene.before.left), Cause::Other)
 }
 
 // The event by which a store begins to drain.

@@ -13,7 +13,7 @@ use crate::way::{Found, Way};
 use rv_isa::Kind;
 use rv_passage::{Passage, Producer};
 
-fn after_broadcast(cause: Cause, found: Option<Found<'_>>) -> Option<Waited>
+fn after_broadcast<'a>(cause: Cause, found: Option<Found<'a>>) -> Option<Waited<'a>>
     ensures { result ≡ after_broadcast cause found.entry }
 {
     match found {
@@ -26,7 +26,7 @@ fn after_producer<'a>(
     scene: &'a Scene<'_>,
     ways: &'a [Way],
     producer: &Option<Producer>,
-) -> Option<Waited>
+) -> Option<Waited<'a>>
     ensures { result ≡ after_producer (setting_of scene.now) ways.now producer.now }
 {
     match producer {
@@ -38,7 +38,7 @@ fn after_producer<'a>(
     }
 }
 
-fn after_operands<'a>(scene: &'a Scene<'_>, ways: &'a [Way], row: &Passage) -> Option<Waited>
+fn after_operands<'a>(scene: &'a Scene<'_>, ways: &'a [Way], row: &Passage) -> Option<Waited<'a>>
     ensures { result ≡ after_operands (setting_of scene.now) ways.now row.now }
 {
     match after_producer(scene, ways, &row.producers.first) {
@@ -47,7 +47,11 @@ fn after_operands<'a>(scene: &'a Scene<'_>, ways: &'a [Way], row: &Passage) -> O
     }
 }
 
-fn after_stores_known<'a>(scene: &'a Scene<'_>, ways: &'a [Way], row: &Passage) -> Option<Waited>
+fn after_stores_known<'a>(
+    scene: &'a Scene<'_>,
+    ways: &'a [Way],
+    row: &Passage,
+) -> Option<Waited<'a>>
     ensures { result ≡ after_stores_known (setting_of scene.now) ways.now row.now }
 {
     if !is_load(&row.instruction) {
@@ -91,7 +95,7 @@ fn hold_among<'a>(scene: &Scene<'_>, kind: Kind, holds: &'a [UnitHold]) -> Optio
     }
 }
 
-fn after_issues<'a>(scene: &'a Scene<'_>, ways: &'a [Way], kind: Kind) -> Option<Waited>
+fn after_issues<'a>(scene: &'a Scene<'_>, ways: &'a [Way], kind: Kind) -> Option<Waited<'a>>
     ensures { result ≡ after_issues (setting_of scene.now) ways.now kind }
 {
     let sought = Sought::IssuedBefore(kind, scene.number);
@@ -105,7 +109,7 @@ fn after_issues<'a>(scene: &'a Scene<'_>, ways: &'a [Way], kind: Kind) -> Option
 }
 
 // An instruction that waited for a unit.
-fn after_units<'a>(scene: &'a Scene<'_>, ways: &'a [Way], kind: Kind) -> Option<Waited>
+fn after_units<'a>(scene: &'a Scene<'_>, ways: &'a [Way], kind: Kind) -> Option<Waited<'a>>
     ensures { result ≡ after_units (setting_of scene.now) ways.now kind }
 {
     if scene.values.kinds.get(kind).pipelined {
@@ -117,7 +121,11 @@ fn after_units<'a>(scene: &'a Scene<'_>, ways: &'a [Way], kind: Kind) -> Option<
     }
 }
 
-fn after_units_of<'a>(scene: &'a Scene<'_>, ways: &'a [Way], kind: Option<Kind>) -> Option<Waited>
+fn after_units_of<'a>(
+    scene: &'a Scene<'_>,
+    ways: &'a [Way],
+    kind: Option<Kind>,
+) -> Option<Waited<'a>>
     ensures { result ≡ after_units_of (setting_of scene.now) ways.now kind }
 {
     match kind {
@@ -126,7 +134,7 @@ fn after_units_of<'a>(scene: &'a Scene<'_>, ways: &'a [Way], kind: Option<Kind>)
     }
 }
 
-fn issue_after<'a>(scene: &'a Scene<'_>, ways: &'a [Way], row: &Passage) -> Option<Waited>
+fn issue_after<'a>(scene: &'a Scene<'_>, ways: &'a [Way], row: &Passage) -> Option<Waited<'a>>
     ensures { result ≡ issue_after (setting_of scene.now) ways.now row.now }
 {
     if let Some(event) = after_operands(scene, ways, row) {
@@ -147,7 +155,7 @@ pub(crate) fn issue_wait<'a>(
     ways: &'a [Way],
     row: &Passage,
     way: &'a Way,
-) -> Waited
+) -> Waited<'a>
     ensures { result ≡ issue_wait (setting_of scene.now) ways.now row.now way.now }
 {
     if is_just_before(scene.number, row.dispatched) {
@@ -178,7 +186,7 @@ fn execution_cause(scene: &Scene<'_>, row: &Passage) -> Cause
     }
 }
 
-fn after_bus<'a>(scene: &'a Scene<'_>, ways: &'a [Way]) -> Option<Waited>
+fn after_bus<'a>(scene: &'a Scene<'_>, ways: &'a [Way]) -> Option<Waited<'a>>
     ensures { result ≡ after_bus (setting_of scene.now) ways.now }
 {
     let sought = Sought::BroadcastBefore(scene.number);
@@ -194,7 +202,7 @@ pub(crate) fn broadcast_wait<'a>(
     ways: &'a [Way],
     row: &Passage,
     way: &'a Way,
-) -> Waited
+) -> Waited<'a>
     ensures { result ≡ broadcast_wait (setting_of scene.now) ways.now row.now way.now }
 {
     if is_ready_at(scene.number, row) {

@@ -1,5 +1,5 @@
 ghost use Rattle.std.specs.Prelude.{◌≡◌};
-ghost use Rattle.rv_path.specs.Leaving.{cause_of_flush, flushes_late, interrupt_event, is_interrupted, is_retired_store, leaving_event, leaving_of, leaving_wait, lines_event, lines_wait, newly_left, with_event, with_row, with_rows};
+ghost use Rattle.rv_path.specs.Leaving.{cause_of_flush, flushes_late, interrupt_event, is_interrupted, is_retired_store, leaving_event, leaving_of, leaving_wait, lines_event, lines_wait, newly_left, with_event, with_left, with_row, with_rows};
 ghost use Rattle.rv_path.specs.Leaving.{after_own_lines, after_left, first_to_leave, flush_by, known_in, leaves_after, left_by};
 ghost use Rattle.rv_isa.specs.Instruction.{is_branch_or_jump};
 ghost use Rattle.rv_hardware.specs.Broadcast.{mends_early};
@@ -11,9 +11,7 @@ use crate::cause::Cause;
 use crate::event::{Event, Waited};
 use crate::point::{Point, Reason, Stage};
 use crate::scene::{Scene, since_left};
-use crate::sought::{
-    Sought, count, is_fence_i, is_just_before, is_serialising, is_sought, is_store,
-};
+use crate::sought::{Sought, count, is_end, is_fence_i, is_just_before, is_serialising, is_store};
 use crate::way::Way;
 use rv_hardware::Step;
 use rv_isa::{Instr, Recovery};
@@ -36,7 +34,7 @@ fn known_in(row: &Passage) -> Option<u64>
     row.broadcast.or(row.dispatched)
 }
 
-fn after_own_lines<'a>(scene: &'a Scene<'_>, row: &Passage) -> Option<Waited>
+fn after_own_lines<'a>(scene: &'a Scene<'_>, row: &Passage) -> Option<Waited<'a>>
     ensures { result ≡ after_own_lines (setting_of scene.now) row.now }
 {
     if !scene.has_held(Holder::Lines, row.number) {
@@ -48,7 +46,7 @@ fn after_own_lines<'a>(scene: &'a Scene<'_>, row: &Passage) -> Option<Waited>
     }
 }
 
-fn after_left<'a>(scene: &Scene<'_>, left: &'a Left) -> Waited
+fn after_left<'a>(scene: &Scene<'_>, left: &'a Left) -> Waited<'a>
     ensures { result ≡ after_left (setting_of scene.now) left.now }
 {
     let cause = if left.count == scene.values.commit_width as usize {
@@ -59,7 +57,7 @@ fn after_left<'a>(scene: &Scene<'_>, left: &'a Left) -> Waited
     Waited::after(&left.event, cause)
 }
 
-fn first_to_leave<'a>(scene: &'a Scene<'_>, row: &Passage) -> Option<Waited>
+fn first_to_leave<'a>(scene: &'a Scene<'_>, row: &Passage) -> Option<Waited<'a>>
     ensures { result ≡ first_to_leave (setting_of scene.now) row.now }
 {
     if is_fence_i(&row.instruction) {
@@ -79,7 +77,7 @@ fn leaves_after<'a>(
     earlier: &'a Option<Event>,
     row: &Passage,
     way: &'a Way,
-) -> Waited
+) -> Waited<'a>
     ensures { result ≡ leaves_after (setting_of scene.now) earlier.now row.now way.now }
 {
     if let Some(event) = earlier {
@@ -97,7 +95,7 @@ fn leaving_wait<'a>(
     earlier: &'a Leaving,
     row: &Passage,
     way: &'a Way,
-) -> Waited
+) -> Waited<'a>
     ensures { result ≡ leaving_wait (setting_of scene.now) earlier.now.last row.now way.now }
 {
     if is_just_before(scene.number, known_in(row)) {
@@ -200,13 +198,22 @@ impl Leaving {
         scene.made_of(Stage::Commit, row, &leaving_wait(scene, self, row, way))
     }
 
+    // One more instruction that left.
+    #[inline(never)]
+    fn add_left(&mut self, scene: &Scene<'_>, row: &Passage, way: &Way)
+        ensures { self.new ≡ with_left (setting_of scene.now) row.now way.now self.old }
+    {
+        let event = self.next_event(scene, row, way);
+        self.add_event(scene, event, row);
+    }
+
     // One more instruction, if it left.
+    #[inline(always)]
     fn add_row(&mut self, scene: &Scene<'_>, row: &Passage, way: &Way)
         ensures { self.new ≡ with_row (setting_of scene.now) row.now way.now self.old }
     {
-        if is_sought(Sought::Ended, row) {
-            let event = self.next_event(scene, row, way);
-            self.add_event(scene, event, row);
+        if is_end(row.ending) {
+            self.add_left(scene, row, way);
         }
     }
 
@@ -289,7 +296,12 @@ pub(crate) fn newly_left(scene: &Scene<'_>, interrupted: bool, leaving: &Leaving
     left_by(scene, count(Sought::Ended, scene.rows), leaving.last)
 }
 
-fn lines_wait(scene: &Scene<'_>, leaving: &Leaving, row: &Passage, way: &Way) -> Waited
+fn lines_wait<'a>(
+    scene: &'a Scene<'_>,
+    leaving: &'a Leaving,
+    row: &Passage,
+    way: &'a Way,
+) -> Waited<'a>
     ensures { result ≡ lines_wait (setting_of scene.now) leaving.now row.now way.now }
 {
     if is_just_before(scene.number, row.dispatched) {

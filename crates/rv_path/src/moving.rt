@@ -1,10 +1,9 @@
 ghost use Rattle.std.specs.Prelude.{◌≡◌, ◌+◌, ◌++◌, ◌≤◌, [], ◌∷◌, length, vec_capacity};
-ghost use Rattle.rv_path.specs.Moving.{advance_of, after_previous, after_width, all_moved, all_new, dispatch_wait, issue_of, moved_at, new_at, room_by_drain, room_by_issue, room_by_leaving, room_for};
-ghost use Rattle.std.specs.Option.{option_to_list};
+ghost use Rattle.rv_path.specs.Moving.{advance_of, advances, advances_at, after_previous, after_width, all_moved, all_new, dispatch_wait, issue_of, moved_at, new_at, room_by_drain, room_by_issue, room_by_leaving, room_for};
 ghost use Rattle.rv_path.specs.Setting.{setting_of};
 
 use crate::cause::Cause;
-use crate::event::{Event, Waited};
+use crate::event::{Event, Waited, push_event_if};
 use crate::issuing::{broadcast_wait, issue_wait};
 use crate::leaving::Leaving;
 use crate::point::Stage;
@@ -13,27 +12,37 @@ use crate::sought::{Sought, count, first_of, is_at, is_just_before, kind_of, one
 use crate::way::{Found, Way};
 use rv_isa::Kind;
 use rv_passage::Passage;
+use std::marker::Model;
 
 /// What comes of an instruction in a cycle, and what that waited for.
-#[derive(Clone, Copy)]
-pub(crate) struct Advance {
-    pub(crate) stage: Stage,
-    pub(crate) waited: Waited,
+#[derive(Drop)]
+struct Advance<'a> {
+    stage: Stage,
+    waited: Waited<'a>,
 }
 
-fn room_by_leaving<'a>(scene: &Scene<'_>, leaving: &'a Leaving) -> Option<Waited>
+impl<'a> Model for Advance<'a> {
+    ghost use Rattle.rv_path.specs.Moving.{Move};
+
+    ghost Value = { Move };
+
+    ghost view = { λ advance. record { stage = advance.stage; waited = advance.waited } };
+}
+
+fn room_by_leaving<'a>(scene: &Scene<'_>, leaving: &'a Leaving) -> Option<Waited<'a>>
     ensures { result ≡ room_by_leaving (setting_of scene.now) leaving.now }
 {
-    if count(Sought::Buffered(scene.number), scene.rows) != scene.values.rob as usize {
+    let Some(event) = &leaving.first else {
         return None;
-    }
-    match &leaving.first {
-        Some(event) => Some(Waited::again(event)),
-        None => None,
+    };
+    if count(Sought::Buffered(scene.number), scene.rows) == scene.values.rob as usize {
+        Some(Waited::again(event))
+    } else {
+        None
     }
 }
 
-fn issue_of<'a>(found: Option<Found<'a>>) -> Option<Waited>
+fn issue_of<'a>(found: Option<Found<'a>>) -> Option<Waited<'a>>
     ensures { result ≡ issue_of found.entry }
 {
     match found {
@@ -42,7 +51,11 @@ fn issue_of<'a>(found: Option<Found<'a>>) -> Option<Waited>
     }
 }
 
-fn room_by_issue<'a>(scene: &'a Scene<'_>, ways: &'a [Way], kind: Option<Kind>) -> Option<Waited>
+fn room_by_issue<'a>(
+    scene: &'a Scene<'_>,
+    ways: &'a [Way],
+    kind: Option<Kind>,
+) -> Option<Waited<'a>>
     ensures { result ≡ room_by_issue (setting_of scene.now) ways.now kind }
 {
     let Some(kind) = kind else {
@@ -55,7 +68,7 @@ fn room_by_issue<'a>(scene: &'a Scene<'_>, ways: &'a [Way], kind: Option<Kind>) 
     issue_of(first_of(Sought::IssuedIn(kind, scene.number), scene.rows, ways))
 }
 
-fn room_by_drain<'a>(scene: &'a Scene<'_>) -> Option<Waited>
+fn room_by_drain<'a>(scene: &'a Scene<'_>) -> Option<Waited<'a>>
     ensures { result ≡ room_by_drain (setting_of scene.now) }
 {
     if scene.before.facts.stores == scene.values.store_queue as usize {
@@ -70,7 +83,7 @@ fn room_for<'a>(
     ways: &'a [Way],
     leaving: &'a Leaving,
     row: &Passage,
-) -> Option<Waited>
+) -> Option<Waited<'a>>
     ensures { result ≡ room_for (setting_of scene.now) ways.now leaving.now row.now }
 {
     if let Some(event) = room_by_leaving(scene, leaving) {
@@ -82,7 +95,7 @@ fn room_for<'a>(
     room_by_drain(scene)
 }
 
-fn after_width<'a>(scene: &'a Scene<'_>, last: &Found<'a>) -> Option<Waited>
+fn after_width<'a>(scene: &'a Scene<'_>, last: &Found<'a>) -> Option<Waited<'a>>
     ensures { result ≡ after_width (setting_of scene.now) last.now }
 {
     let sought = Sought::DispatchedBefore(scene.number);
@@ -95,7 +108,7 @@ fn after_width<'a>(scene: &'a Scene<'_>, last: &Found<'a>) -> Option<Waited>
     }
 }
 
-fn after_previous<'a>(scene: &'a Scene<'_>, last: Option<Found<'a>>) -> Option<Waited>
+fn after_previous<'a>(scene: &'a Scene<'_>, last: Option<Found<'a>>) -> Option<Waited<'a>>
     ensures { result ≡ after_previous (setting_of scene.now) last.entry }
 {
     match last {
@@ -115,7 +128,7 @@ fn dispatch_wait<'a>(
     row: &Passage,
     place: usize,
     way: &'a Way,
-) -> Waited
+) -> Waited<'a>
     ensures { result ≡ dispatch_wait (setting_of scene.now) ways.now leaving.now row.now place way.now }
 {
     if u128::from(row.fetched) + 1 == u128::from(scene.number) {
@@ -130,15 +143,34 @@ fn dispatch_wait<'a>(
     }
 }
 
+// Whether something comes of an instruction in a cycle.
+#[inline(always)]
+fn advances(number: u64, row: &Passage) -> bool
+    ensures { result ≡ advances number row.now }
+{
+    is_at(number, row.dispatched) || is_at(number, row.issued()) || is_at(number, row.broadcast)
+}
+
+// Whether something comes of the one at a place.
+#[inline(always)]
+fn advances_at(scene: &Scene<'_>, place: usize) -> bool
+    ensures { result ≡ advances_at (setting_of scene.now) place }
+{
+    match scene.rows.get(place) {
+        Some(row) => advances(scene.number, row),
+        None => false,
+    }
+}
+
 // What comes of an instruction in the cycle, where the events of all stand so.
-fn advance_of(
-    scene: &Scene<'_>,
-    leaving: &Leaving,
-    ways: &[Way],
+fn advance_of<'a>(
+    scene: &'a Scene<'_>,
+    leaving: &'a Leaving,
+    ways: &'a [Way],
     place: usize,
     row: &Passage,
-    way: &Way,
-) -> Option<Advance>
+    way: &'a Way,
+) -> Option<Advance<'a>>
     ensures { result ≡ advance_of (setting_of scene.now) leaving.now ways.now place row.now way.now }
 {
     if is_at(scene.number, row.dispatched) {
@@ -162,32 +194,60 @@ fn advance_of(
     None
 }
 
-// The instruction at a place comes to its event of the cycle, where the events of all stand so. Answers that, if it is new.
-fn move_at(scene: &Scene<'_>, leaving: &Leaving, place: usize, ways: &mut [Way]) -> Option<Event>
-    ensures ways { ways.new ≡ moved_at (setting_of scene.now) leaving.now place ways.old }
-    ensures new_event { option_to_list result ≡ new_at (setting_of scene.now) leaving.now place ways.old }
-{
-    let row = scene.rows.get(place)?;
-    let way = *ways.get(place)?;
-    let advance = advance_of(scene, leaving, ways, place, row, &way)?;
-    let event = scene.made_of(advance.stage, row, &advance.waited);
-    ways[place] = way.with_stage(advance.stage, event);
-    scene.new_of(advance.stage, row, &advance.waited)
-}
-
-/// Appends an event, if there is one.
-pub(crate) fn push_event(event: Option<Event>, events: &mut Vec<Event>)
+// The instruction at a place comes to its event of the cycle, where the events of all stand so. Appends that, if it is new.
+#[inline(never)]
+#[tactic(auto, using(crate::proofs::Moves::new_if))]
+fn move_on(
+    scene: &Scene<'_>,
+    leaving: &Leaving,
+    place: usize,
+    ways: &mut [Way],
+    events: &mut Vec<Event>,
+)
     requires room { length events.old.items + 1 ≤ vec_capacity events.old }
-    ensures items { events.new.items ≡ events.old.items ++ option_to_list event }
+    ensures ways { ways.new ≡ moved_at (setting_of scene.now) leaving.now place ways.old }
+    ensures items { events.new.items ≡ events.old.items ++ new_at (setting_of scene.now) leaving.now place ways.old }
     ensures few { length events.new.items ≤ length events.old.items + 1 }
     ensures capacity { vec_capacity events.old ≤ vec_capacity events.new }
 {
-    if let Some(event) = event {
-        events.push(event).unwrap();
+    let Some(row) = scene.rows.get(place) else {
+        return;
+    };
+    let Some(way) = ways.get(place) else {
+        return;
+    };
+    let Some(advance) = advance_of(scene, leaving, ways, place, row, way) else {
+        return;
+    };
+    let stage = advance.stage;
+    let event = scene.made_of(stage, row, &advance.waited);
+    push_event_if(advance.waited.is_new(), &event, events);
+    ways[place].set(stage, event);
+}
+
+// The same of any instruction: mostly nothing comes of it.
+#[inline(always)]
+#[tactic(auto, using(crate::proofs::Moves::idle_moved, crate::proofs::Moves::idle_new))]
+fn move_at(
+    scene: &Scene<'_>,
+    leaving: &Leaving,
+    place: usize,
+    ways: &mut [Way],
+    events: &mut Vec<Event>,
+)
+    requires room { length events.old.items + 1 ≤ vec_capacity events.old }
+    ensures ways { ways.new ≡ moved_at (setting_of scene.now) leaving.now place ways.old }
+    ensures items { events.new.items ≡ events.old.items ++ new_at (setting_of scene.now) leaving.now place ways.old }
+    ensures few { length events.new.items ≤ length events.old.items + 1 }
+    ensures capacity { vec_capacity events.old ≤ vec_capacity events.new }
+{
+    if advances_at(scene, place) {
+        move_on(scene, leaving, place, ways, events);
     }
 }
 
 /// Adds the events of the cycle to those of the instructions that were in flight before it, and appends the new ones.
+#[inline(never)]
 pub(crate) fn move_all(
     scene: &Scene<'_>,
     leaving: &Leaving,
@@ -201,6 +261,6 @@ pub(crate) fn move_all(
     ensures capacity { vec_capacity events.old ≤ vec_capacity events.new }
 {
     for place in 0..ways.len() {
-        push_event(move_at(scene, leaving, place, ways), events);
+        move_at(scene, leaving, place, ways, events);
     }
 }

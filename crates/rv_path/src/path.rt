@@ -278,5 +278,5 @@ fn end_of(cycles: u64, before: &Before) -> Event
         stage: Stage::End,
         number: 0,
     };
-    Waited::after(&last_left(&before.left), Cause::AfterLast).event(at, cycles, None)
+    Waited::after(last_left(&before.left), Cause::AfterLast).event(at, cycles, None)
 }

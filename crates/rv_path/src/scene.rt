@@ -1,10 +1,9 @@
 ghost use Rattle.std.specs.Prelude.{◌≡◌, option_copied};
-ghost use Rattle.std.specs.Option.{option_to_list};
 ghost use Rattle.rv_path.specs.Setting.{is_hold_of, last_left, since_left};
 
 use crate::before::{Before, Holder, Left, PortHold, UnitHold};
 use crate::cause::Cause;
-use crate::event::{Event, Waited};
+use crate::event::{BEGIN, Event, Waited};
 use crate::point::{Point, Stage};
 use crate::sought::is_just_before;
 use rv_isa::Values;
@@ -36,29 +35,21 @@ fn is_hold_of(holder: Holder, number: u64, hold: Option<&PortHold>) -> bool
 }
 
 impl<'a> Scene<'a> {
-    ghost use Rattle.rv_path.specs.Setting.{after_drain_at, after_drain_before, after_leaving, after_port, after_stores, is_hold_of, left_before, made, made_of, new_of, port_ended, setting_of};
+    ghost use Rattle.rv_path.specs.Setting.{after_drain_at, after_drain_before, after_leaving, after_port, after_stores, is_hold_of, left_before, made, made_of, port_ended, setting_of};
 
     /// The event of the cycle at a point, of an address, by what it waited for.
-    pub(crate) fn made(&self, at: Point, address: Option<u32>, waited: &Waited) -> Event
+    pub(crate) fn made(&self, at: Point, address: Option<u32>, waited: &Waited<'_>) -> Event
         ensures { result ≡ made (setting_of self.now) at address waited.now }
     {
         waited.event(at, self.elapsed, address)
     }
 
     /// That of an instruction.
-    pub(crate) fn made_of(&self, stage: Stage, row: &Passage, waited: &Waited) -> Event
+    pub(crate) fn made_of(&self, stage: Stage, row: &Passage, waited: &Waited<'_>) -> Event
         ensures { result ≡ made_of (setting_of self.now) stage row.now waited.now }
     {
         let number = row.number;
         self.made(Point { stage, number }, Some(row.pc), waited)
-    }
-
-    /// That, if it is new.
-    pub(crate) fn new_of(&self, stage: Stage, row: &Passage, waited: &Waited) -> Option<Event>
-        ensures { option_to_list result ≡ new_of (setting_of self.now) stage row.now waited.now }
-    {
-        let number = row.number;
-        waited.new_event(Point { stage, number }, self.elapsed, Some(row.pc))
     }
 
     /// The hold of the port, if it ended when the cycle began.
@@ -72,7 +63,7 @@ impl<'a> Scene<'a> {
     }
 
     /// An event that came when the port was free again.
-    pub(crate) fn after_port(&self) -> Option<Waited>
+    pub(crate) fn after_port(&self) -> Option<Waited<'_>>
         ensures { result ≡ after_port (setting_of self.now) }
     {
         match self.port_ended() {
@@ -100,7 +91,7 @@ impl<'a> Scene<'a> {
         }
     }
 
-    fn after_leaving(&self) -> Option<Waited>
+    fn after_leaving(&self) -> Option<Waited<'_>>
         ensures { result ≡ after_leaving (left_before (setting_of self.now)) }
     {
         match self.left_before() {
@@ -110,7 +101,7 @@ impl<'a> Scene<'a> {
     }
 
     /// An event that came when a store had drained, in this cycle.
-    pub(crate) fn after_drain(&self, cause: Cause) -> Option<Waited>
+    pub(crate) fn after_drain(&self, cause: Cause) -> Option<Waited<'_>>
         ensures { result ≡ after_drain_at (setting_of self.now) cause self.now.number self.now.before.now.drain }
     {
         match &self.before.drain {
@@ -119,7 +110,7 @@ impl<'a> Scene<'a> {
         }
     }
 
-    fn after_drain_before(&self) -> Option<Waited>
+    fn after_drain_before(&self) -> Option<Waited<'_>>
         ensures { result ≡ after_drain_before (setting_of self.now) self.now.before.now.drain }
     {
         match &self.before.drain {
@@ -131,7 +122,7 @@ impl<'a> Scene<'a> {
     }
 
     /// What a FENCE.I waits for that is the oldest: the older stores, the port, or to be the oldest.
-    pub(crate) fn after_stores(&self) -> Option<Waited>
+    pub(crate) fn after_stores(&self) -> Option<Waited<'_>>
         ensures { result ≡ after_stores (setting_of self.now) }
     {
         if let Some(event) = self.after_drain_before() {
@@ -145,21 +136,21 @@ impl<'a> Scene<'a> {
 }
 
 /// The last event that left the hardware, or the beginning of the run.
-pub(crate) fn last_left(left: &Option<Left>) -> Event
-    ensures { result ≡ last_left left.now }
+pub(crate) fn last_left(left: &Option<Left>) -> &Event
+    ensures { result.now ≡ last_left left.now }
 {
     match left {
-        Some(left) => left.event,
-        None => Event::BEGIN,
+        Some(left) => &left.event,
+        None => &BEGIN,
     }
 }
 
 /// A wait for that, or of the first event of all.
-pub(crate) fn since_left(cause: Cause, left: &Option<Left>) -> Waited
+pub(crate) fn since_left(cause: Cause, left: &Option<Left>) -> Waited<'_>
     ensures { result ≡ since_left cause left.now }
 {
     match left {
         Some(left) => Waited::after(&left.event, cause),
-        None => Waited::after(&Event::BEGIN, Cause::BeforeFirst),
+        None => Waited::after(&BEGIN, Cause::BeforeFirst),
     }
 }

@@ -4,14 +4,15 @@ ghost use Rattle.rv_path.specs.Fetching.{fetch_event, fetched_by, new_fetched};
 ghost use Rattle.rv_path.specs.Keeping.{IsSeen, before_with, setting_by};
 ghost use Rattle.rv_path.specs.Leaving.{is_interrupted, left_events};
 ghost use Rattle.rv_path.specs.Path.{before_next, interrupt_taken, made_in, new_beside};
-ghost use Rattle.rv_path.specs.Setting.{setting_of};
+ghost use Rattle.rv_path.specs.Event.{event_if};
+ghost use Rattle.rv_path.specs.Setting.{made_of, new_of, setting_of};
 
 use crate::before::{Before, DrainHold, Facts, Left, PortHold, UnitHold};
-use crate::event::Event;
-use crate::fetching::fetch_wait;
+use crate::event::{Event, Waited, push_event};
+use crate::fetching::{fetch_wait, handler_wait};
 use crate::holding::{drain_begun, port_event, port_taken};
 use crate::leaving::{Leaving, interrupt_event, is_interrupted, newly_left};
-use crate::moving::{move_all, push_event};
+use crate::moving::move_all;
 use crate::point::Stage;
 use crate::scene::Scene;
 use crate::way::Way;
@@ -33,13 +34,13 @@ pub(crate) struct Seen {
 
 // Appends up to three events.
 fn push_three(
-    first: Option<Event>,
-    second: Option<Event>,
-    third: Option<Event>,
+    first: &Option<Event>,
+    second: &Option<Event>,
+    third: &Option<Event>,
     events: &mut Vec<Event>,
 )
     requires room { length events.old.items + 3 ≤ vec_capacity events.old }
-    ensures items { events.new.items ≡ events.old.items ++ (option_to_list first ++ (option_to_list second ++ option_to_list third)) }
+    ensures items { events.new.items ≡ events.old.items ++ (option_to_list first.now ++ (option_to_list second.now ++ option_to_list third.now)) }
     ensures few { length events.new.items ≤ length events.old.items + 3 }
     ensures capacity { vec_capacity events.old ≤ vec_capacity events.new }
 {
@@ -55,7 +56,7 @@ fn push_left(leaving: &Leaving, events: &mut Vec<Event>)
     ensures few { length events.new.items ≤ length events.old.items + 3 }
     ensures capacity { vec_capacity events.old ≤ vec_capacity events.new }
 {
-    push_three(leaving.first, leaving.store, leaving.last, events);
+    push_three(&leaving.first, &leaving.store, &leaving.last, events);
 }
 
 // The interrupt, if one was taken.
@@ -76,6 +77,26 @@ struct Fetched {
     new_event: Option<Event>,
 }
 
+// An event, where something is so.
+fn event_if(is: bool, event: Event) -> Option<Event>
+    ensures { option_to_list result ≡ event_if is event }
+{
+    if is { Some(event) } else { None }
+}
+
+// Of which this word was the first, that waited so.
+#[tactic(auto, using(crate::proofs::Moves::new_if))]
+fn fetched_after(scene: &Scene<'_>, first: &Passage, waited: &Waited<'_>) -> Fetched
+    ensures event { result.event ≡ Some (made_of (setting_of scene.now) Stage.Fetch first.now waited.now) }
+    ensures new_event { option_to_list result.new_event ≡ new_of (setting_of scene.now) Stage.Fetch first.now waited.now }
+{
+    let event = scene.made_of(Stage::Fetch, first, waited);
+    Fetched {
+        event: Some(event),
+        new_event: event_if(waited.is_new(), event),
+    }
+}
+
 // Of which this word was the first.
 fn fetched_by(
     scene: &Scene<'_>,
@@ -88,18 +109,21 @@ fn fetched_by(
     ensures event { result.event ≡ fetched_by (setting_of scene.now) ways.now interrupted leaving.now pipeline.now (option_copied first.entry) }
     ensures new_event { option_to_list result.new_event ≡ new_fetched (setting_of scene.now) ways.now interrupted leaving.now pipeline.now (option_copied first.entry) }
 {
-    match first {
-        Some(first) => {
-            let waited = fetch_wait(scene, ways, interrupted, leaving, pipeline, first);
-            Fetched {
-                event: Some(scene.made_of(Stage::Fetch, first, &waited)),
-                new_event: scene.new_of(Stage::Fetch, first, &waited),
-            }
-        }
-        None => Fetched {
+    let Some(first) = first else {
+        return Fetched {
             event: None,
             new_event: None,
-        },
+        };
+    };
+    if interrupted {
+        let interrupt = interrupt_event(scene);
+        fetched_after(scene, first, &handler_wait(&interrupt, first))
+    } else {
+        fetched_after(
+            scene,
+            first,
+            &fetch_wait(scene, ways, leaving, pipeline, first),
+        )
     }
 }
 
@@ -125,7 +149,7 @@ fn notice(
     let port = port_taken(scene, ways, leaving, &facts);
     let first = scene.rows.get(ways.len());
     let fetched = fetched_by(scene, ways, interrupted, leaving, pipeline, first);
-    push_three(interrupt, port_event(&port), fetched.new_event, events);
+    push_three(&interrupt, &port_event(&port), &fetched.new_event, events);
     Seen {
         left: newly_left(scene, interrupted, leaving),
         port,

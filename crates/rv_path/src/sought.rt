@@ -40,6 +40,7 @@ pub(crate) enum Sought {
     StoreBefore(u64),
 }
 
+#[inline(always)]
 pub(crate) fn is_at(cycle: u64, stamp: Option<u64>) -> bool
     ensures { result ≡ is_at cycle stamp }
 {
@@ -50,6 +51,7 @@ pub(crate) fn is_at(cycle: u64, stamp: Option<u64>) -> bool
 }
 
 /// Whether a stamp is that of the cycle just before.
+#[inline(always)]
 pub(crate) fn is_just_before(cycle: u64, stamp: Option<u64>) -> bool
     ensures { result ≡ is_just_before cycle stamp }
 {
@@ -59,6 +61,7 @@ pub(crate) fn is_just_before(cycle: u64, stamp: Option<u64>) -> bool
     }
 }
 
+#[inline(always)]
 fn is_before(cycle: u64, stamp: Option<u64>) -> bool
     ensures { result ≡ is_before cycle stamp }
 {
@@ -111,7 +114,9 @@ pub(crate) fn is_serialising(instruction: &Option<Instr>) -> bool
     )
 }
 
-fn is_end(ending: Ending) -> bool
+/// Whether an instruction retired or trapped.
+#[inline(always)]
+pub(crate) fn is_end(ending: Ending) -> bool
     ensures { result ≡ is_end ending }
 {
     matches!(ending, Ending::Retired { .. } | Ending::Trapped { .. })
@@ -127,6 +132,7 @@ fn uses(kind: Kind, row: &Passage) -> bool
 }
 
 /// Whether an instruction is one that is looked for.
+#[inline(always)]
 pub(crate) fn is_sought(sought: Sought, row: &Passage) -> bool
     ensures { result ≡ is_sought sought row.now }
 {
@@ -140,21 +146,22 @@ pub(crate) fn is_sought(sought: Sought, row: &Passage) -> bool
         Sought::DispatchedBefore(cycle) => is_just_before(cycle, row.dispatched),
         Sought::Buffered(cycle) => is_before(cycle, row.dispatched),
         Sought::Stationed(kind, cycle) => {
-            uses(kind, row) && is_before(cycle, row.dispatched) && !is_before(cycle, row.issued())
+            is_before(cycle, row.dispatched) && !is_before(cycle, row.issued()) && uses(kind, row)
         }
-        Sought::IssuedIn(kind, cycle) => uses(kind, row) && is_at(cycle, row.issued()),
-        Sought::IssuedBefore(kind, cycle) => uses(kind, row) && is_just_before(cycle, row.issued()),
+        Sought::IssuedIn(kind, cycle) => is_at(cycle, row.issued()) && uses(kind, row),
+        Sought::IssuedBefore(kind, cycle) => is_just_before(cycle, row.issued()) && uses(kind, row),
         Sought::LoadUntil(cycle, end) => {
-            is_load(&row.instruction) && is_at(cycle, row.issued()) && is_ready_at(end, row)
+            is_at(cycle, row.issued()) && is_load(&row.instruction) && is_ready_at(end, row)
         }
         Sought::BroadcastBefore(cycle) => is_just_before(cycle, row.broadcast),
         Sought::StoreBefore(cycle) => {
-            is_store(&row.instruction) && is_just_before(cycle, row.broadcast)
+            is_just_before(cycle, row.broadcast) && is_store(&row.instruction)
         }
     }
 }
 
 /// How many instructions are looked for.
+#[inline(always)]
 pub(crate) fn count(sought: Sought, rows: &[Passage]) -> usize
     ensures { result ≡ count_by (is_sought sought) rows.now }
 {
@@ -168,7 +175,7 @@ pub(crate) fn count(sought: Sought, rows: &[Passage]) -> usize
 }
 
 /// The first instruction that is looked for, of those with their events.
-#[tactic(auto, using(crate::proofs::Nothing::first_of_nothing))]
+#[tactic(auto, using(crate::proofs::Lookups::first_here, crate::proofs::Lookups::first_none, crate::proofs::Nothing::first_of_nothing))]
 pub(crate) fn first_of<'a>(
     sought: Sought,
     rows: &'a [Passage],
@@ -176,17 +183,18 @@ pub(crate) fn first_of<'a>(
 ) -> Option<Found<'a>>
     ensures { result ≡ first_of sought rows.now ways.now }
 {
-    let [row, other_rows @ ..] = rows else {
-        return None;
-    };
-    let [way, other_ways @ ..] = ways else {
-        return None;
-    };
-    if is_sought(sought, row) {
-        Some(Found::new(row, way))
-    } else {
-        first_of(sought, other_rows, other_ways)
+    for place in 0..ways.len() {
+        let Some(row) = rows.get(place) else {
+            return None;
+        };
+        let Some(way) = ways.get(place) else {
+            return None;
+        };
+        if is_sought(sought, row) {
+            return Some(Found::new(row, way));
+        }
     }
+    None
 }
 
 /// The one before a place.

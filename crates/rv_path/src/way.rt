@@ -29,24 +29,15 @@ impl Way {
         }
     }
 
-    /// It with an event at a stage.
-    pub(crate) fn with_stage(self, stage: Stage, event: Event) -> Way
-        ensures { result ≡ with_stage stage event self }
+    /// It has an event at a stage.
+    pub(crate) fn set(&mut self, stage: Stage, event: Event)
+        ensures { self.new ≡ with_stage stage event self.old }
     {
         match stage {
-            Stage::Dispatch => Way {
-                dispatch: Some(event),
-                ..self
-            },
-            Stage::Issue => Way {
-                issue: Some(event),
-                ..self
-            },
-            Stage::Broadcast => Way {
-                broadcast: Some(event),
-                ..self
-            },
-            _ => self,
+            Stage::Dispatch => self.dispatch = Some(event),
+            Stage::Issue => self.issue = Some(event),
+            Stage::Broadcast => self.broadcast = Some(event),
+            _ => {}
         }
     }
 

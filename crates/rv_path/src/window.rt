@@ -28,9 +28,9 @@ fn drop_front(count: usize, events: &mut Vec<Event>)
     ensures items { events.new.items ≡ drop count events.old.items }
     ensures capacity { vec_capacity events.old ≤ vec_capacity events.new }
 {
-    let kept = events.len() - count;
-    events.rotate_left(count);
-    events.truncate(kept);
+    let length = events.len();
+    events.copy_within(count..length, 0);
+    events.truncate(length - count);
 }
 
 // Makes an account that of the path to what a walk wants beyond a window.

@@ -3,8 +3,8 @@ use Rattle.rv_path.specs.Moving.{moved_at, moved_up_to, new_at, new_up_to}
 use Rattle.rv_path.specs.Setting.{setting_of}
 use Rattle.rv_path.proofs.moving.move_all.Goals as goal
 
-pub push_event-requires : goal.push_event-requires
-push_event-requires c =
+pub move_at-requires : goal.move_at-requires
+move_at-requires c =
     omega (arith, c.requires.room, c.loop-place.invariant.2, c.loop-place.invariant.3, c.loop-place.auto.ways, c.loop-place.auto.place-end)
 
 pub loop-place-preserved : goal.loop-place-preserved
@@ -17,9 +17,9 @@ loop-place-preserved c =
     let so-far = c.loop-place.invariant in
     let next : suc place ≡ place + 1 = omega arith in (
       c.move_at.ensures.ways ∙ ap (moved_at s leaving place) so-far.0 ∙ ap (λ n. moved_up_to s leaving n ways) next,
-      c.push_event.ensures.items ∙ (λ i. so-far.1 i ++ (c.move_at.ensures.new_event ∙ ap (new_at s leaving place) so-far.0) i)
+      c.move_at.ensures.items ∙ (λ i. so-far.1 i ++ new_at s leaving place (so-far.0 i))
           ∙ append_assoc events (new_up_to s leaving place ways) (new_at s leaving place (moved_up_to s leaving place ways))
           ∙ ap (λ n. events ++ new_up_to s leaving n ways) next,
-      omega (arith, c.push_event.ensures.few, so-far.2),
-      omega (arith, c.push_event.ensures.capacity, so-far.3),
+      omega (arith, c.move_at.ensures.few, so-far.2),
+      omega (arith, c.move_at.ensures.capacity, so-far.3),
     )
