@@ -5,8 +5,9 @@ use Rattle.rv_passage.specs.Result.{issued_in}
 use Rattle.rv_passage.specs.declared.passage.Passage.{Passage}
 use Rattle.rv_path.specs.Event.{Wait, event_by, event_from, event_if, new_by, new_from}
 use Rattle.rv_path.specs.Issuing.{broadcast_wait, issue_wait}
-use Rattle.rv_path.specs.Lookup.{Journey, journey_of}
-use Rattle.rv_path.specs.Moving.{Move, advance_of, advanced, advances, advances_at, advances_by, dispatch_wait, moved_at, moved_by, new_advanced, new_at, new_at_one}
+use Rattle.rv_path.specs.Lookup.{journey_of}
+use Rattle.rv_path.specs.Moving.{Move, advance_of, advanced, advances, advances_at, advances_by, dispatch_wait}
+use Rattle.rv_path.specs.Moving.{moved_at, moved_by, new_advanced, new_at, new_at_one}
 use Rattle.rv_path.specs.Setting.{Setting}
 use Rattle.rv_path.specs.Sought.{is_at}
 use Rattle.rv_path.specs.declared.{cause.Cause.Cause, event.Event.Event, leaving.Leaving.Leaving, point.Point.Point, way.Way.Way}
@@ -61,16 +62,20 @@ pub idle_new : (s : Setting) (leaving : Leaving) (place : ℕ) (ways : List Way)
 idle_new s leaving place ways idle = new-idle s leaving place ways (slice_get s.rows place) (slice_get ways place) idle
 
 -- where there is no instruction at a place, nothing is new
-pub none_at : (s : Setting) (leaving : Leaving) (place : ℕ) (ways : List Way) → slice_get s.rows place ≡ None → new_at s leaving place ways ≡ []
+pub none_at : (s : Setting) (leaving : Leaving) (place : ℕ) (ways : List Way) → slice_get s.rows place ≡ None
+    → new_at s leaving place ways ≡ []
 none_at s leaving place ways none = λ i. new_at_one s leaving place (journey_of (none i) (slice_get ways place)) ways
 
-no-way : (s : Setting) (leaving : Leaving) (place : ℕ) (ways : List Way) (row : Option Passage) → new_at_one s leaving place (journey_of row None) ways ≡ []
+no-way : (s : Setting) (leaving : Leaving) (place : ℕ) (ways : List Way) (row : Option Passage)
+    → new_at_one s leaving place (journey_of row None) ways ≡ []
 no-way s leaving place ways None = refl
 no-way s leaving place ways (Some p) = refl
 
-pub no_way_at : (s : Setting) (leaving : Leaving) (place : ℕ) (ways : List Way) → slice_get ways place ≡ None → new_at s leaving place ways ≡ []
+pub no_way_at : (s : Setting) (leaving : Leaving) (place : ℕ) (ways : List Way) → slice_get ways place ≡ None
+    → new_at s leaving place ways ≡ []
 no_way_at s leaving place ways none =
-    (λ i. new_at_one s leaving place (journey_of (slice_get s.rows place) (none i)) ways) ∙ no-way s leaving place ways (slice_get s.rows place)
+    (λ i. new_at_one s leaving place (journey_of (slice_get s.rows place) (none i)) ways)
+    ∙ no-way s leaving place ways (slice_get s.rows place)
 
 module _ (s : Setting) (leaving : Leaving) (place : ℕ) (ways : List Way) (p : Passage) (w : Way)
     (row : slice_get s.rows place ≡ Some p) (way : slice_get ways place ≡ Some w) where

@@ -1,5 +1,6 @@
 ghost use Rattle.std.specs.Prelude.{◌≡◌, false, option_copied};
-ghost use Rattle.rv_path.specs.Fetching.{after_flush, after_mend, after_redirection, after_room, after_word, fetch_wait, goes_on, handler_wait, is_jump, is_mended};
+ghost use Rattle.rv_path.specs.Fetching.{after_flush, after_mend, after_redirection, after_room, after_word};
+ghost use Rattle.rv_path.specs.Fetching.{fetch_wait, goes_on, handler_wait, is_jump, is_mended};
 ghost use Rattle.rv_path.specs.Setting.{setting_of};
 
 use crate::cause::Cause;

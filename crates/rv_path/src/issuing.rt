@@ -1,5 +1,7 @@
 ghost use Rattle.std.specs.Prelude.{◌≡◌, option_copied};
-ghost use Rattle.rv_path.specs.Issuing.{after_broadcast, after_bus, after_issues, after_operands, after_producer, after_stores_known, after_units, after_units_of, broadcast_wait, execution_cause, has_ended, hold_among, issue_after, issue_wait, older_hold};
+ghost use Rattle.rv_path.specs.Issuing.{after_broadcast, after_bus, after_issues, after_operands, after_producer};
+ghost use Rattle.rv_path.specs.Issuing.{after_stores_known, after_units, after_units_of, broadcast_wait};
+ghost use Rattle.rv_path.specs.Issuing.{execution_cause, has_ended, hold_among, issue_after, issue_wait, older_hold};
 ghost use Rattle.rv_path.specs.Setting.{setting_of};
 
 use crate::before::{Holder, UnitHold};

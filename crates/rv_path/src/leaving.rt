@@ -1,5 +1,7 @@
 ghost use Rattle.std.specs.Prelude.{◌≡◌};
-ghost use Rattle.rv_path.specs.Leaving.{cause_of_flush, flushes_late, interrupt_event, is_interrupted, is_retired_store, leaving_event, leaving_of, leaving_wait, lines_event, lines_wait, newly_left, with_event, with_left, with_row, with_rows};
+ghost use Rattle.rv_path.specs.Leaving.{cause_of_flush, flushes_late, interrupt_event, is_interrupted};
+ghost use Rattle.rv_path.specs.Leaving.{is_retired_store, leaving_event, leaving_of, leaving_wait, lines_event};
+ghost use Rattle.rv_path.specs.Leaving.{lines_wait, newly_left, with_event, with_left, with_row, with_rows};
 ghost use Rattle.rv_path.specs.Leaving.{after_own_lines, after_left, first_to_leave, flush_by, known_in, leaves_after, left_by};
 ghost use Rattle.rv_isa.specs.Instruction.{is_branch_or_jump};
 ghost use Rattle.rv_hardware.specs.Broadcast.{mends_early};

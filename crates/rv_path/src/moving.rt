@@ -1,5 +1,7 @@
 ghost use Rattle.std.specs.Prelude.{◌≡◌, ◌+◌, ◌++◌, ◌≤◌, [], ◌∷◌, length, vec_capacity};
-ghost use Rattle.rv_path.specs.Moving.{advance_of, advances, advances_at, after_previous, after_width, all_moved, all_new, dispatch_wait, issue_of, moved_at, new_at, room_by_drain, room_by_issue, room_by_leaving, room_for};
+ghost use Rattle.rv_path.specs.Moving.{advance_of, advances, advances_at, after_previous, after_width, all_moved};
+ghost use Rattle.rv_path.specs.Moving.{all_new, dispatch_wait, issue_of, moved_at, new_at, room_by_drain};
+ghost use Rattle.rv_path.specs.Moving.{room_by_issue, room_by_leaving, room_for};
 ghost use Rattle.rv_path.specs.Setting.{setting_of};
 
 use crate::cause::Cause;
