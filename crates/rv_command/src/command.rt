@@ -81,7 +81,7 @@ pub enum Command {
     Profile {
         limit: u64,
     },
-    /// Write which causes have the cycles of the critical path of a run of a job on the core, of at most so many cycles.
+    /// Write which causes and lines have the cycles of the critical path of a run of a job on the core, of at most so many cycles.
     Path {
         limit: u64,
     },

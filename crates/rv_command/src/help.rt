@@ -164,7 +164,7 @@ pub(crate) static PROFILE: LimitedHelp = LimitedHelp {
 
 pub(crate) static PATH: LimitedHelp = LimitedHelp {
     texts: CommandHelp {
-        about: "Writes which causes have the cycles of the critical path of a run of the text on standard input",
+        about: "Writes which causes and lines have the cycles of the critical path of a run of the text on standard input",
         ending: ending_of_run!("rv_sim path < FILE"),
     },
     limit: CYCLES,

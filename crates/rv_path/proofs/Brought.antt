@@ -17,7 +17,7 @@ pub known-seen : (s : Setting) (steps : List Step) (after : Hardware) (old now :
     → record {
       ways = still_in_flight s.rows (with_fetched seen.fetch s.rows now);
       holds = holds_now s.number s.values s.rows now s.holds;
-      before = before_with s.number seen s.before;
+      before = before_with s.number steps seen s.before;
       events = with_events (made_in s old steps after) events;
     } ≡ known_in s old events steps after
 known-seen s steps after old now seen events is =

@@ -9,6 +9,7 @@ use Rattle.rv_path.specs.Leaving.{first_to_leave, interrupt_event, is_retired_st
 use Rattle.rv_path.specs.Leaving.{left_events, lines_after, lines_event, none_left, with_event, with_row, with_rows}
 use Rattle.rv_path.specs.Setting.{Setting, after_port, after_stores, last_left, made, made_of}
 use Rattle.rv_path.specs.Sought.{is_end, is_just_before}
+use Rattle.rv_path.specs.WaitingStores.{oldest}
 use Rattle.rv_path.specs.Way.{broadcast_by, dispatched_by}
 use Rattle.rv_path.specs.Within.{AreHoldsOf, AreWaysOf, IsBeforeOf, IsWayOf}
 use Rattle.rv_path.specs.declared.{cause.Cause.Cause, event.Event.Event, leaving.Leaving.Leaving, point.Point.Point}
@@ -104,19 +105,20 @@ module _ (s : Setting) (P : Event → Type 0) (holds : AreHoldsOf P s.holds) (be
       let at : Point = record { stage = stage.Interrupt; number = s.elapsed } in
       since_left_V s P (V at None) (waits_V at None) holds before cause.UntilInterrupt
 
-  again_N : (at : Point) (o : Option Event) → IfSome o N → IfSome (again_by o) (V at None)
-  again_N at None is = tt
-  again_N at (Some event) is = is
+  again_N : (at : Point) (address : Option ℕ) (o : Option Event) → IfSome o N → IfSome (again_by o) (V at address)
+  again_N at address None is = tt
+  again_N at address (Some event) is = is
 
   pub drain_new : (leaving : Leaving) → AreLeavingOf N leaving → N (drain_event s leaving)
   drain_new leaving gone =
       let at : Point = record { stage = stage.Drain; number = s.elapsed } in
+      let address = oldest s.before.waiting in
       let last = last_left s.before.left in
-      unwrap_with (V at None) (option_or (at_its_commit s leaving) (after_port s)) (waits cause.Other last)
-      (or_with (V at None) (at_its_commit s leaving) (after_port s)
-      (if_with (λ (o : Option Wait). IfSome o (V at None)) s.before.facts.is_store_waiting tt (again_N at leaving.store gone.store))
-      (after_port_V s P (V at None) (waits_V at None) holds before))
-      (waits_V at None cause.Other last before.left)
+      unwrap_with (V at address) (option_or (at_its_commit s leaving) (after_port s)) (waits cause.Other last)
+      (or_with (V at address) (at_its_commit s leaving) (after_port s)
+      (if_with (λ (o : Option Wait). IfSome o (V at address)) s.before.facts.is_store_waiting tt (again_N at address leaving.store gone.store))
+      (after_port_V s P (V at address) (waits_V at address) holds before))
+      (waits_V at address cause.Other last before.left)
 
   lines_after_V : (earlier : Option Event) (p : Passage) (w : Way) → IfSome earlier N → IsWayOf P w
       → VR stage.Lines p (lines_after s earlier w)

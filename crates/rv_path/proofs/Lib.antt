@@ -15,6 +15,7 @@ mod Nothing
 pub mod OnePath
 mod Passing
 mod Pathing
+mod Queued
 mod Waits
 mod Walks
 mod Windows

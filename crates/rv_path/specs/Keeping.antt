@@ -1,5 +1,5 @@
 -- What is kept of the path while a run goes on.
-use Rattle.std.specs.Prelude.{◌≡◌, ℕ, ◌+◌, ◌-◌, ◌≤◌, if◌then◌else◌, List, [], ◌∷◌, ◌++◌, drop, length, vec_capacity, Option, Some, None}
+use Rattle.std.specs.Prelude.{◌≡◌, ℕ, ◌+◌, ◌-◌, ◌≤◌, if◌then◌else◌, List, [], ◌∷◌, ◌++◌, drop, length, vec_capacity, Option, Some, None, is_some}
 use Rattle.std.specs.List.{list_all}
 use Rattle.std.specs.Option.{option_or}
 use Rattle.rv_passage.specs.Passage.{is_in_flight}
@@ -17,6 +17,7 @@ use Rattle.rv_path.specs.Leaving.{is_interrupted, leaving_of}
 use Rattle.rv_path.specs.Moving.{all_moved}
 use Rattle.rv_path.specs.Path.{Known, before_next, known_in, known_of, made_in, still_in_flight, with_fetched}
 use Rattle.rv_path.specs.Setting.{Setting}
+use Rattle.rv_path.specs.WaitingStores.{still_waiting}
 use Rattle.rv_view.specs.declared.shown_cycle.ShownCycle.{ShownCycle}
 use Rattle.rv_path.specs.declared.{before.Before.Before, before.UnitHold.UnitHold, event.Event.Event, path.Path.Path, point.Point.Point, seeing.Seen.Seen, way.Way.Way, window.Window.Window}
 
@@ -65,18 +66,19 @@ abbrev pub IsFollowed : List Event → Window → Window → Type 0
 IsFollowed made old new = (new.events.items ≡ old.events.items ++ made) × (new.root ≡ old.root) × (new.account ≡ old.account)
 
 -- what is known beside, with what a cycle brings
-abbrev pub before_with : ℕ → Seen → Before → Before
-before_with number seen before = record {
+abbrev pub before_with : ℕ → List Step → Seen → Before → Before
+before_with number steps seen before = record {
   left = option_or seen.left before.left;
   port = option_or seen.port (port_kept number before.port);
   drain = option_or seen.drain (drain_kept number before.drain);
   facts = seen.facts;
+  waiting = still_waiting steps (is_some seen.drain) before.waiting;
 }
 
 -- what a cycle brings, where the events of the instructions that were in flight before it stand so after it
 pub record IsSeen (s : Setting) (steps : List Step) (after : Hardware) (old ways : List Way) (seen : Seen) : Type 0 where
   pub moved : ways ≡ all_moved s (leaving_of s old) old
-  pub before : before_with s.number seen s.before ≡ before_next s ways steps after (leaving_of s old)
+  pub before : before_with s.number steps seen s.before ≡ before_next s ways steps after (leaving_of s old)
   pub fetched : seen.fetch ≡ fetch_event s ways (is_interrupted steps) (leaving_of s old) after
 
 -- what is known after a cycle that is shown, that brought this, where those events stand as they do after it
@@ -87,7 +89,7 @@ abbrev pub known_brought : ShownCycle → Seen → Known → Known
 known_brought cycle seen known = record known {
   ways = still_in_flight cycle.rows.now (with_fetched seen.fetch cycle.rows.now known.ways);
   holds = holds_shown cycle known;
-  before = before_with cycle.number seen known.before;
+  before = before_with cycle.number cycle.steps.now seen known.before;
 }
 
 -- what stands in a cycle that is shown

@@ -10,6 +10,7 @@ pub mod Meeting
 pub mod Sought
 pub mod Lookup
 pub mod Before
+pub mod WaitingStores
 pub mod Setting
 pub mod Leaving
 pub mod Issuing

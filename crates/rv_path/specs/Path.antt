@@ -1,7 +1,8 @@
 -- The path that leads to each event of a run: what is known of it between two cycles, and what a cycle makes of that.
-use Rattle.std.specs.Prelude.{◌≡◌, ℕ, ◌-◌, ◌≤◌, Bool, if◌then◌else◌, List, [], ◌∷◌, ◌++◌, drop, length, replicate, Option, Some, None}
+use Rattle.std.specs.Prelude.{◌≡◌, ℕ, ◌-◌, ◌≤◌, Bool, if◌then◌else◌, List, [], ◌∷◌, ◌++◌, drop, length, replicate, Option, Some, None, is_some}
 use Rattle.std.specs.List.{fold}
 use Rattle.std.specs.Option.{option_or}
+use Rattle.rv_core.specs.Ties.{queue_of}
 use Rattle.rv_hardware.specs.Hardware.{Hardware}
 use Rattle.rv_hardware.specs.History.{Moment}
 use Rattle.rv_hardware.specs.declared.step.Step.{Step}
@@ -17,6 +18,7 @@ use Rattle.rv_path.specs.Holding.{drain_begun, drain_kept, holds_now, port_event
 use Rattle.rv_path.specs.Leaving.{interrupt_event, is_interrupted, leaving_of, left_events, newly_left}
 use Rattle.rv_path.specs.Moving.{all_moved, all_new}
 use Rattle.rv_path.specs.Setting.{Setting, last_left}
+use Rattle.rv_path.specs.WaitingStores.{still_waiting, with_queue}
 use Rattle.rv_path.specs.Walk.{path_to}
 use Rattle.rv_path.specs.Way.{way_from}
 use Rattle.rv_path.specs.declared.cause.Cause.TheVariants as cause
@@ -36,7 +38,7 @@ abbrev pub known_at : Hardware → Known
 known_at first = record {
   ways = replicate (length (table_at first).rows) (way_from nothing_yet);
   holds = [];
-  before = record { left = None; port = None; drain = None; facts = facts_of first };
+  before = record { left = None; port = None; drain = None; facts = facts_of first; waiting = with_queue (queue_of first).stores [] };
   events = nothing_yet ∷ [];
 }
 
@@ -82,6 +84,7 @@ before_next s ways steps after leaving = record {
   port = option_or (port_taken s ways leaving (facts_of after)) (port_kept s.number s.before.port);
   drain = option_or (drain_begun s leaving (facts_of after)) (drain_kept s.number s.before.drain);
   facts = facts_of after;
+  waiting = still_waiting steps (is_some (drain_begun s leaving (facts_of after))) s.before.waiting;
 }
 
 -- an interrupt that was taken is an event, and so is the start of a drain or of a write-back of lines

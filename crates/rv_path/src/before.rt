@@ -3,6 +3,7 @@ ghost use Rattle.rv_path.specs.Before.{facts_of, is_waiting, waits_in};
 
 use crate::cause::Cause;
 use crate::event::Event;
+use crate::waiting_stores::WaitingStores;
 use rv_core::Pipeline;
 use rv_isa::Kind;
 use rv_stores::{Store, StorePhase, StoreQueue, StoreState};
@@ -66,15 +67,17 @@ pub(crate) struct Facts {
 }
 
 /// What is known when a cycle begins, but for the instructions and the units.
-#[derive(Clone, Copy)]
+#[derive(Drop)]
 pub(crate) struct Before {
     pub(crate) left: Option<Left>,
     pub(crate) port: Option<PortHold>,
     pub(crate) drain: Option<DrainHold>,
     pub(crate) facts: Facts,
+    pub(crate) waiting: WaitingStores,
 }
 
-fn is_waiting(store: Option<&Store>) -> bool
+/// Whether a store has retired, and its access to the cache did not begin.
+pub(crate) fn is_waiting(store: Option<&Store>) -> bool
     ensures { result ≡ is_waiting (option_copied store.entry) }
 {
     match store {

@@ -64,7 +64,7 @@ fn drain_wait<'a>(scene: &'a Scene<'_>, leaving: &'a Leaving) -> Waited<'a>
     Waited::after(last_left(&scene.before.left), Cause::Other)
 }
 
-// The event by which a store begins to drain.
+// The event by which a store begins to drain, which is its retirement, or that of the oldest that waited.
 fn drain_event(scene: &Scene<'_>, leaving: &Leaving) -> Event
     ensures { result ≡ drain_event (setting_of scene.now) leaving.now }
 {
@@ -72,7 +72,8 @@ fn drain_event(scene: &Scene<'_>, leaving: &Leaving) -> Event
         stage: Stage::Drain,
         number: scene.elapsed,
     };
-    scene.made(at, None, &drain_wait(scene, leaving))
+    let address = scene.before.waiting.oldest();
+    scene.made(at, address, &drain_wait(scene, leaving))
 }
 
 /// The store that begins to drain in the cycle.

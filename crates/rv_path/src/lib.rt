@@ -27,6 +27,7 @@ mod scene;
 mod seeing;
 mod sought;
 mod text;
+mod waiting_stores;
 mod way;
 mod window;
 mod word_cycles;

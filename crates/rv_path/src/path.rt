@@ -13,9 +13,11 @@ use crate::live::gather;
 use crate::point::{Point, Stage};
 use crate::scene::last_left;
 use crate::seeing::{Seen, see_shown};
+use crate::waiting_stores::WaitingStores;
 use crate::way::Way;
 use crate::window::Window;
 use rv_core::Pipeline;
+use rv_hardware::Step;
 use rv_passage::Passage;
 use rv_view::ShownCycle;
 use std::alloc::{AllocError, Global};
@@ -88,6 +90,7 @@ impl Path {
                 port: None,
                 drain: None,
                 facts: Facts::of(pipeline),
+                waiting: WaitingStores::of(pipeline.store_queue()),
             },
             window,
             live: Vec::new(alloc),
@@ -162,7 +165,7 @@ impl Path {
     {
         self.take_holds(cycle);
         self.take_fetched(cycle.rows, seen);
-        self.take_before(cycle.number, seen);
+        self.take_before(cycle.number, cycle.steps, seen);
         self.drop_ended(cycle.rows);
     }
 
@@ -194,8 +197,8 @@ impl Path {
     }
 
     // All else that is known after a cycle.
-    fn take_before(&mut self, number: u64, seen: &Seen)
-        ensures before { self.new.before ≡ before_with number seen.now self.old.before }
+    fn take_before(&mut self, number: u64, steps: &[Step], seen: &Seen)
+        ensures before { self.new.before ≡ before_with number steps.now seen.now self.old.before }
         ensures others { AreSameButBefore self.old self.new }
     {
         if seen.left.is_some() {
@@ -210,6 +213,7 @@ impl Path {
             None => drain_kept(number, &self.before.drain),
         };
         self.before.facts = seen.facts;
+        self.before.waiting.follow(steps, seen.drain.is_some());
     }
 
     // How many at the front are forgotten with those that left the hardware, if the others may stay where they are.

@@ -138,7 +138,7 @@ fn notice(
     events: &mut Vec<Event>,
 ) -> Seen
     requires room { length events.old.items + 3 ≤ vec_capacity events.old }
-    ensures before { before_with scene.now.number result scene.now.before.now ≡ before_next (setting_of scene.now) ways.now steps.now pipeline.now leaving.now }
+    ensures before { before_with scene.now.number steps.now result scene.now.before.now ≡ before_next (setting_of scene.now) ways.now steps.now pipeline.now leaving.now }
     ensures fetch { result.fetch ≡ fetch_event (setting_of scene.now) ways.now (is_interrupted steps.now) leaving.now pipeline.now }
     ensures items { events.new.items ≡ events.old.items ++ new_beside (setting_of scene.now) ways.now steps.now pipeline.now leaving.now }
     ensures capacity { vec_capacity events.old ≤ vec_capacity events.new }

@@ -105,7 +105,7 @@ class Known:
             found.append((event, *before, max(0, self.at(event) - self.at(before[0]))))
             event = before[0]
         found.reverse()
-        steps = [(*step[:2], cause) for step, (_, cause, _, _) in zip(found, rules.refilled(found))]
+        steps = [(*step[:2], cause) for step, (_, cause, _) in zip(found, rules.refilled(found))]
         return [(event, before, cause, max(self.first, self.at(before)), self.at(event)) for event, before, cause in steps]
 
     def cause_of(self, event):
@@ -188,8 +188,7 @@ class PathCheck:
             said = [f"cycles {total}", *(f"{cause} {count} {share.rstrip('%')} %" for _, cause, count, share, *_ in rows[-2:] + rows[:-2])]
             causes, _, lines = self.known.printed.partition(HEADING)
             self.same("what the command path prints", said, causes.splitlines())
-            # (of a drain the program names no line)
-            most = rules.most_of(rules.words_of(self.known.path.steps()[1], drains=False))
+            most = rules.most_of(rules.words_of(self.known.path.steps()[1]))
             wanted = [(address, counts.total(), sorted(counts.values(), reverse=True)[:3]) for address, counts in most]
             self.same("lines that the command path prints", list(printed_lines(lines)), wanted)
         end = self.known.path.ends()

@@ -20,7 +20,7 @@ Commands:
   page         Makes a page of some cycles of a run of the text on standard input, to step through in a browser
   explain      Says in sentences how a run of the text on standard input went
   profile      Writes a table of what each line of the text on standard input cost in a run
-  path         Writes which causes have the cycles of the critical path of a run of the text on standard input
+  path         Writes which causes and lines have the cycles of the critical path of a run of the text on standard input
   compare      Runs one program on several machines, and compares their totals
   sensitivity  Says which key of the machine would help the text on standard input
   help         Print this message or the help of the given subcommand(s)

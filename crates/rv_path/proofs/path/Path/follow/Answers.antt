@@ -29,7 +29,7 @@ returns-clause-known c events =
     ∙ (λ i. record {
       ways = still_in_flight cycle.rows.now (with_fetched seen.fetch cycle.rows.now (drop path.dropped (items i)));
       holds = holds_now cycle.number after.values cycle.rows.now (drop path.dropped (items i)) path.holds.items;
-      before = before_with cycle.number seen before;
+      before = before_with cycle.number steps seen before;
       events = with_events made events;
     })
     ∙ known-seen (setting_by cycle path.holds.items before) steps after (drop path.dropped path.ways.items) now seen events is
