@@ -2,6 +2,7 @@ mod Accounts
 mod Advances
 mod Backwards
 mod Brought
+mod Caused
 mod Cycles
 mod EventLists
 mod Forgotten

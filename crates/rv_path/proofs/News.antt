@@ -1,16 +1,19 @@
 -- What holds of events by the list of all so far, where new ones are put before it: of those that were known, and of the new ones.
 use Rattle.std.proofs.Common.{◌≡◌, ℕ, List, [], ◌∷◌, ◌++◌, Option, Some, None, refl}
-use Rattle.std.specs.Prelude.{IfSome}
-use Rattle.std.specs.Option.{option_to_list}
-use Rattle.rv_path.specs.Event.{Wait, event_by, event_from, new_by, new_from, refilling, waits, with_events}
+use Rattle.std.specs.Prelude.{Bool, true, false, if◌then◌else◌, IfSome}
+use Rattle.std.specs.Option.{option_to_list, unwrap_or}
+use Rattle.rv_path.specs.Causes.{IsSo}
+use Rattle.rv_path.specs.Claims.{cause_if, claim_of, is_so}
+use Rattle.rv_path.specs.Event.{Wait, ends_with, event_by, event_from, named_after, new_by, new_from, refilling, waits, with_events}
 use Rattle.rv_path.specs.declared.{cause.Cause.Cause, event.Event.Event, point.Point.Point, point.Reason.Reason}
 
--- a new event comes after so many cycles, and waited for one of which something holds
+-- a new event comes after so many cycles, and waited for one of which something holds, as its cause says
 pub record IsNew (P : Event → Type 0) (cycles : ℕ) (event : Event) : Type 0 where
   pub of : Event
   pub has : P of
   pub cycle : event.cycle ≡ cycles
   pub before : event.before ≡ Some of.at
+  pub so : IsSo of.at of.cycle event
 
 -- Something holds of a new event by the list that it begins, where it held of the one that it waited for by the list before; and of all
 -- others still.
@@ -50,22 +53,42 @@ all_imply P Q implies (e ∷ es) are = (implies e are.0, all_imply P Q implies e
 
 pub new_implies : (P Q : Event → Type 0) (cycles : ℕ) → ((event : Event) → P event → Q event) → (event : Event) → IsNew P cycles event
     → IsNew Q cycles event
-new_implies P Q cycles implies event is = record { of = is.of; has = implies is.of is.has; cycle = is.cycle; before = is.before }
+new_implies P Q cycles implies event is =
+    record { of = is.of; has = implies is.of is.has; cycle = is.cycle; before = is.before; so = is.so }
 
 -- some and then others come before all
 pub with_both : (es fs all : List Event) → with_events (es ++ fs) all ≡ with_events fs (with_events es all)
 with_both [] fs all = refl
 with_both (e ∷ es) fs all = with_both es fs (e ∷ all)
 
+-- where a cause is not so of two events, another one is named, which says nothing of them
+named_if : (is : Bool) (why : Cause) (waited : Point) (first : ℕ) (waits : Point) (second : ℕ)
+    → is_so (claim_of why) waited first waits second ≡ is → is_so (claim_of (cause_if is why)) waited first waits second ≡ true
+named_if true why waited first waits second is = is
+named_if false why waited first waits second is = refl
+
+named_so : (event : Event) (at : Point) (cycle : ℕ) (reason : Reason)
+    → is_so (claim_of (named_after event at cycle reason).cause) event.at event.cycle at cycle ≡ true
+unfolding named_after
+named_so event at cycle reason = named_if (is_so (claim_of reason.cause) event.at event.cycle at cycle) reason.cause event.at event.cycle at cycle refl
+
 -- an event that was made by a wait is new
 pub made_new : (P : Event → Type 0) (cycles : ℕ) (at : Point) (address : Option ℕ) (why : Cause) (event : Event) → P event
     → IsNew P cycles (event_from at cycles address (waits why event))
-made_new P cycles at address why event is = record { of = event; has = is; cycle = refl; before = refl }
+made_new P cycles at address why event is = record {
+  of = event;
+  has = is;
+  cycle = refl;
+  before = refl;
+  so =
+      named_so event at cycles (unwrap_or (if ends_with at.stage then event.refill else None) (record { cause = why; address = address }));
+}
 
 module _ (cycles : ℕ) (P : List Event → Event → Type 0) (kept : IsKept cycles P) where
   new_still : (all : List Event) (event other : Event) → IsNew (P all) cycles event → IsNew (P all) cycles other
       → IsNew (P (event ∷ all)) cycles other
-  new_still all event other new is = record { of = is.of; has = kept.others all event is.of new is.has; cycle = is.cycle; before = is.before }
+  new_still all event other new is =
+      record { of = is.of; has = kept.others all event is.of new is.has; cycle = is.cycle; before = is.before; so = is.so }
 
   all_still : (all : List Event) (event : Event) (es : List Event) → IsNew (P all) cycles event → AllOf (IsNew (P all) cycles) es
       → AllOf (IsNew (P (event ∷ all)) cycles) es

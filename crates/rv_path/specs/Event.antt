@@ -1,6 +1,7 @@
 -- An event of a run, by the event that it waited for last, and why.
 use Rattle.std.specs.Prelude.{ℕ, Bool, true, false, if◌then◌else◌, List, [], ◌∷◌, Option, None, Some}
 use Rattle.std.specs.Option.{unwrap_or}
+use Rattle.rv_path.specs.Claims.{cause_if, claim_of, is_so}
 use Rattle.rv_path.specs.declared.{cause.Cause.Cause, event.Event.Event, point.Point.Point, point.Reason.Reason, point.Stage.Stage}
 use Rattle.rv_path.specs.declared.cause.Cause.TheVariants as cause
 use Rattle.rv_path.specs.declared.point.Stage.TheVariants as stage
@@ -32,6 +33,11 @@ ends_with stage.Issue = true
 ends_with stage.Commit = true
 ends_with other = goes_on_through other
 
+-- A reason to wait for an event, of one at a point after so many cycles: its cause is named where it is so of the two.
+unfoldable pub named_after : Event → Point → ℕ → Reason → Reason
+named_after event at cycle reason =
+    record reason { cause = cause_if (is_so (claim_of reason.cause) event.at event.cycle at cycle) reason.cause }
+
 -- The event of a point after so many cycles, that waited last for another one: on account of the refill, where there is one, or of this
 -- cause and address.
 abbrev pub event_after : Point → ℕ → Option ℕ → Cause → Event → Event
@@ -39,7 +45,9 @@ event_after at cycle address why event = record {
   at = at;
   cycle = cycle;
   before = Some event.at;
-  reason = unwrap_or (if ends_with at.stage then event.refill else None) (record { cause = why; address = address });
+  reason =
+      named_after event at cycle
+      (unwrap_or (if ends_with at.stage then event.refill else None) (record { cause = why; address = address }));
   refill = if goes_on_through at.stage then event.refill else None;
 }
 

@@ -1,6 +1,8 @@
 pub mod Cause
 pub mod Point
+pub mod Claims
 pub mod Event
+pub mod Causes
 pub mod Way
 pub mod Walk
 pub mod Account

@@ -1,5 +1,5 @@
--- The retired stores that wait for their drains, oldest first: each by its address, or by none where it retired before the run. Stores drain
--- in the order in which they retired, and the store queue has at most 64 places.
+-- The retired stores that wait for their drains, oldest first: each by its address, or by none where it retired before the run.
+-- Stores drain in the order in which they retired, and the store queue has at most 64 places.
 use Rattle.std.specs.Prelude.{ℕ, nat_lt, Bool, if◌then◌else◌, List, [], ◌∷◌, ◌++◌, drop, length, Option, Some, None}
 use Rattle.rv_isa.specs.Instruction.{is_store}
 use Rattle.rv_decode.specs.Decodes.{instruction_of}

@@ -1,8 +1,9 @@
 ghost use Rattle.std.specs.Prelude.{◌≡◌, ◌+◌, ◌≤◌, ◌++◌, is_some, length, vec_capacity};
 ghost use Rattle.std.specs.Option.{option_to_list};
-ghost use Rattle.rv_path.specs.Event.{again, anew, ends_with, event_after, event_by, event_from, event_if, goes_on_through, refilling, waits};
+ghost use Rattle.rv_path.specs.Event.{again, anew, ends_with, event_after, event_by, event_from, event_if, goes_on_through, named_after, refilling, waits};
 
 use crate::cause::Cause;
+use crate::claim::Claim;
 use crate::point::{Point, Reason, Stage};
 use std::marker::Model;
 
@@ -73,6 +74,16 @@ impl Event {
         refill: None,
     };
 
+    // A reason to wait for this one, of one at a point after so many cycles: its cause is named where it is so of the two.
+    #[tactic(auto, unfolding(crate::specs::Event::named_after))]
+    fn named(&self, at: Point, cycle: u64, reason: Reason) -> Reason
+        ensures { result ≡ named_after self.now at cycle reason }
+    {
+        let is = Claim::of(reason.cause).is_so(&self.at, self.cycle, &at, cycle);
+        let cause = if is { reason.cause } else { Cause::Other };
+        Reason { cause, ..reason }
+    }
+
     // The one of a point after so many cycles, of an address, that waited last for this one.
     fn then(&self, at: Point, cycle: u64, address: Option<u32>, cause: Cause) -> Event
         ensures { result ≡ event_after at cycle address cause self.now }
@@ -91,7 +102,7 @@ impl Event {
             at,
             cycle,
             before: Some(self.at),
-            reason,
+            reason: self.named(at, cycle, reason),
             refill,
         }
     }

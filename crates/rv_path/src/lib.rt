@@ -10,6 +10,7 @@ mod account;
 mod account_text;
 mod before;
 mod cause;
+mod claim;
 mod ended;
 mod event;
 mod fetching;

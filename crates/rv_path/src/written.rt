@@ -1,4 +1,5 @@
 ghost use Rattle.rv_hardware.specs.Guided.{guided};
+ghost use Rattle.rv_path.specs.Causes.{CausesAreSo};
 ghost use Rattle.rv_path.specs.Run.{HasOnePath, IsPath};
 ghost use Rattle.rv_path.specs.Within.{ComesInTime};
 ghost use Rattle.rv_text.specs.IsText.{IsText};
@@ -41,6 +42,8 @@ pub fn write_path<W: Write>(
     ensures one_path { HasOnePath arrivals.now limit listing.now }
     // No event waited for one that came after it: all that is known of a run lies within its cycles.
     ensures in_time { ComesInTime }
+    // Each event waited for an older one, and what the cause that is named says is so of the two.
+    ensures causes { CausesAreSo }
 {
     let Ok(mut ranks) = Ranks::new(alloc) else {
         return Err(TextError::Memory);

@@ -1,3 +1,4 @@
+use Rattle.rv_path.proofs.Caused.{causes_are_so}
 use Rattle.rv_path.proofs.OnePath.{one_path}
 use Rattle.rv_path.proofs.Within.{comes_in_time}
 use Rattle.rv_path.proofs.written.write_path.Goals as goal
@@ -26,3 +27,15 @@ returns-in-Ok-write_account-clause-in_time g c = comes_in_time
 
 pub returns-clause-in_time : goal.returns-clause-in_time
 returns-clause-in_time g c = comes_in_time
+
+pub returns-in_default-clause-causes : goal.returns-in_default-clause-causes
+returns-in_default-clause-causes g c = causes_are_so
+
+pub returns-in_default-run_accounted-clause-causes : goal.returns-in_default-run_accounted-clause-causes
+returns-in_default-run_accounted-clause-causes g c = causes_are_so
+
+pub returns-in-Ok-write_account-clause-causes : goal.returns-in-Ok-write_account-clause-causes
+returns-in-Ok-write_account-clause-causes g c = causes_are_so
+
+pub returns-clause-causes : goal.returns-clause-causes
+returns-clause-causes g c = causes_are_so
