@@ -7,5 +7,7 @@ pub mod Fault
 pub mod FaultName
 pub mod Field
 pub mod Held
+pub mod KeyRange
+pub mod Near
 pub mod Setting
 pub mod Unknown
