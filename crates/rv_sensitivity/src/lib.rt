@@ -10,5 +10,5 @@ mod trials;
 
 pub use change::{Change, Widths};
 pub use neighbour::{Neighbour, neighbours};
-pub use setting::{KeyValue, Setting, Settings, changes};
+pub use setting::{KeyValue, Setting, Settings, changes, says_how_fast};
 pub use trials::{Trial, all_trials};

@@ -51,8 +51,8 @@ fn key_at(index: usize) -> Option<Key>
     all_keys().get(index).copied()
 }
 
-// Whether a number's key says how fast a program runs.
-fn says_how_fast(key: NumberKey) -> bool
+/// Whether a number's key says how fast a program runs: all do but those of RAM and of reports.
+pub fn says_how_fast(key: NumberKey) -> bool
     ensures { result ≡ says_how_fast key }
 {
     match key {
