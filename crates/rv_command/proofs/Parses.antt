@@ -51,11 +51,15 @@ pub fails_by : (parser : Parser) (words : List Text) (r : Result ArgMatches Erro
 fails_by parser words r is fails =
     subst (λ (a : App). FailsBy (fault_of a words) r) is (fails (ap is_simple_and_free is ∙ arguments_are_free))
 
+-- words that are taken have the subcommand that their matches name
+pub taken_rows : (parser : Parser) (words : List Text) (m : ArgMatches) → app_of parser ≡ program_arguments
+    → HasMatchesOf (app_of parser) words m
+    → subcommand_rows_of m ≡ subcommand_of program_arguments words
+taken_rows parser words m is found =
+    (found (ap is_simple is ∙ arguments_are_simple)).1 ∙ ap (λ (a : App). subcommand_of a words) is
+
 -- words that are taken ask for the command that their matches name
 pub taken_words : (parser : Parser) (words : List Text) (m : ArgMatches) → app_of parser ≡ program_arguments
     → fault_of program_arguments words ≡ [] → HasMatchesOf (app_of parser) words m
     → command_of words ≡ option_and_then command_named (subcommand_rows_of m)
-taken_words parser words m is none found =
-    let rows : subcommand_rows_of m ≡ subcommand_of program_arguments words =
-    (found (ap is_simple is ∙ arguments_are_simple)).1 ∙ ap (λ (a : App). subcommand_of a words) is in
-    rw (none, rows) refl
+taken_words parser words m is none found = rw (none, taken_rows parser words m is found) refl

@@ -1,15 +1,18 @@
 -- What `--also` asks for.
-use Rattle.std.specs.Prelude.{ℕ, ◌+◌, ◌==◌, nat_lt, Bool, true, false, ◌||◌, if◌then◌else◌, List, [], drop, get_or, length, position, take, slice_get, Option, Some, None, codes, is_some, option_and_then, unwrap_or}
+use Rattle.std.specs.Prelude.{ℕ, ◌+◌, ◌==◌, nat_lt, Bool, true, false, ◌||◌, if◌then◌else◌, List, [], drop, get_or, length, position, take, slice_get, Option, Some, None, codes, is_some, ok_or, option_and_then, unwrap_or, Result, Ok, Err}
 use Rattle.std.specs.{Option.option_map, Option.option_map_or, Str.bytes_eq}
 use Rattle.clap.specs.Words.{Row, Text, all_of}
+use Rattle.rv_asm.specs.Statement.{and_then}
 use Rattle.rv_asm.specs.Token.{Lexeme, Token, Number, first_lexeme}
 use Rattle.rv_isa.specs.Choice.{predictor_named, recovery_named}
 use Rattle.rv_isa.specs.Key.{order, text_of}
 use Rattle.rv_isa.specs.declared.keys.Key.{Key}
 use Rattle.rv_isa.specs.declared.keys.Key.TheVariants as key
-use Rattle.rv_sensitivity.specs.Setting.{change_of}
+use Rattle.rv_sensitivity.specs.Setting.{change_of, says_how_fast}
 use Rattle.rv_sensitivity.specs.declared.setting.{KeyValue.KeyValue, Setting.Setting, Settings.Settings}
 use Rattle.rv_sensitivity.specs.declared.setting.KeyValue.TheVariants as value
+use Rattle.rv_command.specs.declared.also_fault.{AlsoFault.AlsoFault, Reason.Reason}
+use Rattle.rv_command.specs.declared.also_fault.Reason.TheVariants.{TooMany, UnknownKey, OtherKey, NoValue, WrongValue, SetTwice}
 
 -- the number that a token is
 abbrev pub number_by : Token → Option ℕ
@@ -46,46 +49,74 @@ taken setting = if is_some (change_of setting) then Some setting else None
 unfoldable pub key_at : ℕ → Option Key
 key_at index = slice_get order index
 
+-- a key says how fast a program runs
+abbrev pub is_tried : Key → Bool
+is_tried (key.Number number_key) = says_how_fast number_key
+is_tried _ = true
+
+-- a key that says so, by its name, with its index
+abbrev pub tried_key : Text → Result (ℕ × Key) Reason
+tried_key name = and_then (ok_or (index_named name) UnknownKey) (λ index. and_then (ok_or (key_at index) UnknownKey) (λ k.
+    if is_tried k then Ok (index, k) else Err (OtherKey k)))
+
+-- the setting of a key to the value that a text is, where the key takes it
+abbrev pub made : ℕ → Key → Text → Option Setting
+made index k text = option_and_then (λ held. taken (record { index = index; value = held })) (value_at k text)
+
 -- the setting of a key with a name
-abbrev pub setting_named : Text → Text → Option Setting
-setting_named name text =
-    option_and_then (λ index. option_and_then (λ k. option_and_then (λ held. taken (record { index = index; value = held })) (value_at k text)) (key_at index)) (index_named name)
+abbrev pub setting_named : Text → Text → Result Setting Reason
+setting_named name text = and_then (tried_key name) (λ (found : ℕ × Key). ok_or (made found.0 found.1 text) (WrongValue found.1))
+
+-- a text that has no `=` is a key at most
+abbrev pub no_setting : Text → Result Setting Reason
+no_setting name = and_then (tried_key name) (λ (found : ℕ × Key). Err (NoValue found.1))
 
 -- a byte is `=`
 abbrev pub is_equals : ℕ → Bool
 is_equals byte = byte == 61
 
 -- `KEY=VALUE`: what stands before the first `=`, and after it
-abbrev pub setting_of : Text → Option Setting
-setting_of text = option_and_then (λ at. setting_named (take at text) (drop (at + 1) text)) (position is_equals text)
+abbrev pub setting_of : Text → Result Setting Reason
+setting_of text = option_map_or (λ at. setting_named (take at text) (drop (at + 1) text)) (position is_equals text) (no_setting text)
 
--- the setting of the text at a place: none where there is no text, and no answer where that asks for nothing
-abbrev pub column_of : List Text → ℕ → Option (Option Setting)
-column_of texts place = option_map_or (λ text. option_map Some (setting_of text)) (slice_get texts place) (Some None)
+-- the setting of the text at a place, or why there is none
+abbrev pub set_at : ℕ → Result Setting Reason → Result (Option Setting) AlsoFault
+set_at place (Ok setting) = Ok (Some setting)
+set_at place (Err reason) = Err (record { place = place; reason = reason })
+
+-- the same of the text at a place among others: none where there is no text
+abbrev pub column_of : List Text → ℕ → Result (Option Setting) AlsoFault
+column_of texts place = option_map_or (λ text. set_at place (setting_of text)) (slice_get texts place) (Ok None)
 
 -- two settings are of one key
 abbrev pub is_of_one_key : Option Setting → Option Setting → Bool
 is_of_one_key (Some setting) (Some other) = setting.index == other.index
 is_of_one_key _ _ = false
 
--- a key is set twice
-abbrev pub has_twice : Settings → Bool
-has_twice settings =
-    is_of_one_key settings.first settings.second || (is_of_one_key settings.first settings.third || (is_of_one_key settings.first settings.fourth ||
-    (is_of_one_key settings.second settings.third || (is_of_one_key settings.second settings.fourth || is_of_one_key settings.third settings.fourth))))
+-- the place of the first setting whose key one before it sets
+abbrev pub repeated : Settings → Option ℕ
+repeated settings =
+    if is_of_one_key settings.first settings.second then Some 1
+    else (if is_of_one_key settings.first settings.third || is_of_one_key settings.second settings.third then Some 2
+    else (if is_of_one_key settings.first settings.fourth || (is_of_one_key settings.second settings.fourth || is_of_one_key settings.third settings.fourth) then Some 3
+    else None))
 
 -- settings, where no key is set twice
-abbrev pub set_once : Settings → Option Settings
-set_once settings = if has_twice settings then None else Some settings
+abbrev pub set_once : Settings → Result Settings AlsoFault
+set_once settings = option_map_or (λ place. Err (record { place = place; reason = SetTwice })) (repeated settings) (Ok settings)
 
--- the settings of at most four texts
-abbrev pub settings_of : List Text → Option Settings
+-- the settings of at most four texts, or what is wrong with them: that there are more, or else the first text that sets no value, or else
+-- the first that sets a key again
+abbrev pub settings_of : List Text → Result Settings AlsoFault
 settings_of texts =
-    if nat_lt 4 (length texts) then None
-    else option_and_then (λ one. option_and_then (λ two. option_and_then (λ three. option_and_then (λ four.
-    set_once (record { first = one; second = two; third = three; fourth = four }))
-    (column_of texts 3)) (column_of texts 2)) (column_of texts 1)) (column_of texts 0)
+    if nat_lt 4 (length texts) then Err (record { place = 4; reason = TooMany })
+    else and_then (column_of texts 0) (λ one. and_then (column_of texts 1) (λ two. and_then (column_of texts 2) (λ three. and_then (column_of texts 3) (λ four.
+    set_once (record { first = one; second = two; third = three; fourth = four })))))
 
--- those that the matches hold
-abbrev pub also_in : List Row → Option Settings
-also_in rows = settings_of (unwrap_or (all_of (codes "also") rows) [])
+-- the texts that the matches hold
+abbrev pub texts_in : List Row → List Text
+texts_in rows = unwrap_or (all_of (codes "also") rows) []
+
+-- their settings, or what is wrong with them
+abbrev pub also_in : List Row → Result Settings AlsoFault
+also_in rows = settings_of (texts_in rows)

@@ -1,13 +1,14 @@
 -- What the words of a command line ask for.
 use Rattle.std.specs.Prelude.{◌≤◌, ◌<◌, ◌+◌, ⊤, ℕ, Bool, List, [], ◌∷◌, Option, Some, None, false, codes}
 use Rattle.std.specs.Prelude.{if◌then◌else◌, option_and_then, option_map}
-use Rattle.std.specs.{Option.option_map_or, Str.bytes_eq, Str.Parse.digits_value, Str.Parse.without_leading_plus}
+use Rattle.std.specs.{Option.option_map_or, Result.result_ok, Str.bytes_eq, Str.Parse.digits_value, Str.Parse.without_leading_plus}
 use Rattle.clap.specs.ValueTests.{is_unsigned_in}
 use Rattle.clap.specs.Walk.{is_empty}
 use Rattle.clap.specs.Kinds.{or_else}
 use Rattle.clap.specs.Words.{Kinds, Row, Text, fault_of, one_of, subcommand_of}
 use Rattle.clap.specs.declared.error.kind.ErrorKind.TheVariants.{ValueValidation}
 use Rattle.rv_command.specs.Also.{also_in}
+use Rattle.rv_command.specs.AlsoLine.{line_in}
 use Rattle.rv_command.specs.Arguments.{last_cycle, most_cycles_shown, most_cycles_told, most_steps, program_arguments}
 use Rattle.rv_command.specs.Shown.{columns_in}
 use Rattle.rv_command.specs.declared.command.Command.{Command}
@@ -97,7 +98,7 @@ compare_in rows = option_and_then (λ shown. option_map (Compare shown) (limit_i
 
 -- what the matches of `sensitivity` ask for
 abbrev pub sensitivity_in : List Row → Option Command
-sensitivity_in rows = option_and_then (λ also. option_map (Sensitivity also) (limit_in rows)) (also_in rows)
+sensitivity_in rows = option_and_then (λ also. option_map (Sensitivity also) (limit_in rows)) (result_ok (also_in rows))
 
 -- what the matches of `picture` ask for
 abbrev pub picture_in : List Row → Option Command
@@ -131,10 +132,22 @@ command_named given =
     else (if bytes_eq given.0 (codes "compare") then compare_in given.1
     else (if bytes_eq given.0 (codes "sensitivity") then sensitivity_in given.1 else None)))))))))))
 
+-- what `--show` takes
+unfoldable pub what_is_shown : Text
+what_is_shown = codes "WHAT is a register, as a0 or x10, the address of a word, as 0x80001000, or places; --show may be given four times"
+
+-- what is said of a subcommand whose matches name no command: only a value of `--show` or of `--also` can be at fault
+abbrev pub said_of : Text × List Row → Text
+said_of given = if bytes_eq given.0 (codes "sensitivity") then line_in given.1 else what_is_shown
+
 -- the command that the words ask for, where they fit the program's arguments
 abbrev pub command_of : List Text → Option Command
 command_of words = if is_empty (fault_of program_arguments words)
     then option_and_then command_named (subcommand_of program_arguments words) else None
+
+-- what is said of words that fit the program's arguments and name no command
+abbrev pub said_of_words : List Text → Text
+said_of_words words = option_map_or said_of (subcommand_of program_arguments words) []
 
 -- The kinds that the error of refused words may have: those that clap's rules give for them. Where they give none, the words name no
 -- command with numbers in their ranges.

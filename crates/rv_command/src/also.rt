@@ -4,12 +4,15 @@ ghost use Rattle.rv_asm.specs.Read.{token_of};
 ghost use Rattle.rv_isa.specs.Choice.{predictor_named, recovery_named};
 ghost use Rattle.rv_isa.specs.Key.{text_of};
 ghost use Rattle.std.specs.Str.{bytes_eq};
-ghost use Rattle.rv_command.specs.Also.{also_in, has_twice, index_named, is_equals, is_of_one_key, key_at, number_by, number_named, set_once, setting_named, setting_of, settings_of, taken, truth_named, value_at, column_of};
+ghost use Rattle.rv_command.specs.Also.{also_in, column_of, index_named, is_equals, is_of_one_key, is_tried, key_at};
+ghost use Rattle.rv_command.specs.Also.{made, no_setting, number_by, number_named, repeated, set_at, set_once, setting_named, setting_of};
+ghost use Rattle.rv_command.specs.Also.{settings_of, taken, tried_key, truth_named, value_at};
 
+use crate::also_fault::{AlsoFault, Reason};
 use clap::ArgMatches;
 use rv_asm::{Token, first_lexeme};
 use rv_isa::{Key, PredictorKind, Recovery, all_keys};
-use rv_sensitivity::{KeyValue, Setting, Settings};
+use rv_sensitivity::{KeyValue, Setting, Settings, says_how_fast};
 
 /// The most changes of a user's own.
 const MOST_SETTINGS: usize = 4;
@@ -120,14 +123,51 @@ fn taken(setting: Setting) -> Option<Setting>
     }
 }
 
-// The setting of a key with a name.
-fn setting_named(name: &[u8], text: &[u8]) -> Option<Setting>
-    ensures { result ≡ setting_named name.now text.now }
+// Whether a key says how fast a program runs.
+fn is_tried(key: Key) -> bool
+    ensures { result ≡ is_tried key }
 {
-    let index = index_named(name)?;
-    let key = key_at(index)?;
+    match key {
+        Key::Number(key) => says_how_fast(key),
+        _ => true,
+    }
+}
+
+// A key that says how fast a program runs, by its name, with its index.
+fn tried_key(name: &[u8]) -> Result<(usize, Key), Reason>
+    ensures { result ≡ tried_key name.now }
+{
+    let index = index_named(name).ok_or(Reason::UnknownKey)?;
+    let key = key_at(index).ok_or(Reason::UnknownKey)?;
+    if is_tried(key) {
+        Ok((index, key))
+    } else {
+        Err(Reason::OtherKey(key))
+    }
+}
+
+// The setting of a key to the value that a text is, where the key takes it.
+fn made(index: usize, key: Key, text: &[u8]) -> Option<Setting>
+    ensures { result ≡ made index key text.now }
+{
     let value = value_at(key, text)?;
     taken(Setting { index, value })
+}
+
+// The setting of a key with a name.
+fn setting_named(name: &[u8], text: &[u8]) -> Result<Setting, Reason>
+    ensures { result ≡ setting_named name.now text.now }
+{
+    let (index, key) = tried_key(name)?;
+    made(index, key, text).ok_or(Reason::WrongValue(key))
+}
+
+// Why a text that has no `=` sets no value.
+fn no_setting(name: &[u8]) -> Result<Setting, Reason>
+    ensures { result ≡ no_setting name.now }
+{
+    let (_, key) = tried_key(name)?;
+    Err(Reason::NoValue(key))
 }
 
 fn is_equals(byte: u8) -> bool
@@ -136,8 +176,8 @@ fn is_equals(byte: u8) -> bool
     byte == b'='
 }
 
-// Where the first `=` stands.
-fn equals_at(text: &[u8]) -> Option<usize>
+/// Where the first `=` stands.
+pub(crate) fn equals_at(text: &[u8]) -> Option<usize>
     ensures place { result ≡ position is_equals text.now }
     ensures within { IfSome result (λ at. at < length text.now) }
 {
@@ -145,22 +185,32 @@ fn equals_at(text: &[u8]) -> Option<usize>
 }
 
 // The setting that a text asks for.
-fn setting_of(text: &[u8]) -> Option<Setting>
+fn setting_of(text: &[u8]) -> Result<Setting, Reason>
     ensures { result ≡ setting_of text.now }
 {
-    let at = equals_at(text)?;
-    let name = text.split_at(at).0;
-    let value = text.split_at(at + 1).1;
-    setting_named(name, value)
+    match equals_at(text) {
+        Some(at) => setting_named(text.split_at(at).0, text.split_at(at + 1).1),
+        None => no_setting(text),
+    }
+}
+
+// The setting of the text at a place, or why there is none.
+fn set_at(place: usize, setting: Result<Setting, Reason>) -> Result<Option<Setting>, AlsoFault>
+    ensures { result ≡ set_at place setting }
+{
+    match setting {
+        Ok(setting) => Ok(Some(setting)),
+        Err(reason) => Err(AlsoFault { place, reason }),
+    }
 }
 
 // The setting that the text at a place asks for, where one is there.
-fn column(texts: &[&str], place: usize) -> Option<Option<Setting>>
+fn column(texts: &[&str], place: usize) -> Result<Option<Setting>, AlsoFault>
     ensures { result ≡ column_of (map (λ text. text.now) texts.now) place }
 {
     match texts.get(place) {
-        Some(text) => Some(Some(setting_of(text.as_bytes())?)),
-        None => Some(None),
+        Some(text) => set_at(place, setting_of(text.as_bytes())),
+        None => Ok(None),
     }
 }
 
@@ -173,35 +223,48 @@ fn is_of_one_key(setting: Option<Setting>, other: Option<Setting>) -> bool
     }
 }
 
-// Whether a key is set twice.
-fn has_twice(settings: &Settings) -> bool
-    ensures { result ≡ has_twice settings.now }
+// The place of the first setting whose key one before it sets.
+fn repeated(settings: &Settings) -> Option<usize>
+    ensures { result ≡ repeated settings.now }
 {
-    is_of_one_key(settings.first, settings.second)
-        || is_of_one_key(settings.first, settings.third)
-        || is_of_one_key(settings.first, settings.fourth)
+    if is_of_one_key(settings.first, settings.second) {
+        Some(1)
+    } else if is_of_one_key(settings.first, settings.third)
         || is_of_one_key(settings.second, settings.third)
+    {
+        Some(2)
+    } else if is_of_one_key(settings.first, settings.fourth)
         || is_of_one_key(settings.second, settings.fourth)
         || is_of_one_key(settings.third, settings.fourth)
-}
-
-// Settings, where no key is set twice.
-fn set_once(settings: Settings) -> Option<Settings>
-    ensures { result ≡ set_once settings }
-{
-    if has_twice(&settings) {
-        None
+    {
+        Some(3)
     } else {
-        Some(settings)
+        None
     }
 }
 
-// The settings that texts ask for.
-fn settings(texts: &[&str]) -> Option<Settings>
+// Settings, where no key is set twice.
+fn set_once(settings: Settings) -> Result<Settings, AlsoFault>
+    ensures { result ≡ set_once settings }
+{
+    match repeated(&settings) {
+        Some(place) => Err(AlsoFault {
+            place,
+            reason: Reason::SetTwice,
+        }),
+        None => Ok(settings),
+    }
+}
+
+/// The settings that texts ask for, or the first of these at fault.
+pub(crate) fn settings(texts: &[&str]) -> Result<Settings, AlsoFault>
     ensures { result ≡ settings_of (map (λ text. text.now) texts.now) }
 {
     if texts.len() > MOST_SETTINGS {
-        return None;
+        return Err(AlsoFault {
+            place: MOST_SETTINGS,
+            reason: Reason::TooMany,
+        });
     }
     let settings = Settings {
         first: column(texts, 0)?,
@@ -212,8 +275,8 @@ fn settings(texts: &[&str]) -> Option<Settings>
     set_once(settings)
 }
 
-/// What the texts of `--also` ask for.
-pub(crate) fn also_given(given: &ArgMatches) -> Option<Settings>
+/// What the texts of `--also` ask for, or the first of these at fault.
+pub(crate) fn also_given(given: &ArgMatches) -> Result<Settings, AlsoFault>
     ensures { result ≡ also_in (rows_of (found_of given.now)) }
 {
     match given.get_strs("also") {

@@ -1,16 +1,19 @@
 ghost use Rattle.std.specs.Prelude.{◌≡◌, ◌≤◌, ◌⊎◌, ◌∷◌, [], None, Some, IfErr, IfOk, IfSome, map, option_and_then};
+ghost use Rattle.std.specs.Option.{option_map_or};
+ghost use Rattle.std.specs.Result.{result_ok};
 ghost use Rattle.clap.specs.Words.{FailsBy, HasKind, app_of, fault_of, found_of, kind_of, rows_of, subcommand_rows_of};
 ghost use Rattle.rv_command.specs.Arguments.{program_arguments};
 ghost use Rattle.rv_command.specs.Command.{HasLegalNumbers, IsLegalLimit, IsLegalStretch, command_named, command_of, flag_in, limit_in, limited_named, number_in};
-ghost use Rattle.rv_command.specs.Command.{compare_in, explain_in, page_in, picture_in, refused_kinds, run_in, sensitivity_in, states_in, stretch_in};
+ghost use Rattle.rv_command.specs.Command.{compare_in, explain_in, page_in, picture_in, refused_kinds, run_in, said_of, said_of_words, sensitivity_in, states_in, stretch_in, what_is_shown};
 
 use crate::also::also_given;
+use crate::also_line::line_given;
 use crate::arguments::parser;
 use crate::shown::{ShownColumns, columns_given};
 use clap::error::ErrorKind;
 use clap::{ArgMatches, Command as Parser, Error};
 use rv_sensitivity::Settings;
-use std::alloc::Global;
+use std::alloc::{AllocError, Global};
 
 /// The most steps or cycles that a run may be asked for.
 pub const MOST_STEPS: u64 = 1_000_000;
@@ -26,10 +29,6 @@ pub const MOST_CYCLES_TOLD: u64 = 10_000;
 
 const WHAT_IS_SHOWN: &str =
     "WHAT is a register, as a0 or x10, the address of a word, as 0x80001000, or places; --show may be given four times";
-
-const WHAT_IS_SET: &str =
-    "KEY=VALUE is a key of a description that says how fast a program runs, as rob, cache.line, div.pipelined or predictor.kind, \
-     and a value that it takes, as 64, true or not_taken; --also may be given four times, each time with another key";
 
 /// What the program is asked to do.
 #[derive(Clone, Copy, PartialEq, Eq)]
@@ -155,7 +154,7 @@ fn sensitivity_given(given: &ArgMatches) -> Option<Command>
     ensures sensitivity { result ≡ sensitivity_in (rows_of (found_of given.now)) }
     ensures legal { IfSome result HasLegalNumbers }
 {
-    let also = also_given(given)?;
+    let also = also_given(given).ok()?;
     let limit = limit_given(given)?;
     Some(Command::Sensitivity { also, limit })
 }
@@ -235,11 +234,30 @@ fn command_given(matches: &ArgMatches) -> Option<Command>
     }
 }
 
-// What is wrong with words that name no command: only a value of `--show` or of `--also` can be.
-fn what_is_expected(words: &[String]) -> &'static str {
-    match words.get(1) {
-        Some(command) if command.as_str() == "sensitivity" => WHAT_IS_SET,
-        _ => WHAT_IS_SHOWN,
+// What is said of words whose matches name no command: only a value of `--show` or of `--also` can be at fault.
+#[tactic(auto, unfolding(crate::specs::Command::what_is_shown))]
+fn said_of(alloc: Global, name: &str, given: &ArgMatches) -> Result<String, AllocError>
+    ensures { IfOk result (λ line. line.bytes.items ≡ said_of (name.now, rows_of (found_of given.now))) }
+{
+    match name {
+        "sensitivity" => line_given(alloc, given),
+        _ => String::from_str(alloc, WHAT_IS_SHOWN),
+    }
+}
+
+// What the matches ask for, or else what is said of them.
+fn asked(alloc: Global, matches: &ArgMatches) -> Result<Result<Command, String>, AllocError>
+    ensures command { IfOk result (λ r. option_and_then command_named (subcommand_rows_of matches.now) ≡ result_ok r) }
+    ensures legal { IfOk result (λ r. IfOk r HasLegalNumbers) }
+    ensures said { IfOk result (λ r. IfErr r (λ line.
+        line.bytes.items ≡ option_map_or said_of (subcommand_rows_of matches.now) [])) }
+{
+    if let Some(command) = command_given(matches) {
+        return Ok(Ok(command));
+    }
+    match matches.subcommand() {
+        Some((name, given)) => Ok(Err(said_of(alloc, name, given)?)),
+        None => Ok(Err(String::new(alloc))),
     }
 }
 
@@ -253,21 +271,31 @@ fn refusal(parser: &mut Parser<'_>, expected: &str) -> Error
     }
 }
 
-// What the words ask for by their matches, where a parser of the program takes them.
-fn matched<'a>(parser: &mut Parser<'a>, words: &'a [String]) -> Result<Option<Command>, Error>
+// What the words ask for by their matches, or else what is said of these, where a parser of the program takes the words.
+fn matched<'a>(
+    alloc: Global,
+    parser: &mut Parser<'a>,
+    words: &'a [String],
+) -> Result<Result<Command, String>, Error>
     requires program { app_of parser.old ≡ program_arguments }
-    ensures command { IfOk result (λ c. command_of (map (λ w. w.bytes.items) words.entry.now) ≡ c) }
+    ensures command { IfOk result (λ r. command_of (map (λ w. w.bytes.items) words.entry.now) ≡ result_ok r) }
+    ensures said { IfOk result (λ r. IfErr r (λ line.
+        line.bytes.items ≡ said_of_words (map (λ w. w.bytes.items) words.entry.now))) }
     ensures kinds { FailsBy (fault_of program_arguments (map (λ w. w.bytes.items) words.entry.now)) result }
-    ensures ranges { IfOk result (λ c. IfSome c HasLegalNumbers) }
+    ensures ranges { IfOk result (λ r. IfOk r HasLegalNumbers) }
 {
     let matches = parser.try_get_matches_from_mut(words)?;
-    let command = command_given(&matches);
+    let found = asked(alloc, &matches);
     drop(matches);
-    Ok(command)
+    Ok(found?)
 }
 
 // What the words ask for, by a parser of the program.
-fn parse_by<'a>(parser: &mut Parser<'a>, words: &'a [String]) -> Result<Command, Error>
+fn parse_by<'a>(
+    alloc: Global,
+    parser: &mut Parser<'a>,
+    words: &'a [String],
+) -> Result<Command, Error>
     requires program { app_of parser.old ≡ program_arguments }
     ensures command { IfOk result (λ c.
         command_of (map (λ w. w.bytes.items) words.entry.now) ≡ Some c) }
@@ -277,10 +305,10 @@ fn parse_by<'a>(parser: &mut Parser<'a>, words: &'a [String]) -> Result<Command,
     ensures kind { IfErr result (HasKind (refused_kinds (map (λ w. w.bytes.items) words.entry.now))) }
     ensures ranges { IfOk result HasLegalNumbers }
 {
-    match matched(parser, words)? {
-        Some(command) => Ok(command),
-        // `clap` has refused such words before; see DECISIONS.
-        None => Err(refusal(parser, what_is_expected(words))),
+    match matched(alloc, parser, words)? {
+        Ok(command) => Ok(command),
+        // A number out of its range is none of these: `clap` has refused it before; see DECISIONS.
+        Err(line) => Err(refusal(parser, line.as_str())),
     }
 }
 
@@ -297,7 +325,7 @@ pub fn parse_words(alloc: Global, words: &[String]) -> Result<Command, Error>
     ensures ranges { IfOk result HasLegalNumbers }
 {
     let mut parser = parser(alloc)?;
-    let parsed = parse_by(&mut parser, words);
+    let parsed = parse_by(alloc, &mut parser, words);
     drop(parser);
     parsed
 }

@@ -3,6 +3,8 @@
 #![tactic(auto)]
 
 mod also;
+mod also_fault;
+mod also_line;
 mod arguments;
 mod command;
 mod help;

@@ -1,5 +1,6 @@
 mod commands;
 mod options;
+mod settings;
 mod usage;
 
 use rv_command::parse_words;

@@ -343,8 +343,8 @@ fn is_shown(
     Ok(())
 }
 
-// Each of the words is refused with the text beside it and this exit status.
-fn each_is_shown(
+/// Each of the words is refused with the text beside it and this exit status.
+pub(super) fn each_is_shown(
     rt: &impl Abort,
     alloc: Global,
     cases: &[(&[&str], &str)],

@@ -12,6 +12,6 @@ returns-in_err-command-clause-kind c =
     let has = refused_kind (map (λ w. w.bytes.items) c.args.words.now) c.in_err-command.field-0.0 c.in_err-command.ensures.kinds in
     search rules
 
-pub returns-in-None-clause-kind : goal.returns-in-None-clause-kind
-returns-in-None-clause-kind c =
+pub returns-in-Err-clause-kind : goal.returns-in-Err-clause-kind
+returns-in-Err-clause-kind c =
     other_kind (map (λ w. w.bytes.items) c.args.words.now) c.refusal.result c.in_ok-command.ensures.kinds c.refusal.ensures.kind
