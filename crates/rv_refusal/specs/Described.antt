@@ -9,7 +9,7 @@ use Rattle.rv_describe.specs.declared.description_error.DescriptionError.TheVari
 use Rattle.rv_refusal.specs.Caret.{caret_below}
 use Rattle.rv_refusal.specs.KeyLine.{KeyLine, first_named, is_none_of}
 use Rattle.rv_refusal.specs.KeyNames.{key_names}
-use Rattle.rv_refusal.specs.KeyRange.{values_line}
+use Rattle.rv_refusal.specs.KeyDefault.{values_line}
 use Rattle.rv_refusal.specs.Near.{hint_line}
 use Rattle.rv_refusal.specs.Place.{line_place, shown_line}
 use Rattle.rv_refusal.specs.TomlFault.{no_toml}

@@ -6,9 +6,9 @@ pub mod EntryLine
 pub mod Expected
 pub mod Further
 pub mod HeldName
+pub mod KeyDefault
 pub mod KeyLine
 pub mod KeyNames
-pub mod KeyRange
 pub mod Lines
 pub mod NameOn
 pub mod Names

@@ -1,22 +1,13 @@
 -- The known names that are near an unknown one.
-use Rattle.std.specs.Prelude.{ℕ, ◌+◌, ◌==◌, List, [], ◌∷◌, ◌++◌, Bool, true, false, ◌&&◌, length, nat_eq, nat_le, nat_lt, codes, map, take, option_and_then, if◌then◌else◌}
+use Rattle.std.specs.Prelude.{ℕ, List, [], ◌∷◌, ◌++◌, Bool, true, false, codes, map, take, option_and_then, if◌then◌else◌}
 use Rattle.std.specs.{List.filter, List.flat_map, List.list_any, Option.option_map_or, Str.bytes_eq}
 use Rattle.std.specs.Char.{to_ascii_lowercase}
-use Rattle.strsim.specs.Edits.{levenshtein_row}
 use Rattle.rv_asm.specs.Layout.{body_of}
 use Rattle.rv_asm.specs.Token.{tokens_of}
 use Rattle.rv_asm.specs.declared.fault.AsmFault.{AsmFault}
 use Rattle.rv_asm.specs.declared.fault.AsmFault.TheVariants.{UnknownSymbol}
+use Rattle.rv_describe.specs.Near.{is_near}
 use Rattle.rv_refusal.specs.Names.{known_names, unknown_name}
-
--- how many insertions, deletions and substitutions of a byte lead from one name to another at least: their Levenshtein distance
-abbrev pub edits : List ℕ → List ℕ → ℕ
-edits name other = levenshtein_row nat_eq name other (length other)
-
--- a known name is so many edits away, which are fewer than the unknown name has bytes; one of more than 64 bytes is not compared
-abbrev pub is_near : ℕ → List ℕ → List ℕ → Bool
-is_near distance name other =
-    nat_lt distance (length name) && (nat_le (length name) 64 && (nat_le (length other) (length name + distance) && edits name other == distance))
 
 -- the known names that are one edit away, and then those that are two away; at most three
 abbrev pub nearest : List ℕ → List (List ℕ) → List (List ℕ)

@@ -5,9 +5,9 @@ ghost use Rattle.rv_refusal.specs.Described.{description_lines, key_at, key_line
 ghost use Rattle.rv_refusal.specs.KeyLine.{key_line};
 
 use crate::caret::add_marked_line;
+use crate::key_default::add_values_line;
 use crate::key_line::{KeyLine, Wanted, first_named, full_name};
 use crate::key_names::{key_names, text_of};
-use crate::key_range::add_values_line;
 use crate::near::add_hint;
 use crate::place::add_line_place;
 use crate::text::add_text;

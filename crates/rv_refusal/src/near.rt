@@ -1,26 +1,13 @@
 ghost use Rattle.std.specs.Prelude.{◌≡◌, ◌++◌, IfOk, OnOk, map};
 ghost use Rattle.std.specs.List.{filter};
-ghost use Rattle.rv_refusal.specs.Near.{hint_line, is_near, names_line, nearest, other_names};
+ghost use Rattle.rv_describe.specs.Near.{is_near};
+ghost use Rattle.rv_refusal.specs.Near.{hint_line, names_line, nearest, other_names};
 
 use crate::key_line::is_among;
 use crate::names::add_name;
 use crate::text::{add_all, add_text};
+use rv_describe::is_near;
 use std::alloc::{AllocError, Global};
-use strsim::generic_levenshtein;
-
-// Whether a known name is so many edits away from an unknown one.
-fn is_near(alloc: Global, distance: usize, name: &[u8], other: &[u8]) -> Result<bool, AllocError>
-    ensures { IfOk result (λ near. near ≡ is_near distance name.now other.now) }
-{
-    if distance >= name.len() || name.len() > 64 {
-        return Ok(false);
-    }
-    if other.len().saturating_sub(distance) > name.len() {
-        return Ok(false);
-    }
-    let edits = generic_levenshtein(alloc, name, other)?;
-    Ok(edits == distance)
-}
 
 // Adds the known names that are so many edits away from an unknown one.
 fn add_near<'a>(

@@ -1,6 +1,6 @@
 use Rattle.std.proofs.Common.{◌≡◌, ◌++◌, map, take}
 use Rattle.std.specs.List.{filter}
-use Rattle.rv_refusal.specs.Near.{is_near}
+use Rattle.rv_describe.specs.Near.{is_near}
 use Rattle.rv_refusal.proofs.near.add_near.Given as goal
 
 -- those of the names so far are added

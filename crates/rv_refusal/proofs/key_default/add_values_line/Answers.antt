@@ -1,6 +1,6 @@
 use Rattle.std.proofs.Common.{append_assoc}
-use Rattle.rv_refusal.specs.KeyRange.{values_line}
-use Rattle.rv_refusal.proofs.key_range.add_values_line.Goals as goal
+use Rattle.rv_refusal.specs.KeyDefault.{values_line}
+use Rattle.rv_refusal.proofs.key_default.add_values_line.Goals as goal
 
 pub returns : goal.returns
 unfolding values_line

@@ -1,7 +1,7 @@
 use Rattle.std.proofs.Common.{arith}
 use Rattle.std.proofs.lemmas.Grind.{common_steps}
-use Rattle.rv_refusal.specs.KeyRange.{key_default}
-use Rattle.rv_refusal.proofs.key_range.add_key_default.Goals as goal
+use Rattle.rv_refusal.specs.KeyDefault.{key_default}
+use Rattle.rv_refusal.proofs.key_default.add_key_default.Goals as goal
 
 pub returns-in-Number : goal.returns-in-Number
 unfolding key_default
