@@ -115,3 +115,46 @@ fn a_result_waits_for_a_full_bus(rt: HostRuntime) {
     let output = path_of(&rt, rt.alloc(), values, &PAIR, &["addi x1, x0, 1"]);
     assert_eq!(&rt; output.as_slice(), PAIR_PATH);
 }
+
+// lui x5,0x80001; sw x0,0(x5); sw x0,64(x5); fence.i; ebreak: both stores miss, so the second begins to drain when the first has drained,
+// 11 cycles after it, and the FENCE.I waits for the second one's drain.
+const DRAINS: [u8; 20] = [
+    0xb7, 0x12, 0x00, 0x80, 0x23, 0xa0, 0x02, 0x00, 0x23, 0xa0, 0x02, 0x04, 0x0f, 0x10, 0x00, 0x00,
+    0x73, 0x00, 0x10, 0x00,
+];
+
+const DRAINS_PATH: &[u8] = b"\
+cycles 52\n\
+before the first event 0 0.0 %\n\
+after the last step 1 1.9 %\n\
+port: a store 23 44.2 %\n\
+lines written back 20 38.4 %\n\
+refill: serialising instruction 2 3.8 %\n\
+front end 1 1.9 %\n\
+dispatch to issue 1 1.9 %\n\
+operand 1 1.9 %\n\
+execution: alu 1 1.9 %\n\
+execution: mem 1 1.9 %\n\
+commit 1 1.9 %\n\
+The lines of the program with the most cycles on the path:\n\
+8000000c, line 4: fence.i\n       cycles 34 65.3 %\n\
+\x20      lines written back 20 38.4 %\n       port: a store 12 23.0 %\n       refill: serialising instruction 2 3.8 %\n\
+80000008, line 3: sw x0, 64(x5)\n       cycles 11 21.1 %\n\
+\x20      port: a store 11 21.1 %\n\
+80000000, line 1: lui x5, 0x80001\n       cycles 3 5.7 %\n\
+\x20      front end 1 1.9 %\n       dispatch to issue 1 1.9 %\n       execution: alu 1 1.9 %\n\
+80000004, line 2: sw x0, 0(x5)\n       cycles 3 5.7 %\n\
+\x20      operand 1 1.9 %\n       execution: mem 1 1.9 %\n       commit 1 1.9 %\n";
+
+#[test]
+fn a_drain_is_on_account_of_its_store(rt: HostRuntime) {
+    let lines = [
+        "lui x5, 0x80001",
+        "sw x0, 0(x5)",
+        "sw x0, 64(x5)",
+        "fence.i",
+        "ebreak",
+    ];
+    let output = path_of(&rt, rt.alloc(), narrow(), &DRAINS, &lines);
+    assert_eq!(&rt; output.as_slice(), DRAINS_PATH);
+}
