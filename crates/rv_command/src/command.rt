@@ -307,7 +307,7 @@ fn parse_by<'a>(
 {
     match matched(alloc, parser, words)? {
         Ok(command) => Ok(command),
-        // A number out of its range is none of these: `clap` has refused it before; see DECISIONS.
+        // A number out of its range is none of these: `clap` has refused it before; see TOOLCHAIN.
         Err(line) => Err(refusal(parser, line.as_str())),
     }
 }
