@@ -1,5 +1,5 @@
 -- A run that is told is explained by its sentences.
-use Rattle.std.proofs.Common.{ℕ, ◌≤◌, List, ap, arith, length-append}
+use Rattle.std.proofs.Common.{ℕ, ◌≤◌, List, Option, ap, arith, length-append}
 use Rattle.std.specs.Prelude.{sum}
 use Rattle.rv_isa.specs.declared.lines.Arrival.{Arrival}
 use Rattle.rv_isa.specs.declared.values.Values.{Values}
@@ -9,6 +9,7 @@ use Rattle.rv_hardware.specs.Guided.{GuidedHardware}
 use Rattle.rv_passage.specs.Table.{still_open}
 use Rattle.rv_passage.specs.Walk.{passages_after}
 use Rattle.rv_counts.specs.Left.{left_after}
+use Rattle.rv_path.specs.Account.{Accounted}
 use Rattle.rv_source.specs.Listing.{Listed}
 use Rattle.rv_explain.specs.Explanation.{IsExplanation, IsTold, explanation}
 use Rattle.rv_sentences.specs.Head.{accounts_of, itself}
@@ -19,12 +20,12 @@ use Rattle.rv_sentences.proofs.AccountsGrow.{length-accounts}
 use Rattle.rv_sentences.proofs.CountSums.{counted_within}
 use Rattle.rv_passage.proofs.EndedRun.{length-reports_of}
 
-pub explained : (arrivals : List Arrival) (limit : ℕ) (figures : Figures) (values : Values) (listing : Listed) (old new : GuidedHardware) (stop : Stop) (progress : Progress) (fetched : ℕ) (tale : Tale)
-    → IsTold arrivals limit values old new stop progress fetched tale → IsExplanation arrivals limit figures values listing old new stop (explanation figures listing stop new.hardware progress fetched tale)
-explained arrivals limit figures values listing old new stop progress fetched tale told = record {
+pub explained : (arrivals : List Arrival) (limit : ℕ) (figures : Figures) (values : Values) (path : Option Accounted) (listing : Listed) (old new : GuidedHardware) (stop : Stop) (progress : Progress) (fetched : ℕ) (tale : Tale)
+    → IsTold arrivals limit values old new stop progress fetched tale → IsExplanation arrivals limit figures values path listing old new stop (explanation figures path listing stop new.hardware progress fetched tale)
+explained arrivals limit figures values path listing old new stop progress fetched tale told = record {
   moments = told.moments;
   run = told.run;
-  text_is = λ i. explanation figures listing stop new.hardware (told.counted i) (told.fetched_are i) (told.kept i);
+  text_is = λ i. explanation figures path listing stop new.hardware (told.counted i) (told.fetched_are i) (told.kept i);
   places_add_up = told.places_add_up;
   places_are_lost_for = told.places_are_lost_for;
   stays_add_up = told.stays_add_up;

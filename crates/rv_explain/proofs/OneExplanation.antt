@@ -1,14 +1,15 @@
 -- Of hardware that a described predictor guides there is one explanation.
-use Rattle.std.proofs.Common.{◌∙◌, ℕ, List, sym}
+use Rattle.std.proofs.Common.{◌∙◌, ℕ, List, Option, sym}
 use Rattle.rv_isa.specs.declared.{lines.Arrival.Arrival, values.Values.Values}
 use Rattle.rv_passage.proofs.OneRun.{one_run}
+use Rattle.rv_path.specs.Account.{Accounted}
 use Rattle.rv_source.specs.Listing.{Listed}
 use Rattle.rv_explain.specs.declared.figures.Figures.{Figures}
 use Rattle.rv_explain.specs.Explanation.{HasOneExplanation, explanation_of}
 
-pub one_explanation : (arrivals : List Arrival) (limit : ℕ) (figures : Figures) (values : Values) (listing : Listed) → HasOneExplanation arrivals limit figures values listing
-one_explanation arrivals limit figures values listing h predictor new new' stop stop' text text' within is is' =
+pub one_explanation : (arrivals : List Arrival) (limit : ℕ) (figures : Figures) (values : Values) (path : Option Accounted) (listing : Listed) → HasOneExplanation arrivals limit figures values path listing
+one_explanation arrivals limit figures values path listing h predictor new new' stop stop' text text' within is is' =
     let same = one_run within is.run is'.run in (
       same.reasons,
-      is.text_is ∙ (λ i. explanation_of figures values arrivals listing h (same.moments_are i) (same.ends i).hardware (same.reasons i)) ∙ sym is'.text_is,
+      is.text_is ∙ (λ i. explanation_of figures values arrivals path listing h (same.moments_are i) (same.ends i).hardware (same.reasons i)) ∙ sym is'.text_is,
     )

@@ -1,5 +1,5 @@
 -- What a run came to, in sentences.
-use Rattle.std.specs.Prelude.{◌≡◌, ℕ, ◌+◌, ◌*◌, ◌^◌, ◌<◌, ◌≤◌, List, ◌++◌, codes, length, sum, Option, Some, None}
+use Rattle.std.specs.Prelude.{◌≡◌, ℕ, ◌+◌, ◌*◌, ◌^◌, ◌<◌, ◌≤◌, List, [], ◌++◌, codes, length, sum, Option, Some, None}
 use Rattle.rv_isa.specs.declared.{lines.Arrival.Arrival, values.Values.Values}
 use Rattle.rv_isa.specs.declared.csrs.Csr.TheVariants.{Mie, Mstatus}
 use Rattle.rv_arch.specs.Csr.{value_of}
@@ -12,6 +12,8 @@ use Rattle.rv_hardware.specs.Guided.{GuidedHardware, guided}
 use Rattle.rv_hardware.specs.Hardware.{Hardware}
 use Rattle.rv_passage.specs.EndedRun.{IsEndedRun}
 use Rattle.rv_counts.specs.Left.{passages_of_run}
+use Rattle.rv_path.specs.Account.{Accounted}
+use Rattle.rv_path.specs.Sentence.{sentences}
 use Rattle.rv_source.specs.Listing.{Listed}
 use Rattle.rv_text.specs.Line.{line_of, ratio_text}
 use Rattle.rv_sentences.specs.Dispatch.{dispatches_text}
@@ -85,30 +87,35 @@ unfoldable pub told_text : Option Exception → Listed → Stop → Hardware →
 told_text None listing stop h progress fetched tale = whole_text listing stop h progress fetched tale
 told_text (Some crash) listing stop h progress fetched tale = crash_text listing crash tale.interrupts
 
--- after a crash its sentences stand alone, unless the figures are asked for
-abbrev pub explanation : Figures → Listed → Stop → Hardware → Progress → ℕ → Tale → List ℕ
-explanation figures listing stop h progress fetched tale =
-    told_text (lone_crash figures stop tale.exceptions.all) listing stop h progress fetched tale
+-- the sentences on a path, where one is shown
+unfoldable pub path_text : Listed → Option Accounted → List ℕ
+path_text listing None = []
+path_text listing (Some path) = sentences listing path
+
+-- those on a path come first; after a crash its sentences stand alone, unless the figures are asked for
+abbrev pub explanation : Figures → Option Accounted → Listed → Stop → Hardware → Progress → ℕ → Tale → List ℕ
+explanation figures path listing stop h progress fetched tale =
+    path_text listing path ++ told_text (lone_crash figures stop tale.exceptions.all) listing stop h progress fetched tale
 
 -- the sentences on cycles from some hardware on, that left the hardware so and ended for a reason: by the instructions that left the
 -- hardware in them and those in flight at their end
-abbrev pub explanation_of : Figures → Values → List Arrival → Listed → Hardware → List Moment → Hardware → Stop → List ℕ
-explanation_of figures values arrivals listing first moments after stop =
-    explanation figures listing stop after (progress_of (reports_of moments)) (length (passages_of_run first moments)) (tale_of_run values arrivals first moments)
+abbrev pub explanation_of : Figures → Values → List Arrival → Option Accounted → Listed → Hardware → List Moment → Hardware → Stop → List ℕ
+explanation_of figures values arrivals path listing first moments after stop =
+    explanation figures path listing stop after (progress_of (reports_of moments)) (length (passages_of_run first moments)) (tale_of_run values arrivals first moments)
 
--- a text explains a run that ended for a reason; what it says of the places for dispatch adds up, and each is lost for what ended the
+-- a text explains a run that ended for a reason, with the sentences on a path, where one is shown; what it says of the places for dispatch adds up, and each is lost for what ended the
 -- dispatch phase of its cycle; what it says of the instructions in flight adds up to all cycles of each
-pub record IsExplanation (arrivals : List Arrival) (limit : ℕ) (figures : Figures) (values : Values) (listing : Listed) (old new : GuidedHardware) (stop : Stop) (text : List ℕ) : Type 0 where
+pub record IsExplanation (arrivals : List Arrival) (limit : ℕ) (figures : Figures) (values : Values) (path : Option Accounted) (listing : Listed) (old new : GuidedHardware) (stop : Stop) (text : List ℕ) : Type 0 where
   pub moments : List Moment
   pub run : IsEndedRun arrivals limit old moments new stop
-  pub text_is : text ≡ explanation_of figures values arrivals listing old.hardware moments new.hardware stop
+  pub text_is : text ≡ explanation_of figures values arrivals path listing old.hardware moments new.hardware stop
   pub places_add_up : AddUp old.hardware moments new.hardware
   pub places_are_lost_for : AreLostFor arrivals old.hardware moments
   pub stays_add_up : StaysAddUp old.hardware moments
 
 -- of hardware that a described predictor guides there is one explanation, whatever it leaves
-abbrev pub HasOneExplanation : List Arrival → ℕ → Figures → Values → Listed → Type 0
-HasOneExplanation arrivals limit figures values listing =
+abbrev pub HasOneExplanation : List Arrival → ℕ → Figures → Values → Option Accounted → Listed → Type 0
+HasOneExplanation arrivals limit figures values path listing =
     (h : Hardware) (predictor : DescribedPredictor) (new new' : GuidedHardware) (stop stop' : Stop) (text text' : List ℕ) → h.cycle + limit ≤ 2 ^ 40 →
-    IsExplanation arrivals limit figures values listing (guided h (guide_of predictor)) new stop text → IsExplanation arrivals limit figures values listing (guided h (guide_of predictor)) new' stop' text' →
+    IsExplanation arrivals limit figures values path listing (guided h (guide_of predictor)) new stop text → IsExplanation arrivals limit figures values path listing (guided h (guide_of predictor)) new' stop' text' →
     (stop ≡ stop') × (text ≡ text')

@@ -1,5 +1,5 @@
-ghost use Rattle.std.specs.Prelude.{◌≡◌, ◌*◌, ◌≤◌, ◌<◌, ◌^◌, Err, List, [], sum, IfOk};
-ghost use Rattle.rv_explain.specs.Explanation.{HasOneExplanation, IsExplanation, cost_text, cycle_text, explanation, lead_text, told_text, untaken_lines, whole_text};
+ghost use Rattle.std.specs.Prelude.{◌≡◌, ◌*◌, ◌≤◌, ◌<◌, ◌^◌, Err, List, [], sum, IfOk, option_copied};
+ghost use Rattle.rv_explain.specs.Explanation.{HasOneExplanation, IsExplanation, cost_text, cycle_text, explanation, lead_text, path_text, told_text, untaken_lines, whole_text};
 ghost use Rattle.rv_hardware.specs.Guided.{guided};
 ghost use Rattle.rv_hardware.specs.Hardware.{Hardware};
 ghost use Rattle.rv_isa.specs.declared.lines.Arrival.{Arrival};
@@ -21,6 +21,7 @@ use rv_core::{Pipeline, Progress};
 use rv_counts::Places;
 use rv_front::Predictor;
 use rv_isa::{Arrivals, Csr, Description};
+use rv_path::PathAccount;
 use rv_sentences::{
     Exception, write_awaited, write_counts, write_dispatches, write_drains, write_exceptions,
     write_greatest_waits, write_hotspots, write_interrupts, write_loads, write_places,
@@ -186,11 +187,22 @@ fn write_sentences<W: Write>(
     }
 }
 
-// Writes the sentences on a run that ended.
-#[tactic(auto, using(rv_text::proofs::Saying::says_written))]
+// The sentences on a path, where one is shown.
+#[tactic(auto, using(rv_text::proofs::Saying::saying), unfolding(crate::specs::Explanation::path_text))]
+fn write_path<W: Write>(out: &mut Sink<'_, W>, path: Option<&PathAccount>, listing: &Listing)
+    ensures { Says W.contents out.old out.new (path_text listing.now (option_copied path.entry)) }
+{
+    if let Some(path) = path {
+        path.write_sentences(out, listing);
+    }
+}
+
+// Writes the sentences on a path, where one is shown, and on a run that ended.
+#[tactic(auto, using(rv_text::proofs::Saying::saying, rv_text::proofs::Saying::says_written))]
 fn write_told<W: Write>(
     writer: &mut W,
     figures: Figures,
+    path: Option<&PathAccount>,
     listing: &Listing,
     stop: Stop,
     pipeline: &Pipeline,
@@ -204,10 +216,11 @@ fn write_told<W: Write>(
     requires stays { all_stays tale.old.stays < 2 ^ 64 }
     requires awaited { sum tale.old.awaited.words < 2 ^ 64 }
     requires places { progress.now.cycles * pipeline.now.values.dispatch_width < 2 ^ 64 }
-    ensures { IsWritten result (W.contents writer.old) (W.contents writer.new) (explanation figures listing.now stop pipeline.now progress.now fetched tale.old) }
+    ensures { IsWritten result (W.contents writer.old) (W.contents writer.new) (explanation figures (option_copied path.entry) listing.now stop pipeline.now progress.now fetched tale.old) }
 {
     let crash = lone_crash(figures, stop, tale.exceptions.all());
     let mut out = Sink::new(writer);
+    write_path(&mut out, path, listing);
     write_sentences(
         &mut out, crash, listing, stop, pipeline, progress, fetched, tale,
     );
@@ -215,7 +228,8 @@ fn write_told<W: Write>(
 }
 
 /// Runs a pipeline that a predictor guides, each cycle with the lines of its number, up to a breakpoint, a stale word,
-/// exhaustion or so many cycles, and then writes what the run came to, in plain sentences: how it ended, where and why,
+/// exhaustion or so many cycles, and then writes what the run came to, in plain sentences: where a path is shown, its greatest
+/// causes with their lines; how it ended, where and why,
 /// and for a stale word the last store to it; its exceptions and interrupts, and the interrupt lines that are high and were
 /// never taken; what instructions in flight waited for most; what became of the places for dispatch; where the cycles went;
 /// how many dispatched only what did not retire; how many words were fetched and how many of them squashed; how many
@@ -239,12 +253,13 @@ pub fn write_explanation<W: Write>(
     arrivals: &Arrivals,
     limit: u64,
     figures: Figures,
+    path: Option<&PathAccount>,
     listing: &Listing,
     writer: &mut W,
 ) -> Result<Stop, TextError>
-    ensures written { IsText (IsExplanation arrivals.now limit figures description.now listing.now (guided pipeline.old (known predictor.old)) (guided pipeline.new (known predictor.new))) result (W.contents writer.old) (W.contents writer.new) }
+    ensures written { IsText (IsExplanation arrivals.now limit figures description.now (option_copied path.entry) listing.now (guided pipeline.old (known predictor.old)) (guided pipeline.new (known predictor.new))) result (W.contents writer.old) (W.contents writer.new) }
     // With a described predictor the sentences are a function of what they explain.
-    ensures one_explanation { HasOneExplanation arrivals.now limit figures description.now listing.now }
+    ensures one_explanation { HasOneExplanation arrivals.now limit figures description.now (option_copied path.entry) listing.now }
     ensures not_run { result ≡ Err TextError.Memory → (pipeline.new ≡ pipeline.old) × (known predictor.new ≡ known predictor.old) }
 {
     let Ok(beginning) = begin(alloc, pipeline, description) else {
@@ -263,6 +278,7 @@ pub fn write_explanation<W: Write>(
     let written = write_told(
         writer,
         figures,
+        path,
         listing,
         told.stop,
         pipeline,

@@ -1,6 +1,6 @@
-ghost use Rattle.std.specs.Prelude.{◌≡◌, ◌++◌, ◌*◌, ◌^◌, ◌<◌, ◌≤◌, ◌/◌, ◌%◌, codes, decimal, take};
+ghost use Rattle.std.specs.Prelude.{◌≡◌, ◌++◌, ◌*◌, ◌^◌, ◌<◌, ◌≤◌, ◌/◌, ◌%◌, codes, decimal, option_copied, take};
 ghost use Rattle.std.specs.List.{flat_map};
-ghost use Rattle.rv_profile.specs.Text.{ended_cells, filled_cells, last_cells, line_cells, mean_cells, place_cells, table_head, table_text, wait_cells, waits_cells, word_line};
+ghost use Rattle.rv_profile.specs.Text.{columns, ended_cells, filled_cells, last_cells, line_cells, mean_cells, path_cell, path_column, place_cells, table_head, table_text, wait_cells, waits_cells, word_line};
 ghost use Rattle.rv_source.specs.Listing.{line_at};
 ghost use Rattle.rv_text.specs.Line.{word_text};
 ghost use Rattle.rv_text.specs.Plain.{plain_text};
@@ -9,18 +9,38 @@ ghost use Rattle.rv_text.specs.Written.{IsWritten};
 
 use itoa::Buffer;
 use rv_counts::{Wait, WordCounts};
+use rv_path::PathAccount;
 use rv_source::Listing;
 use rv_text::{ReportError, Sink, Value, front, three_digits};
 use std::io::Write;
 
-#[tactic(auto, unfolding(crate::specs::Text::table_head))]
-fn write_head<W: Write>(out: &mut Sink<'_, W>)
-    ensures { Says W.contents out.old out.new table_head }
+#[tactic(auto, unfolding(crate::specs::Text::columns))]
+fn write_columns<W: Write>(out: &mut Sink<'_, W>)
+    ensures { Says W.contents out.old out.new columns }
 {
     out.put_all(&[
         b"address\tline\tstatement\tfetched\tretired\tsquashed\tdispatch_mean\tdispatch_most\tissue_mean\tissue_most\t",
-        b"broadcast_mean\tbroadcast_most\tretire_mean\tretire_most\thits\tmisses\tmispredicted\thead\n",
+        b"broadcast_mean\tbroadcast_most\tretire_mean\tretire_most\thits\tmisses\tmispredicted\thead",
     ]);
+}
+
+// The name of the column of a path, where one is shown.
+#[tactic(auto, unfolding(crate::specs::Text::path_column))]
+fn write_path_column<W: Write>(out: &mut Sink<'_, W>, path: Option<&PathAccount>)
+    ensures { Says W.contents out.old out.new (path_column (option_copied path.entry)) }
+{
+    match path {
+        Some(_) => out.put(b"\tpath\n"),
+        None => out.put(b"\n"),
+    }
+}
+
+#[tactic(auto, using(rv_text::proofs::Saying::saying), unfolding(crate::specs::Text::table_head))]
+fn write_head<W: Write>(out: &mut Sink<'_, W>, path: Option<&PathAccount>)
+    ensures { Says W.contents out.old out.new (table_head (option_copied path.entry)) }
+{
+    write_columns(out);
+    write_path_column(out, path);
 }
 
 #[tactic(auto, using(rv_text::proofs::Saying::saying))]
@@ -135,63 +155,92 @@ fn write_ended<W: Write>(out: &mut Sink<'_, W>, word: &WordCounts)
 }
 
 #[tactic(auto, using(rv_text::proofs::Saying::saying))]
-fn write_head_cycles<W: Write>(out: &mut Sink<'_, W>, cycles: u64)
-    ensures { Says W.contents out.old out.new (decimal cycles ++ codes "\n") }
+fn write_path_cycles<W: Write>(out: &mut Sink<'_, W>, cycles: u64)
+    ensures { Says W.contents out.old out.new (codes "\t" ++ (decimal cycles ++ codes "\n")) }
 {
+    out.put(b"\t");
     out.put_decimal(cycles);
     out.put(b"\n");
 }
 
+// The cycles of an address on a path, where one is shown.
+#[tactic(auto, unfolding(crate::specs::Text::path_cell))]
+fn write_path_cell<W: Write>(out: &mut Sink<'_, W>, path: Option<&PathAccount>, address: u32)
+    ensures { Says W.contents out.old out.new (path_cell (option_copied path.entry) address) }
+{
+    match path {
+        Some(path) => write_path_cycles(out, path.cycles_at(address)),
+        None => out.put(b"\n"),
+    }
+}
+
 #[tactic(auto, using(rv_text::proofs::Saying::saying), unfolding(crate::specs::Text::last_cells))]
-fn write_last<W: Write>(out: &mut Sink<'_, W>, word: &WordCounts)
-    ensures { Says W.contents out.old out.new (last_cells word.now) }
+fn write_last<W: Write>(out: &mut Sink<'_, W>, path: Option<&PathAccount>, word: &WordCounts)
+    ensures { Says W.contents out.old out.new (last_cells (option_copied path.entry) word.now) }
 {
     out.put_cells(&[
         Value::Count(word.hits),
         Value::Count(word.misses),
         Value::Count(word.mispredicted),
     ]);
-    write_head_cycles(out, word.head_cycles);
+    out.put_decimal(word.head_cycles);
+    write_path_cell(out, path, word.address);
 }
 
 #[tactic(auto, using(rv_text::proofs::Saying::saying), unfolding(crate::specs::Text::word_line))]
-fn write_word<W: Write>(out: &mut Sink<'_, W>, listing: &Listing, word: &WordCounts)
-    ensures { Says W.contents out.old out.new (word_line listing.now word.now) }
+fn write_word<W: Write>(
+    out: &mut Sink<'_, W>,
+    listing: &Listing,
+    path: Option<&PathAccount>,
+    word: &WordCounts,
+)
+    ensures { Says W.contents out.old out.new (word_line listing.now (option_copied path.entry) word.now) }
 {
     write_place(out, listing, word.address);
     write_ended(out, word);
     write_waits(out, word);
-    write_last(out, word);
+    write_last(out, path, word);
 }
 
 #[tactic(auto, using(rv_text::proofs::Saying::saying))]
-fn write_words<W: Write>(out: &mut Sink<'_, W>, listing: &Listing, words: &[WordCounts])
-    ensures { Says W.contents out.old out.new (flat_map (word_line listing.now) words.now) }
+fn write_words<W: Write>(
+    out: &mut Sink<'_, W>,
+    listing: &Listing,
+    path: Option<&PathAccount>,
+    words: &[WordCounts],
+)
+    ensures { Says W.contents out.old out.new (flat_map (word_line listing.now (option_copied path.entry)) words.now) }
 {
     for word in words {
-        write_word(out, listing, word);
+        write_word(out, listing, path, word);
     }
 }
 
 #[tactic(auto, using(rv_text::proofs::Saying::saying), unfolding(crate::specs::Text::table_text))]
-fn write_lines<W: Write>(out: &mut Sink<'_, W>, listing: &Listing, words: &[WordCounts])
-    ensures { Says W.contents out.old out.new (table_text listing.now words.now) }
+fn write_lines<W: Write>(
+    out: &mut Sink<'_, W>,
+    listing: &Listing,
+    path: Option<&PathAccount>,
+    words: &[WordCounts],
+)
+    ensures { Says W.contents out.old out.new (table_text listing.now (option_copied path.entry) words.now) }
 {
-    write_head(out);
-    write_words(out, listing, words);
+    write_head(out, path);
+    write_words(out, listing, path, words);
 }
 
 /// Writes the table of some counts: a line with the names of the columns, and a line for each address, with a tab between two
-/// cells. Asks for no memory. Fails by `WriteFailed` alone, and what was written is then a beginning of the table.
+/// cells. Where a path is shown, the last one has the cycles of the address on it. Asks for no memory. Fails by `WriteFailed` alone, and what was written is then a beginning of the table.
 #[tactic(auto, using(rv_text::proofs::Saying::says_written))]
 pub fn write_table<W: Write>(
     writer: &mut W,
     listing: &Listing,
+    path: Option<&PathAccount>,
     words: &[WordCounts],
 ) -> Result<(), ReportError>
-    ensures { IsWritten result (W.contents writer.old) (W.contents writer.new) (table_text listing.now words.now) }
+    ensures { IsWritten result (W.contents writer.old) (W.contents writer.new) (table_text listing.now (option_copied path.entry) words.now) }
 {
     let mut out = Sink::new(writer);
-    write_lines(&mut out, listing, words);
+    write_lines(&mut out, listing, path, words);
     out.outcome()
 }

@@ -1,3 +1,4 @@
+ghost use Rattle.std.specs.Prelude.{option_copied};
 ghost use Rattle.rv_hardware.specs.Guided.{guided};
 ghost use Rattle.rv_profile.specs.Run.{HasOneProfile, IsProfile};
 ghost use Rattle.rv_text.specs.IsText.{IsText};
@@ -8,6 +9,7 @@ use rv_arch::Stop;
 use rv_core::Pipeline;
 use rv_front::Predictor;
 use rv_isa::{Arrivals, Description};
+use rv_path::PathAccount;
 use rv_source::Listing;
 use rv_text::{ReportError, TextError};
 use std::alloc::Global;
@@ -20,7 +22,8 @@ use std::io::Write;
 /// and was squashed; of those that retired the mean and the greatest number of cycles from fetch to dispatch, to issue, to
 /// broadcast and to retirement, or hyphens where none came to both; their hits and misses, where they are loads; their wrong
 /// predictions; and the cycles
-/// that left the instruction at the head of the reorder buffer. The description says what loads cost. Answers why the run
+/// that left the instruction at the head of the reorder buffer. Where a path is shown, the last cell has the cycles of the
+/// address on it. The description says what loads cost. Answers why the run
 /// ended.
 ///
 /// # Errors
@@ -34,17 +37,18 @@ pub fn write_profile<W: Write>(
     description: &Description,
     arrivals: &Arrivals,
     limit: u64,
+    path: Option<&PathAccount>,
     listing: &Listing,
     writer: &mut W,
 ) -> Result<Stop, TextError>
-    ensures written { IsText (IsProfile arrivals.now limit description.now listing.now (guided pipeline.old (known predictor.old)) (guided pipeline.new (known predictor.new))) result (W.contents writer.old) (W.contents writer.new) }
+    ensures written { IsText (IsProfile arrivals.now limit description.now (option_copied path.entry) listing.now (guided pipeline.old (known predictor.old)) (guided pipeline.new (known predictor.new))) result (W.contents writer.old) (W.contents writer.new) }
     // With a described predictor a profile is a function of what it is a profile of.
-    ensures one_profile { HasOneProfile arrivals.now limit description.now listing.now }
+    ensures one_profile { HasOneProfile arrivals.now limit description.now (option_copied path.entry) listing.now }
 {
     let Ok(counted) = run_profiled(alloc, pipeline, predictor, description, arrivals, limit) else {
         return Err(TextError::Memory);
     };
-    match write_table(writer, listing, counted.profile.words()) {
+    match write_table(writer, listing, path, counted.profile.words()) {
         Ok(()) => Ok(counted.stop),
         Err(ReportError::WriteFailed) => Err(TextError::WriteFailed),
     }

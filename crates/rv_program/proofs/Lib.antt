@@ -1,4 +1,5 @@
 mod Answered
+mod Asked
 mod Compared
 mod Ending
 mod LinesAfter

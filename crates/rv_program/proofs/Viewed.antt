@@ -31,3 +31,10 @@ pub shown_whole : {Is : Stop → List ℕ → Type 0} (IsShownBy : RunEnd → Li
     → IsText Is written old new → result ≡ whole_run written → ((stop : Stop) (text : List ℕ) → Is stop text → IsShownBy (record { stop = stop; over = None }) text) → IsText IsShownBy result old new
 shown_whole IsShownBy written old new writes same shows =
     subst (λ r. IsText IsShownBy r old new) (sym same) (written_whole IsShownBy written old new shows writes)
+
+-- a picture, with the marks that are asked for
+pub shown_as : {T : Type 0} {Is : T → List ℕ → Type 0} (IsShownBy : T → List ℕ → Type 0) (written : Result T TextError) (old new : Option (List ℕ))
+    → ((answer : T) (text : List ℕ) → Is answer text → IsShownBy answer text) → IsText Is written old new → IsText IsShownBy written old new
+shown_as IsShownBy (Ok answer) old new shows (text, is, appended) = (text, shows answer text is, appended)
+shown_as IsShownBy (Err WriteFailed) old new shows (answer, text, is, beginning) = (answer, text, shows answer text is, beginning)
+shown_as IsShownBy (Err Memory) old new shows nothing = nothing

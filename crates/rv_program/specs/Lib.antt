@@ -1,4 +1,5 @@
 pub mod Answer
+pub mod AskedPath
 pub mod Ended
 pub mod Output
 pub mod Program

@@ -3,6 +3,7 @@
 #![tactic(auto)]
 
 mod answer;
+mod asked_path;
 mod boxed_predictor;
 pub mod compare;
 mod ended;

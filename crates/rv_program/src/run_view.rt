@@ -1,5 +1,5 @@
 //! What is shown of a run.
-ghost use Rattle.std.specs.Prelude.{◌≡◌, ◌^◌, ◌≤◌};
+ghost use Rattle.std.specs.Prelude.{◌≡◌, ◌^◌, ◌≤◌, option_copied, option_map};
 ghost use Rattle.rv_front.specs.Predictors.{guide_of};
 ghost use Rattle.rv_front.specs.declared.predictors.DescribedPredictor.{DescribedPredictor};
 ghost use Rattle.rv_hardware.specs.Guided.{guided};
@@ -9,9 +9,11 @@ ghost use Rattle.rv_program.specs.CoreReport.{IsAtMostOne};
 ghost use Rattle.rv_program.specs.RunView.{IsShown, IsViewOf, limit_of, whole_run};
 
 use crate::answer::answer;
+use crate::asked_path::{asked_account, asked_marks};
 use crate::boxed_predictor::BoxedPredictor;
 use rv_arch::Stop;
 use rv_core::Pipeline;
+use rv_drawing::Mark;
 use rv_explain::{Figures, write_explanation};
 use rv_front::Predictor;
 use rv_job::{ListedJob, SimError};
@@ -39,17 +41,23 @@ pub struct Stretch {
 /// job's program.
 #[derive(Clone, Copy)]
 pub enum RunView {
-    /// The picture of the cycles of a view. Where the run ends before the view begins, no cycle is shown.
-    Picture(View),
+    /// The picture of the cycles of a view, with marks on the events of the critical path where `path` says so. Where the run
+    /// ends before the view begins, no cycle is shown.
+    Picture { view: View, path: bool },
     /// The log of at most so many cycles, in Konata's format.
     Log { limit: u64 },
     /// The states of the cycles of a stretch, line by line; as a page with a viewer around them. Where the run ends before
     /// the stretch begins, no cycle is written.
     States(Stretch),
-    /// What at most so many cycles came to, in plain sentences.
-    Explanation { figures: Figures, limit: u64 },
-    /// A table of what became of the instructions at each address in at most so many cycles.
-    Profile { limit: u64 },
+    /// What at most so many cycles came to, in plain sentences, with those of the critical path before them where `path` says so.
+    Explanation {
+        figures: Figures,
+        path: bool,
+        limit: u64,
+    },
+    /// A table of what became of the instructions at each address in at most so many cycles, with a column of the critical
+    /// path where `path` says so.
+    Profile { path: bool, limit: u64 },
     /// The critical path of at most so many cycles.
     Path { limit: u64 },
 }
@@ -64,6 +72,104 @@ fn whole_run(written: Result<Stop, TextError>) -> Result<RunEnd, TextError>
     }
 }
 
+// Some marks, where there are any.
+fn marks_in(marks: &Option<Vec<Mark>>) -> Option<&[Mark]>
+    ensures { option_copied result ≡ option_map (λ found. found.items) marks.now }
+{
+    match marks {
+        Some(marks) => Some(marks.as_slice()),
+        None => None,
+    }
+}
+
+// Runs a pipeline that a predictor guides, and draws cycles of the run, with the marks of the critical path where these are
+// asked for.
+fn draw<W: Write>(
+    alloc: Global,
+    pipeline: &mut Pipeline,
+    predictor: &mut dyn Predictor,
+    listed: &ListedJob,
+    view: View,
+    path: bool,
+    writer: &mut W,
+) -> Result<RunEnd, TextError>
+    ensures { IsText (IsShown (RunView.Picture view path) listed.now (guided pipeline.old (known predictor.old)) (guided pipeline.new (known predictor.new))) result (W.contents writer.old) (W.contents writer.new) }
+{
+    let Ok(marks) = asked_marks(alloc, &listed.job, path, view) else {
+        return Err(TextError::Memory);
+    };
+    write_picture(
+        alloc,
+        pipeline,
+        predictor,
+        &listed.job.arrivals,
+        view,
+        marks_in(&marks),
+        &listed.listing,
+        writer,
+    )
+}
+
+// Runs a pipeline that a predictor guides, and explains the run, with the sentences of the critical path where these are asked
+// for.
+fn explain<W: Write>(
+    alloc: Global,
+    pipeline: &mut Pipeline,
+    predictor: &mut dyn Predictor,
+    listed: &ListedJob,
+    figures: Figures,
+    path: bool,
+    limit: u64,
+    writer: &mut W,
+) -> Result<RunEnd, TextError>
+    ensures { IsText (IsShown (RunView.Explanation figures path limit) listed.now (guided pipeline.old (known predictor.old)) (guided pipeline.new (known predictor.new))) result (W.contents writer.old) (W.contents writer.new) }
+{
+    let Ok(account) = asked_account(alloc, &listed.job, path, limit) else {
+        return Err(TextError::Memory);
+    };
+    whole_run(write_explanation(
+        alloc,
+        pipeline,
+        predictor,
+        &listed.job.description,
+        &listed.job.arrivals,
+        limit,
+        figures,
+        account.as_ref(),
+        &listed.listing,
+        writer,
+    ))
+}
+
+// Runs a pipeline that a predictor guides, and writes the profile of the run, with the column of the critical path where this is
+// asked for.
+fn profile<W: Write>(
+    alloc: Global,
+    pipeline: &mut Pipeline,
+    predictor: &mut dyn Predictor,
+    listed: &ListedJob,
+    path: bool,
+    limit: u64,
+    writer: &mut W,
+) -> Result<RunEnd, TextError>
+    ensures { IsText (IsShown (RunView.Profile path limit) listed.now (guided pipeline.old (known predictor.old)) (guided pipeline.new (known predictor.new))) result (W.contents writer.old) (W.contents writer.new) }
+{
+    let Ok(account) = asked_account(alloc, &listed.job, path, limit) else {
+        return Err(TextError::Memory);
+    };
+    whole_run(write_profile(
+        alloc,
+        pipeline,
+        predictor,
+        &listed.job.description,
+        &listed.job.arrivals,
+        limit,
+        account.as_ref(),
+        &listed.listing,
+        writer,
+    ))
+}
+
 // Runs a pipeline that a predictor guides, and writes a view of the run.
 fn write_view<W: Write>(
     alloc: Global,
@@ -76,12 +182,11 @@ fn write_view<W: Write>(
     ensures { IsText (IsShown view.now listed.now (guided pipeline.old (known predictor.old)) (guided pipeline.new (known predictor.new))) result (W.contents writer.old) (W.contents writer.new) }
 {
     let arrivals = &listed.job.arrivals;
-    let description = &listed.job.description;
     let listing = &listed.listing;
     match view {
-        RunView::Picture(view) => write_picture(
-            alloc, pipeline, predictor, arrivals, *view, listing, writer,
-        ),
+        RunView::Picture { view, path } => {
+            draw(alloc, pipeline, predictor, listed, *view, *path, writer)
+        }
         RunView::Log { limit } => whole_run(write_log(
             alloc, pipeline, predictor, arrivals, *limit, listing, writer,
         )),
@@ -96,35 +201,25 @@ fn write_view<W: Write>(
             listing,
             writer,
         )),
-        RunView::Explanation { figures, limit } => whole_run(write_explanation(
-            alloc,
-            pipeline,
-            predictor,
-            description,
-            arrivals,
-            *limit,
-            *figures,
-            listing,
-            writer,
-        )),
+        RunView::Explanation {
+            figures,
+            path,
+            limit,
+        } => explain(
+            alloc, pipeline, predictor, listed, *figures, *path, *limit, writer,
+        ),
         RunView::Path { limit } => whole_run(write_path(
             alloc, pipeline, predictor, arrivals, *limit, listing, writer,
         )),
-        RunView::Profile { limit } => whole_run(write_profile(
-            alloc,
-            pipeline,
-            predictor,
-            description,
-            arrivals,
-            *limit,
-            listing,
-            writer,
-        )),
+        RunView::Profile { path, limit } => {
+            profile(alloc, pipeline, predictor, listed, *path, *limit, writer)
+        }
     }
 }
 
 /// Simulates a job on the core that it describes, with the job's arrivals at the numbers of the cycles, and writes a view of
-/// the run. Answers how the run ended. A log and states are written as the cycles come, and ask for no memory once they are begun.
+/// the run. Where the view shows the critical path, that is found by a run of its own before, which the predictor that the job
+/// describes guides. Answers how the run ended. A log and states are written as the cycles come, and ask for no memory once they are begun.
 ///
 /// Fails by `Memory`, and has written nothing then, or by `WriteFailed`, and has written a beginning of the view.
 pub fn show<W: Write>(

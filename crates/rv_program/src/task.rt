@@ -213,6 +213,7 @@ fn read_task(alloc: Global, command: &Command, input: &[u8]) -> Result<Task, Sim
         Command::Picture {
             text,
             retired,
+            path,
             from,
             cycles,
         } => {
@@ -222,7 +223,8 @@ fn read_task(alloc: Global, command: &Command, input: &[u8]) -> Result<Task, Sim
                 from: *from,
                 cycles: *cycles,
             };
-            read_view(alloc, RunView::Picture(view), input)
+            let path = *path;
+            read_view(alloc, RunView::Picture { view, path }, input)
         }
         Command::Log { limit } => read_view(alloc, RunView::Log { limit: *limit }, input),
         Command::States { from, limit } => {
@@ -233,11 +235,22 @@ fn read_task(alloc: Global, command: &Command, input: &[u8]) -> Result<Task, Sim
             let (form, from, limit) = (StatesForm::Page, *from, *limit);
             read_view(alloc, RunView::States(Stretch { form, from, limit }), input)
         }
-        Command::Explain { figures, limit } => {
-            let (figures, limit) = (figures_of(*figures), *limit);
-            read_view(alloc, RunView::Explanation { figures, limit }, input)
+        Command::Explain {
+            figures,
+            path,
+            limit,
+        } => {
+            let view = RunView::Explanation {
+                figures: figures_of(*figures),
+                path: *path,
+                limit: *limit,
+            };
+            read_view(alloc, view, input)
         }
-        Command::Profile { limit } => read_view(alloc, RunView::Profile { limit: *limit }, input),
+        Command::Profile { path, limit } => {
+            let (path, limit) = (*path, *limit);
+            read_view(alloc, RunView::Profile { path, limit }, input)
+        }
         Command::Path { limit } => read_view(alloc, RunView::Path { limit: *limit }, input),
         Command::Compare { shown, limit } => {
             let comparison = read_comparison(alloc, input)?;

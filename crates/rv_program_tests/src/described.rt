@@ -11,12 +11,14 @@ const COMMANDS: [Command; 5] = [
     Command::Picture {
         text: true,
         retired: false,
+        path: false,
         from: 0,
         cycles: 1,
     },
     Command::Log { limit: 1 },
     Command::Explain {
         figures: false,
+        path: false,
         limit: 1,
     },
 ];

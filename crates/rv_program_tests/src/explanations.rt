@@ -14,6 +14,7 @@ use rv_command::Command;
 /// A run up to so many cycles that is explained in sentences, with its figures.
 pub(crate) const EXPLAIN: Command = Command::Explain {
     figures: true,
+    path: false,
     limit: 100,
 };
 

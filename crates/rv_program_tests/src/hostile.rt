@@ -29,6 +29,7 @@ const SHOWN: [(Command, &str); 3] = [
     (
         Command::Explain {
             figures: true,
+            path: false,
             limit: 100_000,
         },
         "expected: at most 33554432 bytes\n",

@@ -18,6 +18,7 @@ fn the_cycles_in_view_are_shown_with_the_lines_of_the_program(rt: HostRuntime) {
     let three = Command::Picture {
         text: true,
         retired: false,
+        path: false,
         from: 2,
         cycles: 3,
     };
@@ -41,6 +42,7 @@ fn a_picture_is_an_svg_where_no_text_is_asked_for(rt: HostRuntime) {
     let drawn = Command::Picture {
         text: false,
         retired: false,
+        path: false,
         from: 0,
         cycles: 6,
     };
@@ -69,6 +71,7 @@ fn squashed_rows_are_left_out_where_that_is_asked_for(rt: HostRuntime) {
     let drawn = Command::Picture {
         text: true,
         retired: true,
+        path: false,
         from: 0,
         cycles: 60,
     };
@@ -85,6 +88,7 @@ fn a_picture_after_the_end_of_a_run_says_so_and_is_reported(rt: HostRuntime) {
         let after = Command::Picture {
             text: true,
             retired,
+            path: false,
             from: 7,
             cycles: 3,
         };

@@ -9,7 +9,7 @@ const ADDITION_LINE: &str =
 
 #[test]
 fn the_lines_of_a_run_are_counted(rt: HostRuntime) {
-    let ended = run_text(rt.alloc(), Command::Profile { limit: 100 }, ADDITION);
+    let ended = run_text(rt.alloc(), Command::Profile { path: false, limit: 100 }, ADDITION);
     assert_eq!(rt; ended.status, 0);
     assert!(rt; has_line(ended.output.as_slice(), ADDITION_LINE));
     assert!(rt; ended.errors.is_empty());

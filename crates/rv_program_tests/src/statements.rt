@@ -12,18 +12,21 @@ const COMMANDS: [Command; 4] = [
     Command::Picture {
         text: true,
         retired: false,
+        path: false,
         from: 0,
         cycles: 9,
     },
     Command::Picture {
         text: false,
         retired: false,
+        path: false,
         from: 0,
         cycles: 9,
     },
     Command::Log { limit: 9 },
     Command::Explain {
         figures: true,
+        path: false,
         limit: 9,
     },
 ];

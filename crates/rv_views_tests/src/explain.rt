@@ -63,6 +63,7 @@ fn explained(rt: &impl Abort, alloc: Global, program: &[u8], lines: &[&str]) -> 
         &arrivals,
         20,
         Figures::Always,
+        None,
         &listing,
         &mut output,
     )
@@ -123,6 +124,7 @@ fn told(rt: &impl Abort, alloc: Global, base: u32, program: &[u8]) -> Vec<u8> {
         &arrivals,
         100,
         Figures::UnlessCrashed,
+        None,
         &listing,
         &mut output,
     )

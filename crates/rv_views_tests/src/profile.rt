@@ -45,6 +45,7 @@ fn profiled(rt: &impl Abort, alloc: Global, program: &[u8], lines: &[&str]) -> V
         &description,
         &arrivals,
         100,
+        None,
         &listing,
         &mut output,
     )

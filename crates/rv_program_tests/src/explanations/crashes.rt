@@ -7,6 +7,7 @@ use std::process::Abort;
 
 const BARE: Command = Command::Explain {
     figures: false,
+    path: false,
     limit: 100,
 };
 

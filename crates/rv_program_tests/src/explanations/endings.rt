@@ -25,6 +25,7 @@ const CUT_OFF: &str =
 fn a_run_that_is_cut_off_stands_at_the_first_that_has_not_retired(rt: HostRuntime) {
     let command = Command::Explain {
         figures: false,
+        path: false,
         limit: 4,
     };
     let counts = "cycles 4, retired instructions 0";

@@ -111,6 +111,7 @@ mret
 fn eight_kinds_of_exceptions_are_told_apart(rt: HostRuntime) {
     let command = Command::Explain {
         figures: true,
+        path: false,
         limit: 400,
     };
     let others = "      2 of other causes or at other places";

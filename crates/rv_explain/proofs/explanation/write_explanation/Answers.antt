@@ -21,19 +21,19 @@ write_told-written-requires g c =
 pub returns-in-Ok-written-clause-written : goal.returns-in-Ok-written-clause-written
 returns-in-Ok-written-clause-written g c =
     let told = c.run_told-told.result in
-    (_, explained _ c.args.limit c.args.figures c.args.description.now c.args.listing.now _ _ told.stop told.progress told.fetched told.tale c.run_told-told.ensures, c.in-Ok-written.ensures)
+    (_, explained _ c.args.limit c.args.figures c.args.description.now _ c.args.listing.now _ _ told.stop told.progress told.fetched told.tale c.run_told-told.ensures, c.in-Ok-written.ensures)
 
 pub returns-in-Err-WriteFailed-clause-written : goal.returns-in-Err-WriteFailed-clause-written
 returns-in-Err-WriteFailed-clause-written g c =
     let told = c.run_told-told.result in
-    (told.stop, _, explained _ c.args.limit c.args.figures c.args.description.now c.args.listing.now _ _ told.stop told.progress told.fetched told.tale c.run_told-told.ensures, c.in-Err-WriteFailed.ensures)
+    (told.stop, _, explained _ c.args.limit c.args.figures c.args.description.now _ c.args.listing.now _ _ told.stop told.progress told.fetched told.tale c.run_told-told.ensures, c.in-Err-WriteFailed.ensures)
 
 -- whatever was written
 pub returns-in_default-clause-one_explanation : goal.returns-in_default-clause-one_explanation
-returns-in_default-clause-one_explanation g c = one_explanation c.args.arrivals.now c.args.limit c.args.figures c.args.description.now c.args.listing.now
+returns-in_default-clause-one_explanation g c = one_explanation c.args.arrivals.now c.args.limit c.args.figures c.args.description.now _ c.args.listing.now
 
 pub returns-in-Ok-written-clause-one_explanation : goal.returns-in-Ok-written-clause-one_explanation
-returns-in-Ok-written-clause-one_explanation g c = one_explanation c.args.arrivals.now c.args.limit c.args.figures c.args.description.now c.args.listing.now
+returns-in-Ok-written-clause-one_explanation g c = one_explanation c.args.arrivals.now c.args.limit c.args.figures c.args.description.now _ c.args.listing.now
 
 pub returns-in-Err-WriteFailed-clause-one_explanation : goal.returns-in-Err-WriteFailed-clause-one_explanation
-returns-in-Err-WriteFailed-clause-one_explanation g c = one_explanation c.args.arrivals.now c.args.limit c.args.figures c.args.description.now c.args.listing.now
+returns-in-Err-WriteFailed-clause-one_explanation g c = one_explanation c.args.arrivals.now c.args.limit c.args.figures c.args.description.now _ c.args.listing.now
