@@ -83,14 +83,20 @@ sensitivity_arguments = with_rule (limited_arguments (codes "sensitivity")) also
 abbrev pub check_arguments : App
 check_arguments = new_app (codes "check")
 
--- `rv_sim picture [--text] [--retired]`
+-- `rv_sim picture [--text] [--retired] [--path]`
 abbrev pub bare_picture_arguments : App
 bare_picture_arguments =
-    with_rule (with_rule (new_app (codes "picture")) (flag_rule (codes "text"))) (flag_rule (codes "retired"))
+    with_rule (with_rule (with_rule (new_app (codes "picture")) (flag_rule (codes "text"))) (flag_rule (codes "retired")))
+    (flag_rule (codes "path"))
 
--- `rv_sim picture [--text] [--retired] [--from N] [--cycles N]`
+-- `rv_sim picture [--text] [--retired] [--path] [--from N] [--cycles N]`
 abbrev pub picture_arguments : App
 picture_arguments = with_rule (with_rule bare_picture_arguments from_rule) cycles_rule
+
+-- `rv_sim explain [--figures] [--path] [--limit N]`
+abbrev pub explain_arguments : App
+explain_arguments =
+    with_rule (with_rule (with_rule (new_app (codes "explain")) (flag_rule (codes "figures"))) (flag_rule (codes "path"))) limit_rule
 
 -- `rv_sim NAME [--from N]`
 abbrev pub told_from_arguments : Text → App
@@ -129,8 +135,8 @@ program_arguments = with_commands bare_arguments (
     limited_arguments (codes "log") ∷
     told_arguments (codes "states") ∷
     told_arguments (codes "page") ∷
-    flagged_arguments (codes "explain") (codes "figures") ∷
-    limited_arguments (codes "profile") ∷
+    explain_arguments ∷
+    flagged_arguments (codes "profile") (codes "path") ∷
     limited_arguments (codes "path") ∷
     compare_arguments ∷
     sensitivity_arguments ∷

@@ -31,12 +31,12 @@ abbrev pub HasLegalNumbers : Command → Type 0
 HasLegalNumbers (Run trace limit) = IsLegalLimit limit
 HasLegalNumbers (Reference limit) = IsLegalLimit limit
 HasLegalNumbers Check = ⊤
-HasLegalNumbers (Picture text retired from cycles) = IsLegalWindow from cycles
+HasLegalNumbers (Picture text retired path from cycles) = IsLegalWindow from cycles
 HasLegalNumbers (Log limit) = IsLegalLimit limit
 HasLegalNumbers (States from limit) = IsLegalStretch from limit
 HasLegalNumbers (Page from limit) = IsLegalStretch from limit
-HasLegalNumbers (Explain figures limit) = IsLegalLimit limit
-HasLegalNumbers (Profile limit) = IsLegalLimit limit
+HasLegalNumbers (Explain figures path limit) = IsLegalLimit limit
+HasLegalNumbers (Profile path limit) = IsLegalLimit limit
 HasLegalNumbers (Path limit) = IsLegalLimit limit
 HasLegalNumbers (Compare shown limit) = IsLegalLimit limit
 HasLegalNumbers (Sensitivity also limit) = IsLegalLimit limit
@@ -90,7 +90,11 @@ run_in rows = option_map (Run (flag_in (codes "trace") rows)) (limit_in rows)
 
 -- what the matches of `explain` ask for
 abbrev pub explain_in : List Row → Option Command
-explain_in rows = option_map (Explain (flag_in (codes "figures") rows)) (limit_in rows)
+explain_in rows = option_map (Explain (flag_in (codes "figures") rows) (flag_in (codes "path") rows)) (limit_in rows)
+
+-- what the matches of `profile` ask for
+abbrev pub profile_in : List Row → Option Command
+profile_in rows = option_map (Profile (flag_in (codes "path") rows)) (limit_in rows)
 
 -- what the matches of `compare` ask for
 abbrev pub compare_in : List Row → Option Command
@@ -103,7 +107,7 @@ sensitivity_in rows = option_and_then (λ also. option_map (Sensitivity also) (l
 -- what the matches of `picture` ask for
 abbrev pub picture_in : List Row → Option Command
 picture_in rows =
-    option_and_then (λ from. option_map (Picture (flag_in (codes "text") rows) (flag_in (codes "retired") rows) from) (cycles_in rows))
+    option_and_then (λ from. option_map (Picture (flag_in (codes "text") rows) (flag_in (codes "retired") rows) (flag_in (codes "path") rows) from) (cycles_in rows))
     (from_in rows)
 
 -- ---- what the words ask for
@@ -113,8 +117,7 @@ abbrev pub limited_named : Text → List Row → Option Command
 limited_named name rows =
     if bytes_eq name (codes "reference") then option_map Reference (limit_in rows)
     else (if bytes_eq name (codes "log") then option_map Log (limit_in rows)
-    else (if bytes_eq name (codes "profile") then option_map Profile (limit_in rows)
-    else (if bytes_eq name (codes "path") then option_map Path (limit_in rows) else None)))
+    else (if bytes_eq name (codes "path") then option_map Path (limit_in rows) else None))
 
 -- the command of a subcommand with its matches
 abbrev pub command_named : Text × List Row → Option Command
@@ -127,7 +130,7 @@ command_named given =
     else (if bytes_eq given.0 (codes "states") then states_in given.1
     else (if bytes_eq given.0 (codes "page") then page_in given.1
     else (if bytes_eq given.0 (codes "explain") then explain_in given.1
-    else (if bytes_eq given.0 (codes "profile") then option_map Profile (limit_in given.1)
+    else (if bytes_eq given.0 (codes "profile") then profile_in given.1
     else (if bytes_eq given.0 (codes "path") then option_map Path (limit_in given.1)
     else (if bytes_eq given.0 (codes "compare") then compare_in given.1
     else (if bytes_eq given.0 (codes "sensitivity") then sensitivity_in given.1 else None)))))))))))

@@ -3,7 +3,7 @@ ghost use Rattle.std.specs.Prelude.{◌≡◌, false, IfOk};
 ghost use Rattle.clap.specs.Words.{App, Rule, new_app, rule_of, with_rule, with_subcommand};
 ghost use Rattle.rv_command.specs.Arguments.{IsParserOf, check_arguments, compare_arguments, flag_rule, flagged_arguments, from_rule, limit_rule};
 ghost use Rattle.rv_command.specs.Arguments.{also_rule, limited_arguments, number_rule, picture_arguments, program_arguments, sensitivity_arguments, show_rule};
-ghost use Rattle.rv_command.specs.Arguments.{bare_arguments, bare_picture_arguments, told_arguments, told_from_arguments};
+ghost use Rattle.rv_command.specs.Arguments.{bare_arguments, bare_picture_arguments, explain_arguments, told_arguments, told_from_arguments};
 
 use crate::command::{LAST_CYCLE, MOST_CYCLES_SHOWN, MOST_CYCLES_TOLD, MOST_STEPS};
 use crate::help::{self, CommandHelp, FlaggedHelp, LimitedHelp};
@@ -179,13 +179,17 @@ fn bare_picture_command<'a>(alloc: Global) -> Result<Command<'a>, AllocError>
         Ok(described(alloc, "picture", &help::PICTURE)),
         flag_argument(alloc, "text", "Draws in characters, and not as SVG"),
     );
-    with_argument(
+    let with_retired = with_argument(
         with_text,
         flag_argument(
             alloc,
             "retired",
             "Leaves out the rows of squashed instructions",
         ),
+    );
+    with_argument(
+        with_retired,
+        flag_argument(alloc, "path", "Marks the critical path, by a second run"),
     )
 }
 
@@ -204,6 +208,28 @@ fn picture_command<'a>(alloc: Global) -> Result<Command<'a>, AllocError>
             "How many cycles, 1 to 1000",
         ),
     )
+}
+
+fn explain_command<'a>(alloc: Global) -> Result<Command<'a>, AllocError>
+    ensures arguments { IfOk result (IsParserOf explain_arguments) }
+{
+    let with_figures = with_argument(
+        Ok(described(alloc, "explain", &help::EXPLAIN)),
+        flag_argument(
+            alloc,
+            "figures",
+            "After a crash says too where the cycles went",
+        ),
+    );
+    let with_path = with_argument(
+        with_figures,
+        flag_argument(
+            alloc,
+            "path",
+            "Says too what is on the critical path, by a second run",
+        ),
+    );
+    with_argument(with_path, limit_argument(alloc, help::CYCLES))
 }
 
 // A command that takes the first of some cycles, and no number of them yet.
@@ -288,11 +314,11 @@ pub(crate) fn parser<'a>(alloc: Global) -> Result<Command<'a>, AllocError>
     let program = with_command(program, limited_command(alloc, "log", &help::LOG));
     let program = with_command(program, told_command(alloc, "states", &help::STATES));
     let program = with_command(program, told_command(alloc, "page", &help::PAGE));
+    let program = with_command(program, explain_command(alloc));
     let program = with_command(
         program,
-        flagged_command(alloc, "explain", "figures", &help::EXPLAIN),
+        flagged_command(alloc, "profile", "path", &help::PROFILE),
     );
-    let program = with_command(program, limited_command(alloc, "profile", &help::PROFILE));
     let program = with_command(program, limited_command(alloc, "path", &help::PATH));
     let program = with_command(program, compare_command(alloc));
     with_command(program, sensitivity_command(alloc))

@@ -4,7 +4,7 @@ ghost use Rattle.std.specs.Result.{result_ok};
 ghost use Rattle.clap.specs.Words.{FailsBy, HasKind, app_of, fault_of, found_of, kind_of, rows_of, subcommand_rows_of};
 ghost use Rattle.rv_command.specs.Arguments.{program_arguments};
 ghost use Rattle.rv_command.specs.Command.{HasLegalNumbers, IsLegalLimit, IsLegalStretch, command_named, command_of, flag_in, limit_in, limited_named, number_in};
-ghost use Rattle.rv_command.specs.Command.{compare_in, explain_in, page_in, picture_in, refused_kinds, run_in, said_of, said_of_words, sensitivity_in, states_in, stretch_in, what_is_shown};
+ghost use Rattle.rv_command.specs.Command.{compare_in, explain_in, page_in, picture_in, profile_in, refused_kinds, run_in, said_of, said_of_words, sensitivity_in, states_in, stretch_in, what_is_shown};
 
 use crate::also::also_given;
 use crate::also_line::line_given;
@@ -46,10 +46,12 @@ pub enum Command {
     /// Say which image a job makes, or what is wrong with it.
     Check,
     /// Draw the picture of so many cycles, from one on, of a run of a job on the core: in characters where
-    /// `text` says so, and else as SVG; without the rows of squashed instructions where `retired` says so.
+    /// `text` says so, and else as SVG; without the rows of squashed instructions where `retired` says so; with the events
+    /// of the critical path marked where `path` says so.
     Picture {
         text: bool,
         retired: bool,
+        path: bool,
         from: u64,
         cycles: u64,
     },
@@ -70,14 +72,16 @@ pub enum Command {
         limit: u64,
     },
     /// Say in sentences how a run of a job on the core went, of at most so many cycles. Where the program crashed, its figures come
-    /// only where `figures` says so.
+    /// only where `figures` says so. What is said of the critical path comes only where `path` says so.
     Explain {
         figures: bool,
+        path: bool,
         limit: u64,
     },
     /// Say of each line of a job's program, in a table, what its instructions cost in a run on the core, of at most so
-    /// many cycles.
+    /// many cycles; and how many cycles of the critical path are its own where `path` says so.
     Profile {
+        path: bool,
         limit: u64,
     },
     /// Write which causes and lines have the cycles of the critical path of a run of a job on the core, of at most so many cycles.
@@ -138,7 +142,21 @@ fn explain_given(given: &ArgMatches) -> Option<Command>
 {
     let limit = limit_given(given)?;
     let figures = flag_given(given, "figures");
-    Some(Command::Explain { figures, limit })
+    let path = flag_given(given, "path");
+    Some(Command::Explain {
+        figures,
+        path,
+        limit,
+    })
+}
+
+fn profile_given(given: &ArgMatches) -> Option<Command>
+    ensures profile { result ≡ profile_in (rows_of (found_of given.now)) }
+    ensures legal { IfSome result HasLegalNumbers }
+{
+    let limit = limit_given(given)?;
+    let path = flag_given(given, "path");
+    Some(Command::Profile { path, limit })
 }
 
 fn compare_given(given: &ArgMatches) -> Option<Command>
@@ -165,11 +183,13 @@ fn picture_given(given: &ArgMatches) -> Option<Command>
 {
     let text = flag_given(given, "text");
     let retired = flag_given(given, "retired");
+    let path = flag_given(given, "path");
     let from = number_given(given, "from", 0, LAST_CYCLE)?;
     let cycles = number_given(given, "cycles", 1, MOST_CYCLES_SHOWN)?;
     Some(Command::Picture {
         text,
         retired,
+        path,
         from,
         cycles,
     })
@@ -210,7 +230,6 @@ fn limited_given(name: &str, given: &ArgMatches) -> Option<Command>
     match name {
         "reference" => Some(Command::Reference { limit }),
         "log" => Some(Command::Log { limit }),
-        "profile" => Some(Command::Profile { limit }),
         "path" => Some(Command::Path { limit }),
         _ => None,
     }
@@ -228,6 +247,7 @@ fn command_given(matches: &ArgMatches) -> Option<Command>
         "states" => states_given(given),
         "page" => page_given(given),
         "explain" => explain_given(given),
+        "profile" => profile_given(given),
         "compare" => compare_given(given),
         "sensitivity" => sensitivity_given(given),
         _ => limited_given(name, given),

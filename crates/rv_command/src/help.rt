@@ -22,7 +22,7 @@ pub(crate) struct LimitedHelp {
 
 const STEPS: &str = "The most steps, 1 to 1000000";
 
-const CYCLES: &str = "The most cycles, 1 to 1000000";
+pub(crate) const CYCLES: &str = "The most cycles, 1 to 1000000";
 
 const CYCLES_OF_EACH: &str = "The most cycles of each run, 1 to 1000000";
 
@@ -145,20 +145,17 @@ opens from disk: the states of those cycles and a viewer of them",
     ),
 };
 
-pub(crate) static EXPLAIN: FlaggedHelp = FlaggedHelp {
-    texts: CommandHelp {
-        about: "Says in sentences how a run of the text on standard input went",
-        ending: ending_of_run!("rv_sim explain < FILE"),
-    },
-    flag: "After a crash says too where the cycles went",
-    limit: CYCLES,
+pub(crate) static EXPLAIN: CommandHelp = CommandHelp {
+    about: "Says in sentences how a run of the text on standard input went",
+    ending: ending_of_run!("rv_sim explain < FILE"),
 };
 
-pub(crate) static PROFILE: LimitedHelp = LimitedHelp {
+pub(crate) static PROFILE: FlaggedHelp = FlaggedHelp {
     texts: CommandHelp {
         about: "Writes a table of what each line of the text on standard input cost in a run",
         ending: ending_of_run!("rv_sim profile < FILE"),
     },
+    flag: "Adds each line's cycles on the critical path, by a second run",
     limit: CYCLES,
 };
 

@@ -68,6 +68,25 @@ letter_of cell.DispatchWait = codes "."
 letter_of cell.IssueWait = codes "."
 letter_of cell.HeadWait = codes "."
 
+-- the letter of a cell that is marked: in lower case, and a star for what has no letter of the alphabet or a small one
+unfoldable pub marked_letter_of : Cell → List ℕ
+marked_letter_of cell.Fetch = codes "f"
+marked_letter_of cell.Dispatch = codes "d"
+marked_letter_of cell.Issue = codes "i"
+marked_letter_of cell.Execution = codes "*"
+marked_letter_of cell.BusWait = codes "*"
+marked_letter_of cell.Broadcast = codes "b"
+marked_letter_of cell.Retirement = codes "c"
+marked_letter_of cell.Trap = codes "t"
+marked_letter_of cell.Squash = codes "*"
+marked_letter_of cell.DispatchWait = codes "*"
+marked_letter_of cell.IssueWait = codes "*"
+marked_letter_of cell.HeadWait = codes "*"
+
+-- the letter of a cell that may be marked
+abbrev pub letter_by : Bool → Cell → List ℕ
+letter_by is_marked cell = if is_marked then marked_letter_of cell else letter_of cell
+
 -- what a cell is called
 unfoldable pub name_of : Cell → List ℕ
 name_of cell.Fetch = codes "fetch"

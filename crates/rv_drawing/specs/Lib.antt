@@ -2,6 +2,7 @@ pub mod Cell
 pub mod ColumnText
 pub mod Columns
 pub mod Label
+pub mod Marked
 pub mod Outcome
 pub mod Over
 pub mod Places

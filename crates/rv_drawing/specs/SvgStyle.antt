@@ -1,5 +1,6 @@
 -- The style of an SVG of a picture.
-use Rattle.std.specs.Prelude.{ℕ, List, ◌++◌, codes}
+use Rattle.std.specs.Prelude.{ℕ, List, [], ◌++◌, codes, Option, Some, None}
+use Rattle.rv_drawing.specs.declared.mark.Mark.{Mark}
 
 -- fonts, and a colour for each class of cells, on a white ground, and on a dark one where the viewer asks for it; a printed page is as wide
 -- as the picture
@@ -50,3 +51,17 @@ svg_style =
     codes "}\n" ++ (
     codes "</style>\n" ++ (
     codes "<rect class='page' width='100%' height='100%'/>\n"))))))))))))))))))))))))))))))))))))))))))))
+
+-- a ring and a bold letter for the marked cells of a picture that has marks: it has the letter's colour, on both grounds
+unfoldable pub mark_style : Option (List Mark) → List ℕ
+mark_style None = []
+mark_style (Some marks) =
+    codes "<style>\n" ++ (
+    codes ".m{fill:none;stroke:#000;stroke-width:2}\n" ++ (
+    codes ".m+text{font-weight:bold}\n" ++ (
+    codes ".c .m,.t .m,.x .m{stroke:#fff}\n" ++ (
+    codes "@media (prefers-color-scheme:dark){\n" ++ (
+    codes ".r .m{stroke:#f0a848}\n" ++ (
+    codes ".w .m{stroke:#bbb}\n" ++ (
+    codes "}\n" ++
+    codes "</style>\n")))))))

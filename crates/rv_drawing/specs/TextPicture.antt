@@ -6,10 +6,11 @@ use Rattle.rv_passage.specs.declared.passage.Passage.{Passage}
 use Rattle.rv_source.specs.Listing.{Listed}
 use Rattle.rv_drawing.specs.Columns.{columns}
 use Rattle.rv_drawing.specs.Over.{over_note}
-use Rattle.rv_drawing.specs.Cell.{cell_of, has_cell, letter_of}
+use Rattle.rv_drawing.specs.Cell.{cell_of, has_cell, letter_by}
 use Rattle.rv_drawing.specs.Label.{blanks, padded, statement_of, written_by, written_text}
+use Rattle.rv_drawing.specs.Marked.{is_marked, marks_in}
 use Rattle.rv_drawing.specs.Stopped.{is_stopped}
-use Rattle.rv_drawing.specs.declared.{cell.Cell.Cell, window.Window.Window}
+use Rattle.rv_drawing.specs.declared.{cell.Cell.Cell, mark.Mark.Mark, window.Window.Window}
 use Rattle.rv_text.specs.Line.{word_text}
 use Rattle.rv_text.specs.Plain.{plain_text}
 
@@ -43,26 +44,26 @@ unfoldable pub outcome_field : Bool → Option (ℕ × ℕ) → List ℕ
 outcome_field true written = codes "stale            "
 outcome_field false written = written_field written
 
--- a cell is its letter, or a blank where there is none
-unfoldable pub cell_text : Option Cell → List ℕ
-cell_text None = codes " "
-cell_text (Some cell) = letter_of cell
+-- a cell, which may be marked, is its letter, or a blank where there is none
+unfoldable pub cell_text : Bool → Option Cell → List ℕ
+cell_text is_marked None = codes " "
+cell_text is_marked (Some cell) = letter_by is_marked cell
 
--- what an instruction shows in a column of a window
-unfoldable pub cell_at : Window → Passage → ℕ → List ℕ
-cell_at window passage column = cell_text (cell_of passage (window.first + column))
+-- what an instruction shows in a column of a window, where its cells in some columns are marked
+unfoldable pub cell_at : Window → (ℕ → Bool) → Passage → ℕ → List ℕ
+cell_at window is_marked passage column = cell_text (is_marked column) (cell_of passage (window.first + column))
 
 -- an instruction: its address, its statement, what it wrote, and its cells
-unfoldable pub row_line : Listed → Window → Passage → List ℕ
-row_line listing window passage =
+unfoldable pub row_line : Listed → Window → List Mark → Passage → List ℕ
+row_line listing window marks passage =
     (word_text passage.pc ++ codes " ") ++
     (statement_field (statement_of listing passage) ++
     (outcome_field (is_stopped window passage) (written_by passage.ending) ++
-    (columns window (cell_at window passage) ++ codes "\n")))
+    (columns window (cell_at window (is_marked marks passage.number) passage) ++ codes "\n")))
 
 -- those that have a cell in the window
-unfoldable pub shown_line : Listed → Window → Passage → List ℕ
-shown_line listing window passage = if has_cell window passage then row_line listing window passage else []
+unfoldable pub shown_line : Listed → Window → List Mark → Passage → List ℕ
+shown_line listing window marks passage = if has_cell window passage then row_line listing window marks passage else []
 
 -- an exclamation mark in the column of each interrupt
 unfoldable pub interrupt_at : Window → List ℕ → ℕ → List ℕ
@@ -82,8 +83,13 @@ interrupt_line window interrupts = if length interrupts == 0 then [] else mark_l
 unfoldable pub legend_line : List ℕ
 legend_line = codes "F fetch  D dispatch  I issue  = execution  ~ wait for the bus  B broadcast  C retirement  T trap  x squash  . wait  ! interrupt\n"
 
--- the picture of some instructions and interrupts in a window
-unfoldable pub text_picture : List Passage → List ℕ → Listed → Window → List ℕ
-text_picture passages interrupts listing window =
-    scale_line window ++ (flat_map (shown_line listing window) passages ++ (interrupt_line window interrupts ++
-    (over_note [] (codes "\n") window ++ legend_line)))
+-- what the marks mean, where a picture has some
+unfoldable pub mark_legend : Option (List Mark) → List ℕ
+mark_legend None = []
+mark_legend (Some marks) = codes "In lower case, or * in place of = ~ x . : on the critical path\n"
+
+-- the picture of some instructions and interrupts in a window, which may have marks
+unfoldable pub text_picture : List Passage → List ℕ → Option (List Mark) → Listed → Window → List ℕ
+text_picture passages interrupts marks listing window =
+    scale_line window ++ (flat_map (shown_line listing window (marks_in marks)) passages ++ (interrupt_line window interrupts ++
+    (over_note [] (codes "\n") window ++ (legend_line ++ mark_legend marks))))

@@ -1,5 +1,5 @@
 ghost use Rattle.std.specs.Prelude.{◌≡◌, ◌+◌, ◌<◌, ◌^◌};
-ghost use Rattle.rv_drawing.specs.Cell.{is_at, is_dispatch_wait, is_issue_wait, is_past, mark_of, wait_of, phase_of, cell_of, has_cell, letter_of, name_of, class_of};
+ghost use Rattle.rv_drawing.specs.Cell.{is_at, is_dispatch_wait, is_issue_wait, is_past, mark_of, wait_of, phase_of, cell_of, has_cell, letter_by, letter_of, marked_letter_of, name_of, class_of};
 
 use crate::window::Window;
 use rv_passage::{Ending, Passage};
@@ -43,6 +43,38 @@ impl Cell {
             Cell::Trap => b"T",
             Cell::Squash => b"x",
             Cell::DispatchWait | Cell::IssueWait | Cell::HeadWait => b".",
+        }
+    }
+
+    /// The letter of a cell that is marked.
+    #[tactic(auto, unfolding(crate::specs::Cell::marked_letter_of))]
+    fn marked_letter(self) -> &'static [u8]
+        ensures { result.now ≡ marked_letter_of self }
+    {
+        match self {
+            Cell::Fetch => b"f",
+            Cell::Dispatch => b"d",
+            Cell::Issue => b"i",
+            Cell::Broadcast => b"b",
+            Cell::Retirement => b"c",
+            Cell::Trap => b"t",
+            Cell::Execution
+            | Cell::BusWait
+            | Cell::Squash
+            | Cell::DispatchWait
+            | Cell::IssueWait
+            | Cell::HeadWait => b"*",
+        }
+    }
+
+    /// The letter of a cell that may be marked.
+    pub(crate) fn letter_by(self, is_marked: bool) -> &'static [u8]
+        ensures { result.now ≡ letter_by is_marked self }
+    {
+        if is_marked {
+            self.marked_letter()
+        } else {
+            self.letter()
         }
     }
 

@@ -4,6 +4,7 @@ ghost use Rattle.rv_drawing.specs.Columns.{columns};
 ghost use Rattle.rv_text.specs.Said.{Says};
 
 use crate::boxes::write_box_at;
+use crate::mark::Mark;
 use crate::marks::{write_number, write_tenth};
 use crate::text::{write_cell, write_interrupt_column, write_scale_column};
 use crate::window::Window;
@@ -17,8 +18,11 @@ use std::io::Write;
 pub(crate) enum Columns<'a> {
     /// The cycle numbers of a terminal.
     Scale,
-    /// The letters of an instruction.
-    Letters(&'a Passage),
+    /// The letters of an instruction, with its marks.
+    Letters {
+        row: &'a Passage,
+        marks: &'a [Mark],
+    },
     /// The marks of the cycles of interrupts.
     Marks(&'a [u64]),
     /// The cycle numbers of an SVG with so many rows.
@@ -27,11 +31,12 @@ pub(crate) enum Columns<'a> {
     },
     /// The cycle numbers again, further down in an SVG.
     Numbers,
-    /// The boxes of an instruction among others, with what the oldest fetched word waited for in each cycle.
+    /// The boxes of an instruction among others, with what the oldest fetched word waited for in each cycle, and its marks.
     Boxes {
         row: &'a Passage,
         rows: &'a [Passage],
         stalls: &'a [Option<Stall>],
+        marks: &'a [Mark],
     },
 }
 
@@ -41,13 +46,16 @@ fn write_column<W: Write>(out: &mut Sink<'_, W>, window: Window, shown: Columns<
 {
     match shown {
         Columns::Scale => write_scale_column(out, window, column),
-        Columns::Letters(row) => write_cell(out, window, row, column),
+        Columns::Letters { row, marks } => write_cell(out, window, row, marks, column),
         Columns::Marks(interrupts) => write_interrupt_column(out, window, interrupts, column),
         Columns::Tenths { rows } => write_tenth(out, window, rows, column),
         Columns::Numbers => write_number(out, window, column),
-        Columns::Boxes { row, rows, stalls } => {
-            write_box_at(out, window, rows, stalls, row, column)
-        }
+        Columns::Boxes {
+            row,
+            rows,
+            stalls,
+            marks,
+        } => write_box_at(out, window, rows, stalls, row, marks, column),
     }
 }
 

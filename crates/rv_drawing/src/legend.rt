@@ -1,13 +1,15 @@
-ghost use Rattle.rv_drawing.specs.SvgLegend.{svg_legend};
+ghost use Rattle.std.specs.Prelude.{option_copied};
+ghost use Rattle.rv_drawing.specs.SvgLegend.{mark_entry, svg_legend, svg_letters};
 ghost use Rattle.rv_text.specs.Said.{Says};
 
+use crate::mark::Mark;
 use rv_text::Sink;
 use std::io::Write;
 
-/// Writes the legend, and the begin of what stands below it.
-#[tactic(auto, unfolding(crate::specs::SvgLegend::svg_legend))]
-pub(crate) fn write_legend<W: Write>(out: &mut Sink<'_, W>)
-    ensures { Says W.contents out.old out.new svg_legend }
+// Each letter with its meaning.
+#[tactic(auto, unfolding(crate::specs::SvgLegend::svg_letters))]
+fn write_letters<W: Write>(out: &mut Sink<'_, W>)
+    ensures { Says W.contents out.old out.new svg_letters }
 {
     out.put(
         b"<g transform='translate(8 8)'>
@@ -22,8 +24,28 @@ pub(crate) fn write_legend<W: Write>(out: &mut Sink<'_, W>)
 <g transform='translate(0 44)'><g class='p x'><rect width='14' height='18'/><text x='7' y='13'>x</text></g><text x='20' y='13'>squash</text></g>
 <g transform='translate(150 44)'><g class='p w'><rect width='14' height='18'/><text x='7' y='13'>.</text></g><text x='20' y='13'>wait</text></g>
 <g transform='translate(300 44)'><g class='v'><text x='7' y='13'>!</text></g><text x='20' y='13'>interrupt</text></g>
-</g>
-<g transform='translate(0 76)'>
 ",
     )
+}
+
+// The mark, where marks are asked for.
+#[tactic(auto, using(rv_text::proofs::Saying::saying), unfolding(crate::specs::SvgLegend::mark_entry))]
+fn write_mark_entry<W: Write>(out: &mut Sink<'_, W>, marks: Option<&[Mark]>)
+    ensures { Says W.contents out.old out.new (mark_entry (option_copied marks.entry)) }
+{
+    if marks.is_some() {
+        out.put(
+            b"<g transform='translate(450 44)'><g class='p f'><rect width='14' height='18'/><path class='m' d='M2 2H12V16H2Z'/><text x='7' y='13'>F</text></g><text x='20' y='13'>on the critical path</text></g>\n",
+        )
+    }
+}
+
+/// Writes the legend, and the begin of what stands below it.
+#[tactic(auto, using(rv_text::proofs::Saying::saying), unfolding(crate::specs::SvgLegend::svg_legend))]
+pub(crate) fn write_legend<W: Write>(out: &mut Sink<'_, W>, marks: Option<&[Mark]>)
+    ensures { Says W.contents out.old out.new (svg_legend (option_copied marks.entry)) }
+{
+    write_letters(out);
+    write_mark_entry(out, marks);
+    out.put(b"</g>\n<g transform='translate(0 76)'>\n")
 }

@@ -1,6 +1,8 @@
-ghost use Rattle.rv_drawing.specs.SvgStyle.{svg_style};
+ghost use Rattle.std.specs.Prelude.{option_copied};
+ghost use Rattle.rv_drawing.specs.SvgStyle.{mark_style, svg_style};
 ghost use Rattle.rv_text.specs.Said.{Says};
 
+use crate::mark::Mark;
 use rv_text::Sink;
 use std::io::Write;
 
@@ -57,4 +59,25 @@ text{fill:#e4e4e4}
 <rect class='page' width='100%' height='100%'/>
 ",
     )
+}
+
+/// Writes how marked cells look, where marks are asked for.
+#[tactic(auto, using(rv_text::proofs::Saying::saying), unfolding(crate::specs::SvgStyle::mark_style))]
+pub(crate) fn write_mark_style<W: Write>(out: &mut Sink<'_, W>, marks: Option<&[Mark]>)
+    ensures { Says W.contents out.old out.new (mark_style (option_copied marks.entry)) }
+{
+    if marks.is_some() {
+        out.put(
+            b"<style>
+.m{fill:none;stroke:#000;stroke-width:2}
+.m+text{font-weight:bold}
+.c .m,.t .m,.x .m{stroke:#fff}
+@media (prefers-color-scheme:dark){
+.r .m{stroke:#f0a848}
+.w .m{stroke:#bbb}
+}
+</style>
+",
+        )
+    }
 }

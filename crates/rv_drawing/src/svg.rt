@@ -1,4 +1,4 @@
-ghost use Rattle.std.specs.Prelude.{◌≡◌, ◌+◌, ◌≤◌, ◌<◌, ◌^◌, count_by, decimal};
+ghost use Rattle.std.specs.Prelude.{◌≡◌, ◌+◌, ◌≤◌, ◌<◌, ◌^◌, count_by, decimal, option_copied};
 ghost use Rattle.std.specs.List.{flat_map};
 ghost use Rattle.rv_drawing.specs.Cell.{has_cell};
 ghost use Rattle.rv_drawing.specs.Label.{markup_byte, statement_of};
@@ -14,11 +14,12 @@ use crate::columns::{Columns, write_columns};
 use crate::frame::{write_begin, write_end};
 use crate::label::{statement, write_markup};
 use crate::legend::write_legend;
+use crate::mark::{Mark, marks_in, marks_of};
 use crate::marks::{write_interrupts, write_numbers_again};
 use crate::outcome::write_outcome;
 use crate::over::write_over;
 use crate::place::{column_x, digits, row_y};
-use crate::style::write_style;
+use crate::style::{write_mark_style, write_style};
 use crate::title::write_row_end;
 use crate::window::Window;
 use arrayvec::ArrayVec;
@@ -100,11 +101,12 @@ fn write_row<W: Write>(
     window: Window,
     rows: &[Passage],
     stalls: &[Option<Stall>],
+    marks: &[Mark],
     place: usize,
     row: &Passage,
 )
     requires { window.first + window.cycles < 2 ^ 64 }
-    ensures { Says W.contents out.old out.new (svg_row listing.now window rows.now stalls.now place row.now) }
+    ensures { Says W.contents out.old out.new (svg_row listing.now window rows.now stalls.now marks.now place row.now) }
 {
     write_row_begin(out, window, place, row);
     write_statement(out, listing, row);
@@ -112,7 +114,14 @@ fn write_row<W: Write>(
     write_outcome(out, window, row);
     out.put(b"</text>\n");
     write_numbers_again(out, window, place);
-    write_columns(out, window, Columns::Boxes { row, rows, stalls });
+    let marks = marks_of(marks, row.number);
+    let boxes = Columns::Boxes {
+        row,
+        rows,
+        stalls,
+        marks,
+    };
+    write_columns(out, window, boxes);
     write_near_address(out, window, row);
     write_row_end(out, window, row)
 }
@@ -124,14 +133,15 @@ fn write_placed<W: Write>(
     window: Window,
     rows: &[Passage],
     stalls: &[Option<Stall>],
+    marks: &[Mark],
     place: usize,
     row: &Passage,
 )
     requires { window.first + window.cycles < 2 ^ 64 }
-    ensures { Says W.contents out.old out.new (placed_row listing.now window rows.now stalls.now place row.now) }
+    ensures { Says W.contents out.old out.new (placed_row listing.now window rows.now stalls.now marks.now place row.now) }
 {
     if has_cell(window, row) {
-        write_row(out, listing, window, rows, stalls, place, row)
+        write_row(out, listing, window, rows, stalls, marks, place, row)
     }
 }
 
@@ -150,13 +160,14 @@ fn write_rows<W: Write>(
     window: Window,
     rows: &[Passage],
     stalls: &[Option<Stall>],
+    marks: &[Mark],
 )
     requires { window.first + window.cycles < 2 ^ 64 }
-    ensures { Says W.contents out.old out.new (svg_rows listing.now window rows.now stalls.now 0 rows.now) }
+    ensures { Says W.contents out.old out.new (svg_rows listing.now window rows.now stalls.now marks.now 0 rows.now) }
 {
     let mut place = 0;
     for row in rows {
-        write_placed(out, listing, window, rows, stalls, place, row);
+        write_placed(out, listing, window, rows, stalls, marks, place, row);
         place += rows_of(window, row);
     }
 }
@@ -181,18 +192,20 @@ fn write_shown<W: Write>(
     rows: &[Passage],
     interrupts: &[u64],
     stalls: &[Option<Stall>],
+    marks: Option<&[Mark]>,
     listing: &Listing,
     window: Window,
     shown: usize,
 )
     requires { window.first + window.cycles < 2 ^ 64 }
-    ensures { Says W.contents out.old out.new (svg_of shown rows.now interrupts.now stalls.now listing.now window) }
+    ensures { Says W.contents out.old out.new (svg_of shown rows.now interrupts.now stalls.now (option_copied marks.entry) listing.now window) }
 {
     write_begin(out, window.cycles, shown);
     write_style(out);
-    write_legend(out);
+    write_mark_style(out, marks);
+    write_legend(out, marks);
     write_columns(out, window, Columns::Tenths { rows: shown });
-    write_rows(out, listing, window, rows, stalls);
+    write_rows(out, listing, window, rows, stalls, marks_in(marks));
     write_interrupts(out, window, shown, interrupts);
     write_over(out, b"<text x='8' y='34'>", window, b"</text>\n");
     write_end(out)
@@ -206,31 +219,34 @@ fn write_picture<W: Write>(
     rows: &[Passage],
     interrupts: &[u64],
     stalls: &[Option<Stall>],
+    marks: Option<&[Mark]>,
 )
     requires { window.first + window.cycles < 2 ^ 64 }
-    ensures { Says W.contents out.old out.new (svg_picture rows.now interrupts.now stalls.now listing.now window) }
+    ensures { Says W.contents out.old out.new (svg_picture rows.now interrupts.now stalls.now (option_copied marks.entry) listing.now window) }
 {
     let shown = count_shown(window, rows);
-    write_shown(out, rows, interrupts, stalls, listing, window, shown)
+    write_shown(out, rows, interrupts, stalls, marks, listing, window, shown)
 }
 
 /// Writes a picture as an SVG: a legend on top, cycle numbers, a row for each instruction that shows something in the window,
 /// with a box for each cell, and a line for each interrupt. `stalls` has what the oldest fetched word waited for in each cycle of
-/// the window in which nothing was dispatched. The window ends below cycle 2^64. Asks for no memory. Fails
-/// by `WriteFailed` alone, and what was written is then a beginning of the picture.
+/// the window in which nothing was dispatched. Where there are marks, even none, marked boxes have a ring, and the legend says so.
+/// The window ends below cycle 2^64. Asks for no memory. Fails by `WriteFailed` alone, and what was written is then a beginning of
+/// the picture.
 #[tactic(auto, using(rv_text::proofs::Saying::says_written))]
 pub fn write_picture_svg<W: Write>(
     rows: &[Passage],
     interrupts: &[u64],
     stalls: &[Option<Stall>],
+    marks: Option<&[Mark]>,
     listing: &Listing,
     window: Window,
     writer: &mut W,
 ) -> Result<(), ReportError>
     requires { window.first + window.cycles < 2 ^ 64 }
-    ensures { IsWritten result (W.contents writer.old) (W.contents writer.new) (svg_picture rows.now interrupts.now stalls.now listing.now window) }
+    ensures { IsWritten result (W.contents writer.old) (W.contents writer.new) (svg_picture rows.now interrupts.now stalls.now (option_copied marks.entry) listing.now window) }
 {
     let mut out = Sink::new(writer);
-    write_picture(&mut out, listing, window, rows, interrupts, stalls);
+    write_picture(&mut out, listing, window, rows, interrupts, stalls, marks);
     out.outcome()
 }

@@ -1,9 +1,10 @@
-ghost use Rattle.std.specs.Prelude.{◌≡◌, ◌+◌, ◌<◌, ◌^◌, ◌++◌, codes};
+ghost use Rattle.std.specs.Prelude.{◌≡◌, ◌+◌, ◌<◌, ◌^◌, ◌++◌, codes, option_copied};
 ghost use Rattle.std.specs.List.{flat_map};
 ghost use Rattle.rv_drawing.specs.ColumnText.{column_text};
 ghost use Rattle.rv_drawing.specs.Columns.{columns};
-ghost use Rattle.rv_drawing.specs.TextPicture.{scale_at, scale_line, statement_field, room_after, written_field, outcome_field, cell_text, cell_at, row_line, shown_line, interrupt_at, mark_line, interrupt_line, text_picture};
+ghost use Rattle.rv_drawing.specs.TextPicture.{scale_at, scale_line, statement_field, room_after, written_field, outcome_field, cell_text, cell_at, row_line, shown_line, interrupt_at, mark_line, interrupt_line, mark_legend, text_picture};
 ghost use Rattle.rv_drawing.specs.Label.{statement_of, written_by};
+ghost use Rattle.rv_drawing.specs.Marked.{is_marked};
 ghost use Rattle.rv_drawing.specs.Stopped.{is_stopped};
 ghost use Rattle.rv_text.specs.Line.{word_text};
 ghost use Rattle.rv_text.specs.Said.{Says};
@@ -12,6 +13,7 @@ ghost use Rattle.rv_text.specs.Written.{IsWritten};
 use crate::cell::{Cell, cell_in, has_cell};
 use crate::columns::{Columns, write_columns};
 use crate::label::{statement, write_blanks, write_padded, write_written, written};
+use crate::mark::{Mark, is_marked, marks_in, marks_of};
 use crate::over::write_over;
 use crate::window::Window;
 use arrayvec::ArrayVec;
@@ -112,11 +114,11 @@ fn write_pc<W: Write>(out: &mut Sink<'_, W>, pc: u32)
 }
 
 #[tactic(auto, unfolding(crate::specs::TextPicture::cell_text))]
-fn letter(cell: Option<Cell>) -> &'static [u8]
-    ensures { result.now ≡ cell_text cell }
+fn letter(cell: Option<Cell>, is_marked: bool) -> &'static [u8]
+    ensures { result.now ≡ cell_text is_marked cell }
 {
     match cell {
-        Some(cell) => cell.letter(),
+        Some(cell) => cell.letter_by(is_marked),
         None => b" ",
     }
 }
@@ -126,42 +128,63 @@ pub(crate) fn write_cell<W: Write>(
     out: &mut Sink<'_, W>,
     window: Window,
     row: &Passage,
+    marks: &[Mark],
     column: u64,
 )
     requires { window.first + column < 2 ^ 64 }
-    ensures { Says W.contents out.old out.new (cell_at window row.now column) }
+    ensures { Says W.contents out.old out.new (cell_at window (is_marked marks.now row.now.number) row.now column) }
 {
-    out.put(letter(cell_in(row, window.first + column)))
+    let is_marked = is_marked(marks, row.number, column);
+    out.put(letter(cell_in(row, window.first + column), is_marked))
 }
 
 #[tactic(auto, using(rv_text::proofs::Saying::saying), unfolding(crate::specs::TextPicture::row_line))]
-fn write_row<W: Write>(out: &mut Sink<'_, W>, listing: &Listing, window: Window, row: &Passage)
+fn write_row<W: Write>(
+    out: &mut Sink<'_, W>,
+    listing: &Listing,
+    window: Window,
+    marks: &[Mark],
+    row: &Passage,
+)
     requires { window.first + window.cycles < 2 ^ 64 }
-    ensures { Says W.contents out.old out.new (row_line listing.now window row.now) }
+    ensures { Says W.contents out.old out.new (row_line listing.now window marks.now row.now) }
 {
     write_pc(out, row.pc);
     write_statement(out, listing, row);
     write_outcome_field(out, window, row);
-    write_line(out, b"", window, Columns::Letters(row))
+    let marks = marks_of(marks, row.number);
+    write_line(out, b"", window, Columns::Letters { row, marks })
 }
 
 #[tactic(auto, using(rv_text::proofs::Saying::saying), unfolding(crate::specs::TextPicture::shown_line))]
-fn write_shown<W: Write>(out: &mut Sink<'_, W>, listing: &Listing, window: Window, row: &Passage)
+fn write_shown<W: Write>(
+    out: &mut Sink<'_, W>,
+    listing: &Listing,
+    window: Window,
+    marks: &[Mark],
+    row: &Passage,
+)
     requires { window.first + window.cycles < 2 ^ 64 }
-    ensures { Says W.contents out.old out.new (shown_line listing.now window row.now) }
+    ensures { Says W.contents out.old out.new (shown_line listing.now window marks.now row.now) }
 {
     if has_cell(window, row) {
-        write_row(out, listing, window, row)
+        write_row(out, listing, window, marks, row)
     }
 }
 
 #[tactic(auto, using(rv_text::proofs::Saying::saying))]
-fn write_rows<W: Write>(out: &mut Sink<'_, W>, listing: &Listing, window: Window, rows: &[Passage])
+fn write_rows<W: Write>(
+    out: &mut Sink<'_, W>,
+    listing: &Listing,
+    window: Window,
+    marks: &[Mark],
+    rows: &[Passage],
+)
     requires { window.first + window.cycles < 2 ^ 64 }
-    ensures { Says W.contents out.old out.new (flat_map (shown_line listing.now window) rows.now) }
+    ensures { Says W.contents out.old out.new (flat_map (shown_line listing.now window marks.now) rows.now) }
 {
     for row in rows {
-        write_shown(out, listing, window, row);
+        write_shown(out, listing, window, marks, row);
     }
 }
 
@@ -205,42 +228,55 @@ fn write_interrupts<W: Write>(out: &mut Sink<'_, W>, window: Window, interrupts:
     }
 }
 
+// What the marks mean, where they are asked for.
+#[tactic(auto, using(rv_text::proofs::Saying::saying), unfolding(crate::specs::TextPicture::mark_legend))]
+fn write_mark_legend<W: Write>(out: &mut Sink<'_, W>, marks: Option<&[Mark]>)
+    ensures { Says W.contents out.old out.new (mark_legend (option_copied marks.entry)) }
+{
+    if marks.is_some() {
+        out.put(b"In lower case, or * in place of = ~ x . : on the critical path\n")
+    }
+}
+
 #[tactic(auto, using(rv_text::proofs::Saying::saying), unfolding(crate::specs::TextPicture::legend_line, crate::specs::TextPicture::text_picture))]
 fn write_picture<W: Write>(
     out: &mut Sink<'_, W>,
     listing: &Listing,
     window: Window,
+    marks: Option<&[Mark]>,
     rows: &[Passage],
     interrupts: &[u64],
 )
     requires { window.first + window.cycles < 2 ^ 64 }
-    ensures { Says W.contents out.old out.new (text_picture rows.now interrupts.now listing.now window) }
+    ensures { Says W.contents out.old out.new (text_picture rows.now interrupts.now (option_copied marks.entry) listing.now window) }
 {
     write_scale(out, window);
-    write_rows(out, listing, window, rows);
+    write_rows(out, listing, window, marks_in(marks), rows);
     write_interrupts(out, window, interrupts);
     write_over(out, b"", window, b"\n");
     out.put(
         b"F fetch  D dispatch  I issue  = execution  ~ wait for the bus  B broadcast  C retirement  T trap  x squash  . wait  ! interrupt\n",
-    )
+    );
+    write_mark_legend(out, marks)
 }
 
 /// Writes a picture for a terminal: a line of cycle numbers, a line for each instruction that shows something in the
 /// window, one for the interrupts if there are any, one that says that the run ended before the window where it did, and a
-/// legend. The window ends below cycle 2^64. Asks for no memory. Fails by `WriteFailed` alone, and what was written is then a
-/// beginning of the picture.
+/// legend. Where there are marks, even none, the letters of marked cells are in lower case, and the legend says so. The window ends
+/// below cycle 2^64. Asks for no memory. Fails by `WriteFailed` alone, and what was written is then a beginning of the picture.
 #[tactic(auto, using(rv_text::proofs::Saying::says_written))]
 pub fn write_picture_text<W: Write>(
     rows: &[Passage],
     interrupts: &[u64],
+    marks: Option<&[Mark]>,
     listing: &Listing,
     window: Window,
     writer: &mut W,
 ) -> Result<(), ReportError>
     requires { window.first + window.cycles < 2 ^ 64 }
-    ensures { IsWritten result (W.contents writer.old) (W.contents writer.new) (text_picture rows.now interrupts.now listing.now window) }
+    ensures { IsWritten result (W.contents writer.old) (W.contents writer.new) (text_picture rows.now interrupts.now (option_copied marks.entry) listing.now window) }
 {
     let mut out = Sink::new(writer);
-    write_picture(&mut out, listing, window, rows, interrupts);
+    write_picture(&mut out, listing, window, marks, rows, interrupts);
     out.outcome()
 }

@@ -1,4 +1,4 @@
-ghost use Rattle.std.specs.Prelude.{◌≡◌, ◌+◌, ◌<◌, ◌^◌, Err};
+ghost use Rattle.std.specs.Prelude.{◌≡◌, ◌+◌, ◌<◌, ◌^◌, Err, option_copied};
 ghost use Rattle.rv_hardware.specs.Guided.{guided};
 ghost use Rattle.rv_passage.specs.Table.{passages_of};
 ghost use Rattle.rv_drawing.specs.Over.{over_of};
@@ -10,7 +10,7 @@ ghost use Rattle.rv_text.specs.Written.{IsWritten};
 use crate::picture::{Form, Rows, RunEnd, View};
 use crate::recording::{Recording, record_window};
 use rv_core::Pipeline;
-use rv_drawing::{write_picture_svg, write_picture_text};
+use rv_drawing::{Mark, write_picture_svg, write_picture_text};
 use rv_front::Predictor;
 use rv_isa::Arrivals;
 use rv_passage::Table;
@@ -21,7 +21,8 @@ use std::io::Write;
 
 /// Runs a pipeline that a predictor guides up to the cycles in view, each with the lines of its number, and then through
 /// these, and writes the picture of them, with the texts of a listing. A breakpoint, a stale word or exhaustion ends the
-/// run; where that is before the cycles in view, none is shown. Answers how the run ended.
+/// run; where that is before the cycles in view, none is shown. With marks the cells that they name are marked. Answers how the
+/// run ended.
 ///
 /// # Errors
 ///
@@ -33,12 +34,13 @@ pub fn write_picture<W: Write>(
     predictor: &mut dyn Predictor,
     arrivals: &Arrivals,
     view: View,
+    marks: Option<&[Mark]>,
     listing: &Listing,
     writer: &mut W,
 ) -> Result<RunEnd, TextError>
-    ensures written { IsText (IsPicture arrivals.now view listing.now (guided pipeline.old (known predictor.old)) (guided pipeline.new (known predictor.new))) result (W.contents writer.old) (W.contents writer.new) }
+    ensures written { IsText (IsPicture arrivals.now view (option_copied marks.entry) listing.now (guided pipeline.old (known predictor.old)) (guided pipeline.new (known predictor.new))) result (W.contents writer.old) (W.contents writer.new) }
     // With a described predictor a picture is a function of what it is a picture of.
-    ensures one_picture { HasOnePicture arrivals.now view listing.now }
+    ensures one_picture { HasOnePicture arrivals.now view (option_copied marks.entry) listing.now }
     ensures run { result ≡ Err TextError.Memory → HasRun arrivals.now (guided pipeline.old (known predictor.old)) (guided pipeline.new (known predictor.new)) }
 {
     let View { from, cycles, .. } = view;
@@ -50,7 +52,7 @@ pub fn write_picture<W: Write>(
     let mut recording = recording;
     choose_rows(view.rows, &mut recording.table);
     let end = end_of(&recording);
-    match write_recording(&recording, view.form, listing, writer) {
+    match write_recording(&recording, view.form, marks, listing, writer) {
         Ok(()) => Ok(end),
         Err(ReportError::WriteFailed) => Err(TextError::WriteFailed),
     }
@@ -77,19 +79,35 @@ fn end_of(recording: &Recording) -> RunEnd
 fn write_recording<W: Write>(
     recording: &Recording,
     form: Form,
+    marks: Option<&[Mark]>,
     listing: &Listing,
     writer: &mut W,
 ) -> Result<(), ReportError>
     requires { recording.now.window.first + recording.now.window.cycles < 2 ^ 64 }
-    ensures { IsWritten result (W.contents writer.old) (W.contents writer.new) (picture_of form (passages_of recording.now.table) recording.now.stalls.items listing.now recording.now.window) }
+    ensures { IsWritten result (W.contents writer.old) (W.contents writer.new) (picture_of form (passages_of recording.now.table) recording.now.stalls.items (option_copied marks.entry) listing.now recording.now.window) }
 {
     let rows = recording.table.rows();
     let interrupts = recording.table.interrupts();
     match form {
-        Form::Text => write_picture_text(rows, interrupts, listing, recording.window, writer),
+        Form::Text => write_picture_text(
+            rows,
+            interrupts,
+            marks,
+            listing,
+            recording.window,
+            writer,
+        ),
         Form::Svg => {
             let stalls = recording.stalls.as_slice();
-            write_picture_svg(rows, interrupts, stalls, listing, recording.window, writer)
+            write_picture_svg(
+                rows,
+                interrupts,
+                stalls,
+                marks,
+                listing,
+                recording.window,
+                writer,
+            )
         }
     }
 }
