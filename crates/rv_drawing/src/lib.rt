@@ -9,6 +9,7 @@ mod columns;
 mod frame;
 mod label;
 mod legend;
+mod mark;
 mod marks;
 mod outcome;
 mod over;
@@ -22,6 +23,7 @@ mod title;
 mod wait;
 mod window;
 
+pub use mark::Mark;
 pub use room::room_name;
 pub use svg::write_picture_svg;
 pub use text::write_picture_text;
