@@ -27,3 +27,6 @@ pub mod Text
 pub mod Lines
 pub mod Ranks
 pub mod Run
+pub mod Marking
+pub mod PathAccount
+pub mod Sentence

