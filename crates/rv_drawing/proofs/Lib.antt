@@ -1,1 +1,2 @@
+mod FewerMarks
 mod SvgRows

@@ -1,4 +1,5 @@
 mod labels;
+mod marked;
 mod places;
 mod rows;
 mod tips;

@@ -85,35 +85,65 @@ fn a_run_has_a_trace_where_the_flag_is_given_once(rt: HostRuntime) -> Result<(),
 fn a_picture_shows_sixty_cycles_from_the_first_on_unless_others_are_asked_for(
     rt: HostRuntime,
 ) -> Result<(), Fail> {
-    const CASES: [(&[&str], bool, bool, u64, u64); 8] = [
-        (&["rv_sim", "picture"], false, false, 0, 60),
-        (&["rv_sim", "picture", "--text"], true, false, 0, 60),
-        (&["rv_sim", "picture", "--retired"], false, true, 0, 60),
+    // The words; whether --text, --retired and --path are given; the first cycle, and how many.
+    const CASES: [(&[&str], [bool; 3], u64, u64); 10] = [
+        (&["rv_sim", "picture"], [false, false, false], 0, 60),
         (
-            &["rv_sim", "picture", "--retired", "--text"],
-            true,
-            true,
+            &["rv_sim", "picture", "--text"],
+            [true, false, false],
             0,
             60,
         ),
-        (&["rv_sim", "picture", "--from", "7"], false, false, 7, 60),
-        (&["rv_sim", "picture", "--cycles", "1"], false, false, 0, 1),
+        (
+            &["rv_sim", "picture", "--retired"],
+            [false, true, false],
+            0,
+            60,
+        ),
+        (
+            &["rv_sim", "picture", "--path"],
+            [false, false, true],
+            0,
+            60,
+        ),
+        (
+            &["rv_sim", "picture", "--retired", "--text"],
+            [true, true, false],
+            0,
+            60,
+        ),
+        (
+            &["rv_sim", "picture", "--path", "--text", "--cycles=3"],
+            [true, false, true],
+            0,
+            3,
+        ),
+        (
+            &["rv_sim", "picture", "--from", "7"],
+            [false, false, false],
+            7,
+            60,
+        ),
+        (
+            &["rv_sim", "picture", "--cycles", "1"],
+            [false, false, false],
+            0,
+            1,
+        ),
         (
             &["rv_sim", "picture", "--cycles=9", "--text", "--from=8"],
-            true,
-            false,
+            [true, false, false],
             8,
             9,
         ),
         (
             &["rv_sim", "picture", "--from=999999", "--cycles=1000"],
-            false,
-            false,
+            [false, false, false],
             999_999,
             1_000,
         ),
     ];
-    const REFUSED: [&[&str]; 8] = [
+    const REFUSED: [&[&str]; 11] = [
         &["rv_sim", "picture", "--from", "1000000"],
         &["rv_sim", "picture", "--from", "-1"],
         &["rv_sim", "picture", "--cycles", "0"],
@@ -121,13 +151,17 @@ fn a_picture_shows_sixty_cycles_from_the_first_on_unless_others_are_asked_for(
         &["rv_sim", "picture", "--limit", "7"],
         &["rv_sim", "picture", "--text", "--text"],
         &["rv_sim", "picture", "--retired", "--retired"],
+        &["rv_sim", "picture", "--path", "--path"],
+        &["rv_sim", "picture", "--path=true"],
         &["rv_sim", "states", "--retired"],
+        &["rv_sim", "page", "--path"],
     ];
     let alloc = rt.alloc();
-    for (texts, text, retired, from, cycles) in &CASES {
+    for (texts, [text, retired, path], from, cycles) in &CASES {
         let asked = Command::Picture {
             text: *text,
             retired: *retired,
+            path: *path,
             from: *from,
             cycles: *cycles,
         };
@@ -193,10 +227,10 @@ pub(super) fn has_a_limit_alone(rt: &impl Abort, alloc: Global, name: &str) -> R
 }
 
 #[test]
-fn a_log_and_a_profile_have_a_limit_and_an_explanation_its_figures_too(
+fn a_log_has_a_limit_and_a_profile_and_an_explanation_have_flags_too(
     rt: HostRuntime,
 ) -> Result<(), Fail> {
-    const CASES: [(&[&str], Command); 8] = [
+    const CASES: [(&[&str], Command); 11] = [
         (&["rv_sim", "log"], Command::Log { limit: 100_000 }),
         (
             &["rv_sim", "log", "--limit", "7"],
@@ -206,6 +240,7 @@ fn a_log_and_a_profile_have_a_limit_and_an_explanation_its_figures_too(
             &["rv_sim", "explain"],
             Command::Explain {
                 figures: false,
+                path: false,
                 limit: 100_000,
             },
         ),
@@ -213,13 +248,46 @@ fn a_log_and_a_profile_have_a_limit_and_an_explanation_its_figures_too(
             &["rv_sim", "explain", "--limit=8", "--figures"],
             Command::Explain {
                 figures: true,
+                path: false,
                 limit: 8,
             },
         ),
-        (&["rv_sim", "profile"], Command::Profile { limit: 100_000 }),
+        (
+            &["rv_sim", "explain", "--path"],
+            Command::Explain {
+                figures: false,
+                path: true,
+                limit: 100_000,
+            },
+        ),
+        (
+            &["rv_sim", "explain", "--path", "--limit=9", "--figures"],
+            Command::Explain {
+                figures: true,
+                path: true,
+                limit: 9,
+            },
+        ),
+        (
+            &["rv_sim", "profile"],
+            Command::Profile {
+                path: false,
+                limit: 100_000,
+            },
+        ),
         (
             &["rv_sim", "profile", "--limit", "6"],
-            Command::Profile { limit: 6 },
+            Command::Profile {
+                path: false,
+                limit: 6,
+            },
+        ),
+        (
+            &["rv_sim", "profile", "--path", "--limit=4"],
+            Command::Profile {
+                path: true,
+                limit: 4,
+            },
         ),
         (&["rv_sim", "path"], Command::Path { limit: 100_000 }),
         (

@@ -49,7 +49,7 @@ fn drawn(rt: &impl Abort, alloc: Global, line: &str) -> String {
     let listing = listing(rt, alloc, &[line]);
     let rows = [fetched(0, 0x8000_0000, Some(0x13), 0)];
     let mut text = Vec::new(alloc);
-    let written = write_picture_text(&rows, &[], &listing, WINDOW, &mut text);
+    let written = write_picture_text(&rows, &[], None, &listing, WINDOW, &mut text);
     assert_eq!(rt; written, Ok(()));
     String::from_utf8(text).expect(rt, "ASCII")
 }

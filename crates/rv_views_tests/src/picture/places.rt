@@ -35,7 +35,7 @@ fn passages() -> [Passage; 42] {
 fn drawn(rt: &impl Abort, alloc: Global) -> String {
     let listing = listing(rt, alloc, &[]);
     let mut text = Vec::new(alloc);
-    let written = write_picture_svg(&passages(), &[], &[], &listing, WINDOW, &mut text);
+    let written = write_picture_svg(&passages(), &[], &[], None, &listing, WINDOW, &mut text);
     assert_eq!(rt; written, Ok(()));
     String::from_utf8(text).expect(rt, "ASCII")
 }
@@ -68,7 +68,7 @@ fn a_sentence_stands_below_the_legend_where_the_run_ended_before_the_window(rt: 
     let alloc = rt.alloc();
     let listing = listing(&rt, alloc, &[]);
     let mut svg = Vec::new(alloc);
-    let written = write_picture_svg(&[], &[], &[], &listing, OVER, &mut svg);
+    let written = write_picture_svg(&[], &[], &[], None, &listing, OVER, &mut svg);
     assert_eq!(&rt; written, Ok(()));
     assert!(&rt; svg.as_slice().ends_with(SENTENCE.as_bytes()));
 }

@@ -7,16 +7,16 @@ use std::process::Abort;
 use std::test::Fail;
 
 // Ten cycles from cycle 10 on.
-const WINDOW: Window = Window {
+pub(crate) const WINDOW: Window = Window {
     first: 10,
     cycles: 10,
     stopped: None,
 };
 
 // The second, third and fourth are those in the window.
-const INTERRUPTS: [u64; 5] = [9, 10, 13, 19, 20];
+pub(crate) const INTERRUPTS: [u64; 5] = [9, 10, 13, 19, 20];
 
-const LINES: [&str; 2] = [
+pub(crate) const LINES: [&str; 2] = [
     "addi\tx1,x0,5",
     "ebreak # stops & \"waits\" <here> for good",
 ];
@@ -49,7 +49,7 @@ pub(crate) fn fetched(number: u64, pc: u32, word: Option<u32>, cycle: u64) -> Pa
 
 // One that left before the window, one that left in its first cycle, one for each ending, two in flight, and one that is fetched
 // after the window.
-fn passages() -> [Passage; 8] {
+pub(crate) fn passages() -> [Passage; 8] {
     let register = Reg::new(1);
     [
         Passage {
@@ -105,14 +105,14 @@ fn an_instruction_whose_stale_word_ended_the_run_is_marked(rt: HostRuntime) {
     let alloc = rt.alloc();
     let listing = listing(&rt, alloc, &LINES);
     let mut text = Vec::new(alloc);
-    let written = write_picture_text(&passages(), &[], &listing, STOPPED, &mut text);
+    let written = write_picture_text(&passages(), &[], None, &listing, STOPPED, &mut text);
     assert_eq!(&rt; written, Ok(()));
     let text = String::from_utf8(text).expect(&rt, "ASCII");
     let row =
         "\n8000000c 00000013                         stale               FDI==~~\n00000000 -                                -  ";
     assert!(&rt; text.contains(row));
     let mut drawn = Vec::new(alloc);
-    let written = write_picture_svg(&passages(), &[], &[], &listing, STOPPED, &mut drawn);
+    let written = write_picture_svg(&passages(), &[], &[], None, &listing, STOPPED, &mut drawn);
     assert_eq!(&rt; written, Ok(()));
     let svg = String::from_utf8(drawn).expect(&rt, "ASCII");
     check_all_shown(&rt, svg.as_str(), &STALE);
@@ -123,7 +123,7 @@ fn each_ending_has_its_letter_and_each_phase_its_own(rt: HostRuntime) {
     let alloc = rt.alloc();
     let listing = listing(&rt, alloc, &LINES);
     let mut text = Vec::new(alloc);
-    let written = write_picture_text(&passages(), &INTERRUPTS, &listing, WINDOW, &mut text);
+    let written = write_picture_text(&passages(), &INTERRUPTS, None, &listing, WINDOW, &mut text);
     assert_eq!(&rt; written, Ok(()));
     assert_eq!(&rt; text.as_slice(), TEXT.as_bytes());
 }
@@ -190,7 +190,15 @@ const STALE: [&str; 3] = [
 fn drawn(rt: &impl Abort, alloc: Global) -> String {
     let listing = listing(rt, alloc, &LINES);
     let mut text = Vec::new(alloc);
-    let written = write_picture_svg(&passages(), &INTERRUPTS, &[], &listing, WINDOW, &mut text);
+    let written = write_picture_svg(
+        &passages(),
+        &INTERRUPTS,
+        &[],
+        None,
+        &listing,
+        WINDOW,
+        &mut text,
+    );
     assert_eq!(rt; written, Ok(()));
     String::from_utf8(text).expect(rt, "ASCII")
 }

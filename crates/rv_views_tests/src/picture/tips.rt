@@ -60,7 +60,7 @@ fn retired(word: u32, next: u32) -> Passage {
 fn drawn(rt: &impl Abort, alloc: Global, rows: &[Passage], stalls: &[Option<Stall>]) -> String {
     let listing = listing(rt, alloc, &[]);
     let mut text = Vec::new(alloc);
-    let written = write_picture_svg(rows, &[], stalls, &listing, WINDOW, &mut text);
+    let written = write_picture_svg(rows, &[], stalls, None, &listing, WINDOW, &mut text);
     assert_eq!(rt; written, Ok(()));
     String::from_utf8(text).expect(rt, "ASCII")
 }

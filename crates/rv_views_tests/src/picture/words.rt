@@ -73,6 +73,7 @@ fn picture_of(
         &mut predictor,
         &arrivals,
         view,
+        None,
         &listing,
         &mut text,
     );

@@ -8,5 +8,6 @@ pub returns : goal.returns
 unfolding box_end
 returns g c =
     let cycle = c.digits-cycle.ensures ∙ ap decimal c.from.ensures in
+    let middle = c.box_middle-middle.ensures in
     let letter = c.letter-letter.ensures in
-    says_same (λ i. box_end (cycle i) (letter i)) c.put_all.ensures
+    says_same (λ i. box_end (cycle i) (middle i) (letter i)) c.put_all.ensures

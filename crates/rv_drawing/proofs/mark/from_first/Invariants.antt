@@ -1,0 +1,10 @@
+use Rattle.std.proofs.Common.{◌≡◌, length}
+use Rattle.rv_drawing.specs.Marked.{is_marked}
+use Rattle.rv_drawing.proofs.mark.from_first.Given as goal
+
+-- what was left out is of other instructions
+abbrev pub invariant-loop-rest : goal.invariant-loop-rest
+invariant-loop-rest l = is_marked l.rest l.number ≡ is_marked l.marks l.number
+
+abbrev pub decreases-loop-rest : goal.decreases-loop-rest
+decreases-loop-rest l = length l.rest

@@ -1,0 +1,123 @@
+use crate::machine::listing;
+use crate::picture::rows::{INTERRUPTS, LINES, WINDOW, passages};
+use rv_drawing::{Mark, write_picture_svg, write_picture_text};
+use std::alloc::Global;
+use std::process::Abort;
+
+fn mark(number: u64, column: u64) -> Mark {
+    Mark { number, column }
+}
+
+// Each phase of the instruction with number 2, a trap with a wait before it, a squash, and what has no cell: a column after the last
+// one of an instruction, an instruction that has no row, and one that there is not. Those of an instruction do not stand together,
+// and one of them stands twice.
+fn marks() -> [Mark; 14] {
+    [
+        mark(0, 0),
+        mark(2, 7),
+        mark(3, 3),
+        mark(2, 0),
+        mark(2, 1),
+        mark(4, 4),
+        mark(2, 2),
+        mark(2, 3),
+        mark(2, 0),
+        mark(8, 5),
+        mark(2, 4),
+        mark(3, 8),
+        mark(2, 5),
+        mark(2, 9),
+    ]
+}
+
+const TEXT: &str = "                                                           10        \n\
+7ffffff8 00000013                         -                x         \n\
+80000000 addi x1,x0,5                     x1/ra=00000005   fdi**b.c  \n\
+80000004 ebreak # stops & \"waits\" <here>  -                 FD*....t \n\
+80000008 0000006f                         -                  F.*     \n\
+8000000c 00000013                         -                   FDI==~~\n\
+00000000 -                                -                         F\n\
+interrupts                                                 !  !     !\n\
+F fetch  D dispatch  I issue  = execution  ~ wait for the bus  B broadcast  C retirement  T trap  x squash  . wait  ! interrupt\n\
+In lower case, or * in place of = ~ x . : on the critical path\n";
+
+#[test]
+fn the_letters_of_the_critical_path_are_in_lower_case(rt: HostRuntime) {
+    let alloc = rt.alloc();
+    let listing = listing(&rt, alloc, &LINES);
+    let marks = marks();
+    let marks = Some(marks.as_slice());
+    let mut text = Vec::new(alloc);
+    let written = write_picture_text(&passages(), &INTERRUPTS, marks, &listing, WINDOW, &mut text);
+    assert_eq!(&rt; written, Ok(()));
+    assert_eq!(&rt; text.as_slice(), TEXT.as_bytes());
+}
+
+// The SVG of the passages in the window, with marks or none.
+fn drawn(rt: &impl Abort, alloc: Global, marks: Option<&[Mark]>) -> String {
+    let listing = listing(rt, alloc, &LINES);
+    let mut text = Vec::new(alloc);
+    let written = write_picture_svg(
+        &passages(),
+        &INTERRUPTS,
+        &[],
+        marks,
+        &listing,
+        WINDOW,
+        &mut text,
+    );
+    assert_eq!(rt; written, Ok(()));
+    String::from_utf8(text).expect(rt, "ASCII")
+}
+
+// A marked box of each letter, two that are not marked beside them, the style and the entry of the legend.
+const SHOWN: [&str; 13] = [
+    "<g class='p f' transform='translate(456 0)'><title>fetch in cycle 10, on the critical path</title><rect width='14' height='18'/><path class='m' d='M2 2H12V16H2Z'/><text x='7' y='13'>F</text></g>\n",
+    "<g class='p d' transform='translate(470 0)'><title>dispatch in cycle 11, on the critical path</title><rect width='14' height='18'/><path class='m' d='M2 2H12V16H2Z'/><text x='7' y='13'>D</text></g>\n",
+    "<g class='p i' transform='translate(484 0)'><title>issue in cycle 12, on the critical path</title><rect width='14' height='18'/><path class='m' d='M2 2H12V16H2Z'/><text x='7' y='13'>I</text></g>\n",
+    "<title>execution in cycle 13, on the critical path</title><rect width='14' height='18'/><path class='m' d='M2 2H12V16H2Z'/><text x='7' y='13'>=</text></g>\n",
+    "<title>wait for the bus in cycle 14, on the critical path</title><rect width='14' height='18'/><path class='m' d='M2 2H12V16H2Z'/><text x='7' y='13'>~</text></g>\n",
+    "<title>broadcast in cycle 15, on the critical path</title><rect width='14' height='18'/><path class='m' d='M2 2H12V16H2Z'/><text x='7' y='13'>B</text></g>\n",
+    "<title>wait for the head in cycle 16</title><rect width='14' height='18'/><text x='7' y='13'>.</text></g>\n",
+    "<title>retirement in cycle 17, on the critical path</title><rect width='14' height='18'/><path class='m' d='M2 2H12V16H2Z'/><text x='7' y='13'>C</text></g>\n",
+    "<title>trap in cycle 18, on the critical path</title><rect width='14' height='18'/><path class='m' d='M2 2H12V16H2Z'/><text x='7' y='13'>T</text></g>\n",
+    "<title>squash in cycle 14, on the critical path</title><rect width='14' height='18'/><path class='m' d='M2 2H12V16H2Z'/><text x='7' y='13'>x</text></g>\n",
+    "<title>fetch in cycle 11</title><rect width='14' height='18'/><text x='7' y='13'>F</text></g>\n",
+    "<g transform='translate(450 44)'><g class='p f'><rect width='14' height='18'/><path class='m' d='M2 2H12V16H2Z'/><text x='7' y='13'>F</text></g><text x='20' y='13'>on the critical path</text></g>\n</g>\n<g transform='translate(0 76)'>\n",
+    "</style>\n<rect class='page' width='100%' height='100%'/>\n<style>\n.m{fill:none;stroke:#000;stroke-width:2}\n.m+text{font-weight:bold}\n.c .m,.t .m,.x .m{stroke:#fff}\n\
+@media (prefers-color-scheme:dark){\n.r .m{stroke:#f0a848}\n.w .m{stroke:#bbb}\n}\n</style>\n<g transform='translate(8 8)'>\n",
+];
+
+// How often a text has another one in it.
+fn count(text: &str, part: &str) -> usize {
+    match text.split_once(part) {
+        Some((_, rest)) => 1 + count(rest, part),
+        None => 0,
+    }
+}
+
+#[test]
+fn the_boxes_of_the_critical_path_have_a_ring_and_the_legend_says_so(rt: HostRuntime) {
+    let marks = marks();
+    let svg = drawn(&rt, rt.alloc(), Some(marks.as_slice()));
+    for part in SHOWN {
+        assert!(&rt; svg.contains(part), "{part}");
+    }
+    // Ten boxes, and the one in the legend.
+    assert_eq!(&rt; count(svg.as_str(), "class='m'"), 11);
+    assert_eq!(&rt; count(svg.as_str(), "on the critical path"), 11);
+}
+
+#[test]
+fn a_picture_that_marks_nothing_has_a_legend_of_the_marks_and_one_with_no_path_none(
+    rt: HostRuntime,
+) {
+    let alloc = rt.alloc();
+    let nothing = drawn(&rt, alloc, Some(&[]));
+    assert_eq!(&rt; count(nothing.as_str(), "class='m'"), 1);
+    assert_eq!(&rt; count(nothing.as_str(), "on the critical path"), 1);
+    let plain = drawn(&rt, alloc, None);
+    for part in ["class='m'", ".m{", ".m+text", "critical"] {
+        assert!(&rt; !plain.contains(part), "{part}");
+    }
+}
