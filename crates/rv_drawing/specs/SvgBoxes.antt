@@ -12,11 +12,11 @@ use Rattle.rv_drawing.specs.declared.{cell.Cell.Cell, window.Window.Window}
 unfoldable pub box_begin : List ℕ → List ℕ → List ℕ
 box_begin class x = codes "<g class='p " ++ (class ++ (codes "' transform='translate(" ++ (x ++ codes " 0)'><title>")))
 
--- between the cycle in the tip of a box and its letter: a marked one says so, and has a ring
+-- between the cycle in the tip of a box and its letter: a marked one says so, and has two rings
 unfoldable pub box_middle : Bool → List ℕ
 box_middle false = codes "</title><rect width='14' height='18'/><text x='7' y='13'>"
 box_middle true =
-    codes ", on the critical path</title><rect width='14' height='18'/><path class='m' d='M2 2H12V16H2Z'/><text x='7' y='13'>"
+    codes ", on the critical path</title><rect width='14' height='18'/><path class='m' d='M1 1H13V17H1Z'/><path class='m' d='M2.5 2.5H11.5V15.5H2.5Z'/><text x='7' y='13'>"
 
 -- the end of a box, from the cycle in its tip on
 unfoldable pub box_end : List ℕ → List ℕ → List ℕ → List ℕ

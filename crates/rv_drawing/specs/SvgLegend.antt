@@ -22,7 +22,7 @@ svg_letters =
 unfoldable pub mark_entry : Option (List Mark) → List ℕ
 mark_entry None = []
 mark_entry (Some marks) =
-    codes "<g transform='translate(450 44)'><g class='p f'><rect width='14' height='18'/><path class='m' d='M2 2H12V16H2Z'/><text x='7' y='13'>F</text></g><text x='20' y='13'>on the critical path</text></g>\n"
+    codes "<g transform='translate(450 44)'><g class='p f'><rect width='14' height='18'/><path class='m' d='M1 1H13V17H1Z'/><path class='m' d='M2.5 2.5H11.5V15.5H2.5Z'/><text x='7' y='13'>F</text></g><text x='20' y='13'>on the critical path</text></g>\n"
 
 -- the legend, and the begin of what stands below
 unfoldable pub svg_legend : Option (List Mark) → List ℕ

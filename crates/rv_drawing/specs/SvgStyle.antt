@@ -52,16 +52,13 @@ svg_style =
     codes "</style>\n" ++ (
     codes "<rect class='page' width='100%' height='100%'/>\n"))))))))))))))))))))))))))))))))))))))))))))
 
--- a ring and a bold letter for the marked cells of a picture that has marks: it has the letter's colour, on both grounds
+-- rings and a bold letter for the marked cells of a picture that has marks: a white one and a black one, of which one is seen on each
+-- colour and on each ground
 unfoldable pub mark_style : Option (List Mark) → List ℕ
 mark_style None = []
 mark_style (Some marks) =
     codes "<style>\n" ++ (
-    codes ".m{fill:none;stroke:#000;stroke-width:2}\n" ++ (
-    codes ".m+text{font-weight:bold}\n" ++ (
-    codes ".c .m,.t .m,.x .m{stroke:#fff}\n" ++ (
-    codes "@media (prefers-color-scheme:dark){\n" ++ (
-    codes ".r .m{stroke:#f0a848}\n" ++ (
-    codes ".w .m{stroke:#bbb}\n" ++ (
-    codes "}\n" ++
-    codes "</style>\n")))))))
+    codes ".m{fill:none;stroke:#fff;stroke-width:1.5}\n" ++ (
+    codes ".m+.m{stroke:#000}\n" ++ (
+    codes ".m+text{font-weight:bold}\n" ++
+    codes "</style>\n")))

@@ -32,13 +32,13 @@ fn write_box_begin<W: Write>(out: &mut Sink<'_, W>, cell: Cell, column: u64)
     ])
 }
 
-// What stands between the cycle of a box and its letter: a marked box has a ring.
+// What stands between the cycle of a box and its letter: a marked box has two rings.
 #[tactic(auto, unfolding(crate::specs::SvgBoxes::box_middle))]
 fn box_middle(is_marked: bool) -> &'static [u8]
     ensures { result.now ≡ box_middle is_marked }
 {
     if is_marked {
-        b", on the critical path</title><rect width='14' height='18'/><path class='m' d='M2 2H12V16H2Z'/><text x='7' y='13'>"
+        b", on the critical path</title><rect width='14' height='18'/><path class='m' d='M1 1H13V17H1Z'/><path class='m' d='M2.5 2.5H11.5V15.5H2.5Z'/><text x='7' y='13'>"
     } else {
         b"</title><rect width='14' height='18'/><text x='7' y='13'>"
     }

@@ -1,4 +1,4 @@
-ghost use Rattle.std.specs.Prelude.{option_copied};
+ghost use Rattle.std.specs.Prelude.{◌≡◌, option_copied};
 ghost use Rattle.rv_drawing.specs.SvgLegend.{mark_entry, svg_legend, svg_letters};
 ghost use Rattle.rv_text.specs.Said.{Says};
 
@@ -28,15 +28,16 @@ fn write_letters<W: Write>(out: &mut Sink<'_, W>)
     )
 }
 
-// The mark, where marks are asked for.
-#[tactic(auto, using(rv_text::proofs::Saying::saying), unfolding(crate::specs::SvgLegend::mark_entry))]
-fn write_mark_entry<W: Write>(out: &mut Sink<'_, W>, marks: Option<&[Mark]>)
-    ensures { Says W.contents out.old out.new (mark_entry (option_copied marks.entry)) }
+// What the legend says of the marks of a picture, where it has some.
+#[tactic(auto, unfolding(crate::specs::SvgLegend::mark_entry))]
+fn mark_entry(marks: Option<&[Mark]>) -> &'static [u8]
+    ensures { result.now ≡ mark_entry (option_copied marks.entry) }
 {
-    if marks.is_some() {
-        out.put(
-            b"<g transform='translate(450 44)'><g class='p f'><rect width='14' height='18'/><path class='m' d='M2 2H12V16H2Z'/><text x='7' y='13'>F</text></g><text x='20' y='13'>on the critical path</text></g>\n",
-        )
+    match marks {
+        Some(_) => {
+            b"<g transform='translate(450 44)'><g class='p f'><rect width='14' height='18'/><path class='m' d='M1 1H13V17H1Z'/><path class='m' d='M2.5 2.5H11.5V15.5H2.5Z'/><text x='7' y='13'>F</text></g><text x='20' y='13'>on the critical path</text></g>\n"
+        }
+        None => b"",
     }
 }
 
@@ -46,6 +47,6 @@ pub(crate) fn write_legend<W: Write>(out: &mut Sink<'_, W>, marks: Option<&[Mark
     ensures { Says W.contents out.old out.new (svg_legend (option_copied marks.entry)) }
 {
     write_letters(out);
-    write_mark_entry(out, marks);
+    out.put(mark_entry(marks));
     out.put(b"</g>\n<g transform='translate(0 76)'>\n")
 }

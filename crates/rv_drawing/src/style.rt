@@ -1,4 +1,4 @@
-ghost use Rattle.std.specs.Prelude.{option_copied};
+ghost use Rattle.std.specs.Prelude.{◌≡◌, option_copied};
 ghost use Rattle.rv_drawing.specs.SvgStyle.{mark_style, svg_style};
 ghost use Rattle.rv_text.specs.Said.{Says};
 
@@ -61,23 +61,20 @@ text{fill:#e4e4e4}
     )
 }
 
-/// Writes how marked cells look, where marks are asked for.
-#[tactic(auto, using(rv_text::proofs::Saying::saying), unfolding(crate::specs::SvgStyle::mark_style))]
-pub(crate) fn write_mark_style<W: Write>(out: &mut Sink<'_, W>, marks: Option<&[Mark]>)
-    ensures { Says W.contents out.old out.new (mark_style (option_copied marks.entry)) }
+/// The rings and the bold letter of the marked cells of a picture, where it has marks.
+#[tactic(auto, unfolding(crate::specs::SvgStyle::mark_style))]
+pub(crate) fn mark_style(marks: Option<&[Mark]>) -> &'static [u8]
+    ensures { result.now ≡ mark_style (option_copied marks.entry) }
 {
-    if marks.is_some() {
-        out.put(
+    match marks {
+        Some(_) => {
             b"<style>
-.m{fill:none;stroke:#000;stroke-width:2}
+.m{fill:none;stroke:#fff;stroke-width:1.5}
+.m+.m{stroke:#000}
 .m+text{font-weight:bold}
-.c .m,.t .m,.x .m{stroke:#fff}
-@media (prefers-color-scheme:dark){
-.r .m{stroke:#f0a848}
-.w .m{stroke:#bbb}
-}
 </style>
-",
-        )
+"
+        }
+        None => b"",
     }
 }

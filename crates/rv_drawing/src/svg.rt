@@ -19,7 +19,7 @@ use crate::marks::{write_interrupts, write_numbers_again};
 use crate::outcome::write_outcome;
 use crate::over::write_over;
 use crate::place::{column_x, digits, row_y};
-use crate::style::{write_mark_style, write_style};
+use crate::style::{mark_style, write_style};
 use crate::title::write_row_end;
 use crate::window::Window;
 use arrayvec::ArrayVec;
@@ -202,7 +202,7 @@ fn write_shown<W: Write>(
 {
     write_begin(out, window.cycles, shown);
     write_style(out);
-    write_mark_style(out, marks);
+    out.put(mark_style(marks));
     write_legend(out, marks);
     write_columns(out, window, Columns::Tenths { rows: shown });
     write_rows(out, listing, window, rows, stalls, marks_in(marks));
@@ -230,7 +230,7 @@ fn write_picture<W: Write>(
 
 /// Writes a picture as an SVG: a legend on top, cycle numbers, a row for each instruction that shows something in the window,
 /// with a box for each cell, and a line for each interrupt. `stalls` has what the oldest fetched word waited for in each cycle of
-/// the window in which nothing was dispatched. Where there are marks, even none, marked boxes have a ring, and the legend says so.
+/// the window in which nothing was dispatched. Where there are marks, even none, marked boxes have rings, and the legend says so.
 /// The window ends below cycle 2^64. Asks for no memory. Fails by `WriteFailed` alone, and what was written is then a beginning of
 /// the picture.
 #[tactic(auto, using(rv_text::proofs::Saying::says_written))]

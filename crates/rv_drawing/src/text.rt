@@ -228,13 +228,14 @@ fn write_interrupts<W: Write>(out: &mut Sink<'_, W>, window: Window, interrupts:
     }
 }
 
-// What the marks mean, where they are asked for.
-#[tactic(auto, using(rv_text::proofs::Saying::saying), unfolding(crate::specs::TextPicture::mark_legend))]
-fn write_mark_legend<W: Write>(out: &mut Sink<'_, W>, marks: Option<&[Mark]>)
-    ensures { Says W.contents out.old out.new (mark_legend (option_copied marks.entry)) }
+// What the legend says of the marks of a picture, where it has some.
+#[tactic(auto, unfolding(crate::specs::TextPicture::mark_legend))]
+fn mark_legend(marks: Option<&[Mark]>) -> &'static [u8]
+    ensures { result.now ≡ mark_legend (option_copied marks.entry) }
 {
-    if marks.is_some() {
-        out.put(b"In lower case, or * in place of = ~ x . : on the critical path\n")
+    match marks {
+        Some(_) => b"In lower case, or * in place of = ~ x . : on the critical path\n",
+        None => b"",
     }
 }
 
@@ -257,7 +258,7 @@ fn write_picture<W: Write>(
     out.put(
         b"F fetch  D dispatch  I issue  = execution  ~ wait for the bus  B broadcast  C retirement  T trap  x squash  . wait  ! interrupt\n",
     );
-    write_mark_legend(out, marks)
+    out.put(mark_legend(marks))
 }
 
 /// Writes a picture for a terminal: a line of cycle numbers, a line for each instruction that shows something in the

@@ -86,59 +86,63 @@ fn a_picture_shows_sixty_cycles_from_the_first_on_unless_others_are_asked_for(
     rt: HostRuntime,
 ) -> Result<(), Fail> {
     // The words; whether --text, --retired and --path are given; the first cycle, and how many.
-    const CASES: [(&[&str], [bool; 3], u64, u64); 10] = [
-        (&["rv_sim", "picture"], [false, false, false], 0, 60),
-        (
-            &["rv_sim", "picture", "--text"],
-            [true, false, false],
-            0,
-            60,
-        ),
+    const CASES: [(&[&str], bool, bool, bool, u64, u64); 10] = [
+        (&["rv_sim", "picture"], false, false, false, 0, 60),
+        (&["rv_sim", "picture", "--text"], true, false, false, 0, 60),
         (
             &["rv_sim", "picture", "--retired"],
-            [false, true, false],
+            false,
+            true,
+            false,
             0,
             60,
         ),
-        (
-            &["rv_sim", "picture", "--path"],
-            [false, false, true],
-            0,
-            60,
-        ),
+        (&["rv_sim", "picture", "--path"], false, false, true, 0, 60),
         (
             &["rv_sim", "picture", "--retired", "--text"],
-            [true, true, false],
+            true,
+            true,
+            false,
             0,
             60,
         ),
         (
             &["rv_sim", "picture", "--path", "--text", "--cycles=3"],
-            [true, false, true],
+            true,
+            false,
+            true,
             0,
             3,
         ),
         (
             &["rv_sim", "picture", "--from", "7"],
-            [false, false, false],
+            false,
+            false,
+            false,
             7,
             60,
         ),
         (
             &["rv_sim", "picture", "--cycles", "1"],
-            [false, false, false],
+            false,
+            false,
+            false,
             0,
             1,
         ),
         (
             &["rv_sim", "picture", "--cycles=9", "--text", "--from=8"],
-            [true, false, false],
+            true,
+            false,
+            false,
             8,
             9,
         ),
         (
             &["rv_sim", "picture", "--from=999999", "--cycles=1000"],
-            [false, false, false],
+            false,
+            false,
+            false,
             999_999,
             1_000,
         ),
@@ -157,7 +161,7 @@ fn a_picture_shows_sixty_cycles_from_the_first_on_unless_others_are_asked_for(
         &["rv_sim", "page", "--path"],
     ];
     let alloc = rt.alloc();
-    for (texts, [text, retired, path], from, cycles) in &CASES {
+    for (texts, text, retired, path, from, cycles) in &CASES {
         let asked = Command::Picture {
             text: *text,
             retired: *retired,

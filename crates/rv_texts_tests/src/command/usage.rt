@@ -109,6 +109,7 @@ Usage: rv_sim picture [OPTIONS]
 Options:
       --text        Draws in characters, and not as SVG
       --retired     Leaves out the rows of squashed instructions
+      --path        Marks the critical path, by a second run
       --from <N>    The first cycle, 0 to 999999 [default: 0]
       --cycles <N>  How many cycles, 1 to 1000 [default: 60]
   -h, --help        Print help
@@ -192,6 +193,7 @@ Usage: rv_sim explain [OPTIONS]
 
 Options:
       --figures    After a crash says too where the cycles went
+      --path       Says too what is on the critical path, by a second run
       --limit <N>  The most cycles, 1 to 1000000 [default: 100000]
   -h, --help       Print help
 ",
@@ -204,6 +206,7 @@ const HELP_OF_PROFILE: &str = help_of_run!(
 Usage: rv_sim profile [OPTIONS]
 
 Options:
+      --path       Adds each line's cycles on the critical path, by a second run
       --limit <N>  The most cycles, 1 to 1000000 [default: 100000]
   -h, --help       Print help
 ",

@@ -72,40 +72,41 @@ fn drawn(rt: &impl Abort, alloc: Global, marks: Option<&[Mark]>) -> String {
 
 // A marked box of each letter, two that are not marked beside them, the style and the entry of the legend.
 const SHOWN: [&str; 13] = [
-    "<g class='p f' transform='translate(456 0)'><title>fetch in cycle 10, on the critical path</title><rect width='14' height='18'/><path class='m' d='M2 2H12V16H2Z'/><text x='7' y='13'>F</text></g>\n",
-    "<g class='p d' transform='translate(470 0)'><title>dispatch in cycle 11, on the critical path</title><rect width='14' height='18'/><path class='m' d='M2 2H12V16H2Z'/><text x='7' y='13'>D</text></g>\n",
-    "<g class='p i' transform='translate(484 0)'><title>issue in cycle 12, on the critical path</title><rect width='14' height='18'/><path class='m' d='M2 2H12V16H2Z'/><text x='7' y='13'>I</text></g>\n",
-    "<title>execution in cycle 13, on the critical path</title><rect width='14' height='18'/><path class='m' d='M2 2H12V16H2Z'/><text x='7' y='13'>=</text></g>\n",
-    "<title>wait for the bus in cycle 14, on the critical path</title><rect width='14' height='18'/><path class='m' d='M2 2H12V16H2Z'/><text x='7' y='13'>~</text></g>\n",
-    "<title>broadcast in cycle 15, on the critical path</title><rect width='14' height='18'/><path class='m' d='M2 2H12V16H2Z'/><text x='7' y='13'>B</text></g>\n",
+    "<g class='p f' transform='translate(456 0)'><title>fetch in cycle 10, on the critical path</title><rect width='14' height='18'/><path class='m' d='M1 1H13V17H1Z'/><path class='m' d='M2.5 2.5H11.5V15.5H2.5Z'/><text x='7' y='13'>F</text></g>\n",
+    "<g class='p d' transform='translate(470 0)'><title>dispatch in cycle 11, on the critical path</title><rect width='14' height='18'/><path class='m' d='M1 1H13V17H1Z'/><path class='m' d='M2.5 2.5H11.5V15.5H2.5Z'/><text x='7' y='13'>D</text></g>\n",
+    "<g class='p i' transform='translate(484 0)'><title>issue in cycle 12, on the critical path</title><rect width='14' height='18'/><path class='m' d='M1 1H13V17H1Z'/><path class='m' d='M2.5 2.5H11.5V15.5H2.5Z'/><text x='7' y='13'>I</text></g>\n",
+    "<title>execution in cycle 13, on the critical path</title><rect width='14' height='18'/><path class='m' d='M1 1H13V17H1Z'/><path class='m' d='M2.5 2.5H11.5V15.5H2.5Z'/><text x='7' y='13'>=</text></g>\n",
+    "<title>wait for the bus in cycle 14, on the critical path</title><rect width='14' height='18'/><path class='m' d='M1 1H13V17H1Z'/><path class='m' d='M2.5 2.5H11.5V15.5H2.5Z'/><text x='7' y='13'>~</text></g>\n",
+    "<title>broadcast in cycle 15, on the critical path</title><rect width='14' height='18'/><path class='m' d='M1 1H13V17H1Z'/><path class='m' d='M2.5 2.5H11.5V15.5H2.5Z'/><text x='7' y='13'>B</text></g>\n",
     "<title>wait for the head in cycle 16</title><rect width='14' height='18'/><text x='7' y='13'>.</text></g>\n",
-    "<title>retirement in cycle 17, on the critical path</title><rect width='14' height='18'/><path class='m' d='M2 2H12V16H2Z'/><text x='7' y='13'>C</text></g>\n",
-    "<title>trap in cycle 18, on the critical path</title><rect width='14' height='18'/><path class='m' d='M2 2H12V16H2Z'/><text x='7' y='13'>T</text></g>\n",
-    "<title>squash in cycle 14, on the critical path</title><rect width='14' height='18'/><path class='m' d='M2 2H12V16H2Z'/><text x='7' y='13'>x</text></g>\n",
+    "<title>retirement in cycle 17, on the critical path</title><rect width='14' height='18'/><path class='m' d='M1 1H13V17H1Z'/><path class='m' d='M2.5 2.5H11.5V15.5H2.5Z'/><text x='7' y='13'>C</text></g>\n",
+    "<title>trap in cycle 18, on the critical path</title><rect width='14' height='18'/><path class='m' d='M1 1H13V17H1Z'/><path class='m' d='M2.5 2.5H11.5V15.5H2.5Z'/><text x='7' y='13'>T</text></g>\n",
+    "<title>squash in cycle 14, on the critical path</title><rect width='14' height='18'/><path class='m' d='M1 1H13V17H1Z'/><path class='m' d='M2.5 2.5H11.5V15.5H2.5Z'/><text x='7' y='13'>x</text></g>\n",
     "<title>fetch in cycle 11</title><rect width='14' height='18'/><text x='7' y='13'>F</text></g>\n",
-    "<g transform='translate(450 44)'><g class='p f'><rect width='14' height='18'/><path class='m' d='M2 2H12V16H2Z'/><text x='7' y='13'>F</text></g><text x='20' y='13'>on the critical path</text></g>\n</g>\n<g transform='translate(0 76)'>\n",
-    "</style>\n<rect class='page' width='100%' height='100%'/>\n<style>\n.m{fill:none;stroke:#000;stroke-width:2}\n.m+text{font-weight:bold}\n.c .m,.t .m,.x .m{stroke:#fff}\n\
-@media (prefers-color-scheme:dark){\n.r .m{stroke:#f0a848}\n.w .m{stroke:#bbb}\n}\n</style>\n<g transform='translate(8 8)'>\n",
+    "<g transform='translate(450 44)'><g class='p f'><rect width='14' height='18'/><path class='m' d='M1 1H13V17H1Z'/><path class='m' d='M2.5 2.5H11.5V15.5H2.5Z'/><text x='7' y='13'>F</text></g><text x='20' y='13'>on the critical path</text></g>\n</g>\n<g transform='translate(0 76)'>\n",
+    "</style>\n<rect class='page' width='100%' height='100%'/>\n<style>\n.m{fill:none;stroke:#fff;stroke-width:1.5}\n.m+.m{stroke:#000}\n.m+text{font-weight:bold}\n</style>\n<g transform='translate(8 8)'>\n",
 ];
 
-// How often a text has another one in it.
-fn count(text: &str, part: &str) -> usize {
-    match text.split_once(part) {
-        Some((_, rest)) => 1 + count(rest, part),
-        None => 0,
+// A text has another one in it so often.
+fn check_count(rt: &impl Abort, text: &str, part: &str, count: usize) {
+    let mut rest = text;
+    for _ in 0..count {
+        let (_, after) = rest.split_once(part).expect(rt, part);
+        rest = after;
     }
+    assert!(rt; !rest.contains(part), "{part}");
 }
 
 #[test]
-fn the_boxes_of_the_critical_path_have_a_ring_and_the_legend_says_so(rt: HostRuntime) {
+fn the_boxes_of_the_critical_path_have_rings_and_the_legend_says_so(rt: HostRuntime) {
     let marks = marks();
     let svg = drawn(&rt, rt.alloc(), Some(marks.as_slice()));
     for part in SHOWN {
         assert!(&rt; svg.contains(part), "{part}");
     }
-    // Ten boxes, and the one in the legend.
-    assert_eq!(&rt; count(svg.as_str(), "class='m'"), 11);
-    assert_eq!(&rt; count(svg.as_str(), "on the critical path"), 11);
+    // Ten boxes, and the one in the legend, each with two rings.
+    check_count(&rt, svg.as_str(), "class='m'", 22);
+    check_count(&rt, svg.as_str(), "on the critical path", 11);
 }
 
 #[test]
@@ -114,8 +115,8 @@ fn a_picture_that_marks_nothing_has_a_legend_of_the_marks_and_one_with_no_path_n
 ) {
     let alloc = rt.alloc();
     let nothing = drawn(&rt, alloc, Some(&[]));
-    assert_eq!(&rt; count(nothing.as_str(), "class='m'"), 1);
-    assert_eq!(&rt; count(nothing.as_str(), "on the critical path"), 1);
+    check_count(&rt, nothing.as_str(), "class='m'", 2);
+    check_count(&rt, nothing.as_str(), "on the critical path", 1);
     let plain = drawn(&rt, alloc, None);
     for part in ["class='m'", ".m{", ".m+text", "critical"] {
         assert!(&rt; !plain.contains(part), "{part}");
