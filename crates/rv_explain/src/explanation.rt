@@ -1,4 +1,4 @@
-ghost use Rattle.std.specs.Prelude.{◌≡◌, ◌*◌, ◌≤◌, ◌<◌, ◌^◌, Err, List, [], sum, IfOk, option_copied};
+ghost use Rattle.std.specs.Prelude.{◌≡◌, ◌*◌, ◌++◌, ◌≤◌, ◌<◌, ◌^◌, Err, List, [], sum, IfOk, option_copied};
 ghost use Rattle.rv_explain.specs.Explanation.{HasOneExplanation, IsExplanation, cost_text, cycle_text, explanation, lead_text, path_text, told_text, untaken_lines, whole_text};
 ghost use Rattle.rv_hardware.specs.Guided.{guided};
 ghost use Rattle.rv_hardware.specs.Hardware.{Hardware};
@@ -161,10 +161,21 @@ fn write_whole<W: Write>(
     write_costs(out, listing, progress, fetched, tale);
 }
 
-// The sentences on a run that ended, or on a crash that stands alone.
-#[tactic(auto, unfolding(crate::specs::Explanation::told_text))]
+// The sentences on a path, where one is shown.
+#[tactic(auto, using(rv_text::proofs::Saying::saying), unfolding(crate::specs::Explanation::path_text))]
+fn write_path<W: Write>(out: &mut Sink<'_, W>, path: Option<&PathAccount>, listing: &Listing)
+    ensures { Says W.contents out.old out.new (path_text listing.now (option_copied path.entry)) }
+{
+    if let Some(path) = path {
+        path.write_sentences(out, listing);
+    }
+}
+
+// The sentences on a path, where one is shown, and then those on a run that ended, or on a crash that stands alone.
+#[tactic(auto, using(rv_text::proofs::Saying::saying), unfolding(crate::specs::Explanation::told_text))]
 fn write_sentences<W: Write>(
     out: &mut Sink<'_, W>,
+    path: Option<&PathAccount>,
     crash: Option<Exception>,
     listing: &Listing,
     stop: Stop,
@@ -179,26 +190,17 @@ fn write_sentences<W: Write>(
     requires stays { all_stays tale.old.stays < 2 ^ 64 }
     requires awaited { sum tale.old.awaited.words < 2 ^ 64 }
     requires places { progress.now.cycles * pipeline.now.values.dispatch_width < 2 ^ 64 }
-    ensures { Says W.contents out.old out.new (told_text crash listing.now stop pipeline.now progress.now fetched tale.old) }
+    ensures { Says W.contents out.old out.new (path_text listing.now (option_copied path.entry) ++ told_text crash listing.now stop pipeline.now progress.now fetched tale.old) }
 {
+    write_path(out, path, listing);
     match crash {
         Some(crash) => write_crash(out, listing, &crash, &tale.interrupts),
         None => write_whole(out, listing, stop, pipeline, progress, fetched, tale),
     }
 }
 
-// The sentences on a path, where one is shown.
-#[tactic(auto, using(rv_text::proofs::Saying::saying), unfolding(crate::specs::Explanation::path_text))]
-fn write_path<W: Write>(out: &mut Sink<'_, W>, path: Option<&PathAccount>, listing: &Listing)
-    ensures { Says W.contents out.old out.new (path_text listing.now (option_copied path.entry)) }
-{
-    if let Some(path) = path {
-        path.write_sentences(out, listing);
-    }
-}
-
 // Writes the sentences on a path, where one is shown, and on a run that ended.
-#[tactic(auto, using(rv_text::proofs::Saying::saying, rv_text::proofs::Saying::says_written))]
+#[tactic(auto, using(rv_text::proofs::Saying::says_written))]
 fn write_told<W: Write>(
     writer: &mut W,
     figures: Figures,
@@ -220,9 +222,8 @@ fn write_told<W: Write>(
 {
     let crash = lone_crash(figures, stop, tale.exceptions.all());
     let mut out = Sink::new(writer);
-    write_path(&mut out, path, listing);
     write_sentences(
-        &mut out, crash, listing, stop, pipeline, progress, fetched, tale,
+        &mut out, path, crash, listing, stop, pipeline, progress, fetched, tale,
     );
     out.outcome()
 }

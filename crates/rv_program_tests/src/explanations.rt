@@ -69,6 +69,29 @@ fn a_run_is_explained_with_the_lines_of_its_program(rt: HostRuntime) {
     assert!(rt; ended.errors.is_empty());
 }
 
+// Each of the four waits of the addition has one of the five cycles.
+const ON_THE_PATH: &[u8] = b"\
+On the critical path, 20.0 % of the cycles: front end, most at 80000000, line 1: addi x1,x0,5
+On the critical path, 20.0 % of the cycles: dispatch to issue, most at 80000000, line 1: addi x1,x0,5
+On the critical path, 20.0 % of the cycles: execution: alu, most at 80000000, line 1: addi x1,x0,5
+";
+
+#[test]
+fn the_critical_path_is_told_first_where_that_is_asked_for(rt: HostRuntime) {
+    let explain = Command::Explain {
+        figures: true,
+        path: true,
+        limit: 100,
+    };
+    let ended = run_text(rt.alloc(), explain, ADDITION);
+    let output = ended.output.as_slice();
+    assert_eq!(rt; ended.status, 0);
+    assert!(rt; output.starts_with(ON_THE_PATH));
+    assert!(rt; output.ends_with(SENTENCES));
+    assert_eq!(rt; output.len(), ON_THE_PATH.len() + SENTENCES.len());
+    assert!(rt; ended.errors.is_empty());
+}
+
 const REFUSED: &[u8] = b"\
 line 4 of the job, line 2 of its assembly: BadOperands
     jal x1, 4

@@ -28,6 +28,33 @@ fn the_cycles_in_view_are_shown_with_the_lines_of_the_program(rt: HostRuntime) {
     assert!(rt; ended.errors.is_empty());
 }
 
+// The same cycles: the events of the addition lead to its retirement, the last one up to the end of the picture.
+const THREE_MARKED: &[u8] = b"\
+\x20                                                            \x20
+80000000 addi x1,x0,5                     x1/ra=00000005   ibc
+80000004 ebreak                           -                D..
+80000008 00000000                         -                FD.
+8000000c 00000000                         -                 FD
+80000010 00000000                         -                  F
+F fetch  D dispatch  I issue  = execution  ~ wait for the bus  B broadcast  C retirement  T trap  x squash  . wait  ! interrupt
+In lower case, or * in place of = ~ x . : on the critical path
+";
+
+#[test]
+fn the_critical_path_is_marked_where_that_is_asked_for(rt: HostRuntime) {
+    let three = Command::Picture {
+        text: true,
+        retired: false,
+        path: true,
+        from: 2,
+        cycles: 3,
+    };
+    let ended = run_text(rt.alloc(), three, ADDITION);
+    assert_eq!(rt; ended.status, 0);
+    assert!(rt; ended.output.as_slice() == THREE_MARKED);
+    assert!(rt; ended.errors.is_empty());
+}
+
 // The run ends in cycle 5.
 const AFTER_THE_END: &[u8] = b"\
 \x20                                                         \x20
