@@ -9,14 +9,19 @@ mod Forgotten
 mod Leavings
 mod Lives
 mod Lookups
+mod MarkedRun
 mod Meetings
 mod Moves
 mod News
 mod Nothing
+mod Numbers
+pub mod OneAccount
+pub mod OneMarking
 pub mod OnePath
 mod Passing
 mod Pathing
 mod Queued
+mod Unmarked
 mod Waits
 mod Walks
 mod Windows

@@ -38,7 +38,7 @@ leads_kept cycles root = record {
 }
 
 -- some events before others, which come the other way round
-with-reverse : (made events : List Event) → with_events made events ≡ reverse made ++ events
+pub with-reverse : (made events : List Event) → with_events made events ≡ reverse made ++ events
 with-reverse [] events = refl
 with-reverse (event ∷ made) events =
     with-reverse made (event ∷ events) ∙ sym (append_assoc (reverse made) (event ∷ []) events)

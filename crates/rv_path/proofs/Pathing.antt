@@ -97,22 +97,27 @@ followed_on path path' cycle k on followed made_is =
       passes = record { ways = pass.ways; holds = pass.holds; before = pass.before };
     }
 
+-- what is known with one more cycle
+pub known-shown : {seen : Watched} {cycle : ShownCycle} (next : IsNextCycle seen cycle) (path : Path) → IsOnPath path seen
+    → known_shown cycle (known_of_path path (known_of seen.first.hardware (cycles_seen seen)).events)
+    ≡ known_of seen.first.hardware (cycles_seen (with_shown seen next.shown))
+known-shown {seen = seen} {cycle = cycle} next path on =
+    let shown = next.shown in
+    let after = cycle.pipeline.now in
+    let first = seen.first.hardware in
+    let elapsed = ap (λ (p : Progress). p.cycles - 1) shown.progress_is in
+    (λ i. known_in (setting_in (shown.number i) (elapsed i) (next.rows_are i) after (on.known i)) (on.known i).ways (on.known i).events
+    (shown.steps_are i) after)
+    ∙ sym (fold-append known_after (known_at first) (cycles_seen seen) (cycle_shown seen shown ∷ []))
+    ∙ ap (known_of first) (sym (cycles_seen-push seen shown))
+
 -- one more cycle
 pub pathing_on : {seen : Watched} {cycle : ShownCycle} (next : IsNextCycle seen cycle) (path path' : Path) → IsOnPath path seen
     → ((events : List Event) → known_of_path path' (with_events (made_shown cycle (known_of_path path events)) events) ≡ known_shown cycle (known_of_path path events))
     → IsFollowed (made_shown cycle (known_of_path path [])) path.window path'.window → IsOnPath path' (with_shown seen next.shown)
 pathing_on {seen = seen} {cycle = cycle} next path path' on followed made_is =
-    let shown = next.shown in
-    let after = cycle.pipeline.now in
-    let first = seen.first.hardware in
-    let k = known_of first (cycles_seen seen) in
-    let elapsed = ap (λ (p : Progress). p.cycles - 1) shown.progress_is in
-    let same : known_shown cycle (known_of_path path k.events) ≡ known_of first (cycles_seen (with_shown seen shown)) =
-    (λ i. known_in (setting_in (shown.number i) (elapsed i) (next.rows_are i) after (on.known i)) (on.known i).ways (on.known i).events
-    (shown.steps_are i) after)
-    ∙ sym (fold-append known_after (known_at first) (cycles_seen seen) (cycle_shown seen shown ∷ []))
-    ∙ ap (known_of first) (sym (cycles_seen-push seen shown)) in
-    subst (IsKnown path') same (followed_on path path' cycle k on followed made_is)
+    let k = known_of seen.first.hardware (cycles_seen seen) in
+    subst (IsKnown path') (known-shown next path on) (followed_on path path' cycle k on followed made_is)
 
 -- the account of the run
 pub accounted_run : {arrivals : List Arrival} {limit : ℕ} {old new : GuidedHardware} {moments : List Moment} {stop : Stop} {progress : Progress} (path : Path) (account : Accounted)

@@ -27,6 +27,8 @@ pub mod Text
 pub mod Lines
 pub mod Ranks
 pub mod Run
+pub mod Numbering
 pub mod Marking
+pub mod WindowFrom
 pub mod PathAccount
 pub mod Sentence

@@ -1,6 +1,6 @@
 -- The marks of a window of cycles of a run: the events of instructions in it that are on the path to the run's last retirement, trap or
 -- interrupt.
-use Rattle.std.specs.Prelude.{◌≡◌, ℕ, ◌+◌, ◌-◌, ◌^◌, ◌≤◌, ◌&&◌, nat_le, nat_lt, Bool, true, false, List, count_by, filter, length, map, take}
+use Rattle.std.specs.Prelude.{◌≡◌, ℕ, ◌+◌, ◌-◌, ◌^◌, ◌≤◌, ◌&&◌, nat_le, Bool, true, false, List, filter, length, map, take}
 use Rattle.rv_isa.specs.declared.lines.Arrival.{Arrival}
 use Rattle.rv_arch.specs.declared.outcome.Stop.{Stop}
 use Rattle.rv_drawing.specs.declared.mark.Mark.{Mark}
@@ -10,8 +10,9 @@ use Rattle.rv_hardware.specs.Guided.{GuidedHardware, guided}
 use Rattle.rv_hardware.specs.Hardware.{Hardware}
 use Rattle.rv_hardware.specs.History.{Moment}
 use Rattle.rv_passage.specs.EndedRun.{IsEndedRun}
-use Rattle.rv_passage.specs.Table.{Passages, still_open}
+use Rattle.rv_passage.specs.Table.{still_open}
 use Rattle.rv_passage.specs.Walk.{passages_after, walk}
+use Rattle.rv_path.specs.Numbering.{number_in}
 use Rattle.rv_path.specs.Path.{known_of, path_of}
 use Rattle.rv_path.specs.declared.{event.Event.Event, point.Stage.Stage}
 use Rattle.rv_path.specs.declared.point.Stage.TheVariants as stage
@@ -29,22 +30,18 @@ is_of_instruction _ = false
 abbrev pub is_marked : ℕ → Event → Bool
 is_marked from event = is_of_instruction event.at.stage && nat_le from event.cycle
 
--- A picture numbers its instructions from 0 on: how many are older of those that are in flight when the window begins, and of those that are
--- fetched from then on.
-abbrev pub number_in : Passages → ℕ → ℕ
-number_in kept number = count_by (λ p. nat_lt p.number number) kept.rows + (number - kept.fetched)
-
-abbrev pub mark_of : ℕ → Passages → Event → Mark
-mark_of from kept event = record { number = number_in kept event.at.number; column = event.cycle - from }
+-- the mark of one, by the number of its instruction in the picture
+abbrev pub mark_of : ℕ → (ℕ → ℕ) → Event → Mark
+mark_of from number event = record { number = number event.at.number; column = event.cycle - from }
 
 -- the marks of a path
-abbrev pub marks_of : ℕ → Passages → List Event → List Mark
-marks_of from kept path = map (mark_of from kept) (filter (is_marked from) path)
+abbrev pub marks_of : ℕ → (ℕ → ℕ) → List Event → List Mark
+marks_of from number path = map (mark_of from number) (filter (is_marked from) path)
 
 -- those of the path of a run, the newest event first, in the window behind so many cycles
 abbrev pub marks_of_run : ℕ → Hardware → List Moment → List Mark
 marks_of_run from first moments =
-    marks_of from (passages_after still_open first (take from moments))
+    marks_of from (number_in (passages_after still_open first (take from moments)))
     (path_of (length moments) (known_of first (walk still_open first moments)))
 
 -- marks are those of the path of a run that ended, in the window of so many cycles behind others

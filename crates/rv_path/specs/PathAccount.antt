@@ -1,5 +1,6 @@
 -- The account of a run's path, and the cycles that a word of the program has on it.
-use Rattle.std.specs.Prelude.{◌≡◌, ℕ, ◌+◌, ◌^◌, ◌≤◌, ◌==◌, if◌then◌else◌, List, [], ◌∷◌}
+use Rattle.std.specs.Prelude.{◌≡◌, ℕ, ◌+◌, ◌^◌, ◌≤◌, ◌==◌, List, Option, Some, None}
+use Rattle.std.specs.List.{find}
 use Rattle.rv_isa.specs.declared.lines.Arrival.{Arrival}
 use Rattle.rv_arch.specs.declared.outcome.Stop.{Stop}
 use Rattle.rv_front.specs.Predictors.{guide_of}
@@ -22,7 +23,11 @@ HasOneAccount arrivals limit =
     IsPathAccount arrivals limit (guided h (guide_of predictor)) new account → IsPathAccount arrivals limit (guided h (guide_of predictor)) new' account' →
     account ≡ account'
 
--- the cycles on account of the word at an address, of some words
+-- the cycles of a word, if there is one
+abbrev pub cycles_if : Option WordCycles → ℕ
+cycles_if None = 0
+cycles_if (Some word) = word.cycles
+
+-- those on account of the word at an address, of some words
 abbrev pub cycles_at : ℕ → List WordCycles → ℕ
-cycles_at address [] = 0
-cycles_at address (word ∷ words) = if word.address == address then word.cycles else cycles_at address words
+cycles_at address words = cycles_if (find (λ word. word.address == address) words)

@@ -2,6 +2,7 @@ ghost use Rattle.std.specs.Prelude.{IfOk};
 ghost use Rattle.rv_hardware.specs.Guided.{guided};
 ghost use Rattle.rv_path.specs.Marking.{HasOneMarking, IsMarked};
 
+use crate::marking::run_marked;
 use rv_core::Pipeline;
 use rv_drawing::Mark;
 use rv_front::Predictor;
@@ -25,5 +26,5 @@ pub fn path_marks(
     // With a described predictor the marks are a function of what they are of.
     ensures one_marking { HasOneMarking arrivals.now from cycles }
 {
-    Err(AllocError)
+    run_marked(alloc, pipeline, predictor, arrivals, from, cycles)
 }

@@ -1,4 +1,4 @@
-ghost use Rattle.std.specs.Prelude.{◌≡◌, ◌+◌, ◌<◌, ◌^◌, ◌≤◌, [], length, replicate, vec_capacity, IfOk, IfSome};
+ghost use Rattle.std.specs.Prelude.{◌≡◌, ◌+◌, ◌<◌, ◌^◌, ◌≤◌, [], length, replicate, vec_capacity, IfOk, IfSome, IsTrue};
 ghost use Rattle.rv_path.specs.Event.{nothing_yet};
 ghost use Rattle.rv_path.specs.Path.{AreForgotten, end_of, still_in_flight};
 ghost use Rattle.rv_path.specs.Way.{way_from};
@@ -57,7 +57,7 @@ impl Path {
     ghost use Rattle.rv_path.specs.Event.{with_events};
     ghost use Rattle.rv_path.specs.Setting.{last_left};
     ghost use Rattle.rv_path.specs.Walk.{path_to};
-    ghost use Rattle.rv_path.specs.Window.{HasRoomForEvents, IsWindow, Passes, accounted};
+    ghost use Rattle.rv_path.specs.Window.{HasRoomForEvents, IsWindow, Passes, accounted, kept_events};
     ghost use Rattle.rv_path.specs.Path.{known_at, with_fetched};
     ghost use Rattle.rv_path.specs.declared.event.Event.{Event};
 
@@ -107,6 +107,38 @@ impl Path {
         self.next.reserve(MOST_IN_CYCLE)?;
         self.holds.reserve(MOST_IN_CYCLE)?;
         self.make_window_room()
+    }
+
+    // The same, which drops no event.
+    fn make_room_for_all(&mut self) -> Result<(), AllocError>
+        ensures same { (events : List Event) → known_of_path self.new events ≡ known_of_path self.old events }
+        ensures kept { ArePathsKept self.old self.new }
+        ensures all { self.new.window.events.items ≡ self.old.window.events.items }
+        ensures room { IfOk result (λ done. HasRoom self.new) }
+    {
+        self.ways.reserve(MOST_IN_CYCLE)?;
+        self.next.reserve(MOST_IN_CYCLE)?;
+        self.holds.reserve(MOST_IN_CYCLE)?;
+        let more = self.ways.len() - self.dropped + MOST_BESIDE;
+        if self.window.has_room(more) {
+            return Ok(());
+        }
+        self.window.reserve(more)
+    }
+
+    /// Makes room for what a further cycle may add, and drops no event where all are kept. The only error is out of memory, which changes
+    /// nothing that is known.
+    pub(crate) fn make_room_keeping(&mut self, keeps_all: bool) -> Result<(), AllocError>
+        ensures same { (events : List Event) → known_of_path self.new events ≡ known_of_path self.old events }
+        ensures kept { ArePathsKept self.old self.new }
+        ensures all { IsTrue keeps_all → self.new.window.events.items ≡ self.old.window.events.items }
+        ensures room { IfOk result (λ done. HasRoom self.new) }
+    {
+        if keeps_all {
+            self.make_room_for_all()
+        } else {
+            self.make_room()
+        }
     }
 
     // Makes room for the events of a further cycle.
@@ -271,6 +303,23 @@ impl Path {
             live: _,
         } = self;
         window.into_account(&end_of(cycles, &before))
+    }
+
+    /// The path to the last event of the cycles so far, as far as it lies in the window, the newest event first. The only error is out of
+    /// memory.
+    pub(crate) fn into_path(self) -> Result<Vec<Event>, AllocError>
+        ensures { IfOk result (λ path. path.items ≡ path_to (kept_events self.window) (Some (last_left self.before.left).at)) }
+    {
+        let Path {
+            ways: _,
+            dropped: _,
+            next: _,
+            holds: _,
+            before,
+            window,
+            live: _,
+        } = self;
+        window.into_path(Some(last_left(&before.left).at))
     }
 }
 

@@ -24,7 +24,7 @@ fn cycles_of(cause: Cause, word: &WordCycles) -> u64
 
 // Of no word it has none.
 fn most_cycles(cause: Cause, most: Option<&WordCycles>) -> u64
-    ensures { result ≡ most_cycles cause (option_copied most) }
+    ensures { result ≡ most_cycles cause (option_copied most.entry) }
 {
     match most {
         Some(word) => cycles_of(cause, word),
@@ -48,7 +48,7 @@ fn most_of(cause: Cause, words: &[WordCycles]) -> Option<&WordCycles>
 // Writes the place of that word, if there is one.
 #[tactic(auto, using(rv_text::proofs::Saying::saying), unfolding(crate::specs::Sentence::most_text))]
 fn write_most<W: Write>(out: &mut Sink<'_, W>, listing: &Listing, most: Option<&WordCycles>)
-    ensures { Says W.contents out.old out.new (most_text listing.now (option_copied most)) }
+    ensures { Says W.contents out.old out.new (most_text listing.now (option_copied most.entry)) }
 {
     match most {
         Some(word) => {

@@ -1,7 +1,7 @@
 ghost use Rattle.std.specs.Prelude.{◌≡◌, ◌+◌, ◌≤◌, ◌∷◌, [], List, drop, length, reverse, slice_get, take, vec_capacity, ℕ, IfOk, IsTrue, OnErr, OnOk, Option, Some};
 ghost use Rattle.rv_path.specs.Account.{account_of};
 ghost use Rattle.rv_path.specs.Walk.{path_to};
-ghost use Rattle.rv_path.specs.Window.{AllPass, AreAlike, AreSameButAccount, HasRoomFor, HasRoomForEvents, IsMoved, IsWindow, Passes, account_at, account_to, accounted};
+ghost use Rattle.rv_path.specs.Window.{AllPass, AreAlike, AreSameButAccount, HasRoomFor, HasRoomForEvents, IsMoved, IsWindow, Passes, account_at, account_to, accounted, kept_events};
 ghost use Rattle.rv_path.specs.declared.{point.Point.Point, event.Event.Event};
 
 use crate::account::Account;
@@ -114,8 +114,8 @@ impl Window {
         Ok(())
     }
 
-    // Makes room for so many events, and for as many as there are.
-    fn reserve(&mut self, events: usize) -> Result<(), AllocError>
+    /// Makes room for so many events, and for as many as there are. The only error is out of memory, which changes nothing.
+    pub(crate) fn reserve(&mut self, events: usize) -> Result<(), AllocError>
         ensures alike { AreAlike self.old self.new }
         ensures room { OnOk result (HasRoomForEvents events self.new) }
     {
@@ -160,5 +160,22 @@ impl Window {
         let mut account = account;
         account.add(end);
         Ok(account)
+    }
+
+    /// The path to a point, as far as it lies in the window, the newest event first. The only error is out of memory.
+    pub(crate) fn into_path(self, wanted: Option<Point>) -> Result<Vec<Event>, AllocError>
+        ensures { IfOk result (λ path. path.items ≡ path_to (kept_events self) wanted) }
+    {
+        let Window {
+            events,
+            root: _,
+            account: _,
+            path,
+        } = self;
+        let mut path = path;
+        path.clear();
+        path.reserve(events.len())?;
+        walk(events.as_slice(), wanted, &mut path);
+        Ok(path)
     }
 }

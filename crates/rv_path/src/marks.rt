@@ -1,0 +1,65 @@
+ghost use Rattle.std.specs.Prelude.{◌≡◌, ◌+◌, ◌<◌, ◌≤◌, ◌++◌, ◌∷◌, [], length, vec_capacity, IfOk};
+ghost use Rattle.rv_path.specs.Marking.{is_marked, is_of_instruction, mark_of, marks_of};
+ghost use Rattle.rv_path.specs.Numbering.{number_by};
+
+use crate::event::Event;
+use crate::numbering::Numbering;
+use crate::point::Stage;
+use rv_drawing::Mark;
+use std::alloc::{AllocError, Global};
+
+// Whether an event is one of an instruction, and not of the hardware beside it.
+fn is_of_instruction(stage: Stage) -> bool
+    ensures { result ≡ is_of_instruction stage }
+{
+    matches!(
+        stage,
+        Stage::Fetch | Stage::Dispatch | Stage::Issue | Stage::Broadcast | Stage::Commit
+    )
+}
+
+// Whether an event is marked in the window behind so many cycles.
+fn is_marked(from: u64, event: &Event) -> bool
+    ensures { result ≡ is_marked from event.now }
+{
+    is_of_instruction(event.at.stage) && from <= event.cycle
+}
+
+// The mark of an event.
+fn mark_of(from: u64, numbering: &Numbering, event: &Event) -> Mark
+    ensures { result ≡ mark_of from (number_by numbering.now.numbers.items numbering.now.fetched) event.now }
+{
+    Mark {
+        number: numbering.number_of(event.at.number),
+        column: event.cycle.saturating_sub(from),
+    }
+}
+
+// Appends the mark of an event, if it is marked.
+fn push_mark(from: u64, numbering: &Numbering, event: &Event, marks: &mut Vec<Mark>)
+    requires room { length marks.old.items < vec_capacity marks.old }
+    ensures items { marks.new.items ≡ marks.old.items ++ marks_of from (number_by numbering.now.numbers.items numbering.now.fetched) (event.now ∷ []) }
+    ensures few { length marks.new.items ≤ length marks.old.items + 1 }
+    ensures capacity { vec_capacity marks.old ≤ vec_capacity marks.new }
+{
+    if is_marked(from, event) {
+        marks.push(mark_of(from, numbering, event)).unwrap();
+    }
+}
+
+/// The marks of a path in the window behind so many cycles. The only error is out of memory.
+#[tactic(auto, using(crate::proofs::Unmarked::marks_append))]
+pub(crate) fn marks_of(
+    alloc: Global,
+    from: u64,
+    numbering: &Numbering,
+    path: &[Event],
+) -> Result<Vec<Mark>, AllocError>
+    ensures { IfOk result (λ marks. marks.items ≡ marks_of from (number_by numbering.now.numbers.items numbering.now.fetched) path.now) }
+{
+    let mut marks = Vec::with_capacity(alloc, path.len())?;
+    for event in path {
+        push_mark(from, numbering, event, &mut marks);
+    }
+    Ok(marks)
+}
