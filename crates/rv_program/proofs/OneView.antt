@@ -74,7 +74,7 @@ module _ (listed : ListedJob) (predictor : DescribedPredictor) where
       let (account', asked', shows', none') = is'.shows in
       let found = account_once listed.job limit path account' account within asked' asked in
       let same = one_explanation listed.job.arrivals limit figures listed.job.description account listed.listing (hardware_of listed.job) predictor is.end is'.end ended.stop ended'.stop text text' (omega (arith, within)) shows
-          (subst (λ a. IsExplanation listed.job.arrivals limit figures listed.job.description a listed.listing _ is'.end ended'.stop text') found shows') in
+      (subst (λ a. IsExplanation listed.job.arrivals limit figures listed.job.description a listed.listing _ is'.end ended'.stop text') found shows') in
       (whole same.0 none none', same.1)
 
   profile_once : (path : Bool) (limit : ℕ) → limit ≤ 2 ^ 40 → IsAtMostOne (IsViewOf listed (guide_of predictor) (Profile path limit))
@@ -83,7 +83,7 @@ module _ (listed : ListedJob) (predictor : DescribedPredictor) where
       let (account', asked', shows', none') = is'.shows in
       let found = account_once listed.job limit path account' account within asked' asked in
       let same = one_profile listed.job.arrivals limit listed.job.description account listed.listing (hardware_of listed.job) predictor is.end is'.end ended.stop ended'.stop text text' (omega (arith, within)) shows
-          (subst (λ a. IsProfile listed.job.arrivals limit listed.job.description a listed.listing _ is'.end ended'.stop text') found shows') in
+      (subst (λ a. IsProfile listed.job.arrivals limit listed.job.description a listed.listing _ is'.end ended'.stop text') found shows') in
       (whole same.0 none none', same.1)
 
   path_once : (limit : ℕ) → limit ≤ 2 ^ 40 → IsAtMostOne (IsViewOf listed (guide_of predictor) (Path limit))

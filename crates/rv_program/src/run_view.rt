@@ -43,9 +43,14 @@ pub struct Stretch {
 pub enum RunView {
     /// The picture of the cycles of a view, with marks on the events of the critical path where `path` says so. Where the run
     /// ends before the view begins, no cycle is shown.
-    Picture { view: View, path: bool },
+    Picture {
+        view: View,
+        path: bool,
+    },
     /// The log of at most so many cycles, in Konata's format.
-    Log { limit: u64 },
+    Log {
+        limit: u64,
+    },
     /// The states of the cycles of a stretch, line by line; as a page with a viewer around them. Where the run ends before
     /// the stretch begins, no cycle is written.
     States(Stretch),
@@ -57,9 +62,14 @@ pub enum RunView {
     },
     /// A table of what became of the instructions at each address in at most so many cycles, with a column of the critical
     /// path where `path` says so.
-    Profile { path: bool, limit: u64 },
+    Profile {
+        path: bool,
+        limit: u64,
+    },
     /// The critical path of at most so many cycles.
-    Path { limit: u64 },
+    Path {
+        limit: u64,
+    },
 }
 
 // How the run of any view but a picture ended.
