@@ -32,13 +32,10 @@ pub fn kind_of_word(instruction: Option<Instr>) -> Option<Kind>
 fn is_of_kind(kind: Kind, found: Option<Kind>) -> bool
     ensures { result ≡ is_of_kind kind found }
 {
-    matches!(
-        (kind, found),
-        (Kind::Alu, Some(Kind::Alu))
-            | (Kind::Mul, Some(Kind::Mul))
-            | (Kind::Div, Some(Kind::Div))
-            | (Kind::Mem, Some(Kind::Mem))
-    )
+    match found {
+        Some(found) => kind == found,
+        None => false,
+    }
 }
 
 fn is_stationed(kind: Kind, entry: &Entry) -> bool

@@ -8,8 +8,12 @@ pub fn up_to_youngest_left(rows: &[Passage]) -> &[Passage]
     ensures kept { IsUpToYoungestLeft rows.now result.now }
     ensures few { length result.now ≤ length rows.now }
 {
-    match rows {
-        [older @ .., row] if row.is_in_flight() => up_to_youngest_left(older),
-        _ => rows,
+    let mut left = rows;
+    while let Some((row, older)) = left.split_last() {
+        if !row.is_in_flight() {
+            return left;
+        }
+        left = older;
     }
+    left
 }

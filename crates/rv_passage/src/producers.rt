@@ -34,6 +34,7 @@ impl Producer {
     ghost use Rattle.rv_passage.specs.Producers.{followed_in};
 
     // Follows the producer among the older instructions to the end of a later cycle.
+    #[inline(always)]
     fn follow(&mut self, older: &[Passage])
         ensures { self.new ≡ followed_in older.now self.old }
     {
@@ -44,6 +45,7 @@ impl Producer {
 }
 
 // Follows a producer, if there is one.
+#[inline(always)]
 fn follow_in(producer: &mut Option<Producer>, older: &[Passage])
     ensures { producer.new ≡ option_map (followed_in older.now) producer.old }
 {
@@ -62,6 +64,7 @@ impl Producers {
     };
 
     // Follows all of them among the older instructions to the end of a later cycle.
+    #[inline(always)]
     fn follow(&mut self, older: &[Passage])
         ensures { self.new ≡ all_followed_in older.now self.old }
     {
@@ -96,6 +99,7 @@ fn is_to_come(row: &Passage) -> bool
     kind_of(&row.instruction).is_some() && row.broadcast.is_none()
 }
 
+#[inline(never)]
 fn broadcast_among(older: &[Passage], number: u64) -> Option<u64>
     ensures { result ≡ broadcast_among older.now number }
 {

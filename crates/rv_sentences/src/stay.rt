@@ -1,6 +1,6 @@
 ghost use Rattle.std.specs.Prelude.{◌≡◌};
 ghost use Rattle.rv_isa.specs.Instruction.{is_load, is_store};
-ghost use Rattle.rv_sentences.specs.Stay.{awaited, awaited_word, came_before, dispatched_stay, first_awaited, lacks_address, load_stay, operand_stay, ready_stay, station_stay, stay_in};
+ghost use Rattle.rv_sentences.specs.Stay.{awaited, awaited_word, came_before, dispatched_stay, first_awaited, lacks_address, load_stay, ready_stay, station_stay, stay_in};
 
 use rv_counts::kind_of_word;
 use rv_isa::{Instr, Kind};
@@ -97,16 +97,6 @@ fn ready_stay(has_unit: bool, has_addresses: bool, kind: Kind, passage: &Passage
     }
 }
 
-// What one waits for that may lack an operand.
-fn operand_stay(ready: Stay, awaited: Option<u32>) -> Stay
-    ensures { result ≡ operand_stay ready awaited }
-{
-    match awaited {
-        Some(pc) => Stay::Operand(pc),
-        None => ready,
-    }
-}
-
 // What one waits for that was not issued.
 fn station_stay(
     cycle: u64,
@@ -118,10 +108,10 @@ fn station_stay(
     ensures { result ≡ station_stay cycle has_unit has_addresses kind passage.now }
 {
     match kind {
-        Some(kind) => operand_stay(
-            ready_stay(has_unit, has_addresses, kind, passage),
-            first_awaited(cycle, &passage.producers),
-        ),
+        Some(kind) => match first_awaited(cycle, &passage.producers) {
+            Some(pc) => Stay::Operand(pc),
+            None => ready_stay(has_unit, has_addresses, kind, passage),
+        },
         None => Stay::Retirement,
     }
 }
