@@ -1,7 +1,7 @@
 -- The instructions up to the youngest that left the hardware, from the youngest of all on.
-use Rattle.std.proofs.Common.{◌≡◌, ◌∙◌, zero, suc, ◌-◌, ◌≤◌, true, false, List, [], ◌∷◌, ◌++◌, length, Some, MatchOption, refl, sym, ap, subst, arith, append_assoc, append-nil, length-append}
+use Rattle.std.proofs.Common.{◌≡◌, ◌∙◌, ℕ, zero, suc, ◌+◌, ◌-◌, ◌<◌, ◌≤◌, true, false, List, [], ◌∷◌, ◌++◌, length, take, get_or, Some, MatchOption, refl, sym, ap, subst, arith, append_assoc, append-nil}
 use Rattle.std.specs.List.{AllPass, slice_get}
-use Rattle.std.proofs.lemmas.List.{length_push}
+use Rattle.std.proofs.lemmas.List.{length_push, take_all, take_more}
 use Rattle.std.proofs.lemmas.List.Elements.{All-append}
 use Rattle.rv_passage.specs.Left.{IsUpToYoungestLeft}
 use Rattle.rv_passage.specs.Passage.{is_in_flight}
@@ -21,11 +21,12 @@ last_of : (before : List Passage) (p : Passage) → slice_get (before ++ p ∷ [
 last_of [] p = refl
 last_of (q ∷ before) p = last_of before p
 
-pub none_behind : (rows : List Passage) → AreInFlightBehind rows rows
-none_behind rows = record { others = []; rows_are = sym (append-nil rows); in_flight = λ k d within. absurd (omega (arith, within)) }
-
-pub few_left : (rows left : List Passage) → AreInFlightBehind rows left → length left ≤ length rows
-few_left rows left behind = omega (arith, ap length behind.rows_are, length-append left behind.others)
+pub none_behind : (rows : List Passage) → AreInFlightBehind rows (take (length rows) rows)
+none_behind rows = record {
+  others = [];
+  rows_are = sym (append-nil (take (length rows) rows) ∙ take_all (length rows) rows (omega arith));
+  in_flight = λ k d within. absurd (omega (arith, within));
+}
 
 pub none_left : (rows left : List Passage) → left ≡ [] → AreInFlightBehind rows left → IsUpToYoungestLeft rows left
 none_left rows left none behind = record {
@@ -37,7 +38,7 @@ none_left rows left none behind = record {
 
 module _ (rows left before : List Passage) (p : Passage) (last : left ≡ before ++ p ∷ []) (behind : AreInFlightBehind rows left) where
   -- the last one is in flight
-  pub one_more_behind : is_in_flight p ≡ true → AreInFlightBehind rows before
+  one_more_behind : is_in_flight p ≡ true → AreInFlightBehind rows before
   one_more_behind flies = record {
     others = p ∷ behind.others;
     rows_are = behind.rows_are ∙ ap (λ l. l ++ behind.others) last ∙ append_assoc before (p ∷ []) behind.others;
@@ -45,7 +46,7 @@ module _ (rows left before : List Passage) (p : Passage) (last : left ≡ before
   }
 
   -- the last one left
-  pub left_here : is_in_flight p ≡ false → IsUpToYoungestLeft rows left
+  left_here : is_in_flight p ≡ false → IsUpToYoungestLeft rows left
   left_here ended =
       let place : length left - 1 ≡ length before = omega (arith, ap length last, length_push before p) in
       let there : slice_get left (length left - 1) ≡ Some p = (λ i. slice_get (last i) (place i)) ∙ last_of before p in
@@ -55,3 +56,18 @@ module _ (rows left before : List Passage) (p : Passage) (last : left ≡ before
         in_flight = behind.in_flight;
         youngest = subst (λ o. MatchOption o (left ≡ []) (λ q. is_in_flight q ≡ false)) (sym there) ended;
       }
+
+-- the one before a count
+module _ (rows : List Passage) (count : ℕ) (p : Passage) (some : 0 < count) (within : count ≤ length rows) (read : p ≡ get_or rows (count - 1) p) (behind : AreInFlightBehind rows (take count rows)) where
+  last_taken : take count rows ≡ take (count - 1) rows ++ p ∷ []
+  last_taken =
+      let one_more : count ≡ count - 1 + 1 = omega (arith, some) in
+      ap (λ n. take n rows) one_more
+      ∙ take_more rows (count - 1) p (omega (arith, some, within))
+      ∙ ap (λ q. take (count - 1) rows ++ q ∷ []) (sym read)
+
+  pub flying_before : is_in_flight p ≡ true → AreInFlightBehind rows (take (count - 1) rows)
+  flying_before flies = one_more_behind rows (take count rows) (take (count - 1) rows) p last_taken behind flies
+
+  pub left_before : is_in_flight p ≡ false → IsUpToYoungestLeft rows (take count rows)
+  left_before ended = left_here rows (take count rows) (take (count - 1) rows) p last_taken behind ended
