@@ -55,13 +55,23 @@ fn follow_in(producer: &mut Option<Producer>, older: &[Passage])
 }
 
 impl Producers {
-    ghost use Rattle.rv_passage.specs.Producers.{all_followed_in};
+    ghost use Rattle.rv_passage.specs.Producers.{all_followed_in, nothing_awaited};
 
     /// No result is waited for.
     pub const NONE: Producers = Producers {
         first: None,
         second: None,
     };
+
+    // None is waited for any more. Most that are not dispatched wait for none.
+    #[inline(always)]
+    fn clear(&mut self)
+        ensures { self.new ≡ nothing_awaited }
+    {
+        if self.first.is_some() || self.second.is_some() {
+            *self = Producers::NONE;
+        }
+    }
 
     // Follows all of them among the older instructions to the end of a later cycle.
     #[inline(always)]
@@ -247,7 +257,7 @@ impl Passage {
         if self.dispatched.is_some() {
             self.producers.follow(older);
         } else {
-            self.producers = Producers::NONE;
+            self.producers.clear();
         }
         self.pc = fetched.pc;
         self.word = fetched.word;
