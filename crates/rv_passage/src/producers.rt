@@ -55,7 +55,8 @@ fn follow_in(producer: &mut Option<Producer>, older: &[Passage])
 }
 
 impl Producers {
-    ghost use Rattle.rv_passage.specs.Producers.{all_followed_in, nothing_awaited};
+    ghost use Rattle.rv_passage.specs.Producers.{all_followed_in};
+    ghost use Rattle.rv_passage.specs.Passage.{nothing_awaited};
 
     /// No result is waited for.
     pub const NONE: Producers = Producers {
