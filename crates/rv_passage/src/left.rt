@@ -3,7 +3,8 @@ ghost use Rattle.rv_passage.specs.Left.{IsUpToYoungestLeft};
 
 use crate::passage::Passage;
 
-// How many they are.
+// How many they are. A loop of its own keeps no other pointers.
+#[inline(never)]
 fn count_to_youngest_left(rows: &[Passage]) -> usize
     ensures kept { IsUpToYoungestLeft rows.now (take result rows.now) }
     ensures few { result ≤ length rows.now }

@@ -1,5 +1,5 @@
 -- The instructions from a place on stay as those after the older ones do.
-use Rattle.std.proofs.Common.{◌≡◌, ◌∙◌, ℕ, ◌+◌, ◌<◌, ◌≤◌, ◌&&◌, Bool, true, false, not, List, [], ◌∷◌, ◌++◌, length, take, drop, get_or, refl, ap, sym, arith}
+use Rattle.std.proofs.Common.{◌≡◌, ◌∙◌, ℕ, ◌+◌, ◌<◌, ◌≤◌, ◌&&◌, Bool, true, false, not, List, [], ◌∷◌, ◌++◌, length, take, drop, get_or, refl, ap, sym}
 use Rattle.std.proofs.lemmas.List.{drop_all, drop_more, take_more}
 use Rattle.rv_passage.specs.declared.passage.Passage.{Passage}
 use Rattle.rv_sentences.specs.Stay.{awaited_word, have_addresses, lacks_address, stay_in, stays_among, with_awaited, with_stay, with_stays}
