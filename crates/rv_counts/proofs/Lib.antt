@@ -9,4 +9,5 @@ pub mod OneProfile
 pub mod LossReasons
 pub mod PlacesGrow
 pub mod PlacesOfCycle
-pub mod SoughtCounts
+pub mod FoundCounts
+mod SerialWords

@@ -7,5 +7,5 @@ pub mod Profile
 pub mod Following
 pub mod Head
 pub mod Left
-pub mod Sought
+pub mod Found
 pub mod Places

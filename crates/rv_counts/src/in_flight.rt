@@ -1,21 +1,22 @@
-ghost use Rattle.std.specs.Prelude.{◌≡◌, ◌+◌, ◌<◌, ◌≤◌, ◌^◌, if◌then◌else◌, Some, count_by, length, option_copied, slice_get};
+ghost use Rattle.std.specs.Prelude.{◌≡◌, ◌+◌, ◌<◌, ◌≤◌, ◌^◌, if◌then◌else◌, Some, length, option_copied, slice_get};
 ghost use Rattle.rv_hardware.specs.Dispatch.{is_stationed};
 ghost use Rattle.rv_isa.specs.Instruction.{is_of_kind, kind_of_word};
-ghost use Rattle.rv_counts.specs.Sought.{is_sought};
+ghost use Rattle.rv_counts.specs.Found.{count_serialising, count_stationed};
+ghost use Rattle.rv_counts.specs.Places.{dispatched_in};
 
 use crate::place_uses::is_serialising;
 use rv_isa::{Instr, Kind, kind};
 use rv_rob::{Entry, Rob, Stage};
 
-/// A sort of instructions in the reorder buffer.
+/// How many instructions in the reorder buffer are of three sorts.
 #[derive(Clone, Copy)]
-pub enum Sought {
+pub(crate) struct Found {
     /// Those that were dispatched in a cycle.
-    Dispatched(u64),
+    pub(crate) dispatched: usize,
     /// Those that wait to be the oldest, with nothing younger beside them.
-    Serialising,
+    pub(crate) serialising: usize,
     /// Those in the stations of a kind.
-    Stationed(Kind),
+    pub(crate) stationed: usize,
 }
 
 /// The kind of unit that an instruction uses, None where there is none.
@@ -31,29 +32,16 @@ pub fn kind_of_word(instruction: Option<Instr>) -> Option<Kind>
 fn is_of_kind(kind: Kind, found: Option<Kind>) -> bool
     ensures { result ≡ is_of_kind kind found }
 {
-    matches!(
-        (kind, found),
-        (Kind::Alu, Some(Kind::Alu))
-            | (Kind::Mul, Some(Kind::Mul))
-            | (Kind::Div, Some(Kind::Div))
-            | (Kind::Mem, Some(Kind::Mem))
-    )
+    match found {
+        Some(found) => kind == found,
+        None => false,
+    }
 }
 
 fn is_stationed(kind: Kind, entry: &Entry) -> bool
     ensures { result ≡ is_stationed kind entry.now }
 {
     matches!(entry.stage, Stage::Waiting) && is_of_kind(kind, kind_of_word(entry.instruction))
-}
-
-fn is_sought(sought: Sought, entry: &Entry) -> bool
-    ensures { result ≡ is_sought sought entry.now }
-{
-    match sought {
-        Sought::Dispatched(cycle) => entry.dispatched == cycle,
-        Sought::Serialising => is_serialising(entry.instruction),
-        Sought::Stationed(kind) => is_stationed(kind, entry),
-    }
 }
 
 // What stands at a place of the reorder buffer, the oldest at place 0.
@@ -66,12 +54,12 @@ fn found_at(buffer: &Rob, place: usize) -> Option<&Entry>
 }
 
 // The entry there.
-fn entry_at(buffer: &Rob, place: usize) -> Entry
+fn entry_at(buffer: &Rob, place: usize) -> &Entry
     requires { place < length buffer.now.entries }
-    ensures { slice_get buffer.now.entries place ≡ Some result }
+    ensures { slice_get buffer.now.entries place ≡ Some result.now }
 {
     match found_at(buffer, place) {
-        Some(entry) => *entry,
+        Some(entry) => entry,
         None => unreachable!(),
     }
 }
@@ -84,16 +72,41 @@ fn one_more(is: bool, count: usize) -> usize
     if is { count + 1 } else { count }
 }
 
-/// How many instructions in the reorder buffer are of a sort.
-pub fn count_sought(buffer: &Rob, sought: Sought) -> usize
-    ensures counted { result ≡ count_by (is_sought sought) buffer.now.entries }
+/// How many instructions in the reorder buffer were dispatched in a cycle.
+pub(crate) fn count_dispatched(buffer: &Rob, cycle: u64) -> usize
+    ensures counted { result ≡ dispatched_in cycle buffer.now }
     ensures few { result ≤ length buffer.now.entries }
 {
-    let mut found = 0;
+    let mut dispatched = 0;
+    for place in 0..buffer.len() {
+        let is_new = entry_at(buffer, place).dispatched == cycle;
+        dispatched = one_more(is_new, dispatched);
+    }
+    dispatched
+}
+
+/// The same, and in the same walk how many are serialising, and how many are in the stations of a kind.
+pub(crate) fn count_found(buffer: &Rob, cycle: u64, kind: Kind) -> Found
+    ensures dispatched { result.dispatched ≡ dispatched_in cycle buffer.now }
+    ensures serialising { result.serialising ≡ count_serialising buffer.now }
+    ensures stationed { result.stationed ≡ count_stationed kind buffer.now }
+    ensures few { result.dispatched ≤ length buffer.now.entries }
+{
+    let mut dispatched = 0;
+    let mut serialising = 0;
+    let mut stationed = 0;
     for place in 0..buffer.len() {
         let entry = entry_at(buffer, place);
-        let is = is_sought(sought, &entry);
-        found = one_more(is, found);
+        let is_new = entry.dispatched == cycle;
+        let is_serial = is_serialising(entry.instruction);
+        let is_waiting = is_stationed(kind, entry);
+        dispatched = one_more(is_new, dispatched);
+        serialising = one_more(is_serial, serialising);
+        stationed = one_more(is_waiting, stationed);
     }
-    found
+    Found {
+        dispatched,
+        serialising,
+        stationed,
+    }
 }

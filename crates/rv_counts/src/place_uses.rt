@@ -1,5 +1,6 @@
 ghost use Rattle.std.specs.Prelude.{◌≡◌, count_by};
 ghost use Rattle.rv_hardware.specs.Step.{is_retirement, is_trap};
+ghost use Rattle.rv_decode.specs.Decodes.{instruction_of};
 ghost use Rattle.rv_isa.specs.Instruction.{is_serialising};
 ghost use Rattle.rv_counts.specs.Places.{flush_by, flush_of};
 
@@ -44,13 +45,29 @@ pub fn is_serialising(instruction: Option<Instr>) -> bool
     )
 }
 
+// Unprivileged ISA 20191213, 24: the opcodes of fence.i, and of CSR instructions and mret.
+const MISC_MEM: u32 = 0b000_1111;
+
+const SYSTEM: u32 = 0b111_0011;
+
+// Whether a word is serialising. One with another opcode is not decoded: most are no such instruction.
+fn is_serialising_word(word: u32) -> bool
+    ensures { result ≡ is_serialising (instruction_of word) }
+{
+    let opcode = word & 0x7f;
+    if opcode != MISC_MEM && opcode != SYSTEM {
+        return false;
+    }
+    is_serialising(decode(word))
+}
+
 // What squashes the instructions after a step.
 fn flush_by(step: &Step) -> Flush
     ensures { result ≡ flush_by step.now }
 {
     match *step {
         Step::Retired(row) => {
-            if is_serialising(decode(row.word)) {
+            if is_serialising_word(row.word) {
                 Flush::Serialising
             } else {
                 Flush::Prediction

@@ -1,40 +1,73 @@
 -- The instructions up to the youngest that left the hardware, from the youngest of all on.
-use Rattle.std.proofs.Common.{◌≡◌, ◌∙◌, zero, suc, ◌+◌, ◌-◌, ◌<◌, true, false, List, [], ◌∷◌, ◌++◌, length, take, get_or, MatchOption, sym, ap, subst, arith, append_assoc, append-nil}
-use Rattle.std.specs.List.{AllPass}
-use Rattle.std.proofs.lemmas.List.{take_more, take_all}
+use Rattle.std.proofs.Common.{◌≡◌, ◌∙◌, ℕ, zero, suc, ◌+◌, ◌-◌, ◌<◌, ◌≤◌, true, false, List, [], ◌∷◌, ◌++◌, length, take, get_or, Some, MatchOption, refl, sym, ap, subst, arith, append_assoc, append-nil}
+use Rattle.std.specs.List.{AllPass, slice_get}
+use Rattle.std.proofs.lemmas.List.{length_push, take_all, take_more}
 use Rattle.std.proofs.lemmas.List.Elements.{All-append}
-use Rattle.std.proofs.lemmas.Option.{slice_get-get_or}
 use Rattle.rv_passage.specs.Left.{IsUpToYoungestLeft}
 use Rattle.rv_passage.specs.Passage.{is_in_flight}
 use Rattle.rv_passage.specs.declared.passage.Passage.{Passage}
+
+-- those after the first ones are in flight
+pub record AreInFlightBehind (rows left : List Passage) : Type 0 where
+  pub others : List Passage
+  pub rows_are : rows ≡ left ++ others
+  pub in_flight : AllPass is_in_flight others
 
 one_in_flight : (p : Passage) → is_in_flight p ≡ true → AllPass is_in_flight (p ∷ [])
 one_in_flight p flies zero d within = flies
 one_in_flight p flies (suc k) d within = absurd (omega (arith, within))
 
-module _ (rows : List Passage) (p : Passage) (some : 0 < length rows) (read : p ≡ get_or rows (length rows - 1) p) where
-  parted : rows ≡ take (length rows - 1) rows ++ p ∷ []
-  parted =
-      sym (take_all (length rows - 1 + 1) rows (omega (arith, some)))
-      ∙ take_more rows (length rows - 1) p (omega (arith, some))
-      ∙ ap (λ q. take (length rows - 1) rows ++ q ∷ []) (sym read)
+last_of : (before : List Passage) (p : Passage) → slice_get (before ++ p ∷ []) (length before) ≡ Some p
+last_of [] p = refl
+last_of (q ∷ before) p = last_of before p
 
-  -- the youngest is in flight
-  pub left-before : (kept : List Passage) → is_in_flight p ≡ true → IsUpToYoungestLeft (take (length rows - 1) rows) kept → IsUpToYoungestLeft rows kept
-  left-before kept flies up = record {
-    others = up.others ++ p ∷ [];
-    rows_are = parted ∙ ap (λ l. l ++ p ∷ []) up.rows_are ∙ append_assoc kept up.others (p ∷ []);
-    in_flight = All-append (λ q. is_in_flight q ≡ true) up.others (p ∷ []) up.in_flight (one_in_flight p flies);
-    youngest = up.youngest;
+pub none_behind : (rows : List Passage) → AreInFlightBehind rows (take (length rows) rows)
+none_behind rows = record {
+  others = [];
+  rows_are = sym (append-nil (take (length rows) rows) ∙ take_all (length rows) rows (omega arith));
+  in_flight = λ k d within. absurd (omega (arith, within));
+}
+
+pub none_left : (rows left : List Passage) → left ≡ [] → AreInFlightBehind rows left → IsUpToYoungestLeft rows left
+none_left rows left none behind = record {
+  others = behind.others;
+  rows_are = behind.rows_are;
+  in_flight = behind.in_flight;
+  youngest = subst (λ l. MatchOption (slice_get l (length l - 1)) (l ≡ []) (λ p. is_in_flight p ≡ false)) (sym none) refl;
+}
+
+module _ (rows left before : List Passage) (p : Passage) (last : left ≡ before ++ p ∷ []) (behind : AreInFlightBehind rows left) where
+  -- the last one is in flight
+  one_more_behind : is_in_flight p ≡ true → AreInFlightBehind rows before
+  one_more_behind flies = record {
+    others = p ∷ behind.others;
+    rows_are = behind.rows_are ∙ ap (λ l. l ++ behind.others) last ∙ append_assoc before (p ∷ []) behind.others;
+    in_flight = All-append (λ q. is_in_flight q ≡ true) (p ∷ []) behind.others (one_in_flight p flies) behind.in_flight;
   }
 
-  -- the youngest left
-  pub left-here : is_in_flight p ≡ false → IsUpToYoungestLeft rows rows
-  left-here ended = record {
-    others = [];
-    rows_are = sym (append-nil rows);
-    in_flight = λ k d within. absurd (omega (arith, within));
-    youngest =
-        subst (λ o. MatchOption o (rows ≡ []) (λ q. is_in_flight q ≡ false)) (sym (slice_get-get_or rows (length rows - 1) p (omega (arith, some))))
-        (subst (λ q. is_in_flight q ≡ false) read ended);
-  }
+  -- the last one left
+  left_here : is_in_flight p ≡ false → IsUpToYoungestLeft rows left
+  left_here ended =
+      let place : length left - 1 ≡ length before = omega (arith, ap length last, length_push before p) in
+      let there : slice_get left (length left - 1) ≡ Some p = (λ i. slice_get (last i) (place i)) ∙ last_of before p in
+      record {
+        others = behind.others;
+        rows_are = behind.rows_are;
+        in_flight = behind.in_flight;
+        youngest = subst (λ o. MatchOption o (left ≡ []) (λ q. is_in_flight q ≡ false)) (sym there) ended;
+      }
+
+-- the one before a count
+module _ (rows : List Passage) (count : ℕ) (p : Passage) (some : 0 < count) (within : count ≤ length rows) (read : p ≡ get_or rows (count - 1) p) (behind : AreInFlightBehind rows (take count rows)) where
+  last_taken : take count rows ≡ take (count - 1) rows ++ p ∷ []
+  last_taken =
+      let one_more : count ≡ count - 1 + 1 = omega (arith, some) in
+      ap (λ n. take n rows) one_more
+      ∙ take_more rows (count - 1) p (omega (arith, some, within))
+      ∙ ap (λ q. take (count - 1) rows ++ q ∷ []) (sym read)
+
+  pub flying_before : is_in_flight p ≡ true → AreInFlightBehind rows (take (count - 1) rows)
+  flying_before flies = one_more_behind rows (take count rows) (take (count - 1) rows) p last_taken behind flies
+
+  pub left_before : is_in_flight p ≡ false → IsUpToYoungestLeft rows (take count rows)
+  left_before ended = left_here rows (take count rows) (take (count - 1) rows) p last_taken behind ended

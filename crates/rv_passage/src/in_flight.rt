@@ -1,10 +1,9 @@
-ghost use Rattle.std.specs.Prelude.{◌≡◌, ◌≤◌, ◌<◌, Some, drop, is_some, length, option_copied, slice_get};
+ghost use Rattle.std.specs.Prelude.{◌≡◌, ◌≤◌, ◌<◌, drop, is_some, length, option_copied, slice_get};
 ghost use Rattle.std.specs.Option.{option_map, option_to_list};
 ghost use Rattle.rv_passage.specs.Numbers.{kept_through};
 ghost use Rattle.rv_passage.specs.Passage.{in_buffers, of_entry, of_fetched};
 ghost use Rattle.rv_passage.specs.Table.{AreShort, next_before};
 
-use crate::passage::Passage;
 use rv_front::{Fetched, Front};
 use rv_rob::{Entry, Rob};
 
@@ -27,25 +26,6 @@ pub(crate) fn entry_at(rob: &Rob, place: usize) -> Option<&Entry>
 {
     let behind = rob.len() - place;
     rob.get(rob.next_number() - behind as u64)
-}
-
-// The instruction at a place among those in flight, the oldest at place 0. A table gives it its number.
-pub(crate) fn present_at(rob: &Rob, front: &Front, place: usize) -> Passage
-    requires { place < length (in_buffers rob.now front.now) }
-    ensures { slice_get (in_buffers rob.now front.now) place ≡ Some result }
-{
-    let dispatched = rob.len();
-    if place < dispatched {
-        match entry_at(rob, place) {
-            Some(entry) => Passage::of_entry(entry),
-            None => unreachable!(),
-        }
-    } else {
-        match front.get(place - dispatched) {
-            Some(word) => Passage::of_fetched(word),
-            None => unreachable!(),
-        }
-    }
 }
 
 // Whether an entry is there, and was fetched before a cycle.

@@ -200,12 +200,12 @@ impl Passage {
         }
     }
 
-    // An instruction in the reorder buffer.
-    pub(crate) fn of_entry(entry: &Entry) -> Passage
-        ensures { result ≡ of_entry entry.now }
+    // An instruction in the reorder buffer, under a number.
+    pub(crate) fn of_entry(entry: &Entry, number: u64) -> Passage
+        ensures { result ≡ record (of_entry entry.now) { number = number } }
     {
         Passage {
-            number: 0,
+            number,
             pc: entry.pc,
             word: entry.word,
             instruction: entry.instruction,
@@ -219,12 +219,12 @@ impl Passage {
         }
     }
 
-    // A word in the fetch buffer.
-    pub(crate) fn of_fetched(fetched: &Fetched) -> Passage
-        ensures { result ≡ of_fetched fetched.now }
+    // A word in the fetch buffer, under a number.
+    pub(crate) fn of_fetched(fetched: &Fetched, number: u64) -> Passage
+        ensures { result ≡ record (of_fetched fetched.now) { number = number } }
     {
         Passage {
-            number: 0,
+            number,
             pc: fetched.pc,
             word: fetched.word,
             instruction: fetched.instruction,

@@ -34,6 +34,7 @@ impl Producer {
     ghost use Rattle.rv_passage.specs.Producers.{followed_in};
 
     // Follows the producer among the older instructions to the end of a later cycle.
+    #[inline(always)]
     fn follow(&mut self, older: &[Passage])
         ensures { self.new ≡ followed_in older.now self.old }
     {
@@ -44,6 +45,7 @@ impl Producer {
 }
 
 // Follows a producer, if there is one.
+#[inline(always)]
 fn follow_in(producer: &mut Option<Producer>, older: &[Passage])
     ensures { producer.new ≡ option_map (followed_in older.now) producer.old }
 {
@@ -54,6 +56,7 @@ fn follow_in(producer: &mut Option<Producer>, older: &[Passage])
 
 impl Producers {
     ghost use Rattle.rv_passage.specs.Producers.{all_followed_in};
+    ghost use Rattle.rv_passage.specs.Passage.{nothing_awaited};
 
     /// No result is waited for.
     pub const NONE: Producers = Producers {
@@ -61,7 +64,18 @@ impl Producers {
         second: None,
     };
 
+    // None is waited for any more. Most that are not dispatched wait for none.
+    #[inline(always)]
+    fn clear(&mut self)
+        ensures { self.new ≡ nothing_awaited }
+    {
+        if self.first.is_some() || self.second.is_some() {
+            *self = Producers::NONE;
+        }
+    }
+
     // Follows all of them among the older instructions to the end of a later cycle.
+    #[inline(always)]
     fn follow(&mut self, older: &[Passage])
         ensures { self.new ≡ all_followed_in older.now self.old }
     {
@@ -96,6 +110,7 @@ fn is_to_come(row: &Passage) -> bool
     kind_of(&row.instruction).is_some() && row.broadcast.is_none()
 }
 
+#[inline(never)]
 fn broadcast_among(older: &[Passage], number: u64) -> Option<u64>
     ensures { result ≡ broadcast_among older.now number }
 {
@@ -243,7 +258,7 @@ impl Passage {
         if self.dispatched.is_some() {
             self.producers.follow(older);
         } else {
-            self.producers = Producers::NONE;
+            self.producers.clear();
         }
         self.pc = fetched.pc;
         self.word = fetched.word;

@@ -1,6 +1,7 @@
 ghost use Rattle.std.specs.Prelude.{◌≡◌, ◌<◌, ◌++◌, [], ◌∷◌, length, vec_capacity};
 
 // Puts a value at the end of a list that has room for it. Asks for no memory: `insert` says so, and `push` does not.
+#[inline(always)]
 pub(crate) fn put_last<T: Copy>(list: &mut Vec<T>, value: T)
     requires { length list.old.items < vec_capacity list.old }
     ensures items { list.new.items ≡ list.old.items ++ value ∷ [] }

@@ -1,16 +1,17 @@
-ghost use Rattle.std.specs.Prelude.{◌≡◌, ◌+◌, ◌≤◌, ◌<◌, ◌^◌, [], ◌∷◌, drop, filter, length, take, vec_capacity, IfOk};
+ghost use Rattle.std.specs.Prelude.{◌≡◌, ◌+◌, ◌≤◌, ◌<◌, ◌^◌, [], ◌∷◌, Some, drop, filter, length, slice_get, take, vec_capacity, IfOk};
 ghost use Rattle.rv_hardware.specs.Lessons.{first_pc};
-ghost use Rattle.rv_passage.specs.Passage.{in_buffers, is_in_flight, trapped_by};
+ghost use Rattle.rv_passage.specs.Passage.{in_buffers, is_in_flight, of_entry, of_fetched, trapped_by};
+ghost use Rattle.rv_passage.specs.declared.passage.Passage.{Passage};
 
-use crate::in_flight::{MOST_IN_FLIGHT, count_in_flight, count_kept, present_at};
+use crate::in_flight::{MOST_IN_FLIGHT, count_in_flight, count_kept, entry_at};
 use crate::kept::{move_kept_on, retire_kept, trap_kept};
 use crate::passage::Passage;
 use crate::put::put_last;
 use crate::rows::{are_in_flight, count_first_ended};
-use rv_front::Front;
+use rv_front::{Fetched, Front};
 use rv_hardware::{Row, Step};
 use rv_isa::Cause;
-use rv_rob::Rob;
+use rv_rob::{Entry, Rob};
 use std::alloc::{AllocError, Global};
 
 // Where the program goes on before the steps from a place on, after the last of which it goes on at `next`.
@@ -267,21 +268,57 @@ impl Table {
         ensures few { length (in_buffers rob.now front.now) ≤ 288 }
     {
         for place in from..count_in_flight(rob, front) {
-            self.append(present_at(rob, front, place));
+            self.append_at(place, rob, front);
         }
     }
 
-    // Numbers an instruction, and appends it.
-    fn append(&mut self, mut now: Passage)
+    // Numbers the instruction at a place among those in flight, the oldest at place 0, and appends it.
+    fn append_at(&mut self, place: usize, rob: &Rob, front: &Front)
+        requires within { place < length (in_buffers rob.now front.now) }
         requires room { length self.old.rows.items < vec_capacity self.old.rows }
         requires countable { self.old.fetched + 1 < 2 ^ 64 }
-        ensures appended { passages_of self.new ≡ with_fetched (now ∷ []) (passages_of self.old) }
+        ensures appended { (now : Passage) → slice_get (in_buffers rob.now front.now) place ≡ Some now → passages_of self.new ≡ with_fetched (now ∷ []) (passages_of self.old) }
         ensures len { length self.new.rows.items ≡ length self.old.rows.items + 1 }
         ensures capacity { vec_capacity self.new.rows ≡ vec_capacity self.old.rows }
         ensures interrupts { self.new.interrupts ≡ self.old.interrupts }
     {
-        now.number = self.fetched;
-        put_last(&mut self.rows, now);
+        let dispatched = rob.len();
+        if place < dispatched {
+            match entry_at(rob, place) {
+                Some(entry) => self.append_entry(entry),
+                None => unreachable!(),
+            }
+        } else {
+            match front.get(place - dispatched) {
+                Some(word) => self.append_word(word),
+                None => unreachable!(),
+            }
+        }
+    }
+
+    // Numbers an instruction in the reorder buffer, and appends it.
+    fn append_entry(&mut self, entry: &Entry)
+        requires room { length self.old.rows.items < vec_capacity self.old.rows }
+        requires countable { self.old.fetched + 1 < 2 ^ 64 }
+        ensures appended { passages_of self.new ≡ with_fetched (of_entry entry.now ∷ []) (passages_of self.old) }
+        ensures len { length self.new.rows.items ≡ length self.old.rows.items + 1 }
+        ensures capacity { vec_capacity self.new.rows ≡ vec_capacity self.old.rows }
+        ensures interrupts { self.new.interrupts ≡ self.old.interrupts }
+    {
+        put_last(&mut self.rows, Passage::of_entry(entry, self.fetched));
+        self.fetched += 1;
+    }
+
+    // Numbers a word in the fetch buffer, and appends it.
+    fn append_word(&mut self, word: &Fetched)
+        requires room { length self.old.rows.items < vec_capacity self.old.rows }
+        requires countable { self.old.fetched + 1 < 2 ^ 64 }
+        ensures appended { passages_of self.new ≡ with_fetched (of_fetched word.now ∷ []) (passages_of self.old) }
+        ensures len { length self.new.rows.items ≡ length self.old.rows.items + 1 }
+        ensures capacity { vec_capacity self.new.rows ≡ vec_capacity self.old.rows }
+        ensures interrupts { self.new.interrupts ≡ self.old.interrupts }
+    {
+        put_last(&mut self.rows, Passage::of_fetched(word, self.fetched));
         self.fetched += 1;
     }
 

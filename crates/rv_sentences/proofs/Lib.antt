@@ -20,3 +20,4 @@ pub mod OutcomesGrow
 pub mod StaysGrow
 pub mod AccountsGrow
 pub mod RaisedGrows
+mod Addresses

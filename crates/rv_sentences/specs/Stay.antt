@@ -78,6 +78,11 @@ stay_in cycle has_unit has_addresses p =
 abbrev pub lacks_address : ℕ → Passage → Bool
 lacks_address cycle p = is_in_flight p && is_store p.instruction && not (came_before cycle p.broadcast)
 
+-- all stores among some older instructions have their addresses, and those before them
+abbrev pub have_addresses : ℕ → Bool → List Passage → Bool
+have_addresses cycle before [] = before
+have_addresses cycle before (p ∷ ps) = not (lacks_address cycle p) && have_addresses cycle before ps
+
 -- why each of some instructions stays, in order of fetch
 abbrev pub stays_among : ℕ → Bool → Bool → List Passage → List (Option Stay)
 stays_among cycle has_unit has_addresses [] = []

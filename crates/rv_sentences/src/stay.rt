@@ -1,6 +1,6 @@
 ghost use Rattle.std.specs.Prelude.{◌≡◌};
 ghost use Rattle.rv_isa.specs.Instruction.{is_load, is_store};
-ghost use Rattle.rv_sentences.specs.Stay.{awaited, awaited_word, came_before, dispatched_stay, first_awaited, lacks_address, load_stay, operand_stay, ready_stay, station_stay, stay_in};
+ghost use Rattle.rv_sentences.specs.Stay.{awaited, awaited_word, came_before, dispatched_stay, first_awaited, have_addresses, lacks_address, load_stay, ready_stay, station_stay, stay_in};
 
 use rv_counts::kind_of_word;
 use rv_isa::{Instr, Kind};
@@ -86,24 +86,43 @@ fn load_stay(has_unit: bool, has_addresses: bool) -> Stay
     }
 }
 
-// What an instruction of a kind with its operands waits for.
-fn ready_stay(has_unit: bool, has_addresses: bool, kind: Kind, passage: &Passage) -> Stay
-    ensures { result ≡ ready_stay has_unit has_addresses kind passage.now }
+// Whether it is a store in flight whose address was not broadcast before a cycle.
+fn lacks_address(cycle: u64, passage: &Passage) -> bool
+    ensures { result ≡ lacks_address cycle passage.now }
 {
-    if is_load(passage.instruction) {
-        load_stay(has_unit, has_addresses)
-    } else {
-        Stay::Unit(kind)
+    passage.is_in_flight()
+        && is_store(passage.instruction)
+        && !came_before(cycle, passage.broadcast)
+}
+
+// Whether all stores among some older instructions have their addresses, and those before them.
+#[inline(never)]
+fn have_addresses(cycle: u64, before: bool, older: &[Passage]) -> bool
+    ensures { result ≡ have_addresses cycle before older.now }
+{
+    match older {
+        [] => before,
+        [passage, rest @ ..] => {
+            !lacks_address(cycle, passage) && have_addresses(cycle, before, rest)
+        }
     }
 }
 
-// What one waits for that may lack an operand.
-fn operand_stay(ready: Stay, awaited: Option<u32>) -> Stay
-    ensures { result ≡ operand_stay ready awaited }
+// What an instruction of a kind with its operands waits for. Loads alone look at the older stores.
+fn ready_stay(
+    cycle: u64,
+    has_unit: bool,
+    has_addresses: bool,
+    older: &[Passage],
+    kind: Kind,
+    passage: &Passage,
+) -> Stay
+    ensures { result ≡ ready_stay has_unit (have_addresses cycle has_addresses older.now) kind passage.now }
 {
-    match awaited {
-        Some(pc) => Stay::Operand(pc),
-        None => ready,
+    if is_load(passage.instruction) {
+        load_stay(has_unit, have_addresses(cycle, has_addresses, older))
+    } else {
+        Stay::Unit(kind)
     }
 }
 
@@ -112,23 +131,30 @@ fn station_stay(
     cycle: u64,
     has_unit: bool,
     has_addresses: bool,
+    older: &[Passage],
     kind: Option<Kind>,
     passage: &Passage,
 ) -> Stay
-    ensures { result ≡ station_stay cycle has_unit has_addresses kind passage.now }
+    ensures { result ≡ station_stay cycle has_unit (have_addresses cycle has_addresses older.now) kind passage.now }
 {
     match kind {
-        Some(kind) => operand_stay(
-            ready_stay(has_unit, has_addresses, kind, passage),
-            first_awaited(cycle, &passage.producers),
-        ),
+        Some(kind) => match first_awaited(cycle, &passage.producers) {
+            Some(pc) => Stay::Operand(pc),
+            None => ready_stay(cycle, has_unit, has_addresses, older, kind, passage),
+        },
         None => Stay::Retirement,
     }
 }
 
 // Why one stays that was dispatched.
-fn dispatched_stay(cycle: u64, has_unit: bool, has_addresses: bool, passage: &Passage) -> Stay
-    ensures { result ≡ dispatched_stay cycle has_unit has_addresses passage.now }
+fn dispatched_stay(
+    cycle: u64,
+    has_unit: bool,
+    has_addresses: bool,
+    older: &[Passage],
+    passage: &Passage,
+) -> Stay
+    ensures { result ≡ dispatched_stay cycle has_unit (have_addresses cycle has_addresses older.now) passage.now }
 {
     if came_before(cycle, passage.broadcast) {
         Stay::Retirement
@@ -141,6 +167,7 @@ fn dispatched_stay(cycle: u64, has_unit: bool, has_addresses: bool, passage: &Pa
             cycle,
             has_unit,
             has_addresses,
+            older,
             kind_of_word(passage.instruction),
             passage,
         )
@@ -148,29 +175,21 @@ fn dispatched_stay(cycle: u64, has_unit: bool, has_addresses: bool, passage: &Pa
 }
 
 /// Why an instruction stays in flight in a cycle, by what became of it by its end: whether a unit of loads and stores is free in it,
-/// and all older stores have their addresses. `None` where it was not dispatched before, or left.
+/// and all stores before the older ones have their addresses. `None` where it was not dispatched before, or left.
 pub(crate) fn stay_in(
     cycle: u64,
     has_unit: bool,
     has_addresses: bool,
+    older: &[Passage],
     passage: &Passage,
 ) -> Option<Stay>
-    ensures { result ≡ stay_in cycle has_unit has_addresses passage.now }
+    ensures { result ≡ stay_in cycle has_unit (have_addresses cycle has_addresses older.now) passage.now }
 {
     if passage.is_in_flight() && came_before(cycle, passage.dispatched) {
-        Some(dispatched_stay(cycle, has_unit, has_addresses, passage))
+        Some(dispatched_stay(cycle, has_unit, has_addresses, older, passage))
     } else {
         None
     }
-}
-
-/// Whether it is a store in flight whose address was not broadcast before a cycle.
-pub(crate) fn lacks_address(cycle: u64, passage: &Passage) -> bool
-    ensures { result ≡ lacks_address cycle passage.now }
-{
-    passage.is_in_flight()
-        && is_store(passage.instruction)
-        && !came_before(cycle, passage.broadcast)
 }
 
 /// The word of the instruction whose result is awaited, if one is.

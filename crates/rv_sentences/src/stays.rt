@@ -1,8 +1,8 @@
-ghost use Rattle.std.specs.Prelude.{◌≡◌, ◌+◌, ◌<◌, ◌^◌, ◌&&◌, length, not, sum};
-ghost use Rattle.rv_sentences.specs.Stay.{all_stays, awaited_word, lacks_address, stay_in, stays_among, with_awaited, with_reason, with_stay, with_stays};
+ghost use Rattle.std.specs.Prelude.{◌≡◌, ◌+◌, ◌-◌, ◌<◌, ◌^◌, drop, length, sum, take};
+ghost use Rattle.rv_sentences.specs.Stay.{all_stays, awaited_word, have_addresses, stay_in, stays_among, with_awaited, with_reason, with_stay, with_stays};
 ghost use Rattle.rv_sentences.specs.WordCount.{with_one};
 
-use crate::stay::{Stay, awaited_word, lacks_address, stay_in};
+use crate::stay::{Stay, awaited_word, stay_in};
 use crate::word_notes::{WordNotes, count_one};
 use rv_isa::{Kind, PerKind};
 use rv_passage::Passage;
@@ -86,30 +86,62 @@ impl Stays {
     }
 }
 
-// Adds why an instruction stays in flight in a cycle, if it does, and answers whether all stores up to it have their addresses.
+// Adds why an instruction stays in flight in a cycle, if it does, after the older ones.
 fn add_stay(
     stays: &mut Stays,
     awaited: &mut WordNotes<u64>,
     cycle: u64,
     has_unit: bool,
     has_addresses: bool,
+    older: &[Passage],
     row: &Passage,
-) -> bool
+)
     requires room { all_stays stays.old + 1 < 2 ^ 64 }
     requires words { sum awaited.old.words + 1 < 2 ^ 64 }
-    ensures stays { stays.new ≡ with_stay (stay_in cycle has_unit has_addresses row.now) stays.old }
-    ensures awaited { awaited.new ≡ with_one (awaited_word (stay_in cycle has_unit has_addresses row.now)) awaited.old }
-    ensures addresses { result ≡ has_addresses && not (lacks_address cycle row.now) }
+    ensures stays { stays.new ≡ with_stay (stay_in cycle has_unit (have_addresses cycle has_addresses older.now) row.now) stays.old }
+    ensures awaited { awaited.new ≡ with_one (awaited_word (stay_in cycle has_unit (have_addresses cycle has_addresses older.now) row.now)) awaited.old }
 {
-    if !row.is_in_flight() {
-        return has_addresses;
-    }
-    // Before anything is written: what is known of the row holds for both.
-    let still_has = has_addresses && !lacks_address(cycle, row);
-    let stay = stay_in(cycle, has_unit, has_addresses, row);
+    let stay = stay_in(cycle, has_unit, has_addresses, older, row);
     stays.add(stay);
     count_one(awaited, awaited_word(stay));
-    still_has
+}
+
+// Adds why those from a place on stay.
+fn add_stays_from(
+    stays: &mut Stays,
+    awaited: &mut WordNotes<u64>,
+    cycle: u64,
+    has_unit: bool,
+    has_addresses: bool,
+    rows: &[Passage],
+    place: usize,
+)
+    requires room { all_stays stays.old + (length rows.now - place) < 2 ^ 64 }
+    requires words { sum awaited.old.words + (length rows.now - place) < 2 ^ 64 }
+    ensures stays { stays.new ≡ with_stays (stays_among cycle has_unit (have_addresses cycle has_addresses (take place rows.now)) (drop place rows.now)) stays.old }
+    ensures awaited { awaited.new ≡ with_awaited (stays_among cycle has_unit (have_addresses cycle has_addresses (take place rows.now)) (drop place rows.now)) awaited.old }
+{
+    if place < rows.len() {
+        let row = &rows[place];
+        add_stay(
+            stays,
+            awaited,
+            cycle,
+            has_unit,
+            has_addresses,
+            &rows[..place],
+            row,
+        );
+        add_stays_from(
+            stays,
+            awaited,
+            cycle,
+            has_unit,
+            has_addresses,
+            rows,
+            place + 1,
+        );
+    }
 }
 
 /// Adds why some instructions stay in flight in a cycle, in order of fetch, and counts those that wait for an operand at the word of the
@@ -127,8 +159,5 @@ pub fn add_stays(
     ensures stays { stays.new ≡ with_stays (stays_among cycle has_unit has_addresses rows.now) stays.old }
     ensures awaited { awaited.new ≡ with_awaited (stays_among cycle has_unit has_addresses rows.now) awaited.old }
 {
-    if let [row, rest @ ..] = rows {
-        let has_addresses = add_stay(stays, awaited, cycle, has_unit, has_addresses, row);
-        add_stays(stays, awaited, cycle, has_unit, has_addresses, rest);
-    }
+    add_stays_from(stays, awaited, cycle, has_unit, has_addresses, rows, 0);
 }

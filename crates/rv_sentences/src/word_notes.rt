@@ -1,4 +1,4 @@
-ghost use Rattle.std.specs.Prelude.{◌≡◌, ◌+◌, ◌<◌, ◌^◌, IfOk, slice_set, sum};
+ghost use Rattle.std.specs.Prelude.{◌≡◌, ◌+◌, ◌<◌, ◌^◌, IfOk, Some, slice_set, sum};
 ghost use Rattle.rv_sentences.specs.Spot.{first_greatest, line_counts, spot_at};
 ghost use Rattle.rv_sentences.specs.WordCount.{count_in, with_one};
 ghost use Rattle.rv_sentences.specs.WordNotes.{note_at, notes_of, with_note};
@@ -69,16 +69,25 @@ impl<X: Copy + Drop> WordNotes<X> {
     }
 }
 
+// Counts one thing more at a word.
+#[inline(never)]
+fn count_at(counts: &mut WordNotes<u64>, word: u32)
+    requires room { sum counts.old.words + 1 < 2 ^ 64 }
+    ensures { counts.new ≡ with_one (Some word) counts.old }
+{
+    if let Some(count) = counts.at(word) {
+        counts.set(word, count + 1);
+    }
+}
+
 /// Counts one thing more at a word, if it is at one.
+#[inline(always)]
 pub fn count_one(counts: &mut WordNotes<u64>, word: Option<u32>)
     requires room { sum counts.old.words + 1 < 2 ^ 64 }
     ensures { counts.new ≡ with_one word counts.old }
 {
-    let Some(word) = word else {
-        return;
-    };
-    if let Some(count) = counts.at(word) {
-        counts.set(word, count + 1);
+    if let Some(word) = word {
+        count_at(counts, word);
     }
 }
 
