@@ -68,7 +68,7 @@ letter_of cell.DispatchWait = codes "."
 letter_of cell.IssueWait = codes "."
 letter_of cell.HeadWait = codes "."
 
--- the letter of a cell that is marked: in lower case, and a star for what has no letter of the alphabet or a small one
+-- the letter of a cell that is marked: a small one, or a star where it has no capital letter
 unfoldable pub marked_letter_of : Cell → List ℕ
 marked_letter_of cell.Fetch = codes "f"
 marked_letter_of cell.Dispatch = codes "d"

@@ -1,5 +1,5 @@
 -- The marks of a run's path: what a marker has of the cycles so far, and that what is left of the path at the end has all that are marked.
-use Rattle.std.proofs.Common.{◌≡◌, ◌⊎◌, ◌∙◌, ℕ, ◌+◌, ◌-◌, ◌*◌, ◌^◌, ◌<◌, ◌≤◌, Bool, true, false, List, [], ◌∷◌, ◌++◌, Option, Some, refl, sym, ap, subst, arith, append-nil, length, length-append, take, inl, inr}
+use Rattle.std.proofs.Common.{◌≡◌, ◌⊎◌, ◌∙◌, ℕ, ◌+◌, ◌-◌, ◌^◌, ◌<◌, ◌≤◌, List, [], ◌∷◌, Option, Some, sym, ap, subst, arith, length, length-append, take, inl, inr}
 use Rattle.std.proofs.lemmas.Bool.{cases_order}
 use Rattle.std.proofs.lemmas.List.{take_all}
 use Rattle.rv_isa.specs.declared.lines.Arrival.{Arrival}
@@ -22,7 +22,7 @@ use Rattle.rv_passage.specs.declared.passage.Passage.{Passage}
 use Rattle.rv_passage.proofs.EndedRun.{length-reports_of}
 use Rattle.rv_view.specs.Viewing.{IsNextCycle, cycles_seen}
 use Rattle.rv_view.specs.declared.shown_cycle.ShownCycle.{ShownCycle}
-use Rattle.rv_path.specs.Event.{nothing_yet, with_events}
+use Rattle.rv_path.specs.Event.{nothing_yet}
 use Rattle.rv_path.specs.Keeping.{IsFollowed, IsKnown, known_of_path, made_shown}
 use Rattle.rv_path.specs.Marking.{IsMarked, marks_of}
 use Rattle.rv_path.specs.Numbering.{IsOneLater, number_by, row_numbers}
@@ -31,7 +31,7 @@ use Rattle.rv_path.specs.Setting.{last_left}
 use Rattle.rv_path.specs.Walk.{path_to}
 use Rattle.rv_path.specs.Window.{kept_events}
 use Rattle.rv_path.specs.WindowFrom.{HasAllMarked, IsMarking, IsNumbering}
-use Rattle.rv_path.specs.declared.{before.Before.Before, event.Event.Event, marking.Marker.Marker, numbering.Numbering.Numbering, path.Path.Path, point.Point.Point}
+use Rattle.rv_path.specs.declared.{event.Event.Event, marking.Marker.Marker, numbering.Numbering.Numbering, path.Path.Path, point.Point.Point}
 use Rattle.rv_path.proofs.Numbers.{length-numbered_from, numbering_kept, numbering_on}
 use Rattle.rv_path.proofs.Pathing.{known-shown}
 use Rattle.rv_path.proofs.Unmarked.{has_all_followed, has_all_of, has_all_same, marks-kept, unmarked_begin, unmarked_in_time}

@@ -1,5 +1,5 @@
 -- Of hardware that a described predictor guides there are the marks of one path.
-use Rattle.std.proofs.Common.{◌≡◌, ◌∙◌, ℕ, List, ap, sym}
+use Rattle.std.proofs.Common.{◌∙◌, ℕ, List, ap, sym}
 use Rattle.rv_isa.specs.declared.lines.Arrival.{Arrival}
 use Rattle.rv_passage.proofs.OneRun.{one_run}
 use Rattle.rv_path.specs.Marking.{HasOneMarking, marks_of_run}

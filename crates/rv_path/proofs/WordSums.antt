@@ -1,6 +1,5 @@
 -- Each word of a path has the cycles of its causes, and all words together no more than the path.
 use Rattle.std.proofs.Common.{◌≡◌, ℕ, ◌+◌, ◌-◌, ◌≤◌, List, [], ◌∷◌, Option, Some, None, arith}
-use Rattle.std.specs.List.{sum_by}
 use Rattle.std.proofs.lemmas.List.Sums.{sum_by-cons}
 use Rattle.rv_path.specs.Account.{AreWithin, account_of, no_cycles, with_change, with_more, with_word, words_cycles}
 use Rattle.rv_path.specs.declared.{cause.Cause.Cause, event.Event.Event, word_cycles.WordCycles.WordCycles}

@@ -2,8 +2,8 @@
 //! write-back of lines, an interrupt) waited last for one other event, which it names, and so the path that is walked back from the run's
 //! end has each cycle of the run on account of exactly one cause. Its model is what is known between two cycles: the events for which later
 //! ones may wait, and all events of the run, of which only the last are kept, with the account of the path to where all later paths meet.
-//! `specs/` defines what an event waited for, and what a cycle makes of what is known. The text is a function of the path to the last
-//! retirement, trap or interrupt.
+//! `specs/` defines what an event waited for, and what a cycle makes of what is known. The text of a run, its account and the marks of a
+//! window of it are functions of the path to the last retirement, trap or interrupt.
 #![tactic(auto)]
 
 mod account;

@@ -10,6 +10,6 @@ use Rattle.rv_text.specs.declared.output.TextError.{TextError}
 -- The output is handed back as it was given, but where a job was to be explained: then it has got why the job is refused, whole, or as
 -- much of that as is answered.
 abbrev pub HandsBack : {W : Type 0} → (W → Option (List ℕ)) → Command → List ℕ → SimError → W → Option W → Result Unit TextError → Type 0
-HandsBack {W} contents (Explain figures limit) input error given handed refusal =
+HandsBack {W} contents (Explain figures path limit) input error given handed refusal =
     (output : W) × (handed ≡ Some output) × IsText (λ _ text. text ≡ refusal_text input error) refusal (contents given) (contents output)
 HandsBack contents _ input error given handed refusal = (handed ≡ Some given) × (refusal ≡ Ok tt)

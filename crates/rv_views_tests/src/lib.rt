@@ -15,6 +15,8 @@ mod passage;
 #[cfg(test)]
 mod path;
 #[cfg(test)]
+mod path_marks;
+#[cfg(test)]
 mod picture;
 #[cfg(test)]
 mod profile;

@@ -1,5 +1,6 @@
 use crate::machine::{described, listing, no_arrivals, pipeline};
 use rv_arch::Stop;
+use rv_drawing::Mark;
 use rv_front::NotTaken;
 use rv_isa::Values;
 use rv_picture::{Form, Rows, RunEnd, View, write_picture};
@@ -23,6 +24,16 @@ F fetch  D dispatch  I issue  = execution  ~ wait for the bus  B broadcast  C re
 
 // addi x1,x0,5 and ebreak.
 const PROGRAM: [u8; 8] = [0x93, 0x00, 0x50, 0x00, 0x73, 0x00, 0x10, 0x00];
+
+// The first instruction's dispatch and its retirement are marked, and the trap of the second one.
+const MARKED: &str = "                                                           0         \n\
+80000000 00500093                         x1/ra=00000005   FdIBc\n\
+80000004 00100073                         -                 FD.t\n\
+80000008 00000000                         -                  FDx\n\
+8000000c 00000000                         -                   Fx\n\
+00000000 -                                -                    F\n\
+F fetch  D dispatch  I issue  = execution  ~ wait for the bus  B broadcast  C retirement  T trap  x squash  . wait  ! interrupt\n\
+In lower case, or * in place of = ~ x . : on the critical path\n";
 
 // All cycles but the first.
 const FROM_THE_SECOND: &str = "                                                               \n\
@@ -53,6 +64,7 @@ fn picture_of(
     program: &[u8],
     from: u64,
     rows: Rows,
+    marks: Option<&[Mark]>,
 ) -> (RunEnd, Vec<u8>) {
     let mut values = Values::standard();
     values.fetch_width = 1;
@@ -73,7 +85,7 @@ fn picture_of(
         &mut predictor,
         &arrivals,
         view,
-        None,
+        marks,
         &listing,
         &mut text,
     );
@@ -91,10 +103,32 @@ fn at_breakpoint(over: Option<u64>) -> RunEnd {
 #[test]
 fn two_words_in_characters(rt: HostRuntime) {
     for (rows, expected) in [(Rows::All, EXPECTED), (Rows::Unsquashed, UNSQUASHED)] {
-        let (end, text) = picture_of(&rt, rt.alloc(), &PROGRAM, 0, rows);
+        let (end, text) = picture_of(&rt, rt.alloc(), &PROGRAM, 0, rows, None);
         assert!(rt; end == at_breakpoint(None));
         assert_eq!(rt; text.as_slice(), expected.as_bytes());
     }
+}
+
+#[test]
+fn two_words_with_marks(rt: HostRuntime) {
+    let marks = [
+        Mark {
+            number: 0,
+            column: 1,
+        },
+        Mark {
+            number: 0,
+            column: 4,
+        },
+        Mark {
+            number: 1,
+            column: 4,
+        },
+    ];
+    let marks = Some(marks.as_slice());
+    let (end, text) = picture_of(&rt, rt.alloc(), &PROGRAM, 0, Rows::All, marks);
+    assert!(rt; end == at_breakpoint(None));
+    assert_eq!(rt; text.as_slice(), MARKED.as_bytes());
 }
 
 // The breakpoint is taken in cycle 4.
@@ -106,7 +140,7 @@ fn the_cycles_from_one_on_are_shown_and_after_the_end_of_a_run_nothing(rt: HostR
         (5, NOTHING, Some(5)),
         (6, NOTHING, Some(5)),
     ] {
-        let (end, text) = picture_of(&rt, rt.alloc(), &PROGRAM, from, Rows::All);
+        let (end, text) = picture_of(&rt, rt.alloc(), &PROGRAM, from, Rows::All, None);
         assert!(rt; end == at_breakpoint(over), "from {from}");
         assert_eq!(rt; text.as_slice(), shown.as_bytes());
     }
@@ -119,7 +153,7 @@ const STALE: [u8; 12] = [
 
 #[test]
 fn the_row_whose_stale_word_ended_the_run_says_so(rt: HostRuntime) {
-    let (end, text) = picture_of(&rt, rt.alloc(), &STALE, 0, Rows::Unsquashed);
+    let (end, text) = picture_of(&rt, rt.alloc(), &STALE, 0, Rows::Unsquashed, None);
     assert!(rt; end.stop == Stop::Stale(0x8000_0008));
     let text = String::from_utf8(text).expect(&rt, "ASCII");
     let row = "\n80000008 00100113                         stale            ";

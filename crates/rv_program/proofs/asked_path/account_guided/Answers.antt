@@ -8,5 +8,5 @@ use Rattle.rv_program.proofs.asked_path.account_guided.Goals as goal
 pub returns : goal.returns
 returns g c =
     let job = c.args.job.now in
-    of_own_run job (IsPathAccount job.arrivals c.args.limit) c.account_path.result c.in-Ok.ensures.made
+    of_own_run job (IsPathAccount job.arrivals c.args.limit) c.account_path.result _ c.in-Ok.ensures.made
     (ap (λ lent. (goal.Predictor-dyn g lent).known lent.1) c.deref_box_mut-1.ensures.value.1 ∙ c.requires.described ∙ ap untaught_of c.requires.own) c.account_path.ensures.accounted

@@ -5,7 +5,7 @@ use Rattle.rv_program.proofs.asked_path.asked_marks.OwnLists.{at-1-1, lawful-own
 use Rattle.rv_program.proofs.asked_path.asked_marks.Goals as goal
 
 -- what is known of the box is what was put into it
-pub marks_guided-marks-requires-clause-described : goal.marks_guided-marks-requires-clause-described
-marks_guided-marks-requires-clause-described c =
+pub marks_guided-requires-clause-described : goal.marks_guided-requires-clause-described
+marks_guided-requires-clause-described c =
     let table = (dyn-1-ghosts (own-1, lawful-own-1)).0 in
     read_made table (table.entry at-1-1) at-1-1 refl _ (λ j y. j.1.known y) _ _ c.in_ok-predictor.predictor.value c.into_dyn_box.ensures.1 ∙ c.in_ok-predictor.ensures
