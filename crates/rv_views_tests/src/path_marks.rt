@@ -1,6 +1,7 @@
 use crate::machine::{described, listing, narrow, no_arrivals, pipeline};
 use rv_front::NotTaken;
-use rv_path::{account_path, path_marks};
+use rv_path::{PathAccount, account_path, path_marks};
+use rv_source::Listing;
 use rv_text::Sink;
 use std::alloc::Global;
 use std::process::Abort;
@@ -48,6 +49,13 @@ fn a_later_window_numbers_what_is_in_flight_then(rt: HostRuntime) {
     assert_eq!(&rt; marks.as_slice(), [(1, 2), (0, 1), (0, 0)].as_slice());
 }
 
+// Writes the sentences of an account, and answers whether a write failed.
+fn fails_to_write(path: &PathAccount, listing: &Listing, output: &mut Vec<u8>) -> bool {
+    let mut out = Sink::new(output);
+    path.write_sentences(&mut out, listing);
+    out.has_failed()
+}
+
 const SENTENCES: &[u8] = b"\
 On the critical path, 25.0 % of the cycles: execution: alu, most at 80000000, line 1: addi x1, x0, 1\n\
 On the critical path, 12.5 % of the cycles: front end, most at 80000000, line 1: addi x1, x0, 1\n\
@@ -67,8 +75,6 @@ fn an_account_has_the_cycles_of_words_and_sentences(rt: HostRuntime) {
     assert_eq!(&rt; path.cycles_at(0x8000_0008), 1);
     assert_eq!(&rt; path.cycles_at(0x8000_0010), 0);
     let mut output = Vec::new(alloc);
-    let mut out = Sink::new(&mut output);
-    path.write_sentences(&mut out, &listing);
-    assert_eq!(&rt; out.has_failed(), false);
+    assert_eq!(&rt; fails_to_write(&path, &listing, &mut output), false);
     assert_eq!(&rt; output.as_slice(), SENTENCES);
 }
