@@ -1,9 +1,11 @@
-ghost use Rattle.std.specs.Prelude.{◌≡◌, ◌≤◌, ◌<◌, drop, is_some, length, option_copied, slice_get};
+ghost use Rattle.std.specs.Prelude.{◌≡◌, ◌≤◌, ◌<◌, Some, drop, is_some, length, option_copied, slice_get};
 ghost use Rattle.std.specs.Option.{option_map, option_to_list};
 ghost use Rattle.rv_passage.specs.Numbers.{kept_through};
 ghost use Rattle.rv_passage.specs.Passage.{in_buffers, of_entry, of_fetched};
 ghost use Rattle.rv_passage.specs.Table.{AreShort, next_before};
+ghost use Rattle.rv_passage.specs.declared.passage.Passage.{Passage};
 
+use crate::passage::Passage;
 use rv_front::{Fetched, Front};
 use rv_rob::{Entry, Rob};
 
@@ -26,6 +28,25 @@ pub(crate) fn entry_at(rob: &Rob, place: usize) -> Option<&Entry>
 {
     let behind = rob.len() - place;
     rob.get(rob.next_number() - behind as u64)
+}
+
+// The instruction at a place among those in flight, the oldest at place 0, under a number.
+pub(crate) fn present_at(rob: &Rob, front: &Front, place: usize, number: u64) -> Passage
+    requires { place < length (in_buffers rob.now front.now) }
+    ensures { (now : Passage) → slice_get (in_buffers rob.now front.now) place ≡ Some now → result ≡ record now { number = number } }
+{
+    let dispatched = rob.len();
+    if place < dispatched {
+        match entry_at(rob, place) {
+            Some(entry) => Passage::of_entry(entry, number),
+            None => unreachable!(),
+        }
+    } else {
+        match front.get(place - dispatched) {
+            Some(word) => Passage::of_fetched(word, number),
+            None => unreachable!(),
+        }
+    }
 }
 
 // Whether an entry is there, and was fetched before a cycle.

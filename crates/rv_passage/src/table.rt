@@ -1,17 +1,17 @@
 ghost use Rattle.std.specs.Prelude.{◌≡◌, ◌+◌, ◌≤◌, ◌<◌, ◌^◌, [], ◌∷◌, Some, drop, filter, length, slice_get, take, vec_capacity, IfOk};
 ghost use Rattle.rv_hardware.specs.Lessons.{first_pc};
-ghost use Rattle.rv_passage.specs.Passage.{in_buffers, is_in_flight, of_entry, of_fetched, trapped_by};
+ghost use Rattle.rv_passage.specs.Passage.{in_buffers, is_in_flight, trapped_by};
 ghost use Rattle.rv_passage.specs.declared.passage.Passage.{Passage};
 
-use crate::in_flight::{MOST_IN_FLIGHT, count_in_flight, count_kept, entry_at};
+use crate::in_flight::{MOST_IN_FLIGHT, count_in_flight, count_kept, present_at};
 use crate::kept::{move_kept_on, retire_kept, trap_kept};
 use crate::passage::Passage;
 use crate::put::put_last;
 use crate::rows::{are_in_flight, count_first_ended};
-use rv_front::{Fetched, Front};
+use rv_front::Front;
 use rv_hardware::{Row, Step};
 use rv_isa::Cause;
-use rv_rob::{Entry, Rob};
+use rv_rob::Rob;
 use std::alloc::{AllocError, Global};
 
 // Where the program goes on before the steps from a place on, after the last of which it goes on at `next`.
@@ -282,43 +282,7 @@ impl Table {
         ensures capacity { vec_capacity self.new.rows ≡ vec_capacity self.old.rows }
         ensures interrupts { self.new.interrupts ≡ self.old.interrupts }
     {
-        let dispatched = rob.len();
-        if place < dispatched {
-            match entry_at(rob, place) {
-                Some(entry) => self.append_entry(entry),
-                None => unreachable!(),
-            }
-        } else {
-            match front.get(place - dispatched) {
-                Some(word) => self.append_word(word),
-                None => unreachable!(),
-            }
-        }
-    }
-
-    // Numbers an instruction in the reorder buffer, and appends it.
-    fn append_entry(&mut self, entry: &Entry)
-        requires room { length self.old.rows.items < vec_capacity self.old.rows }
-        requires countable { self.old.fetched + 1 < 2 ^ 64 }
-        ensures appended { passages_of self.new ≡ with_fetched (of_entry entry.now ∷ []) (passages_of self.old) }
-        ensures len { length self.new.rows.items ≡ length self.old.rows.items + 1 }
-        ensures capacity { vec_capacity self.new.rows ≡ vec_capacity self.old.rows }
-        ensures interrupts { self.new.interrupts ≡ self.old.interrupts }
-    {
-        put_last(&mut self.rows, Passage::of_entry(entry, self.fetched));
-        self.fetched += 1;
-    }
-
-    // Numbers a word in the fetch buffer, and appends it.
-    fn append_word(&mut self, word: &Fetched)
-        requires room { length self.old.rows.items < vec_capacity self.old.rows }
-        requires countable { self.old.fetched + 1 < 2 ^ 64 }
-        ensures appended { passages_of self.new ≡ with_fetched (of_fetched word.now ∷ []) (passages_of self.old) }
-        ensures len { length self.new.rows.items ≡ length self.old.rows.items + 1 }
-        ensures capacity { vec_capacity self.new.rows ≡ vec_capacity self.old.rows }
-        ensures interrupts { self.new.interrupts ≡ self.old.interrupts }
-    {
-        put_last(&mut self.rows, Passage::of_fetched(word, self.fetched));
+        put_last(&mut self.rows, present_at(rob, front, place, self.fetched));
         self.fetched += 1;
     }
 

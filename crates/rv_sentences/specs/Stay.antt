@@ -57,13 +57,17 @@ station_stay cycle has_unit has_addresses None p = stay.Retirement
 station_stay cycle has_unit has_addresses (Some kind) p =
     operand_stay (ready_stay has_unit has_addresses kind p) (first_awaited cycle p.producers)
 
+-- one whose result was not broadcast before
+abbrev pub open_stay : ℕ → Bool → Bool → Passage → Stay
+open_stay cycle has_unit has_addresses p =
+    if waits_for_bus p cycle then stay.Bus
+    else (if is_some p.issue then stay.Execution
+    else station_stay cycle has_unit has_addresses (kind_of_word p.instruction) p)
+
 -- one that was dispatched
 abbrev pub dispatched_stay : ℕ → Bool → Bool → Passage → Stay
 dispatched_stay cycle has_unit has_addresses p =
-    if came_before cycle p.broadcast then stay.Retirement
-    else (if waits_for_bus p cycle then stay.Bus
-    else (if is_some p.issue then stay.Execution
-    else station_stay cycle has_unit has_addresses (kind_of_word p.instruction) p))
+    if came_before cycle p.broadcast then stay.Retirement else open_stay cycle has_unit has_addresses p
 
 -- it was dispatched before a cycle, and is in flight at its end
 abbrev pub is_staying : ℕ → Passage → Bool

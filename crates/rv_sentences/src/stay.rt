@@ -1,6 +1,6 @@
 ghost use Rattle.std.specs.Prelude.{◌≡◌};
 ghost use Rattle.rv_isa.specs.Instruction.{is_load, is_store};
-ghost use Rattle.rv_sentences.specs.Stay.{awaited, awaited_word, came_before, dispatched_stay, first_awaited, have_addresses, lacks_address, load_stay, ready_stay, station_stay, stay_in};
+ghost use Rattle.rv_sentences.specs.Stay.{awaited, awaited_word, came_before, dispatched_stay, first_awaited, have_addresses, lacks_address, load_stay, open_stay, ready_stay, station_stay, stay_in};
 
 use rv_counts::kind_of_word;
 use rv_isa::{Instr, Kind};
@@ -146,19 +146,18 @@ fn station_stay(
     }
 }
 
-// Why one stays that was dispatched.
-fn dispatched_stay(
+// Why one stays that was dispatched, and whose result was not broadcast before.
+#[inline(always)]
+fn open_stay(
     cycle: u64,
     has_unit: bool,
     has_addresses: bool,
     older: &[Passage],
     passage: &Passage,
 ) -> Stay
-    ensures { result ≡ dispatched_stay cycle has_unit (have_addresses cycle has_addresses older.now) passage.now }
+    ensures { result ≡ open_stay cycle has_unit (have_addresses cycle has_addresses older.now) passage.now }
 {
-    if came_before(cycle, passage.broadcast) {
-        Stay::Retirement
-    } else if passage.waits_for_bus(cycle) {
+    if passage.waits_for_bus(cycle) {
         Stay::Bus
     } else if passage.issue.is_some() {
         Stay::Execution
@@ -171,6 +170,23 @@ fn dispatched_stay(
             kind_of_word(passage.instruction),
             passage,
         )
+    }
+}
+
+// Why one stays that was dispatched.
+fn dispatched_stay(
+    cycle: u64,
+    has_unit: bool,
+    has_addresses: bool,
+    older: &[Passage],
+    passage: &Passage,
+) -> Stay
+    ensures { result ≡ dispatched_stay cycle has_unit (have_addresses cycle has_addresses older.now) passage.now }
+{
+    match passage.broadcast {
+        Some(broadcast) if broadcast < cycle => Stay::Retirement,
+        Some(_) => open_stay(cycle, has_unit, has_addresses, older, passage),
+        None => open_stay(cycle, has_unit, has_addresses, older, passage),
     }
 }
 
