@@ -18,6 +18,7 @@ pub mod OnePath
 mod Passing
 mod Pathing
 mod Queued
+mod Refills
 mod Waits
 mod Walks
 mod Windows

@@ -250,10 +250,25 @@ fn see(
     ensures items { events.new.items ≡ events.old.items ++ made_in (setting_of scene.now) ways.old steps.now pipeline.now }
     ensures capacity { vec_capacity events.old ≤ vec_capacity events.new }
 {
-    let leaving = Leaving::of(scene, ways);
+    let mut leaving = Leaving::NONE;
+    leaving.add_rows(scene, scene.rows, ways);
     push_left(&leaving, events);
     move_all(scene, &leaving, ways, events);
     notice(scene, ways, &leaving, steps, pipeline, seen, events);
+}
+
+// What stands in a cycle that is shown.
+fn scene_of<'a>(cycle: &ShownCycle<'a>, holds: &'a [UnitHold], before: &'a Before) -> Scene<'a>
+    ensures { setting_of result ≡ setting_by cycle.now holds.now before.now }
+{
+    Scene {
+        number: cycle.number,
+        elapsed: cycle.progress.cycles.saturating_sub(1),
+        values: cycle.pipeline.values(),
+        rows: cycle.rows,
+        holds,
+        before,
+    }
 }
 
 /// The same of a cycle that is shown, of the ways after those that are dropped.
@@ -272,14 +287,7 @@ pub(crate) fn see_shown(
     ensures items { events.new.items ≡ events.old.items ++ made_in (setting_by cycle.now holds.now before.now) (drop dropped ways.old) cycle.now.steps.now cycle.now.pipeline.now }
     ensures capacity { vec_capacity events.old ≤ vec_capacity events.new }
 {
-    let scene = Scene {
-        number: cycle.number,
-        elapsed: cycle.progress.cycles.saturating_sub(1),
-        values: cycle.pipeline.values(),
-        rows: cycle.rows,
-        holds,
-        before,
-    };
+    let scene = scene_of(cycle, holds, before);
     let (_, kept) = ways.split_at_mut(dropped);
     see(&scene, cycle.steps, cycle.pipeline, kept, seen, events);
 }
