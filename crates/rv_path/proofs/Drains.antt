@@ -1,11 +1,11 @@
 -- The store that begins to drain in a cycle is the one whose drain takes the port.
-use Rattle.std.proofs.Common.{◌≡◌, ℕ, true, false, Option, None, Some, refl, inl, inr}
-use Rattle.std.specs.Prelude.{◌&&◌, Bool, if◌then◌else◌, List, length}
+use Rattle.std.proofs.Common.{◌≡◌, ℕ, true, false, Option, None, Some, refl}
+use Rattle.std.specs.Prelude.{◌&&◌, Bool, if◌then◌else◌, List}
 use Rattle.std.specs.Option.{option_or}
-use Rattle.rv_path.specs.Holding.{drain_begun, drain_event, drain_of, is_begun, is_taken, lines_hold, load_hold, port_taken, taken_by}
+use Rattle.rv_path.specs.Holding.{drain_begun, drain_event, drain_of, is_begun, is_taken, lines_hold, load_hold, port_taken}
 use Rattle.rv_path.specs.Lookup.{Journey, first_of}
 use Rattle.rv_path.specs.Setting.{Setting}
-use Rattle.rv_path.specs.declared.{before.DrainHold.DrainHold, before.Facts.Facts, before.PortHold.PortHold, event.Event.Event, leaving.Leaving.Leaving, way.Way.Way}
+use Rattle.rv_path.specs.declared.{before.Facts.Facts, before.PortHold.PortHold, event.Event.Event, leaving.Leaving.Leaving, way.Way.Way}
 use Rattle.rv_path.specs.declared.before.Holder.TheVariants as holder
 use Rattle.rv_path.specs.declared.sought.Sought.TheVariants as sought
 

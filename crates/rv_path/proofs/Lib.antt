@@ -18,7 +18,6 @@ pub mod OnePath
 mod Passing
 mod Pathing
 mod Queued
-mod Refills
 mod Waits
 mod Walks
 mod Windows

@@ -1,4 +1,4 @@
-ghost use Rattle.std.specs.Prelude.{◌≡◌, ◌+◌, ◌≤◌, ◌++◌, None, Some, is_some, length, vec_capacity};
+ghost use Rattle.std.specs.Prelude.{◌≡◌, ◌+◌, ◌≤◌, ◌++◌, is_some, length, vec_capacity};
 ghost use Rattle.std.specs.Option.{option_to_list};
 ghost use Rattle.rv_path.specs.Event.{again, anew, ends_with, event_after, event_by, event_from, event_if, goes_on_through, named_after, refilling, waits};
 
@@ -84,50 +84,26 @@ impl Event {
         Reason { cause, ..reason }
     }
 
-    // The one of a point after so many cycles, of an address, that waited last for this one, with which the fetch did not begin anew.
-    #[inline(always)]
-    #[tactic(auto, using(crate::proofs::Refills::if_same))]
-    fn then_plainly(&self, at: Point, cycle: u64, reason: Reason) -> Event
-        requires plain { self.now.refill ≡ None }
-        ensures { result ≡ event_after at cycle reason.address reason.cause self.now }
+    // The one of a point after so many cycles, of an address, that waited last for this one.
+    fn then(&self, at: Point, cycle: u64, address: Option<u32>, cause: Cause) -> Event
+        ensures { result ≡ event_after at cycle address cause self.now }
     {
+        let own = Reason { cause, address };
+        let reason = match self.refill {
+            Some(refill) if ends_with(at.stage) => refill,
+            _ => own,
+        };
+        let refill = if goes_on_through(at.stage) {
+            self.refill
+        } else {
+            None
+        };
         Event {
             at,
             cycle,
             before: Some(self.at),
             reason: self.named(at, cycle, reason),
-            refill: None,
-        }
-    }
-
-    // The same of one with which it did, which is rare.
-    #[inline(never)]
-    fn then_refilled(&self, at: Point, cycle: u64, reason: Reason, refill: Reason) -> Event
-        requires refilled { self.now.refill ≡ Some refill }
-        ensures { result ≡ event_after at cycle reason.address reason.cause self.now }
-    {
-        let of_both = if ends_with(at.stage) { refill } else { reason };
-        Event {
-            at,
-            cycle,
-            before: Some(self.at),
-            reason: self.named(at, cycle, of_both),
-            refill: if goes_on_through(at.stage) {
-                Some(refill)
-            } else {
-                None
-            },
-        }
-    }
-
-    // The same of any.
-    fn then(&self, at: Point, cycle: u64, address: Option<u32>, cause: Cause) -> Event
-        ensures { result ≡ event_after at cycle address cause self.now }
-    {
-        let reason = Reason { cause, address };
-        match self.refill {
-            None => self.then_plainly(at, cycle, reason),
-            Some(refill) => self.then_refilled(at, cycle, reason, refill),
+            refill,
         }
     }
 

@@ -23,6 +23,7 @@ mod meeting;
 mod moving;
 mod path;
 mod point;
+mod ranking;
 mod running;
 mod scene;
 mod seeing;

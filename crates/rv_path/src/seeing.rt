@@ -1,8 +1,8 @@
 ghost use Rattle.std.specs.Prelude.{◌≡◌, ◌+◌, ◌++◌, ◌≤◌, Some, None, drop, length, option_copied, slice_get, true, vec_capacity};
-ghost use Rattle.rv_path.specs.Fetching.{fetch_event, fetched_by, handler_wait, new_fetched};
+ghost use Rattle.rv_path.specs.Fetching.{fetch_event, fetched_by, handled, new_fetched};
 ghost use Rattle.rv_path.specs.Holding.{port_event, port_taken, taken_by};
 ghost use Rattle.rv_path.specs.Keeping.{IsSeen, before_with, setting_by};
-ghost use Rattle.rv_path.specs.Leaving.{interrupt_event, is_interrupted, left_events};
+ghost use Rattle.rv_path.specs.Leaving.{is_interrupted, left_events};
 ghost use Rattle.rv_path.specs.Path.{before_next, interrupt_taken, made_in, new_beside};
 ghost use Rattle.rv_path.specs.Setting.{made_of, new_of, setting_of};
 
@@ -150,8 +150,8 @@ fn see_handler(
     events: &mut Vec<Event>,
 )
     requires room { length events.old.items + 1 ≤ vec_capacity events.old }
-    ensures fetch { fetch.new ≡ Some (made_of (setting_of scene.now) Stage.Fetch first.now (handler_wait (interrupt_event (setting_of scene.now)) first.now)) }
-    ensures items { events.new.items ≡ events.old.items ++ new_of (setting_of scene.now) Stage.Fetch first.now (handler_wait (interrupt_event (setting_of scene.now)) first.now) }
+    ensures fetch { fetch.new ≡ Some (made_of (setting_of scene.now) Stage.Fetch first.now (handled (setting_of scene.now) first.now)) }
+    ensures items { events.new.items ≡ events.old.items ++ new_of (setting_of scene.now) Stage.Fetch first.now (handled (setting_of scene.now) first.now) }
     ensures capacity { vec_capacity events.old ≤ vec_capacity events.new }
 {
     let interrupt = interrupt_event(scene);

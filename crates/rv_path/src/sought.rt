@@ -192,6 +192,7 @@ pub(crate) fn are_as_many(sought: Sought, rows: &[Passage], places: usize) -> bo
 }
 
 /// The first instruction that is looked for, of those with their events.
+#[inline(always)]
 #[tactic(auto, using(crate::proofs::Lookups::first_here, crate::proofs::Lookups::first_none, crate::proofs::Nothing::first_of_nothing))]
 pub(crate) fn first_of<'a>(
     sought: Sought,
