@@ -4,6 +4,7 @@ mod Backwards
 mod Brought
 mod Caused
 mod Cycles
+mod Drains
 mod EventLists
 mod Forgotten
 mod Leavings

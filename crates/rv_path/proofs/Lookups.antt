@@ -1,6 +1,8 @@
 -- The first instruction that is looked for, from a place on.
-use Rattle.std.proofs.Common.{◌≡◌, ◌∙◌, ℕ, zero, suc, List, [], ◌∷◌, None, Some, drop, drop-cons, refl, ap, sym}
-use Rattle.std.specs.Prelude.{if◌then◌else◌, slice_get}
+use Rattle.std.proofs.Common.{◌≡◌, ◌∙◌, ◌<◌, ℕ, zero, suc, List, [], ◌∷◌, None, Some, arith, drop, drop-cons, false, length, refl, ap, sym}
+use Rattle.std.proofs.lemmas.Bool.Decides.{nat_tests}
+use Rattle.std.proofs.lemmas.List.Sums.{count_by-le-length}
+use Rattle.std.specs.Prelude.{◌==◌, count_by, if◌then◌else◌, slice_get}
 use Rattle.std.proofs.lemmas.Option.{get_or_from_slice_get, none-some, slice_get_within}
 use Rattle.rv_passage.specs.declared.passage.Passage.{Passage}
 use Rattle.rv_path.specs.Lookup.{first_of}
@@ -26,3 +28,7 @@ pub first_here : (sought : Sought) (k : ℕ) (rows : List Passage) (ways : List 
     → first_of sought (drop k rows) (drop k ways)
     ≡ (if is_sought sought p then Some (record { row = p; way = w }) else first_of sought (drop (suc k) rows) (drop (suc k) ways))
 first_here sought k rows ways p w row way = λ i. first_of sought (drop-here rows k p row i) (drop-here ways k w way i)
+
+-- fewer instructions than are asked for are not as many
+pub too_few : (sought : Sought) (rows : List Passage) (places : ℕ) → length rows < places → (count_by (is_sought sought) rows == places) ≡ false
+too_few sought rows places few = grind (arith, nat_tests, count_by-le-length (is_sought sought) rows, few)

@@ -49,10 +49,14 @@ after_mend s ways after =
 abbrev pub handler_wait : Event → Passage → Wait
 handler_wait interrupt first = anew (record { cause = cause.RefillInterrupt; address = Some first.pc }) interrupt
 
+-- at the one of the cycle
+abbrev pub handled : Setting → Passage → Wait
+handled s first = handler_wait (interrupt_event s) first
+
 -- fetch began anew, if it did
 abbrev pub after_redirection : Setting → List Way → Bool → Leaving → Hardware → Passage → Option Wait
 after_redirection s ways interrupted leaving after first =
-    if interrupted then Some (handler_wait (interrupt_event s) first)
+    if interrupted then Some (handled s first)
     else option_or (after_flush leaving) (after_mend s ways after)
 
 -- the last word of the cycle before was predicted to lead elsewhere

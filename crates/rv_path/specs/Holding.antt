@@ -53,6 +53,16 @@ abbrev pub drain_begun : Setting → Leaving → Facts → Option DrainHold
 drain_begun s leaving facts =
     if drains s facts then Some (record { until = facts.port_free; event = drain_event s leaving }) else None
 
+-- the drain that takes the port so, if one does
+abbrev pub drain_by : Holder → PortHold → Option DrainHold
+drain_by holder.Drain hold = Some (record { until = hold.until; event = hold.event })
+drain_by holder.Load hold = None
+drain_by holder.Lines hold = None
+
+abbrev pub drain_of : Option PortHold → Option DrainHold
+drain_of None = None
+drain_of (Some hold) = drain_by hold.holder hold
+
 -- a load holds the port from its issue on
 abbrev pub load_hold : ℕ → Option Journey → Option PortHold
 load_hold until None = None

@@ -12,7 +12,7 @@ use Rattle.rv_path.specs.Within.{AreKnown}
 use Rattle.rv_hardware.specs.Hardware.{Hardware}
 use Rattle.rv_hardware.specs.declared.step.Step.{Step}
 use Rattle.rv_path.specs.Fetching.{fetch_event}
-use Rattle.rv_path.specs.Holding.{drain_kept, holds_now, port_kept}
+use Rattle.rv_path.specs.Holding.{drain_kept, drain_of, holds_now, port_kept}
 use Rattle.rv_path.specs.Leaving.{is_interrupted, leaving_of}
 use Rattle.rv_path.specs.Moving.{all_moved}
 use Rattle.rv_path.specs.Path.{Known, before_next, known_in, known_of, made_in, still_in_flight, with_fetched}
@@ -33,11 +33,12 @@ known_of_path path events = record { ways = ways_of path; holds = path.holds.ite
 abbrev pub AreSameButWays : Path → Path → Type 0
 AreSameButWays old new =
     (new.holds ≡ old.holds) × (new.next ≡ old.next) × (new.before ≡ old.before) × (new.window ≡ old.window) × (new.live ≡ old.live)
+    × (new.seen ≡ old.seen)
 
 abbrev pub AreSameButHolds : Path → Path → Type 0
 AreSameButHolds old new =
     (new.ways ≡ old.ways) × (new.dropped ≡ old.dropped) × (new.next ≡ old.next) × (new.before ≡ old.before)
-    × (new.window ≡ old.window) × (new.live ≡ old.live)
+    × (new.window ≡ old.window) × (new.live ≡ old.live) × (new.seen ≡ old.seen)
 
 abbrev pub AreSameButBefore : Path → Path → Type 0
 AreSameButBefore old new =
@@ -70,9 +71,9 @@ abbrev pub before_with : ℕ → List Step → Seen → Before → Before
 before_with number steps seen before = record {
   left = option_or seen.left before.left;
   port = option_or seen.port (port_kept number before.port);
-  drain = option_or seen.drain (drain_kept number before.drain);
+  drain = option_or (drain_of seen.port) (drain_kept number before.drain);
   facts = seen.facts;
-  waiting = still_waiting steps (is_some seen.drain) before.waiting;
+  waiting = still_waiting steps (is_some (drain_of seen.port)) before.waiting;
 }
 
 -- what a cycle brings, where the events of the instructions that were in flight before it stand so after it

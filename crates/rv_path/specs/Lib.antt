@@ -23,6 +23,7 @@ pub mod Path
 pub mod Live
 pub mod Within
 pub mod Keeping
+pub mod Ranking
 pub mod Text
 pub mod Lines
 pub mod Ranks

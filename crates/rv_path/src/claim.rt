@@ -3,6 +3,7 @@ ghost use Rattle.rv_path.specs.Claims.{claim, claim_of, comes, has_stage, is_of,
 
 use crate::cause::Cause;
 use crate::point::{Point, Stage};
+use crate::sought::comes_after;
 
 /// Some stages, at one of which an event is.
 #[derive(Clone, Copy)]
@@ -108,7 +109,7 @@ impl When {
         match self {
             When::NotBefore => true,
             When::Later => first < second,
-            When::CycleAfter => u128::from(first) + 1 == u128::from(second),
+            When::CycleAfter => comes_after(first, second),
         }
     }
 }

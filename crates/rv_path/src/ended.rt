@@ -1,14 +1,26 @@
-ghost use Rattle.std.specs.Prelude.{◌≡◌, ◌+◌, ◌<◌, ◌≤◌, List, ◌++◌, length, option_copied, vec_capacity, IfSome};
+ghost use Rattle.std.specs.Prelude.{◌≡◌, ◌+◌, ◌<◌, ◌≤◌, [], ◌∷◌, List, ◌++◌, length, option_copied, vec_capacity, IfSome};
 ghost use Rattle.std.specs.Option.{option_to_list};
 ghost use Rattle.std.specs.List.{list_all};
 ghost use Rattle.rv_passage.specs.Passage.{is_in_flight};
 ghost use Rattle.rv_path.specs.Keeping.{forgotten_in};
 ghost use Rattle.rv_path.specs.declared.way.Way.{Way};
 ghost use Rattle.rv_path.specs.Path.{AreForgotten, still_in_flight, way_if, ways_by};
+ghost use Rattle.rv_path.specs.Way.{way_from};
 
 use crate::event::Event;
 use crate::way::Way;
 use rv_passage::Passage;
+
+// Appends those of a word that one event fetched.
+#[inline(never)]
+fn push_word(fetch: &Event, ways: &mut Vec<Way>)
+    requires room { length ways.old.items < vec_capacity ways.old }
+    ensures items { ways.new.items ≡ ways.old.items ++ way_from fetch.now ∷ [] }
+    ensures few { length ways.new.items ≤ length ways.old.items + 1 }
+    ensures capacity { vec_capacity ways.old ≤ vec_capacity ways.new }
+{
+    ways.push(Way::from(*fetch)).unwrap();
+}
 
 /// Appends so many that begin with one event, if there is one.
 pub(crate) fn push_fetched(count: usize, event: &Option<Event>, ways: &mut Vec<Way>)
@@ -20,7 +32,7 @@ pub(crate) fn push_fetched(count: usize, event: &Option<Event>, ways: &mut Vec<W
         return;
     };
     if count > 0 {
-        ways.push(Way::from(*fetch)).unwrap();
+        push_word(fetch, ways);
         push_fetched(count - 1, event, ways);
     }
 }

@@ -107,30 +107,23 @@ impl Event {
         }
     }
 
-    // That, or this one again.
-    #[inline(always)]
-    fn by(&self, at: Point, cycle: u64, address: Option<u32>, cause: Option<Cause>) -> Event
-        ensures { result ≡ event_by at cycle address self.now cause }
-    {
-        match cause {
-            Some(cause) => self.then(at, cycle, address, cause),
-            None => *self,
-        }
-    }
-
-    // The same after this one as one with which the fetch began anew, which is rare.
+    // The same, or this one again, after this one as one with which the fetch began anew, which is rare.
     #[inline(never)]
     fn by_anew(
         &self,
-        reason: Reason,
+        anew: Reason,
         at: Point,
         cycle: u64,
         address: Option<u32>,
         cause: Option<Cause>,
     ) -> Event
-        ensures { result ≡ event_by at cycle address (refilling reason self.now) cause }
+        ensures { result ≡ event_by at cycle address (refilling anew self.now) cause }
     {
-        self.refilling(reason).by(at, cycle, address, cause)
+        let event = self.refilling(anew);
+        match cause {
+            Some(cause) => event.then(at, cycle, address, cause),
+            None => event,
+        }
     }
 
     /// The same, as one with which the fetch began anew.
@@ -189,9 +182,12 @@ impl<'a> Waited<'a> {
     pub(crate) fn event(&self, at: Point, cycle: u64, address: Option<u32>) -> Event
         ensures { result ≡ event_from at cycle address self.now }
     {
-        match self.anew {
-            Some(reason) => self.event.by_anew(reason, at, cycle, address, self.cause),
-            None => self.event.by(at, cycle, address, self.cause),
+        if let Some(reason) = self.anew {
+            return self.event.by_anew(reason, at, cycle, address, self.cause);
+        }
+        match self.cause {
+            Some(cause) => self.event.then(at, cycle, address, cause),
+            None => *self.event,
         }
     }
 }

@@ -8,7 +8,7 @@ use crate::event::{Event, Waited};
 use crate::leaving::{Leaving, differ, mends_early};
 use crate::point::Reason;
 use crate::scene::{Scene, since_left};
-use crate::sought::{Sought, count, is_at, last_of, one_before};
+use crate::sought::{Sought, are_as_many, comes_after, is_at, last_of, one_before};
 use crate::way::{Found, Way};
 use rv_core::Pipeline;
 use rv_passage::Passage;
@@ -78,11 +78,11 @@ fn is_jump(row: &Passage) -> bool
 fn after_word<'a>(scene: &'a Scene<'_>, last: &Found<'a>) -> Option<Waited<'a>>
     ensures { result ≡ after_word (setting_of scene.now) last.now }
 {
-    if u128::from(last.row().fetched) + 1 != u128::from(scene.number) {
+    if !comes_after(last.row().fetched, scene.number) {
         return None;
     }
     let sought = Sought::FetchedBefore(scene.number);
-    if count(sought, scene.rows) == scene.values.fetch_width as usize {
+    if are_as_many(sought, scene.rows, scene.values.fetch_width as usize) {
         Some(Waited::after(&last.way().fetch, Cause::FetchWidth))
     } else if is_jump(last.row()) {
         Some(Waited::after(&last.way().fetch, Cause::FetchJump))

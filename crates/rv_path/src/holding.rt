@@ -1,6 +1,8 @@
-ghost use Rattle.std.specs.Prelude.{◌≡◌, ◌+◌, ◌<◌, ◌^◌, ◌≤◌, ◌++◌, filter, length, vec_capacity};
-ghost use Rattle.std.specs.Option.{option_to_list};
-ghost use Rattle.rv_path.specs.Holding.{at_its_commit, drain_begun, drain_event, drain_kept, drain_wait, ends_at, goes_beyond, hold_of, hold_of_kind, is_begun, is_taken, lines_hold, load_hold, new_holds, port_event, port_kept, port_taken, taken_by};
+ghost use Rattle.std.specs.Prelude.{◌≡◌, ◌+◌, ◌<◌, ◌^◌, ◌≤◌, ◌++◌, None, if◌then◌else◌, filter, is_some, length, vec_capacity};
+ghost use Rattle.std.specs.Option.{option_or, option_to_list};
+ghost use Rattle.rv_isa.specs.Instruction.{kind_of_word};
+ghost use Rattle.rv_path.specs.Holding.{at_its_commit, drain_event, drain_kept, drain_of, drain_wait, ends_at, goes_beyond, hold_of, hold_of_kind};
+ghost use Rattle.rv_path.specs.Holding.{is_begun, is_taken, lines_hold, load_hold, new_holds, port_event, port_kept, taken_by};
 ghost use Rattle.rv_path.specs.Setting.{setting_of};
 
 use crate::before::{DrainHold, Facts, Holder, PortHold, UnitHold};
@@ -11,11 +13,11 @@ use crate::point::{Point, Stage};
 use crate::scene::{Scene, last_left};
 use crate::sought::{Sought, first_of, kind_of};
 use crate::way::{Found, Way};
-use rv_isa::{Issue, Kind, Values};
+use rv_isa::{Issue, Values};
 use rv_passage::Passage;
 
-// Whether the port was taken in the cycle.
-fn is_taken(scene: &Scene<'_>, facts: &Facts) -> bool
+/// Whether the port was taken in the cycle.
+pub(crate) fn is_taken(scene: &Scene<'_>, facts: &Facts) -> bool
     ensures { result ≡ is_taken (setting_of scene.now) facts.now }
 {
     scene.number < facts.port_free && facts.port_free != scene.before.facts.port_free
@@ -76,20 +78,6 @@ fn drain_event(scene: &Scene<'_>, leaving: &Leaving) -> Event
     scene.made(at, address, &drain_wait(scene, leaving))
 }
 
-/// The store that begins to drain in the cycle.
-pub(crate) fn drain_begun(scene: &Scene<'_>, leaving: &Leaving, facts: &Facts) -> Option<DrainHold>
-    ensures { result ≡ drain_begun (setting_of scene.now) leaving.now facts.now }
-{
-    if is_taken(scene, facts) && is_begun(scene, facts.drain_end) {
-        Some(DrainHold {
-            until: facts.port_free,
-            event: drain_event(scene, leaving),
-        })
-    } else {
-        None
-    }
-}
-
 fn load_hold(until: u64, load: Option<Found<'_>>) -> Option<PortHold>
     ensures { result ≡ load_hold until load.entry }
 {
@@ -123,8 +111,13 @@ fn lines_hold(
     }
 }
 
-// Who takes the port in the cycle, where it is taken.
-fn taken_by(scene: &Scene<'_>, ways: &[Way], leaving: &Leaving, facts: &Facts) -> Option<PortHold>
+/// Who takes the port in the cycle, where it is taken.
+pub(crate) fn taken_by(
+    scene: &Scene<'_>,
+    ways: &[Way],
+    leaving: &Leaving,
+    facts: &Facts,
+) -> Option<PortHold>
     ensures { result ≡ taken_by (setting_of scene.now) ways.now leaving.now facts.now }
 {
     let until = facts.port_free;
@@ -148,22 +141,6 @@ fn taken_by(scene: &Scene<'_>, ways: &[Way], leaving: &Leaving, facts: &Facts) -
     }
 }
 
-/// Who takes the port in the cycle.
-pub(crate) fn port_taken(
-    scene: &Scene<'_>,
-    ways: &[Way],
-    leaving: &Leaving,
-    facts: &Facts,
-) -> Option<PortHold>
-    ensures { result ≡ port_taken (setting_of scene.now) ways.now leaving.now facts.now }
-{
-    if is_taken(scene, facts) {
-        taken_by(scene, ways, leaving, facts)
-    } else {
-        None
-    }
-}
-
 // Whether a hold goes on after a cycle.
 fn goes_beyond(number: u64, hold: &UnitHold) -> bool
     ensures { result ≡ goes_beyond number hold.now }
@@ -171,39 +148,43 @@ fn goes_beyond(number: u64, hold: &UnitHold) -> bool
     number < hold.until
 }
 
-// The hold of a unit that an instruction that is issued begins, if it is not pipelined.
-fn hold_of_kind(
-    values: &Values,
-    row: &Passage,
-    way: &Way,
-    issue: Issue,
-    kind: Option<Kind>,
-) -> Option<UnitHold>
+// Appends the hold of a unit that an instruction that is issued begins, if it is not pipelined.
+#[inline(never)]
+fn push_hold(values: &Values, row: &Passage, way: &Way, issue: Issue, holds: &mut Vec<UnitHold>)
     requires cycles { issue.cycle < 2 ^ 40 }
-    ensures { option_to_list result ≡ hold_of_kind values.now row.now way.now issue kind }
+    requires room { length holds.old.items < vec_capacity holds.old }
+    ensures items { holds.new.items ≡ holds.old.items ++ hold_of_kind values.now row.now way.now issue (kind_of_word row.now.instruction) }
+    ensures few { length holds.new.items ≤ length holds.old.items + 1 }
+    ensures capacity { vec_capacity holds.old ≤ vec_capacity holds.new }
 {
-    match kind {
-        Some(kind) if !values.kinds.get(kind).pipelined => Some(UnitHold {
+    let Some(kind) = kind_of(&row.instruction) else {
+        return;
+    };
+    if !values.kinds.get(kind).pipelined {
+        let hold = UnitHold {
             kind,
             until: issue.cycle + u64::from(issue.cost),
             number: row.number,
             event: *way.issued(),
-        }),
-        _ => None,
+        };
+        holds.push(hold).unwrap();
     }
 }
 
-// The hold of a unit that begins in a cycle with an instruction, if one does.
+// Appends the hold of a unit that begins in a cycle with an instruction, if one does.
+#[inline(always)]
 #[tactic(auto, unfolding(crate::specs::Holding::hold_of))]
-fn hold_of(number: u64, values: &Values, row: &Passage, way: &Way) -> Option<UnitHold>
+fn push_begun(number: u64, values: &Values, row: &Passage, way: &Way, holds: &mut Vec<UnitHold>)
     requires cycles { number < 2 ^ 40 }
-    ensures { option_to_list result ≡ hold_of number values.now row.now way.now row.now.issue }
+    requires room { length holds.old.items < vec_capacity holds.old }
+    ensures items { holds.new.items ≡ holds.old.items ++ hold_of number values.now row.now way.now row.now.issue }
+    ensures few { length holds.new.items ≤ length holds.old.items + 1 }
+    ensures capacity { vec_capacity holds.old ≤ vec_capacity holds.new }
 {
-    match row.issue {
-        Some(issue) if issue.cycle == number => {
-            hold_of_kind(values, row, way, issue, kind_of(&row.instruction))
-        }
-        _ => None,
+    if let Some(issue) = row.issue
+        && issue.cycle == number
+    {
+        push_hold(values, row, way, issue, holds);
     }
 }
 
@@ -214,18 +195,6 @@ pub(crate) fn drop_ended(number: u64, holds: &mut Vec<UnitHold>)
     ensures capacity { vec_capacity holds.old ≤ vec_capacity holds.new }
 {
     holds.retain(|hold| goes_beyond(number, hold));
-}
-
-// Appends a hold, if there is one.
-fn push_hold(hold: Option<UnitHold>, holds: &mut Vec<UnitHold>)
-    requires room { length holds.old.items < vec_capacity holds.old }
-    ensures items { holds.new.items ≡ holds.old.items ++ option_to_list hold }
-    ensures few { length holds.new.items ≤ length holds.old.items + 1 }
-    ensures capacity { vec_capacity holds.old ≤ vec_capacity holds.new }
-{
-    if let Some(hold) = hold {
-        holds.push(hold).unwrap();
-    }
 }
 
 /// Appends the holds of units that begin in a cycle.
@@ -248,7 +217,7 @@ pub(crate) fn push_holds(
     let [way, other_ways @ ..] = ways else {
         return;
     };
-    push_hold(hold_of(number, values, row, way), holds);
+    push_begun(number, values, row, way, holds);
     push_holds(number, values, other_rows, other_ways, holds);
 }
 
@@ -265,22 +234,70 @@ pub(crate) fn port_event(hold: &Option<PortHold>) -> Option<Event>
     }
 }
 
-/// The hold of the port, if an event of a later cycle may wait for it.
-pub(crate) fn port_kept(number: u64, hold: &Option<PortHold>) -> Option<PortHold>
-    ensures { result ≡ port_kept number hold.now }
+// Whether no event of a cycle after this one may wait for a hold of the port.
+fn is_over(number: u64, hold: &Option<PortHold>) -> bool
+    ensures { port_kept number hold.now ≡ (if result then None else hold.now) }
 {
     match hold {
-        Some(hold) if number < hold.until => Some(*hold),
-        _ => None,
+        Some(hold) => hold.until <= number,
+        None => false,
     }
 }
 
-/// The drain, if an event of a later cycle may wait for it.
-pub(crate) fn drain_kept(number: u64, drain: &Option<DrainHold>) -> Option<DrainHold>
-    ensures { result ≡ drain_kept number drain.now }
+// For the drain of a store.
+fn is_drained(number: u64, drain: &Option<DrainHold>) -> bool
+    ensures { drain_kept number drain.now ≡ (if result then None else drain.now) }
 {
     match drain {
-        Some(drain) if number <= drain.until => Some(*drain),
-        _ => None,
+        Some(drain) => drain.until < number,
+        None => false,
+    }
+}
+
+/// The hold of the port after a cycle: a new one, or the one before, if an event of a later cycle may wait for it.
+pub(crate) fn take_port(number: u64, taken: &Option<PortHold>, port: &mut Option<PortHold>)
+    ensures { port.new ≡ option_or taken.now (port_kept number port.old) }
+{
+    if taken.is_some() {
+        *port = *taken;
+    } else if is_over(number, port) {
+        *port = None;
+    }
+}
+
+// The drain that takes the port so, if one does.
+fn drain_of(taken: &Option<PortHold>) -> Option<DrainHold>
+    ensures { result ≡ drain_of taken.now }
+{
+    match taken {
+        Some(hold) => match hold.holder {
+            Holder::Drain => Some(DrainHold {
+                until: hold.until,
+                event: hold.event,
+            }),
+            Holder::Load | Holder::Lines => None,
+        },
+        None => None,
+    }
+}
+
+/// Whether a store begins to drain, where the port is taken so.
+pub(crate) fn begins_drain(taken: &Option<PortHold>) -> bool
+    ensures { result ≡ is_some (drain_of taken.now) }
+{
+    match taken {
+        Some(hold) => matches!(hold.holder, Holder::Drain),
+        None => false,
+    }
+}
+
+/// The drain after a cycle in which the port is taken so: a new one, or the one before, if an event of a later cycle may wait for it.
+pub(crate) fn take_drain(number: u64, taken: &Option<PortHold>, drain: &mut Option<DrainHold>)
+    ensures { drain.new ≡ option_or (drain_of taken.now) (drain_kept number drain.old) }
+{
+    if begins_drain(taken) {
+        *drain = drain_of(taken);
+    } else if is_drained(number, drain) {
+        *drain = None;
     }
 }

@@ -9,7 +9,7 @@ use crate::cause::Cause;
 use crate::event::Waited;
 use crate::scene::Scene;
 use crate::sought::{
-    Sought, count, first_of, is_at, is_just_before, is_load, is_ready_at, kind_of, last_of,
+    Sought, are_as_many, first_of, is_at, is_just_before, is_load, is_ready_at, kind_of, last_of,
 };
 use crate::way::{Found, Way};
 use rv_isa::Kind;
@@ -101,7 +101,8 @@ fn after_issues<'a>(scene: &'a Scene<'_>, ways: &'a [Way], kind: Kind) -> Option
     ensures { result ≡ after_issues (setting_of scene.now) ways.now kind }
 {
     let sought = Sought::IssuedBefore(kind, scene.number);
-    if count(sought, scene.rows) != scene.values.kinds.get(kind).units as usize {
+    let units = scene.values.kinds.get(kind).units as usize;
+    if !are_as_many(sought, scene.rows, units) {
         return None;
     }
     match last_of(sought, scene.rows, ways) {
@@ -192,7 +193,7 @@ fn after_bus<'a>(scene: &'a Scene<'_>, ways: &'a [Way]) -> Option<Waited<'a>>
     ensures { result ≡ after_bus (setting_of scene.now) ways.now }
 {
     let sought = Sought::BroadcastBefore(scene.number);
-    if count(sought, scene.rows) != scene.values.bus_width as usize {
+    if !are_as_many(sought, scene.rows, scene.values.bus_width as usize) {
         return None;
     }
     after_broadcast(Cause::BusFull, last_of(sought, scene.rows, ways))

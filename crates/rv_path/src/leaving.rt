@@ -1,6 +1,6 @@
 ghost use Rattle.std.specs.Prelude.{◌≡◌};
 ghost use Rattle.rv_path.specs.Leaving.{cause_of_flush, flushes_late, interrupt_event, is_interrupted};
-ghost use Rattle.rv_path.specs.Leaving.{is_retired_store, leaving_event, leaving_of, leaving_wait, lines_event};
+ghost use Rattle.rv_path.specs.Leaving.{is_retired_store, leaving_event, leaving_wait, lines_event};
 ghost use Rattle.rv_path.specs.Leaving.{lines_wait, newly_left, with_event, with_left, with_row, with_rows};
 ghost use Rattle.rv_path.specs.Leaving.{after_own_lines, after_left, first_to_leave, flush_by, known_in, leaves_after, left_by};
 ghost use Rattle.rv_isa.specs.Instruction.{is_branch_or_jump};
@@ -179,6 +179,14 @@ fn flush_by(row: &Passage, cause: Option<Cause>) -> Option<Reason>
 }
 
 impl Leaving {
+    /// Those of none.
+    pub(crate) const NONE: Leaving = Leaving {
+        first: None,
+        last: None,
+        store: None,
+        refill: None,
+    };
+
     // One more instruction leaves by an event.
     fn add_event(&mut self, scene: &Scene<'_>, event: Event, row: &Passage)
         ensures { self.new ≡ with_event (setting_of scene.now) event row.now self.old }
@@ -219,8 +227,9 @@ impl Leaving {
         }
     }
 
+    /// Those that left of some instructions, after these.
     #[tactic(auto, using(crate::proofs::Nothing::with_rows_nothing))]
-    fn add_rows(&mut self, scene: &Scene<'_>, rows: &[Passage], ways: &[Way])
+    pub(crate) fn add_rows(&mut self, scene: &Scene<'_>, rows: &[Passage], ways: &[Way])
         ensures { self.new ≡ with_rows (setting_of scene.now) rows.now ways.now self.old }
     {
         let [row, other_rows @ ..] = rows else {
@@ -231,20 +240,6 @@ impl Leaving {
         };
         self.add_row(scene, row, way);
         self.add_rows(scene, other_rows, other_ways);
-    }
-
-    /// Those of a cycle.
-    pub(crate) fn of(scene: &Scene<'_>, ways: &[Way]) -> Leaving
-        ensures { result ≡ leaving_of (setting_of scene.now) ways.now }
-    {
-        let mut leaving = Leaving {
-            first: None,
-            last: None,
-            store: None,
-            refill: None,
-        };
-        leaving.add_rows(scene, scene.rows, ways);
-        leaving
     }
 }
 

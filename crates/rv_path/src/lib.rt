@@ -28,6 +28,7 @@ mod numbering;
 mod path;
 mod path_account;
 mod point;
+mod ranking;
 mod running;
 mod scene;
 mod seeing;

@@ -29,9 +29,9 @@ pub(crate) fn walk(events: &[Event], wanted: Option<Point>, path: &mut Vec<Event
     let mut front = events.len();
     while front > 0 {
         front -= 1;
-        let event = events[front];
-        if is_wanted(wanted, &event) {
-            path.push(event).unwrap();
+        let event = &events[front];
+        if is_wanted(wanted, event) {
+            path.push(*event).unwrap();
             wanted = event.before;
         }
     }

@@ -10,7 +10,9 @@ use crate::issuing::{broadcast_wait, issue_wait};
 use crate::leaving::Leaving;
 use crate::point::Stage;
 use crate::scene::Scene;
-use crate::sought::{Sought, count, first_of, is_at, is_just_before, kind_of, one_before};
+use crate::sought::{
+    Sought, are_as_many, comes_after, first_of, is_at, is_just_before, kind_of, one_before,
+};
 use crate::way::{Found, Way};
 use rv_isa::Kind;
 use rv_passage::Passage;
@@ -37,7 +39,8 @@ fn room_by_leaving<'a>(scene: &Scene<'_>, leaving: &'a Leaving) -> Option<Waited
     let Some(event) = &leaving.first else {
         return None;
     };
-    if count(Sought::Buffered(scene.number), scene.rows) == scene.values.rob as usize {
+    let sought = Sought::Buffered(scene.number);
+    if are_as_many(sought, scene.rows, scene.values.rob as usize) {
         Some(Waited::again(event))
     } else {
         None
@@ -63,8 +66,8 @@ fn room_by_issue<'a>(
     let Some(kind) = kind else {
         return None;
     };
-    let stationed = count(Sought::Stationed(kind, scene.number), scene.rows);
-    if stationed != scene.values.kinds.get(kind).stations as usize {
+    let stations = scene.values.kinds.get(kind).stations as usize;
+    if !are_as_many(Sought::Stationed(kind, scene.number), scene.rows, stations) {
         return None;
     }
     issue_of(first_of(Sought::IssuedIn(kind, scene.number), scene.rows, ways))
@@ -102,7 +105,7 @@ fn after_width<'a>(scene: &'a Scene<'_>, last: &Found<'a>) -> Option<Waited<'a>>
 {
     let sought = Sought::DispatchedBefore(scene.number);
     if is_just_before(scene.number, last.row().dispatched)
-        && count(sought, scene.rows) == scene.values.dispatch_width as usize
+        && are_as_many(sought, scene.rows, scene.values.dispatch_width as usize)
     {
         Some(Waited::after(last.way().dispatched(), Cause::DispatchWidth))
     } else {
@@ -133,7 +136,7 @@ fn dispatch_wait<'a>(
 ) -> Waited<'a>
     ensures { result ≡ dispatch_wait (setting_of scene.now) ways.now leaving.now row.now place way.now }
 {
-    if u128::from(row.fetched) + 1 == u128::from(scene.number) {
+    if comes_after(row.fetched, scene.number) {
         return Waited::after(&way.fetch, Cause::FrontEnd);
     }
     if let Some(event) = after_previous(scene, one_before(place, scene.rows, ways)) {
@@ -224,7 +227,7 @@ fn move_on(
     let stage = advance.stage;
     let event = scene.made_of(stage, row, &advance.waited);
     push_event_if(advance.waited.is_new(), &event, events);
-    ways[place].set(stage, event);
+    ways[place].set(stage, &event);
 }
 
 // The same of any instruction: mostly nothing comes of it.

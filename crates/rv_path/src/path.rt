@@ -8,7 +8,7 @@ use crate::before::{Before, Facts, UnitHold};
 use crate::cause::Cause;
 use crate::ended::{count_ended, push_fetched, push_in_flight};
 use crate::event::{Event, Waited};
-use crate::holding::{drain_kept, drop_ended, port_kept, push_holds};
+use crate::holding::{begins_drain, drop_ended, push_holds, take_drain, take_port};
 use crate::live::gather;
 use crate::point::{Point, Stage};
 use crate::scene::last_left;
@@ -43,6 +43,8 @@ pub(crate) struct Path {
     next: Vec<Way>,
     holds: Vec<UnitHold>,
     before: Before,
+    // Room for what a cycle brings.
+    seen: Seen,
     window: Window,
     // Room for the points of the events for which one of a later cycle may wait.
     live: Vec<Point>,
@@ -80,6 +82,7 @@ impl Path {
         let holds = Vec::with_capacity(alloc, MOST_IN_CYCLE)?;
         let mut window = Window::begin(alloc, WINDOW)?;
         window.push(Event::BEGIN);
+        let facts = Facts::of(pipeline);
         Ok(Path {
             ways,
             dropped: 0,
@@ -89,9 +92,10 @@ impl Path {
                 left: None,
                 port: None,
                 drain: None,
-                facts: Facts::of(pipeline),
+                facts,
                 waiting: WaitingStores::of(pipeline.store_queue()),
             },
+            seen: Seen::nothing(facts),
             window,
             live: Vec::new(alloc),
         })
@@ -176,28 +180,29 @@ impl Path {
         ensures known { (events : List Event) → known_of_path self.new (with_events (made_shown cycle.now (known_of_path self.old events)) events) ≡ known_shown cycle.now (known_of_path self.old events) }
         ensures made { IsFollowed (made_shown cycle.now (known_of_path self.old [])) self.old.window self.new.window }
     {
-        let seen = see_shown(
+        see_shown(
             cycle,
             self.holds.as_slice(),
             &self.before,
             self.dropped,
             self.ways.as_mut_slice(),
+            &mut self.seen,
             &mut self.window.events,
         );
-        self.take(cycle, &seen);
+        self.take(cycle);
     }
 
     // What was seen of a cycle is known after it.
-    fn take(&mut self, cycle: &ShownCycle<'_>, seen: &Seen)
+    fn take(&mut self, cycle: &ShownCycle<'_>)
         requires room { HasRoomForWays self.old }
         requires few { length cycle.now.rows.now ≤ 576 }
         requires cycles { cycle.now.number < 2 ^ 40 }
-        ensures known { (events : List Event) → known_of_path self.new events ≡ known_brought cycle.now seen.now (known_of_path self.old events) }
+        ensures known { (events : List Event) → known_of_path self.new events ≡ known_brought cycle.now self.old.seen (known_of_path self.old events) }
         ensures window { self.new.window ≡ self.old.window }
     {
         self.take_holds(cycle);
-        self.take_fetched(cycle.rows, seen);
-        self.take_before(cycle.number, cycle.steps, seen);
+        self.take_fetched(cycle.rows);
+        self.take_before(cycle.number, cycle.steps);
         self.drop_ended(cycle.rows);
     }
 
@@ -219,33 +224,28 @@ impl Path {
     }
 
     // The words that were fetched in a cycle are in flight.
-    fn take_fetched(&mut self, rows: &[Passage], seen: &Seen)
+    fn take_fetched(&mut self, rows: &[Passage])
         requires room { length self.old.ways.items + length rows.now ≤ vec_capacity self.old.ways }
-        ensures ways { ways_of self.new ≡ with_fetched seen.now.fetch rows.now (ways_of self.old) }
+        ensures ways { ways_of self.new ≡ with_fetched self.old.seen.fetch rows.now (ways_of self.old) }
         ensures others { AreSameButWays self.old self.new }
     {
         let fetched = rows.len().saturating_sub(self.ways.len() - self.dropped);
-        push_fetched(fetched, &seen.fetch, &mut self.ways);
+        push_fetched(fetched, &self.seen.fetch, &mut self.ways);
     }
 
     // All else that is known after a cycle.
-    fn take_before(&mut self, number: u64, steps: &[Step], seen: &Seen)
-        ensures before { self.new.before ≡ before_with number steps.now seen.now self.old.before }
+    fn take_before(&mut self, number: u64, steps: &[Step])
+        ensures before { self.new.before ≡ before_with number steps.now self.old.seen self.old.before }
         ensures others { AreSameButBefore self.old self.new }
     {
-        if seen.left.is_some() {
-            self.before.left = seen.left;
+        if self.seen.left.is_some() {
+            self.before.left = self.seen.left;
         }
-        self.before.port = match seen.port {
-            Some(hold) => Some(hold),
-            None => port_kept(number, &self.before.port),
-        };
-        self.before.drain = match seen.drain {
-            Some(drain) => Some(drain),
-            None => drain_kept(number, &self.before.drain),
-        };
-        self.before.facts = seen.facts;
-        self.before.waiting.follow(steps, seen.drain.is_some());
+        take_port(number, &self.seen.port, &mut self.before.port);
+        take_drain(number, &self.seen.port, &mut self.before.drain);
+        self.before.facts = self.seen.facts;
+        let drains = begins_drain(&self.seen.port);
+        self.before.waiting.follow(steps, drains);
     }
 
     // How many at the front are forgotten with those that left the hardware, if the others may stay where they are.
@@ -299,6 +299,7 @@ impl Path {
             next: _,
             holds: _,
             before,
+            seen: _,
             window,
             live: _,
         } = self;

@@ -49,7 +49,7 @@ impl<'a> Scene<'a> {
         ensures { result ≡ made_of (setting_of self.now) stage row.now waited.now }
     {
         let number = row.number;
-        self.made(Point { stage, number }, Some(row.pc), waited)
+        waited.event(Point { stage, number }, self.elapsed, Some(row.pc))
     }
 
     /// The hold of the port, if it ended when the cycle began.

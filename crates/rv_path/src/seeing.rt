@@ -1,16 +1,15 @@
-ghost use Rattle.std.specs.Prelude.{◌≡◌, ◌+◌, ◌++◌, ◌≤◌, drop, length, option_copied, vec_capacity};
-ghost use Rattle.std.specs.Option.{option_to_list};
-ghost use Rattle.rv_path.specs.Fetching.{fetch_event, fetched_by, new_fetched};
+ghost use Rattle.std.specs.Prelude.{◌≡◌, ◌+◌, ◌++◌, ◌≤◌, Some, None, drop, length, option_copied, slice_get, true, vec_capacity};
+ghost use Rattle.rv_path.specs.Fetching.{fetch_event, fetched_by, handled, new_fetched};
+ghost use Rattle.rv_path.specs.Holding.{port_event, port_taken, taken_by};
 ghost use Rattle.rv_path.specs.Keeping.{IsSeen, before_with, setting_by};
 ghost use Rattle.rv_path.specs.Leaving.{is_interrupted, left_events};
 ghost use Rattle.rv_path.specs.Path.{before_next, interrupt_taken, made_in, new_beside};
-ghost use Rattle.rv_path.specs.Event.{event_if};
 ghost use Rattle.rv_path.specs.Setting.{made_of, new_of, setting_of};
 
-use crate::before::{Before, DrainHold, Facts, Left, PortHold, UnitHold};
-use crate::event::{Event, Waited, push_event};
+use crate::before::{Before, Facts, Left, PortHold, UnitHold};
+use crate::event::{Event, Waited, push_event, push_event_if};
 use crate::fetching::{fetch_wait, handler_wait};
-use crate::holding::{drain_begun, port_event, port_taken};
+use crate::holding::{is_taken, port_event, taken_by};
 use crate::leaving::{Leaving, interrupt_event, is_interrupted, newly_left};
 use crate::moving::move_all;
 use crate::point::Stage;
@@ -25,28 +24,25 @@ use rv_view::ShownCycle;
 #[derive(Clone, Copy)]
 pub(crate) struct Seen {
     pub(crate) left: Option<Left>,
+    /// Who takes the port. The drain of a store does, too.
     pub(crate) port: Option<PortHold>,
-    pub(crate) drain: Option<DrainHold>,
     pub(crate) facts: Facts,
     /// The event by which words were fetched, if some were.
     pub(crate) fetch: Option<Event>,
 }
 
-// Appends up to three events.
-fn push_three(
-    first: &Option<Event>,
-    second: &Option<Event>,
-    third: &Option<Event>,
-    events: &mut Vec<Event>,
-)
-    requires room { length events.old.items + 3 ≤ vec_capacity events.old }
-    ensures items { events.new.items ≡ events.old.items ++ (option_to_list first.now ++ (option_to_list second.now ++ option_to_list third.now)) }
-    ensures few { length events.new.items ≤ length events.old.items + 3 }
-    ensures capacity { vec_capacity events.old ≤ vec_capacity events.new }
-{
-    push_event(first, events);
-    push_event(second, events);
-    push_event(third, events);
+impl Seen {
+    /// Nothing, where the hardware shows this.
+    pub(crate) fn nothing(facts: Facts) -> Seen
+        ensures { result ≡ record { left = None; port = None; facts = facts; fetch = None } }
+    {
+        Seen {
+            left: None,
+            port: None,
+            facts,
+            fetch: None,
+        }
+    }
 }
 
 // Appends the events of those that leave.
@@ -56,170 +52,242 @@ fn push_left(leaving: &Leaving, events: &mut Vec<Event>)
     ensures few { length events.new.items ≤ length events.old.items + 3 }
     ensures capacity { vec_capacity events.old ≤ vec_capacity events.new }
 {
-    push_three(&leaving.first, &leaving.store, &leaving.last, events);
+    push_event(&leaving.first, events);
+    push_event(&leaving.store, events);
+    push_event(&leaving.last, events);
 }
 
-// The interrupt, if one was taken.
-fn interrupt_taken(scene: &Scene<'_>, interrupted: bool) -> Option<Event>
-    ensures { option_to_list result ≡ interrupt_taken (setting_of scene.now) interrupted }
+// Appends the interrupt, which is rare.
+#[inline(never)]
+fn push_interrupt(scene: &Scene<'_>, events: &mut Vec<Event>)
+    requires room { length events.old.items + 1 ≤ vec_capacity events.old }
+    ensures items { events.new.items ≡ events.old.items ++ interrupt_taken (setting_of scene.now) true }
+    ensures few { length events.new.items ≤ length events.old.items + 1 }
+    ensures capacity { vec_capacity events.old ≤ vec_capacity events.new }
+{
+    push_event_if(true, &interrupt_event(scene), events);
+}
+
+// Appends it, if one was taken.
+fn push_interrupt_if(interrupted: bool, scene: &Scene<'_>, events: &mut Vec<Event>)
+    requires room { length events.old.items + 1 ≤ vec_capacity events.old }
+    ensures items { events.new.items ≡ events.old.items ++ interrupt_taken (setting_of scene.now) interrupted }
+    ensures few { length events.new.items ≤ length events.old.items + 1 }
+    ensures capacity { vec_capacity events.old ≤ vec_capacity events.new }
 {
     if interrupted {
-        Some(interrupt_event(scene))
-    } else {
-        None
+        push_interrupt(scene, events);
     }
 }
 
-/// The event by which words were fetched, if some were, and that again if it is new.
-#[derive(Clone, Copy)]
-struct Fetched {
-    event: Option<Event>,
-    new_event: Option<Event>,
-}
-
-// An event, where something is so.
-fn event_if(is: bool, event: Event) -> Option<Event>
-    ensures { option_to_list result ≡ event_if is event }
+// Who takes the port, where it is taken. Appends the event from which it is held, if that is new.
+#[inline(never)]
+fn see_taken(
+    scene: &Scene<'_>,
+    ways: &[Way],
+    leaving: &Leaving,
+    facts: &Facts,
+    port: &mut Option<PortHold>,
+    events: &mut Vec<Event>,
+)
+    requires room { length events.old.items + 1 ≤ vec_capacity events.old }
+    ensures port { port.new ≡ taken_by (setting_of scene.now) ways.now leaving.now facts.now }
+    ensures items { events.new.items ≡ events.old.items ++ port_event port.new }
+    ensures few { length events.new.items ≤ length events.old.items + 1 }
+    ensures capacity { vec_capacity events.old ≤ vec_capacity events.new }
 {
-    if is { Some(event) } else { None }
+    *port = taken_by(scene, ways, leaving, facts);
+    push_event(&port_event(port), events);
 }
 
-// Of which this word was the first, that waited so.
+// The same of any cycle: mostly nobody takes it.
+fn see_port(
+    scene: &Scene<'_>,
+    ways: &[Way],
+    leaving: &Leaving,
+    facts: &Facts,
+    port: &mut Option<PortHold>,
+    events: &mut Vec<Event>,
+)
+    requires room { length events.old.items + 1 ≤ vec_capacity events.old }
+    ensures port { port.new ≡ port_taken (setting_of scene.now) ways.now leaving.now facts.now }
+    ensures items { events.new.items ≡ events.old.items ++ port_event port.new }
+    ensures few { length events.new.items ≤ length events.old.items + 1 }
+    ensures capacity { vec_capacity events.old ≤ vec_capacity events.new }
+{
+    if is_taken(scene, facts) {
+        see_taken(scene, ways, leaving, facts, port, events);
+    } else {
+        *port = None;
+    }
+}
+
+// The event by which words were fetched of which this is the first, that waited so. Appends it, if it is new.
 #[tactic(auto, using(crate::proofs::Moves::new_if))]
-fn fetched_after(scene: &Scene<'_>, first: &Passage, waited: &Waited<'_>) -> Fetched
-    ensures event { result.event ≡ Some (made_of (setting_of scene.now) Stage.Fetch first.now waited.now) }
-    ensures new_event { option_to_list result.new_event ≡ new_of (setting_of scene.now) Stage.Fetch first.now waited.now }
+fn see_first(
+    scene: &Scene<'_>,
+    first: &Passage,
+    waited: &Waited<'_>,
+    fetch: &mut Option<Event>,
+    events: &mut Vec<Event>,
+)
+    requires room { length events.old.items + 1 ≤ vec_capacity events.old }
+    ensures fetch { fetch.new ≡ Some (made_of (setting_of scene.now) Stage.Fetch first.now waited.now) }
+    ensures items { events.new.items ≡ events.old.items ++ new_of (setting_of scene.now) Stage.Fetch first.now waited.now }
+    ensures capacity { vec_capacity events.old ≤ vec_capacity events.new }
 {
     let event = scene.made_of(Stage::Fetch, first, waited);
-    Fetched {
-        event: Some(event),
-        new_event: event_if(waited.is_new(), event),
-    }
+    push_event_if(waited.is_new(), &event, events);
+    *fetch = Some(event);
 }
 
-// Of which this word was the first.
-fn fetched_by(
+// The same where an interrupt was taken, which is rare.
+#[inline(never)]
+fn see_handler(
+    scene: &Scene<'_>,
+    first: &Passage,
+    fetch: &mut Option<Event>,
+    events: &mut Vec<Event>,
+)
+    requires room { length events.old.items + 1 ≤ vec_capacity events.old }
+    ensures fetch { fetch.new ≡ Some (made_of (setting_of scene.now) Stage.Fetch first.now (handled (setting_of scene.now) first.now)) }
+    ensures items { events.new.items ≡ events.old.items ++ new_of (setting_of scene.now) Stage.Fetch first.now (handled (setting_of scene.now) first.now) }
+    ensures capacity { vec_capacity events.old ≤ vec_capacity events.new }
+{
+    let interrupt = interrupt_event(scene);
+    see_first(
+        scene,
+        first,
+        &handler_wait(&interrupt, first),
+        fetch,
+        events,
+    );
+}
+
+// The event by which words were fetched, if some were, of which this was the first. Appends it, if it is new.
+fn see_fetched(
     scene: &Scene<'_>,
     ways: &[Way],
     interrupted: bool,
     leaving: &Leaving,
     pipeline: &Pipeline,
     first: Option<&Passage>,
-) -> Fetched
-    ensures event { result.event ≡ fetched_by (setting_of scene.now) ways.now interrupted leaving.now pipeline.now (option_copied first.entry) }
-    ensures new_event { option_to_list result.new_event ≡ new_fetched (setting_of scene.now) ways.now interrupted leaving.now pipeline.now (option_copied first.entry) }
+    fetch: &mut Option<Event>,
+    events: &mut Vec<Event>,
+)
+    requires room { length events.old.items + 1 ≤ vec_capacity events.old }
+    ensures fetch { fetch.new ≡ fetched_by (setting_of scene.now) ways.now interrupted leaving.now pipeline.now (option_copied first.entry) }
+    ensures items { events.new.items ≡ events.old.items ++ new_fetched (setting_of scene.now) ways.now interrupted leaving.now pipeline.now (option_copied first.entry) }
+    ensures capacity { vec_capacity events.old ≤ vec_capacity events.new }
 {
     let Some(first) = first else {
-        return Fetched {
-            event: None,
-            new_event: None,
-        };
+        *fetch = None;
+        return;
     };
     if interrupted {
-        let interrupt = interrupt_event(scene);
-        fetched_after(scene, first, &handler_wait(&interrupt, first))
+        see_handler(scene, first, fetch, events);
     } else {
-        fetched_after(
-            scene,
-            first,
-            &fetch_wait(scene, ways, leaving, pipeline, first),
-        )
+        let waited = fetch_wait(scene, ways, leaving, pipeline, first);
+        see_first(scene, first, &waited, fetch, events);
     }
+}
+
+// The first word that is fetched in the cycle.
+fn first_fetched<'a>(scene: &Scene<'a>, ways: &[Way]) -> Option<&'a Passage>
+    ensures { option_copied result ≡ slice_get (setting_of scene.now).rows (length ways.now) }
+{
+    scene.rows.get(ways.len())
 }
 
 // What a cycle brings, where the events of the instructions that were in flight before it stand as they do after it. Appends the new
 // ones of the others.
+#[tactic(auto, using(crate::proofs::Drains::drain_of_taken))]
 fn notice(
     scene: &Scene<'_>,
     ways: &[Way],
     leaving: &Leaving,
     steps: &[Step],
     pipeline: &Pipeline,
+    seen: &mut Seen,
     events: &mut Vec<Event>,
-) -> Seen
+)
     requires room { length events.old.items + 3 ≤ vec_capacity events.old }
-    ensures before { before_with scene.now.number steps.now result scene.now.before.now ≡ before_next (setting_of scene.now) ways.now steps.now pipeline.now leaving.now }
-    ensures fetch { result.fetch ≡ fetch_event (setting_of scene.now) ways.now (is_interrupted steps.now) leaving.now pipeline.now }
+    ensures before { before_with scene.now.number steps.now seen.new scene.now.before.now ≡ before_next (setting_of scene.now) ways.now steps.now pipeline.now leaving.now }
+    ensures fetch { seen.new.fetch ≡ fetch_event (setting_of scene.now) ways.now (is_interrupted steps.now) leaving.now pipeline.now }
     ensures items { events.new.items ≡ events.old.items ++ new_beside (setting_of scene.now) ways.now steps.now pipeline.now leaving.now }
     ensures capacity { vec_capacity events.old ≤ vec_capacity events.new }
 {
     let interrupted = is_interrupted(steps);
-    let facts = Facts::of(pipeline);
-    let interrupt = interrupt_taken(scene, interrupted);
-    let port = port_taken(scene, ways, leaving, &facts);
-    let first = scene.rows.get(ways.len());
-    let fetched = fetched_by(scene, ways, interrupted, leaving, pipeline, first);
-    push_three(&interrupt, &port_event(&port), &fetched.new_event, events);
-    Seen {
-        left: newly_left(scene, interrupted, leaving),
-        port,
-        drain: drain_begun(scene, leaving, &facts),
-        facts,
-        fetch: fetched.event,
-    }
+    seen.facts = Facts::of(pipeline);
+    seen.left = newly_left(scene, interrupted, leaving);
+    push_interrupt_if(interrupted, scene, events);
+    see_port(scene, ways, leaving, &seen.facts, &mut seen.port, events);
+    let first = first_fetched(scene, ways);
+    see_fetched(
+        scene,
+        ways,
+        interrupted,
+        leaving,
+        pipeline,
+        first,
+        &mut seen.fetch,
+        events,
+    );
 }
 
-// Adds the events of the cycle to those of the instructions that were in flight before it, appends all new ones, and answers what the
-// cycle brings beside.
+// Adds the events of the cycle to those of the instructions that were in flight before it, appends all new ones, and sees what the cycle
+// brings beside.
 fn see(
     scene: &Scene<'_>,
     steps: &[Step],
     pipeline: &Pipeline,
     ways: &mut [Way],
+    seen: &mut Seen,
     events: &mut Vec<Event>,
-) -> Seen
+)
     requires room { length events.old.items + length ways.old + 6 ≤ vec_capacity events.old }
-    ensures seen { IsSeen (setting_of scene.now) steps.now pipeline.now ways.old ways.new result }
+    ensures seen { IsSeen (setting_of scene.now) steps.now pipeline.now ways.old ways.new seen.new }
     ensures items { events.new.items ≡ events.old.items ++ made_in (setting_of scene.now) ways.old steps.now pipeline.now }
     ensures capacity { vec_capacity events.old ≤ vec_capacity events.new }
 {
-    let leaving = Leaving::of(scene, ways);
+    let mut leaving = Leaving::NONE;
+    leaving.add_rows(scene, scene.rows, ways);
     push_left(&leaving, events);
     move_all(scene, &leaving, ways, events);
-    notice(scene, ways, &leaving, steps, pipeline, events)
+    notice(scene, ways, &leaving, steps, pipeline, seen, events);
 }
 
-// The same of the ways after those that are dropped.
-fn see_kept(
-    scene: &Scene<'_>,
-    steps: &[Step],
-    pipeline: &Pipeline,
-    dropped: usize,
-    ways: &mut [Way],
-    events: &mut Vec<Event>,
-) -> Seen
-    requires few { dropped ≤ length ways.old }
-    requires room { length events.old.items + length (drop dropped ways.old) + 6 ≤ vec_capacity events.old }
-    ensures seen { IsSeen (setting_of scene.now) steps.now pipeline.now (drop dropped ways.old) (drop dropped ways.new) result }
-    ensures items { events.new.items ≡ events.old.items ++ made_in (setting_of scene.now) (drop dropped ways.old) steps.now pipeline.now }
-    ensures capacity { vec_capacity events.old ≤ vec_capacity events.new }
+// What stands in a cycle that is shown.
+fn scene_of<'a>(cycle: &ShownCycle<'a>, holds: &'a [UnitHold], before: &'a Before) -> Scene<'a>
+    ensures { setting_of result ≡ setting_by cycle.now holds.now before.now }
 {
-    let (_, kept) = ways.split_at_mut(dropped);
-    see(scene, steps, pipeline, kept, events)
-}
-
-/// The same of a cycle that is shown.
-pub(crate) fn see_shown(
-    cycle: &ShownCycle<'_>,
-    holds: &[UnitHold],
-    before: &Before,
-    dropped: usize,
-    ways: &mut [Way],
-    events: &mut Vec<Event>,
-) -> Seen
-    requires few { dropped ≤ length ways.old }
-    requires room { length events.old.items + length (drop dropped ways.old) + 6 ≤ vec_capacity events.old }
-    ensures seen { IsSeen (setting_by cycle.now holds.now before.now) cycle.now.steps.now cycle.now.pipeline.now (drop dropped ways.old) (drop dropped ways.new) result }
-    ensures items { events.new.items ≡ events.old.items ++ made_in (setting_by cycle.now holds.now before.now) (drop dropped ways.old) cycle.now.steps.now cycle.now.pipeline.now }
-    ensures capacity { vec_capacity events.old ≤ vec_capacity events.new }
-{
-    let scene = Scene {
+    Scene {
         number: cycle.number,
         elapsed: cycle.progress.cycles.saturating_sub(1),
         values: cycle.pipeline.values(),
         rows: cycle.rows,
         holds,
         before,
-    };
-    see_kept(&scene, cycle.steps, cycle.pipeline, dropped, ways, events)
+    }
+}
+
+/// The same of a cycle that is shown, of the ways after those that are dropped.
+pub(crate) fn see_shown(
+    cycle: &ShownCycle<'_>,
+    holds: &[UnitHold],
+    before: &Before,
+    dropped: usize,
+    ways: &mut [Way],
+    seen: &mut Seen,
+    events: &mut Vec<Event>,
+)
+    requires few { dropped ≤ length ways.old }
+    requires room { length events.old.items + length (drop dropped ways.old) + 6 ≤ vec_capacity events.old }
+    ensures seen { IsSeen (setting_by cycle.now holds.now before.now) cycle.now.steps.now cycle.now.pipeline.now (drop dropped ways.old) (drop dropped ways.new) seen.new }
+    ensures items { events.new.items ≡ events.old.items ++ made_in (setting_by cycle.now holds.now before.now) (drop dropped ways.old) cycle.now.steps.now cycle.now.pipeline.now }
+    ensures capacity { vec_capacity events.old ≤ vec_capacity events.new }
+{
+    let scene = scene_of(cycle, holds, before);
+    let (_, kept) = ways.split_at_mut(dropped);
+    see(&scene, cycle.steps, cycle.pipeline, kept, seen, events);
 }

@@ -1,4 +1,4 @@
-ghost use Rattle.std.specs.Prelude.{◌≡◌, count_by};
+ghost use Rattle.std.specs.Prelude.{◌≡◌, ◌+◌, ◌==◌, count_by};
 ghost use Rattle.rv_isa.specs.Instruction.{is_fence_i, is_load, is_serialising, is_store, kind_of_word};
 ghost use Rattle.rv_passage.specs.Result.{ready_in};
 ghost use Rattle.rv_path.specs.Lookup.{first_of, last_of, one_before};
@@ -50,13 +50,21 @@ pub(crate) fn is_at(cycle: u64, stamp: Option<u64>) -> bool
     }
 }
 
+/// Whether a cycle comes just after another one.
+#[inline(always)]
+pub(crate) fn comes_after(earlier: u64, cycle: u64) -> bool
+    ensures { result ≡ (earlier + 1 == cycle) }
+{
+    cycle > 0 && earlier == cycle - 1
+}
+
 /// Whether a stamp is that of the cycle just before.
 #[inline(always)]
 pub(crate) fn is_just_before(cycle: u64, stamp: Option<u64>) -> bool
     ensures { result ≡ is_just_before cycle stamp }
 {
     match stamp {
-        Some(stamp) => u128::from(stamp) + 1 == u128::from(cycle),
+        Some(stamp) => comes_after(stamp, cycle),
         None => false,
     }
 }
@@ -142,7 +150,7 @@ pub(crate) fn is_sought(sought: Sought, row: &Passage) -> bool
         Sought::Entry => row.is_in_flight() && row.dispatched.is_some(),
         Sought::Ended => is_end(row.ending),
         Sought::Number(number) => row.number == number,
-        Sought::FetchedBefore(cycle) => u128::from(row.fetched) + 1 == u128::from(cycle),
+        Sought::FetchedBefore(cycle) => comes_after(row.fetched, cycle),
         Sought::DispatchedBefore(cycle) => is_just_before(cycle, row.dispatched),
         Sought::Buffered(cycle) => is_before(cycle, row.dispatched),
         Sought::Stationed(kind, cycle) => {
@@ -174,7 +182,17 @@ pub(crate) fn count(sought: Sought, rows: &[Passage]) -> usize
     found
 }
 
+/// Whether so many instructions are looked for: mostly there are fewer in all.
+#[inline(always)]
+#[tactic(auto, using(crate::proofs::Lookups::too_few))]
+pub(crate) fn are_as_many(sought: Sought, rows: &[Passage], places: usize) -> bool
+    ensures { result ≡ (count_by (is_sought sought) rows.now == places) }
+{
+    rows.len() >= places && count(sought, rows) == places
+}
+
 /// The first instruction that is looked for, of those with their events.
+#[inline(always)]
 #[tactic(auto, using(crate::proofs::Lookups::first_here, crate::proofs::Lookups::first_none, crate::proofs::Nothing::first_of_nothing))]
 pub(crate) fn first_of<'a>(
     sought: Sought,

@@ -30,13 +30,13 @@ impl Way {
     }
 
     /// It has an event at a stage.
-    pub(crate) fn set(&mut self, stage: Stage, event: Event)
-        ensures { self.new ≡ with_stage stage event self.old }
+    pub(crate) fn set(&mut self, stage: Stage, event: &Event)
+        ensures { self.new ≡ with_stage stage event.now self.old }
     {
         match stage {
-            Stage::Dispatch => self.dispatch = Some(event),
-            Stage::Issue => self.issue = Some(event),
-            Stage::Broadcast => self.broadcast = Some(event),
+            Stage::Dispatch => self.dispatch = Some(*event),
+            Stage::Issue => self.issue = Some(*event),
+            Stage::Broadcast => self.broadcast = Some(*event),
             _ => {}
         }
     }

@@ -16,15 +16,15 @@ returns-clause-known c events =
     let path = c.args.self.now in
     let before = path.before in
     let made = made_shown cycle (known_of_path path events) in
-    let now = drop path.dropped c.see_shown-seen.new.ways in
-    let seen = c.see_shown-seen.result in
+    let now = drop path.dropped c.see_shown.new.ways in
+    let seen = c.see_shown.new.seen in
     let items =
-    with_items_is path.ways c.see_shown-seen.new.ways
-    (omega (arith, c.see_shown-seen.auto.ways, c.as_mut_slice.ensures.len, path.ways.ok.0, ap (λ (ws : List Way). length ws) c.as_mut_slice.ensures.value)) in
+    with_items_is path.ways c.see_shown.new.ways
+    (omega (arith, c.see_shown.auto.ways, c.as_mut_slice.ensures.len, path.ways.ok.0, ap (λ (ws : List Way). length ws) c.as_mut_slice.ensures.value)) in
     let Is = λ (holds : List UnitHold) (ways : List Way). IsSeen (setting_by cycle holds before) steps after (drop path.dropped ways) now seen in
     let is =
     subst (λ (holds : List UnitHold). Is holds path.ways.items) c.as_slice.ensures.value
-    (subst (Is c.as_slice.result.now) c.as_mut_slice.ensures.value c.see_shown-seen.ensures.seen) in
+    (subst (Is c.as_slice.result.now) c.as_mut_slice.ensures.value c.see_shown.ensures.seen) in
     c.take.ensures.known (with_events made events)
     ∙ (λ i. record {
       ways = still_in_flight cycle.rows.now (with_fetched seen.fetch cycle.rows.now (drop path.dropped (items i)));
@@ -40,7 +40,7 @@ returns-clause-made c =
     let path = c.args.self.now in
     let before = path.before in
     let old = path.window.events.items in (
-      ap (λ (window : Window). window.events.items) c.take.ensures.window ∙ c.see_shown-seen.ensures.items
+      ap (λ (window : Window). window.events.items) c.take.ensures.window ∙ c.see_shown.ensures.items
           ∙ (λ i. old ++ made_in (setting_by cycle (c.as_slice.ensures.value i) before) (drop path.dropped (c.as_mut_slice.ensures.value i)) cycle.steps.now cycle.pipeline.now),
       ap (λ (window : Window). window.root) c.take.ensures.window,
       ap (λ (window : Window). window.account) c.take.ensures.window,
