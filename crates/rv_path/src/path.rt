@@ -317,6 +317,7 @@ impl Path {
             next: _,
             holds: _,
             before,
+            seen: _,
             window,
             live: _,
         } = self;
