@@ -4,6 +4,7 @@ use Rattle.std.specs.Prelude.{insert}
 use Rattle.std.proofs.lemmas.List.{set-get_or}
 use Rattle.std.proofs.lemmas.Bool.{cases_Bool, le-ltb, lt-ltb, ltb-true, ltb-false}
 use Rattle.rv_path.specs.Account.{AreWithin, IsWithin, no_cycles, with_change}
+use Rattle.rv_path.specs.PathAccount.{cycles_at}
 use Rattle.rv_path.specs.Words.{AreAbove, IsInOrder, IsPlaceFor, IsPlaceOf}
 use Rattle.rv_path.specs.declared.word_cycles.WordCycles.{WordCycles}
 
@@ -69,6 +70,20 @@ module _ (address : ℕ) (change : WordCycles → WordCycles) where
       lower w ws (before 0 w (omega arith)) ∙
       ap (λ l. w ∷ l) (change-new ws i (omega arith) (λ k v low. before (suc k) v (omega arith)) (λ k v from to. after (suc k) v (omega arith) (omega arith)))
 
+module _ (address : ℕ) where
+  -- the word of the address is found at its place
+  pub found-there : (words : List WordCycles) (i : ℕ) (d : WordCycles) → i < length words → ((k : ℕ) (w : WordCycles) → k < i → (get_or words k w).address < address)
+      → (get_or words i d).address ≡ address → cycles_at address words ≡ (get_or words i d).cycles
+  found-there [] i d within before is = absurd (omega arith)
+  found-there (w ∷ ws) zero d within before is = rw (eq-eqb w.address address is) refl
+  found-there (w ∷ ws) (suc i) d within before is =
+      rw (ne_eqb w.address address (λ same. let low = before 0 w (omega arith) in omega (arith, same, low))) (found-there ws i d (omega arith) (λ k v low. before (suc k) v (omega arith)) is)
+
+  -- and none where all are of other addresses
+  pub found-none : (words : List WordCycles) → ((k : ℕ) (w : WordCycles) → k < length words → (get_or words k w).address ≡ address → ⊥) → cycles_at address words ≡ 0
+  found-none [] others = refl
+  found-none (w ∷ ws) others = rw (ne_eqb w.address address (others 0 w (omega arith))) (found-none ws (λ k v within. others (suc k) v (omega arith)))
+
 -- what was put in at a place stands there, and may be changed there
 set-insert : {X : Type 0} (xs : List X) (i : ℕ) (x y : X) → i ≤ length xs → set (insert xs i x) i y ≡ insert xs i y
 set-insert [] zero x y within = refl
@@ -83,6 +98,17 @@ insert-at (z ∷ xs) zero x d within = refl
 insert-at (z ∷ xs) (suc i) x d within = insert-at xs i x d (omega arith)
 
 module _ (address : ℕ) (words : List WordCycles) (place : ℕ) where
+  -- the cycles of an address are those of the word at its place
+  pub cycles-there : IsPlaceOf address place words → (w : WordCycles) → (get_or words place w).cycles ≡ cycles_at address words
+  cycles-there is w = sym (found-there address words place w is.within is.before (is.there w))
+
+  -- and none where there is no word of it
+  pub cycles-none : IsPlaceFor address place words → 0 ≡ cycles_at address words
+  cycles-none is = sym (found-none address words (λ k w within same. elim (cases_Bool (nat_lt k place)) [
+    | inl below ↦ let low = is.before k w (ltb-true k place below) in omega (arith, same, low)
+    | inr not_below ↦ let high = is.after k w (ltb-false k place not_below) within in omega (arith, same, high)
+  ]))
+
   -- a change at the place of an address
   pub change-at : IsPlaceOf address place words → (change : WordCycles → WordCycles) (w : WordCycles) → with_change address change words ≡ set words place (change (get_or words place w))
   change-at is change w = change-there address change words place w is.within is.before (is.there w)

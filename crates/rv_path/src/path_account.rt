@@ -1,6 +1,4 @@
-ghost use Rattle.std.specs.Prelude.{◌≡◌, ◌==◌, take, IfOk};
-ghost use Rattle.std.specs.List.{find};
-ghost use Rattle.std.specs.Option.{option_copied};
+ghost use Rattle.std.specs.Prelude.{◌≡◌, take, IfOk};
 ghost use Rattle.rv_hardware.specs.Guided.{guided};
 ghost use Rattle.rv_path.specs.PathAccount.{HasOneAccount, IsPathAccount};
 ghost use Rattle.rv_path.specs.Text.{ranked};
@@ -9,7 +7,6 @@ use crate::account::Account;
 use crate::running::run_accounted;
 use crate::sentences::write_sentences;
 use crate::text::{Share, rank};
-use crate::word_cycles::WordCycles;
 use rv_core::Pipeline;
 use rv_front::Predictor;
 use rv_isa::Arrivals;
@@ -35,13 +32,6 @@ pub struct PathAccount {
     ghost greatest: { shares.items ≡ take 3 (ranked account.causes) },
 }
 
-// The word at an address, of some words.
-fn word_at(words: &[WordCycles], address: u32) -> Option<&WordCycles>
-    ensures { option_copied result ≡ find (λ word. word.address == address) words.now }
-{
-    words.iter().find(|word| word.address == address)
-}
-
 impl Model for PathAccount {
     ghost use Rattle.rv_path.specs.Account.{Accounted};
     ghost use Rattle.rv_path.specs.Window.{accounted};
@@ -60,11 +50,7 @@ impl PathAccount {
     pub fn cycles_at(&self, address: u32) -> u64
         ensures { result ≡ cycles_at address self.now.words }
     {
-        let words = self.account.words.words.as_slice();
-        match word_at(words, address) {
-            Some(word) => word.cycles,
-            None => 0,
-        }
+        self.account.words.cycles_at(address)
     }
 
     /// Writes a sentence for each of the three causes with the most cycles, but those before the first event and after the last step, a

@@ -95,6 +95,8 @@ fn begin_at(words: &mut Vec<WordCycles>, place: usize, address: u32)
 }
 
 impl Words {
+    ghost use Rattle.rv_path.specs.PathAccount.{cycles_at};
+
     /// None.
     pub(crate) fn new(alloc: Global) -> Words
         ensures { result.words.items ≡ [] }
@@ -148,5 +150,15 @@ impl Words {
     {
         let place = self.place_of(address);
         self.words[place].add(cause, cycles);
+    }
+
+    /// How many cycles are those of the word at an address.
+    pub(crate) fn cycles_at(&self, address: u32) -> u64
+        ensures { result ≡ cycles_at address self.now.words.items }
+    {
+        match search(self.words.as_slice(), address) {
+            Ok(place) => self.words[place].cycles,
+            Err(_) => 0,
+        }
     }
 }
