@@ -33,20 +33,20 @@ module _ (predictor : DescribedPredictor) (ram : Memory) (cycle : ℕ) where
   Rest width room e es next why o =
       MatchOption o (Fetches (answers_of (guide_of predictor)) ram cycle width room e.predicted es next why) (λ reason. (es ≡ []) × (next ≡ e.predicted) × (why ≡ reason))
 
-  rest_once : (width room : ℕ) (e : Fetched) (es es' : List Fetched) (next next' : ℕ) (why why' : FetchStop) (o : Option FetchStop)
+  rest_once : (width room : ℕ) (e : Fetched) {es es' : List Fetched} {next next' : ℕ} {why why' : FetchStop} (o : Option FetchStop)
       → (Fetches (answers_of (guide_of predictor)) ram cycle width room e.predicted es next why → Fetches (answers_of (guide_of predictor)) ram cycle width room e.predicted es' next' why' → AreSame es es' next next' why why')
       → Rest width room e es next why o → Rest width room e es' next' why' o → AreSame es es' next next' why why'
-  rest_once width room e es es' next next' why why' o further is is' = grind arith
+  rest_once width room e o further is is' = grind arith
 
-  same_more : (e e' : Fetched) (es es' : List Fetched) (next next' : ℕ) (why why' : FetchStop) → e ≡ e' → AreSame es es' next next' why why' → AreSame (e ∷ es) (e' ∷ es') next next' why why'
-  same_more e e' es es' next next' why why' first same = record { words = λ i. first i ∷ same.words i; after = same.after; reasons = same.reasons }
+  same_more : {e e' : Fetched} {es es' : List Fetched} {next next' : ℕ} {why why' : FetchStop} → e ≡ e' → AreSame es es' next next' why why' → AreSame (e ∷ es) (e' ∷ es') next next' why why'
+  same_more first same = record { words = λ i. first i ∷ same.words i; after = same.after; reasons = same.reasons }
 
   fetches_once : (width room pc : ℕ) (es es' : List Fetched) (next next' : ℕ) (why why' : FetchStop)
       → Fetches (answers_of (guide_of predictor)) ram cycle width room pc es next why → Fetches (answers_of (guide_of predictor)) ram cycle width room pc es' next' why' → AreSame es es' next next' why why'
   fetches_once (suc width) (suc room) pc (e ∷ es) (e' ∷ es') next next' why why' is is' =
       let first : e ≡ e' = fetched_once pc e e' is.0 is'.0 in
-      same_more e e' es es' next next' why why' first
-      (rest_once width room e es es' next next' why why' (stop_after e) (fetches_once width room e.predicted es es' next next' why why') is.1
+      same_more first
+      (rest_once width room e (stop_after e) (fetches_once width room e.predicted es es' next next' why why') is.1
       (subst (λ f. Rest width room f es' next' why' (stop_after f)) (sym first) is'.1))
   fetches_once (suc width) (suc room) pc (e ∷ es) [] next next' why why' is is' = absurd is'.0
   fetches_once (suc width) (suc room) pc [] es' next next' why why' is is' = absurd is.0
@@ -127,8 +127,8 @@ append_nothing : (reports : List Report) → reports ++ [] ≡ reports
 append_nothing [] = refl
 append_nothing (report ∷ reports) = ap (λ l. report ∷ l) (append_nothing reports)
 
-at_last : (limit : ℕ) (reports : List Report) (new : Hardware) (reason : Stop) (earlier : List Report) (last : Report) → reports ≡ earlier ++ last ∷ [] → NoneStops earlier → last.stop ≡ Some reason → length reports ≤ limit → Ending new reason limit reports
-at_last limit reports new reason earlier last all none stops within =
+at_last : (limit : ℕ) {reports : List Report} (new : Hardware) {reason : Stop} (earlier : List Report) (last : Report) → reports ≡ earlier ++ last ∷ [] → NoneStops earlier → last.stop ≡ Some reason → length reports ≤ limit → Ending new reason limit reports
+at_last limit new {reason} earlier last all none stops within =
     let left = limit - length earlier - 1 in
     subst (λ l. Ending new reason limit l) (sym all)
     (subst (λ n. Ending new reason n (earlier ++ last ∷ [])) (omega (arith, within, ap length all, length-append earlier (last ∷ []))) (ends_after earlier none (at_stop {left = left} stops)))
@@ -141,8 +141,8 @@ ending_of limit reports new stop.Exhausted is =
     let left = limit - length reports - 1 in
     subst (λ l. Ending new stop.Exhausted limit l) (append_nothing reports)
     (subst (λ n. Ending new stop.Exhausted n (reports ++ [])) (omega (arith, is.1)) (ends_after reports is.0 (at_exhaustion {left = left} refl is.2)))
-ending_of limit reports new stop.Breakpoint is = at_last limit reports new stop.Breakpoint is.0.earlier is.0.last is.0.all is.0.none_before is.0.stops is.1
-ending_of limit reports new (stop.Stale pc) is = at_last limit reports new (stop.Stale pc) is.0.earlier is.0.last is.0.all is.0.none_before is.0.stops is.1
+ending_of limit reports new stop.Breakpoint is = at_last limit new is.0.earlier is.0.last is.0.all is.0.none_before is.0.stops is.1
+ending_of limit reports new (stop.Stale pc) is = at_last limit new is.0.earlier is.0.last is.0.all is.0.none_before is.0.stops is.1
 
 -- two runs with the same reports, the same end and the same reason
 pub record IsOneRun (reports reports' : List Report) (new new' : GuidedHardware) (reason reason' : Stop) : Type 0 where
@@ -150,8 +150,8 @@ pub record IsOneRun (reports reports' : List Report) (new new' : GuidedHardware)
   pub ends : new ≡ new'
   pub reasons : reason ≡ reason'
 
-stops_or_not : {reason : Stop} (report report' : Report) → report ≡ report' → report.stop ≡ Some reason → report'.stop ≡ None → ⊥
-stops_or_not report report' same stops none = true≢false (ap is_some (sym stops ∙ ap (λ (r : Report). r.stop) same ∙ none))
+stops_or_not : {reason : Stop} {report report' : Report} → report ≡ report' → report.stop ≡ Some reason → report'.stop ≡ None → ⊥
+stops_or_not same stops none = true≢false (ap is_some (sym stops ∙ ap (λ (r : Report). r.stop) same ∙ none))
 
 one_run : {arrivals : List Arrival} {old new new' : GuidedHardware} {reports reports' : List Report} {reason reason' : Stop} {left : ℕ} (predictor : DescribedPredictor) → old.predictor ≡ guide_of predictor → old.hardware.cycle + left ≤ 2 ^ 40
     → GuidedCycles arrivals old reports new → GuidedCycles arrivals old reports' new' → Ending new.hardware reason left reports → Ending new'.hardware reason' left reports' → IsOneRun reports reports' new new' reason reason'
@@ -168,8 +168,8 @@ one_run {reason = reason} predictor is within (cycled {report = r} next ended) (
       ends = cycle_once predictor is next next';
       reasons = ap (λ o. unwrap_or o reason) (sym stops ∙ ap (λ (x : Report). x.stop) reports ∙ stops');
     }
-one_run predictor is within (cycled {report = r} next ended) (cycled {report = r'} next' more) (at_stop stops) (after none ending) = absurd (stops_or_not r r' (reported_once next next') stops none)
-one_run predictor is within (cycled {report = r} next more) (cycled {report = r'} next' ended) (after none ending) (at_stop stops) = absurd (stops_or_not r' r (sym (reported_once next next')) stops none)
+one_run predictor is within (cycled {report = r} next ended) (cycled {report = r'} next' more) (at_stop stops) (after none ending) = absurd (stops_or_not (reported_once next next') stops none)
+one_run predictor is within (cycled {report = r} next more) (cycled {report = r'} next' ended) (after none ending) (at_stop stops) = absurd (stops_or_not (sym (reported_once next next')) stops none)
 one_run {arrivals} {new' = new'} {reports' = reports'} predictor is within (cycled {middle = middle} {report = r} {reports = rs} next more) (cycled {middle = middle'} {report = r'} {reports = rs'} next' more') (after none ending) (after none' ending') =
     let lessons = lessons_of r.steps middle.hardware.pc in
     let described = next.learns ∙ ap (λ p. fold after_lesson p lessons) is ∙ still_described predictor lessons in

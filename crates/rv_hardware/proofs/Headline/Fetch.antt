@@ -45,9 +45,9 @@ pub fresh_words : (h : Hardware) → IsSound h → (pc : ℕ) → pc % 4 ≡ 0 �
 fresh_words h is pc aligned not_stale = grind (arith, fetched_same, length-bytes_after)
 
 -- the hardware once its words were fetched
-pub fetch_kept : (answers : Answers) (values : Values) (cycle : ℕ) (s : State) (h : Hardware) → IsSoundAt values cycle s h → (front : FetchBuffer) (stop : FetchStop) (now next : ℕ) →
+pub fetch_kept : (answers : Answers) {values : Values} {cycle : ℕ} {s : State} {h : Hardware} → IsSoundAt values cycle s h → (front : FetchBuffer) (stop : FetchStop) (now next : ℕ) →
     FetchesInto answers h.cache.backing now h.front front stop → IsSoundAt values next s (record h { front = front; cycle = next })
-fetch_kept answers values cycle s h is front stop now next fetches = record {
+fetch_kept answers {h} is front stop now next fetches = record {
   values_are = is.values_are;
   cycle_is = refl;
   sees = is.sees;

@@ -23,7 +23,7 @@ held_rows : (c : ℕ) (before after : List Row) → held_after (λ n. 0) (map ma
 held_rows c before after =
     let held = held_count (λ n. 0) (map mark_of_row before) c in
     let marks = count-map (is_word c) mark_of_row before in
-    let fewer = count-le (λ row. is_word c (mark_of_row row)) (is_buffered_in c) before (Each-all (λ row. is_word c (mark_of_row row) ≡ true → is_buffered_in c row ≡ true) (word_is_buffered c) before) in
+    let fewer = count-le (λ row. is_word c (mark_of_row row)) (is_buffered_in c) before (Each-all _ (word_is_buffered c) before) in
     let both = count-append (is_buffered_in c) before after in
     let all = count-count_by (is_buffered_in c) (before ++ after) in
     omega (arith, held, marks, fewer, both, all)
@@ -32,10 +32,10 @@ after_one : (held : ℕ → ℕ) (xs : List Mark) (m : Mark) (c : ℕ) → held_
 after_one held [] m c = refl
 after_one held (x ∷ xs) m c = after_one (with_word held x) xs m c
 
-sent_at : (o : Option Execution) (t : ℕ) → broadcast_of_execution o ≡ Some t → MatchOption o ⊥ (λ x. t ≡ x.broadcast)
-sent_at o t is = grind arith
+sent_at : (o : Option Execution) {t : ℕ} → broadcast_of_execution o ≡ Some t → MatchOption o ⊥ (λ x. t ≡ x.broadcast)
+sent_at o is = grind arith
 
-module _ (v : Values) {steps : List Step} {h : Hardware} (history : History v steps h) where
+module _ {v : Values} {steps : List Step} {h : Hardware} (history : History v steps h) where
   rows_at : (before after : List Step) (a b : Row) → steps ≡ before ++ Retired a ∷ Retired b ∷ after → rows_of steps ≡ rows_of before ++ a ∷ b ∷ rows_of after
   rows_at before after a b at = ap rows_of at ∙ rows_append before (Retired a ∷ Retired b ∷ after)
 
@@ -46,7 +46,7 @@ module _ (v : Values) {steps : List Step} {h : Hardware} (history : History v st
       (ap (λ l. map mark_of_row l ++ (map mark_of_entry h.rob.entries ++ map mark_of_fetched h.front.entries)) at ∙
       ap (λ l. l ++ (map mark_of_entry h.rob.entries ++ map mark_of_fetched h.front.entries)) (map-append mark_of_row before (a ∷ b ∷ after)) ∙
       append_assoc (map mark_of_row before) (map mark_of_row (a ∷ b ∷ after)) (map mark_of_entry h.rob.entries ++ map mark_of_fetched h.front.entries))
-      (marks_are_linked v history))
+      (marks_are_linked history))
 
   module _ (before after : List Row) (a b : Row) (at : rows_of steps ≡ before ++ a ∷ b ∷ after) (by : b.fetched ≤ a.retired) where
     filled_rows : (c : ℕ) → v.fetch_buffer ≤ with_word (held_after (λ n. 0) (map mark_of_row before)) (mark_of_row a) c → v.fetch_buffer ≤ count_by (is_buffered_in c) (rows_of steps)
@@ -59,12 +59,12 @@ module _ (v : Values) {steps : List Step} {h : Hardware} (history : History v st
 
     by_cases : Followed v h.cycle (held_after (λ c. 0) (map mark_of_row before)) (mark_of_row a) (mark_of_row b) → IsFetchedAfter v 0 (rows_of steps) (Retired a) (Retired b)
     by_cases (now, inl over) = inl (omega (arith, over, by))
-    by_cases (now, inr (inl early)) = inr (inl (early.0, sent_at a.execution b.fetched early.1))
+    by_cases (now, inr (inl early)) = inr (inl (early.0, sent_at a.execution early.1))
     by_cases (now, inr (inr full)) = inr (inr (λ c from later earlier. filled_rows c (full c later earlier)))
 
   next_rows : (before after : List Step) (s t : Step) → steps ≡ before ++ s ∷ t ∷ after → IsFetchedAfter v 0 (rows_of steps) s t
   next_rows before after (Retired a) (Retired b) at =
-      by_cases (rows_of before) (rows_of after) a b (rows_at before after a b at) (next_was_fetched v history before after (Retired a) (Retired b) at)
+      by_cases (rows_of before) (rows_of after) a b (rows_at before after a b at) (next_was_fetched history before after (Retired a) (Retired b) at)
       (followed_rows (rows_of before) (rows_of after) a b (rows_at before after a b at))
   next_rows before after s t at = tt
 
