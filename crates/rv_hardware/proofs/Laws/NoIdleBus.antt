@@ -1,6 +1,8 @@
 -- The bus is not idle while a result waits.
-use Rattle.rv_hardware.proofs.Words.{◌≡◌, ℕ, suc, ◌+◌, ◌<◌, ◌≤◌, Bool, true, false, List, [], ◌∷◌, ◌++◌, map, length, IfSome, ◌==◌, Some, None, count_by, Option, refl, ap, ◌∙◌, subst, append_assoc, arith, eq-eqb, le-leb, Message, Issue, Values, Each, finished, predicting, Entry, Fetched, broadcast, broadcast_turn, has_result, with_broadcast, Hardware, LeavesNoBusIdle, Turn, EachAfter, is_broadcast_in, passes, rows_of, Execution, Row, Step, and_second, Each-append, Each-place, Each-all, EveryAfter, count, count-set-grows, count-set-one_more, EveryAfter-left, EveryAfter-append, EveryAfter-right, Beginning-EveryAfter, EveryAfter-moved, EveryAfter-all, EveryAfter-set, Leads, turns_within, Each-images}
-use Rattle.rv_hardware.proofs.Marks.Cited.{IsBefore, IsSentIfReady, Advances, IsSent, Kept, BroadcastTurn, no_result, sends, mends, Sends, broadcast_turn_is, sent_entries, mended_entries, after_law, after_count, Anything, anything_is_kept, History, history_is_legal, history_is_sound, issued_all, sent_all, dispatching, rows_sent, entries_sent, rows_obey, Broadcasts, broadcast_turn_keeps, dispatch_keeps, before_broadcast, before_dispatch, send_is, with_marks, SoundRow, Mark, Start, mark_of_row, mark_of_entry, mark_of_fetched, marks, marks_in, marks_at_entry, as_of, at_end, until, broadcast_of_execution, until_now, is_at}
+use Rattle.rv_hardware.proofs.Words.{◌≡◌, ℕ, suc, ◌+◌, ◌<◌, ◌≤◌, Bool, true, false, List, [], ◌∷◌, ◌++◌, map, length, IfSome, ◌==◌, Some, None, count_by, Option, refl, ap, ◌∙◌, subst, append_assoc, arith, eq-eqb, le-leb, Message, Issue, Values, Each, finished, predicting, Entry, Fetched, broadcast, broadcast_turn, has_result, with_broadcast, Hardware, LeavesNoBusIdle, Turn, EachAfter, is_broadcast_in, passes, rows_of, Execution, Row, Step, and_second, Each-append, Each-all, EveryAfter, count, count-set-grows, count-set-one_more, EveryAfter-left, EveryAfter-append, EveryAfter-right, Beginning-EveryAfter, EveryAfter-moved, EveryAfter-all, EveryAfter-set, Leads, turns_within, Each-images}
+use Rattle.rv_hardware.proofs.Laws.BusWidth.{sent_shows}
+use Rattle.rv_hardware.proofs.Laws.RunsOn.{RunsOn, row_of_all, row_of_run, none_earlier}
+use Rattle.rv_hardware.proofs.Marks.Cited.{IsBefore, IsSentIfReady, Advances, IsSent, Kept, BroadcastTurn, no_result, sends, mends, Sends, broadcast_turn_is, sent_entries, mended_entries, after_law, after_count, Anything, anything_is_kept, History, history_is_legal, issued_all, sent_all, dispatching, rows_sent, entries_sent, rows_obey, Broadcasts, broadcast_turn_keeps, dispatch_keeps, before_broadcast, before_dispatch, send_is, with_marks, SoundRow, Mark, Start, mark_of_row, mark_of_entry, mark_of_fetched, marks, marks_in, marks_at_entry, as_of, at_end, until, broadcast_of_execution, until_now, is_at}
 
 abbrev pub is_sent_in : ℕ → Mark → Bool
 is_sent_in c m = is_at c m.broadcast
@@ -118,15 +120,16 @@ bus_by v c before row given busy = grind (arith, le-leb, until_now, after_count,
 in_cycle : {v : Values} (c : ℕ) {bound : ℕ} {row : Row} {o : Option Execution} → row.execution ≡ o → SoundRow v bound row → IfSome o (λ x. x.issued + x.cost ≤ c → c < x.broadcast → (row.fetched ≤ c) × (c < bound))
 in_cycle c given sound = grind arith
 
--- the field `no_idle_bus` of `Laws`, over every history
-pub law_of_no_idle_bus : {v : Values} {steps : List Step} {h : Hardware} → History v steps h → EachAfter (LeavesNoBusIdle v.bus_width 0) (rows_of steps)
-law_of_no_idle_bus {v} {steps} {h} history before after row at = by_execution row.execution refl
+-- the field `no_idle_bus` of `Laws`, of every run
+pub law_of_no_idle_bus : {v : Values} {earlier steps : List Step} {old new : Hardware} → RunsOn v earlier steps old new →
+    EachAfter (LeavesNoBusIdle v.bus_width old.cycle) (rows_of steps)
+law_of_no_idle_bus {v} {earlier} {old = old} run before after row at = by_execution row.execution refl
   where
-    sound : SoundRow v h.cycle row
-    sound = Each-place _ before after row (subst (Each (SoundRow v h.cycle)) at (history_is_sound history).rows)
-
-    by_execution : (o : Option Execution) → row.execution ≡ o → IfSome o (λ x. (c : ℕ) → 0 ≤ c → x.issued + x.cost ≤ c → c < x.broadcast → v.bus_width ≤ count_by (is_broadcast_in c) before)
+    by_execution : (o : Option Execution) → row.execution ≡ o → IfSome o (λ x. (c : ℕ) → old.cycle ≤ c → x.issued + x.cost ≤ c → c < x.broadcast → v.bus_width ≤ count_by (is_broadcast_in c) before)
     by_execution None e = tt
     by_execution (Some x) e = λ c from ready later.
-        let here = in_cycle c e sound ready later in
-        bus_by v c before row e (after_law _ c before after row (busy_marks history c here.1) at here.0) ready later
+        let here = in_cycle c e (row_of_run run before after row at) ready later in
+        let busy = after_law (BusyBus v.bus_width c) c (rows_of earlier ++ before) after row (busy_marks run.all c here.1) (row_of_all run before after row at) here.0 in
+        let wide = bus_by v c (rows_of earlier ++ before) row e busy ready later in
+        let same = none_earlier run (sent_shows v) c from before in
+        omega (arith, wide, same)

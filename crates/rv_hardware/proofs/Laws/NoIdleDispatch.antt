@@ -1,5 +1,9 @@
 -- A fetched instruction that is no store waits for nothing but room and the width.
-use Rattle.rv_hardware.proofs.Words.{◌≡◌, ℕ, suc, ◌<◌, ◌≤◌, Bool, true, false, cond, ◌&&◌, ◌||◌, ◌⊎◌, List, [], ◌∷◌, ◌++◌, map, length, is_some, is_none, nat_lt, nat_le, ◌==◌, Some, None, count_by, filter, Option, sym, refl, ap, ◌∙◌, subst, inl, inr, true≢false, arith, lt-ltb, eq-eqb, leb-false, leb-true, and_from, length-filter, list_any, is_same-own, is_of_kind, is_serialising, is_store, kind_of_word, at_kind, Kind, Values, Each, Entry, Stage, Fetched, Dispatching, dispatch, dispatch_turn, has_full_stations, is_stationed, Hardware, is_waiting, WaitsForRoom, Turn, EachAfter, is_dispatched_in, is_in_flight_in, is_row_of_kind, is_stationed_in, is_store_row, passes, rows_of, Execution, Row, Step, and_first, and_second, Each-All, Each-left, Each-right, Each-place, Each-weaker, Each-all, Each-map, Each-filter, EveryAfter, count, count-count_by, count-append, count-yes, count-map, count-le, EveryAfter-append, Beginning-EveryAfter, EveryAfter-all, EachAfter-EveryAfter, Leads, turns_within, entry_of_fetched, Each-images}
+use Rattle.rv_hardware.proofs.Words.{◌≡◌, ℕ, suc, ◌<◌, ◌≤◌, Bool, true, false, cond, ◌&&◌, ◌||◌, ◌⊎◌, List, [], ◌∷◌, ◌++◌, map, length, is_some, is_none, nat_lt, nat_le, ◌==◌, Some, None, count_by, filter, Option, sym, refl, ap, ◌∙◌, subst, inl, inr, true≢false, arith, lt-ltb, eq-eqb, leb-false, leb-true, and_from, length-filter, list_any, is_same-own, is_of_kind, is_serialising, is_store, kind_of_word, at_kind, Kind, Values, Each, LacksRoom, Entry, Stage, Fetched, Dispatching, dispatch, dispatch_turn, has_full_stations, is_stationed, Hardware, is_waiting, WaitsForRoom, Turn, EachAfter, is_dispatched_in, is_in_flight_in, is_row_of_kind, is_stationed_in, is_store_row, passes, rows_of, Execution, Row, Step, and_first, and_second, Each-All, Each-append, Each-left, Each-right, Each-place, Each-weaker, Each-all, Each-map, Each-filter, EveryAfter, count, count-count_by, count-append, count-yes, count-map, count-le, EveryAfter-append, Beginning-EveryAfter, EveryAfter-all, EachAfter-EveryAfter, Leads, turns_within, entry_of_fetched, Each-images}
+use Rattle.rv_hardware.proofs.Laws.DispatchWidth.{dispatched_shows}
+use Rattle.rv_hardware.proofs.Laws.ReorderBuffer.{in_flight_shows}
+use Rattle.rv_hardware.proofs.Laws.Stations.{stationed_shows}
+use Rattle.rv_hardware.proofs.Laws.RunsOn.{RunsOn, row_of_all, row_of_run, none_earlier}
 use Rattle.rv_hardware.proofs.Marks.Cited.{is_in_flight_mark, is_stationed_mark, History, history_is_sound, sent_all, dispatching, after_law, after_count, DispatchTurn, dispatch_turn_is, WaitsFor, for_serial, for_buffer, for_station, for_queue, buffer_empty, waits, dispatches, Mark, mark_of_row, mark_of_entry, mark_of_fetched, at_end, as_of, was_fetched, start_until, start_of_stage, start_of_execution, until_by, until_now, Older, rows_are_older, rows_obey, SoundRow, HasShape, some_kind, is_at}
 
 -- a word that could have been dispatched in a cycle: it is the oldest that was not, and no serialising instruction is in flight
@@ -178,10 +182,18 @@ module _ {v : Values} {bound : ℕ} (c : ℕ) (before : List Row) {row : Row} (o
   may_enter : is_store_row row ≡ false → row.fetched < c → c < row.dispatched → Each (λ a. a.dispatched ≤ c) before → MayEnter c (as_of c (map mark_of_row before)) (at_end c (mark_of_row row))
   may_enter plain given later all = grind (arith, until_now, as_of_rows, Each-weaker, until_by)
 
--- the field `no_idle_dispatch` of `Laws`, over every history
-pub law_of_no_idle_dispatch : {v : Values} {steps : List Step} {h : Hardware} → History v steps h → EachAfter (WaitsForRoom v 0) (rows_of steps)
-law_of_no_idle_dispatch {v} {steps} {h} history before after row at plain c from fetched later all =
-    let sound : SoundRow v h.cycle row = Each-place _ before after row (subst (Each (SoundRow v h.cycle)) at (history_is_sound history).rows) in
-    let older = EachAfter-EveryAfter _ _ (rows_are_older history) before after row at in
-    let soon = after_law _ c before after row (soon_marks history c (omega (arith, later, sound.stamps.retired_after_dispatch, sound.below))) at (omega (arith, fetched)) in
-    room_of_rows c before older sound (soon (may_enter c before older sound plain fetched later (Each-All _ before all)))
+-- the field `no_idle_dispatch` of `Laws`, of every run
+pub law_of_no_idle_dispatch : {v : Values} {earlier steps : List Step} {old new : Hardware} → RunsOn v earlier steps old new →
+    EachAfter (WaitsForRoom v old.cycle) (rows_of steps)
+law_of_no_idle_dispatch {v} {earlier} run before after row at plain c from fetched later all =
+    let place = row_of_all run before after row at in
+    let sound = row_of_run run before after row at in
+    let older = EachAfter-EveryAfter _ _ (rows_are_older run.all) (rows_of earlier ++ before) after row place in
+    let gone : Each (λ e. e.dispatched ≤ c) (rows_of earlier) = Each-weaker _ _ (λ e s. omega (arith, s.stamps.retired_after_dispatch, s.below, from)) _ (history_is_sound run.before).rows in
+    let soon = after_law _ c (rows_of earlier ++ before) after row (soon_marks run.all c (omega (arith, later, sound.stamps.retired_after_dispatch, sound.below))) place (omega (arith, fetched)) in
+    by_cases (room_of_rows c (rows_of earlier ++ before) older sound (soon (may_enter c (rows_of earlier ++ before) older sound plain fetched later (Each-append _ _ _ gone (Each-All _ before all)))))
+  where
+    by_cases : LacksRoom v c (rows_of earlier ++ before) row → LacksRoom v c before row
+    by_cases (inl wide) = let same = none_earlier run (dispatched_shows v) c from before in inl (omega (arith, wide, same))
+    by_cases (inr (inl full)) = let same = none_earlier run (in_flight_shows v) c from before in inr (inl (omega (arith, full, same)))
+    by_cases (inr (inr full)) = let same = none_earlier run (stationed_shows v full.0) c from before in inr (inr (full.0, full.1, omega (arith, full.2, same)))
