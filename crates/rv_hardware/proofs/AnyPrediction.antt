@@ -13,7 +13,8 @@ module _ (answers : Answers) (ram : Memory) (cycle : ℕ) where
   where_none : {A B : Type 0} (C : FetchStop → Type 0) (o : Option FetchStop) → (A → B) → MatchOption o A C → MatchOption o B C
   where_none C o change here = grind arith
 
-  any-fetches : (width room pc : ℕ) (es : List Fetched) (next : ℕ) (stop : FetchStop) → Fetches answers ram cycle width room pc es next stop → Fetches any_prediction ram cycle width room pc es next stop
+  any-fetches : (width room pc : ℕ) (es : List Fetched) (next : ℕ) (stop : FetchStop) →
+      Fetches answers ram cycle width room pc es next stop → Fetches any_prediction ram cycle width room pc es next stop
   any-fetches width room pc [] next stop is = is
   any-fetches (suc width) (suc room) pc (e ∷ es) next stop is =
       (any-at pc e is.0, where_none (λ reason. (es ≡ []) × (next ≡ e.predicted) × (stop ≡ reason)) (stop_after e) (any-fetches width room e.predicted es next stop) is.1)

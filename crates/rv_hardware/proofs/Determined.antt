@@ -62,7 +62,9 @@ module _ (predictor : DescribedPredictor) (ram : Memory) (cycle : ℕ) where
   into_once true old new new' why why' is is' = is.0 ∙ sym is'.0
   into_once false old new new' why why' (added, fetches, news) (added', fetches', news') = grind (arith, fetches_once)
 
-  fetch_once : (old new new' : FetchBuffer) (why why' : FetchStop) → FetchesInto (answers_of (guide_of predictor)) ram cycle old new why → FetchesInto (answers_of (guide_of predictor)) ram cycle old new' why' → new ≡ new'
+  fetch_once : (old new new' : FetchBuffer) (why why' : FetchStop) →
+      FetchesInto (answers_of (guide_of predictor)) ram cycle old new why →
+      FetchesInto (answers_of (guide_of predictor)) ram cycle old new' why' → new ≡ new'
   fetch_once old new new' why why' is is' = into_once old.halted old new new' why why' is is'
 
 -- ---- a cycle
@@ -104,7 +106,9 @@ module _ {lines : Lines} {old new new' : GuidedHardware} {report report' : Repor
     left_once = λ i. record { hardware = hardware_once i; predictor = taught_once i }
 
 -- a cycle leaves the one hardware and the one predictor, which is described
-pub cycle_once : {lines : Lines} {old new new' : GuidedHardware} {report report' : Report} (predictor : DescribedPredictor) → old.predictor ≡ guide_of predictor → IsGuidedCycle lines old report new → IsGuidedCycle lines old report' new' → new ≡ new'
+pub cycle_once : {lines : Lines} {old new new' : GuidedHardware} {report report' : Report} (predictor : DescribedPredictor) →
+    old.predictor ≡ guide_of predictor → IsGuidedCycle lines old report new → IsGuidedCycle lines old report' new' →
+    new ≡ new'
 cycle_once {lines} {old} {new} {new'} {report} predictor is cycle cycle' =
     left_once cycle cycle' (fold taught predictor (lessons_of report.steps new.hardware.pc))
     (cycle.learns ∙ ap (λ p. fold after_lesson p (lessons_of report.steps new.hardware.pc)) is ∙ still_described predictor (lessons_of report.steps new.hardware.pc))
@@ -118,7 +122,8 @@ data Ending (new : Hardware) (reason : Stop) : ℕ → List Report → Type 0 wh
   at_stop : {left : ℕ} {report : Report} → report.stop ≡ Some reason → Ending new reason (suc left) (report ∷ [])
   after : {left : ℕ} {report : Report} {reports : List Report} → report.stop ≡ None → Ending new reason left reports → Ending new reason (suc left) (report ∷ reports)
 
-ends_after : {new : Hardware} {reason : Stop} {left : ℕ} {reports : List Report} (before : List Report) → NoneStops before → Ending new reason left reports → Ending new reason (length before + left) (before ++ reports)
+ends_after : {new : Hardware} {reason : Stop} {left : ℕ} {reports : List Report} (before : List Report) →
+    NoneStops before → Ending new reason left reports → Ending new reason (length before + left) (before ++ reports)
 ends_after {new} {reason} {left} {reports} [] none ending = subst (λ n. Ending new reason n reports) (omega arith) ending
 ends_after {new} {reason} {left} {reports} (report ∷ before) none ending =
     subst (λ n. Ending new reason n (report ∷ (before ++ reports))) (omega arith) (after none.0 (ends_after before none.1 ending))
@@ -127,7 +132,9 @@ append_nothing : (reports : List Report) → reports ++ [] ≡ reports
 append_nothing [] = refl
 append_nothing (report ∷ reports) = ap (λ l. report ∷ l) (append_nothing reports)
 
-at_last : (limit : ℕ) {reports : List Report} (new : Hardware) {reason : Stop} (earlier : List Report) (last : Report) → reports ≡ earlier ++ last ∷ [] → NoneStops earlier → last.stop ≡ Some reason → length reports ≤ limit → Ending new reason limit reports
+at_last : (limit : ℕ) {reports : List Report} (new : Hardware) {reason : Stop} (earlier : List Report) (last : Report) →
+    reports ≡ earlier ++ last ∷ [] → NoneStops earlier → last.stop ≡ Some reason → length reports ≤ limit →
+    Ending new reason limit reports
 at_last limit new {reason} earlier last all none stops within =
     let left = limit - length earlier - 1 in
     subst (λ l. Ending new reason limit l) (sym all)
@@ -153,7 +160,8 @@ pub record IsOneRun (reports reports' : List Report) (new new' : GuidedHardware)
 stops_or_not : {reason : Stop} {report report' : Report} → report ≡ report' → report.stop ≡ Some reason → report'.stop ≡ None → ⊥
 stops_or_not same stops none = true≢false (ap is_some (sym stops ∙ ap (λ (r : Report). r.stop) same ∙ none))
 
-one_run : {arrivals : List Arrival} {old new new' : GuidedHardware} {reports reports' : List Report} {reason reason' : Stop} {left : ℕ} (predictor : DescribedPredictor) → old.predictor ≡ guide_of predictor → old.hardware.cycle + left ≤ 2 ^ 40
+one_run : {arrivals : List Arrival} {old new new' : GuidedHardware} {reports reports' : List Report} {reason reason' : Stop} {left : ℕ} (predictor : DescribedPredictor) →
+    old.predictor ≡ guide_of predictor → old.hardware.cycle + left ≤ 2 ^ 40
     → GuidedCycles arrivals old reports new → GuidedCycles arrivals old reports' new' → Ending new.hardware reason left reports → Ending new'.hardware reason' left reports' → IsOneRun reports reports' new new' reason reason'
 one_run predictor is within ended ended (at_limit why) (at_limit why') = record { reports_are = refl; ends = refl; reasons = why ∙ sym why' }
 one_run predictor is within ended ended (at_exhaustion why full) (at_exhaustion why' full') = record { reports_are = refl; ends = refl; reasons = why ∙ sym why' }
@@ -178,7 +186,8 @@ one_run {arrivals} {new' = new'} {reports' = reports'} predictor is within (cycl
     record { reports_are = λ i. reported_once next next' i ∷ same.reports_are i; ends = same.ends; reasons = same.reasons }
 
 -- two runs of at most `limit` cycles from the same hardware with the same described predictor are one
-pub run_once : (arrivals : List Arrival) (limit : ℕ) (old : Hardware) (predictor : DescribedPredictor) (reports reports' : List Report) (new new' : GuidedHardware) (reason reason' : Stop) → old.cycle + limit ≤ 2 ^ 40
+pub run_once : (arrivals : List Arrival) (limit : ℕ) (old : Hardware) (predictor : DescribedPredictor) (reports reports' : List Report) (new new' : GuidedHardware) (reason reason' : Stop) →
+    old.cycle + limit ≤ 2 ^ 40
     → GuidedCycles arrivals (record { hardware = old; predictor = guide_of predictor }) reports new → IsStop limit reports new.hardware reason
     → GuidedCycles arrivals (record { hardware = old; predictor = guide_of predictor }) reports' new' → IsStop limit reports' new'.hardware reason' → IsOneRun reports reports' new new' reason reason'
 run_once arrivals limit old predictor reports reports' new new' reason reason' within cycles stops cycles' stops' =

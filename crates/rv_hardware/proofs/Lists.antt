@@ -235,7 +235,9 @@ EveryAfter-weaker f before [] h = tt
 EveryAfter-weaker {P} {Q} f before (x ∷ xs) h = (f before x h.0, EveryAfter-weaker f (before ++ x ∷ []) xs h.1)
 
 -- what follows from a property of each element and what holds of each behind others holds of each
-pub EveryAfter-both : {X : Type 0} {P : X → Type 0} {Q R : List X → X → Type 0} → ((before : List X) (x : X) → P x → Q before x → R before x) → (before xs : List X) → Each P xs → EveryAfter Q before xs → EveryAfter R before xs
+pub EveryAfter-both : {X : Type 0} {P : X → Type 0} {Q R : List X → X → Type 0} →
+    ((before : List X) (x : X) → P x → Q before x → R before x) → (before xs : List X) → Each P xs →
+    EveryAfter Q before xs → EveryAfter R before xs
 EveryAfter-both f before [] g h = tt
 EveryAfter-both {P} {Q} {R} f before (x ∷ xs) g h = (f before x g.0 h.0, EveryAfter-both f (before ++ x ∷ []) xs g.1 h.1)
 

@@ -62,7 +62,8 @@ no_longer_from n before m first count reports since (x ∷ xs) stamped quiet mor
 
 module _ (layout : Layout) (arrivals : List Arrival) where
   -- after so many silent cycles the longest gap is somewhere
-  has_gap : (before : ℕ) {s u : State} {n m : ℕ} {reports : List Report} → TrueCycles layout arrivals s n reports u m → before ≤ n → HasGap n before m (steps_of reports) (longest_gap_from before reports)
+  has_gap : (before : ℕ) {s u : State} {n m : ℕ} {reports : List Report} → TrueCycles layout arrivals s n reports u m →
+      before ≤ n → HasGap n before m (steps_of reports) (longest_gap_from before reports)
   has_gap before {n = n} none few =
       record { first = n - before; since = omega arith; within = omega (arith, few); is_gap = All-nil (IsOutside (n - before) before) }
   has_gap before {n = n} {m = m} (one_more {report = report} {reports = reports} cycle rest) few =
@@ -78,7 +79,8 @@ module _ (layout : Layout) (arrivals : List Arrival) where
       (no_longer (before + 1) rest first count (omega (arith, since)) within) (λ passed. no_longer 0 rest first count (omega (arith, passed)) within)
 
 -- the longest gap of a run's cycles is what the stamps of its steps give
-pub longest_gap_of_run : {arrivals : List Arrival} {old new : Hardware} {reports : List Report} → Reachable old → Cycles arrivals old reports new → IsLongestGap old.cycle new.cycle (steps_of reports) (longest_gap_of reports)
+pub longest_gap_of_run : {arrivals : List Arrival} {old new : Hardware} {reports : List Report} → Reachable old →
+    Cycles arrivals old reports new → IsLongestGap old.cycle new.cycle (steps_of reports) (longest_gap_of reports)
 longest_gap_of_run {arrivals = arrivals} {old = old} reached cycles =
     let layout = layout_of old.values in
     let true_cycles = cycles_true (always_sound reached) cycles in

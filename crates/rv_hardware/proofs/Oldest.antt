@@ -12,7 +12,10 @@ one_after : (P : List Entry → Entry → Type 0) (before : List Entry) (e : Ent
     EveryAfter P [] (before ++ e ∷ [])
 one_after P before e h g = EveryAfter-append P [] before _ h (g, tt)
 
-finds_here : (test : List Entry → Entry → Bool) {b : Bool} (before es : List Entry) (e : Entry) (rest : Option (List Entry × Entry)) → b ≡ test before e → EveryAfter (λ older x. test older x ≡ false) [] before → (b ≡ false → Finds test ((before ++ e ∷ []) ++ es) rest) → Finds test (before ++ e ∷ es) (cond b (Some (before, e)) rest)
+finds_here : (test : List Entry → Entry → Bool) {b : Bool} (before es : List Entry) (e : Entry) (rest : Option (List Entry × Entry)) →
+    b ≡ test before e → EveryAfter (λ older x. test older x ≡ false) [] before →
+    (b ≡ false → Finds test ((before ++ e ∷ []) ++ es) rest) →
+    Finds test (before ++ e ∷ es) (cond b (Some (before, e)) rest)
 finds_here test before es e rest is given further = grind (arith, append_assoc)
 
 finds_from : (test : List Entry → Entry → Bool) (before es : List Entry) →

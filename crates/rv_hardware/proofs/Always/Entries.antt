@@ -84,7 +84,9 @@ word_for word instruction has given = grind arith
 or_true : (b : Bool) → (b || true) ≡ true
 or_true b = grind arith
 
-shaped_by : (word : Option ℕ) (instruction : Option Instr) (kind : Option Kind) (serialising : Bool) (cycle : ℕ) (message : Message) → kind_of_word instruction ≡ kind → is_serialising instruction ≡ serialising → HasWordFor word instruction → Tells word instruction message → IsShaped word instruction (stage_by kind serialising (Finished None cycle message))
+shaped_by : (word : Option ℕ) (instruction : Option Instr) (kind : Option Kind) (serialising : Bool) (cycle : ℕ) (message : Message) →
+    kind_of_word instruction ≡ kind → is_serialising instruction ≡ serialising → HasWordFor word instruction →
+    Tells word instruction message → IsShaped word instruction (stage_by kind serialising (Finished None cycle message))
 shaped_by word instruction kind serialising cycle message of_kind serial has told = grind (arith, word_for, or_true)
 
 shaped_entry : (h : Hardware) (f : Fetched) → FetchedShape f → Shaped (entry_of_fetched h f)

@@ -46,7 +46,8 @@ module _ {h : Hardware} (sound : IsBounded h) where
   more : (instruction : Option Instr) (stage : Stage) → EndsBy (h.cycle + longest_execution h) stage → stage_time h instruction stage ≤ port_time h + longest_write_back h + 2 * longest_execution h + 2
   more instruction stage ends = omega (arith, stage_most instruction stage ends)
 
-  head_most : (instruction : Option Instr) (stage : Stage) → EndsBy (h.cycle + longest_execution h) stage → head_time h instruction stage ≤ port_time h + longest_write_back h + 2 * longest_execution h + 2
+  head_most : (instruction : Option Instr) (stage : Stage) → EndsBy (h.cycle + longest_execution h) stage →
+      head_time h instruction stage ≤ port_time h + longest_write_back h + 2 * longest_execution h + 2
   head_most instruction stage ends = grind (arith, dirty_time-most, more)
 
   -- where something is in flight

@@ -79,7 +79,8 @@ module _ (lines : Lines) (old : Hardware) (sound : IsBounded old) where
   silent_falls after (e ∷ es) split silent = head_falls e es split after e.instruction refl silent
 
 -- the cycle as a whole
-pub fall : {lines : Lines} {old new : Hardware} {report : Report} → IsCycle any_prediction lines old report new → IsBounded old → report.steps ≡ [] → report.stop ≡ None → patience new + 1 ≤ patience old
+pub fall : {lines : Lines} {old new : Hardware} {report : Report} → IsCycle any_prediction lines old report new →
+    IsBounded old → report.steps ≡ [] → report.stop ≡ None → patience new + 1 ≤ patience old
 fall {lines} {old} {new} {report} cycle sound silent going =
     let h : Hardware = with_lines lines old in
     let committing : Committing = commit set.contains h in

@@ -58,7 +58,8 @@ module _ (h : Hardware) (front : FetchBuffer) (instruction : Option Instr) {k : 
   port_when : (g : Hardware) → CanGo instruction g → is_load instruction ≡ true → next_port_time g ≡ 0
   port_when g given load = grind (arith, idle_time)
 
-  waiting_is : (g : Hardware) → waiting_time g (is_load instruction) (kind_of_word instruction) ≡ free_time (cond (is_load instruction) (port_time g) 0) (unit_time g.cycle (at_kind k g.units).starts) (longest_execution g) + longest_execution g + 2
+  waiting_is : (g : Hardware) →
+      waiting_time g (is_load instruction) (kind_of_word instruction) ≡ free_time (cond (is_load instruction) (port_time g) 0) (unit_time g.cycle (at_kind k g.units).starts) (longest_execution g) + longest_execution g + 2
   waiting_is g = ap (waiting_time g (is_load instruction)) of_kind
 
   still_waits : (stage : Stage) → Waits stage → Keeps (execute h).hardware → stage_time new instruction stage ≤ unit_time (h.cycle + 1) pool.starts + longest_execution h + 2

@@ -88,7 +88,8 @@ module _ (instruction : Option Instr) {k : Kind} (of_kind : kind_of_word instruc
       subst (λ units. IsAfterIssue (repeated (issue_turn k) units h)) (sym some) (first_turn ((at_kind k h.values.kinds).units - 1) (issue_turn_is k h) can)
 
 -- the four kinds, one after another
-pub after_issue : (instruction : Option Instr) (k : Kind) (of_kind : kind_of_word instruction ≡ Some k) (pool : Pool) (cycle : ℕ) (h : Hardware) → CanStart instruction of_kind pool cycle h → IsAfterIssue instruction of_kind pool cycle (issue h)
+pub after_issue : (instruction : Option Instr) (k : Kind) (of_kind : kind_of_word instruction ≡ Some k) (pool : Pool) (cycle : ℕ) (h : Hardware) →
+    CanStart instruction of_kind pool cycle h → IsAfterIssue instruction of_kind pool cycle (issue h)
 after_issue instruction kind.Alu is pool cycle h can =
     let a : Hardware = issue_kind kind.Alu h in
     let m : Hardware = issue_kind kind.Mul a in

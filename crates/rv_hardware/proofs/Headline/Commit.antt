@@ -61,7 +61,9 @@ module _ (lines : Lines) (before : State) (old : Hardware) where
     s = seen h
 
     -- ---- a trap ends the phase
-    trap_done : (e : Entry) (cause : Cause) (value : ℕ) → e.pc ≡ s.pc → MachineStep layout s h.lines (machine.Trap s.pc cause value) (trap_taken s (code_of cause) value) → IsDone lines before old (with_fault e cause value c)
+    trap_done : (e : Entry) (cause : Cause) (value : ℕ) → e.pc ≡ s.pc →
+        MachineStep layout s h.lines (machine.Trap s.pc cause value) (trap_taken s (code_of cause) value) →
+        IsDone lines before old (with_fault e cause value c)
     trap_done e cause value here takes =
         let now : MachineStep layout s h.lines (machine.Trap e.pc cause value) (trap_taken s (code_of cause) value) =
         subst (λ pc. MachineStep layout s h.lines (machine.Trap pc cause value) (trap_taken s (code_of cause) value)) (sym here) takes in
@@ -130,7 +132,9 @@ module _ (lines : Lines) (before : State) (old : Hardware) where
           let known : IsReadyHead layout s h.lines e.word (Some i) = subst (IsReadyHead layout s h.lines e.word) is ready in
           let word = some_word layout s h.lines e.word i known in
           by_effect eff gives serial (subst (λ (w : Option ℕ). IsReadyHead layout s h.lines w (Some i)) word known) where
-            by_effect : (eff : Effect) → effect layout s h.lines (unwrap_or e.word 0) i ≡ eff → IsSerialEffect h eff → IsReadyHead layout s h.lines (Some (unwrap_or e.word 0)) (Some i) → IsDone lines before old (take_effect e eff c)
+            by_effect : (eff : Effect) → effect layout s h.lines (unwrap_or e.word 0) i ≡ eff → IsSerialEffect h eff →
+                IsReadyHead layout s h.lines (Some (unwrap_or e.word 0)) (Some i) →
+                IsDone lines before old (take_effect e eff c)
             by_effect (Faults cause value) gives serial known =
                 let word = unwrap_or e.word 0 in
                 trap_done e cause value here (faulted_at layout s h.lines (fetched layout s h.lines known) word (word_here layout s h.lines known) i (decoded layout s h.lines known) cause value gives)

@@ -54,7 +54,10 @@ module _ (values : Values) (cycle : ℕ) (state : State) where
   access_kept p h inside is = is
 
   -- ---- the start of an execution
-  start_kept : (k : Kind) (cost : ℕ) {seq : ℕ} {message : Message} (older : List Entry) (e : Entry) (younger : List Entry) {h : Hardware} → IsSoundAt values cycle state h → h.rob.entries ≡ older ++ e ∷ younger → seq ≡ h.rob.retired + length older → message ≡ result_at (layout_of h.values) (behind (layout_of h.values) older (seen h)) e → IsSoundAt values cycle state (with_start k seq cost message h)
+  start_kept : (k : Kind) (cost : ℕ) {seq : ℕ} {message : Message} (older : List Entry) (e : Entry) (younger : List Entry) {h : Hardware} →
+      IsSoundAt values cycle state h → h.rob.entries ≡ older ++ e ∷ younger → seq ≡ h.rob.retired + length older →
+      message ≡ result_at (layout_of h.values) (behind (layout_of h.values) older (seen h)) e →
+      IsSoundAt values cycle state (with_start k seq cost message h)
   start_kept k cost {seq} {message} older e younger {h} is entries at result =
       let issue : Issue = record { cycle = h.cycle; cost = cost } in
       with_other_program is (with_kind k (started_unit cost h.cycle (at_kind k h.units)) h.units) (changed (started issue message) seq h.rob)
@@ -62,7 +65,11 @@ module _ (values : Values) (cycle : ℕ) (state : State) where
       (ap (λ (es : List Entry). (changed (started issue message) seq (record h.rob { entries = es })).entries) entries ∙ with_entry-at (started issue message) seq h.rob.retired older younger e at)
       result is.sound.program)
 
-  started_kept : (p : Path) (k : Kind) (cost : ℕ) {seq : ℕ} {message : Message} (older : List Entry) (e : Entry) (younger : List Entry) {h : Hardware} → IsInRam h p → IsSoundAt values cycle state h → h.rob.entries ≡ older ++ e ∷ younger → seq ≡ h.rob.retired + length older → message ≡ result_at (layout_of h.values) (behind (layout_of h.values) older (seen h)) e → IsSoundAt values cycle state (with_start k seq cost message (with_access p h))
+  started_kept : (p : Path) (k : Kind) (cost : ℕ) {seq : ℕ} {message : Message} (older : List Entry) (e : Entry) (younger : List Entry) {h : Hardware} →
+      IsInRam h p → IsSoundAt values cycle state h → h.rob.entries ≡ older ++ e ∷ younger →
+      seq ≡ h.rob.retired + length older →
+      message ≡ result_at (layout_of h.values) (behind (layout_of h.values) older (seen h)) e →
+      IsSoundAt values cycle state (with_start k seq cost message (with_access p h))
   started_kept (FromCache address) k cost {seq} {message} older e younger {h} inside is entries at result =
       start_kept k cost older e younger (access_kept (FromCache address) h inside is) entries at result
   started_kept p k cost {seq} {message} older e younger {h} inside is entries at result = start_kept k cost older e younger is entries at result

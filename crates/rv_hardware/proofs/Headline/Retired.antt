@@ -13,7 +13,8 @@ drains_push : (base : ℕ) (bytes : List ℕ) (ss : List QueuedStore) (s : Queue
 drains_push base bytes ss s given drains = grind (arith, true≢false, Each-push)
 
 -- the word of an access lies in RAM
-word_inside : {layout : Layout} {access : StoreAccess} → layout.base % 4 ≡ 0 → layout.size % 4 ≡ 0 → IsStoreAccess layout access → (1 ≤ length access.bytes) → is_in_ram layout (4 * word_of access.address) 4 ≡ true
+word_inside : {layout : Layout} {access : StoreAccess} → layout.base % 4 ≡ 0 → layout.size % 4 ≡ 0 →
+    IsStoreAccess layout access → (1 ≤ length access.bytes) → is_in_ram layout (4 * word_of access.address) 4 ≡ true
 word_inside base size legal some = grind (arith, and_from, le-leb)
 
 module _ (values : Values) (stale : set.FinSet nat_cmp) (cache : Contents Memory) (committed : List QueuedStore) (was : HoldsMemory values stale cache committed) where

@@ -102,6 +102,9 @@ pub headline_of_run : {arrivals : List Arrival} {old new : Hardware} {reports : 
 headline_of_run {arrivals} {old} reached cycles = true_run (layout_of old.values) arrivals (cycles_true (always_sound reached) cycles)
 
 -- ... and for those of new hardware, which start at the machine's reset.
-pub headline_from_reset : (arrivals : List Arrival) (values : Values) (base : ℕ) (image : List ℕ) (start : ℕ) (new : Hardware) (reports : List Report) → IsLegal values → IsLoadable values base image start → Cycles arrivals (reset_hardware values image start) reports new → IsTrueRun (layout_of values) arrivals 0 new.cycle (reset (layout_of values) image start) (steps_of reports) (seen new)
+pub headline_from_reset : (arrivals : List Arrival) (values : Values) (base : ℕ) (image : List ℕ) (start : ℕ) (new : Hardware) (reports : List Report) →
+    IsLegal values → IsLoadable values base image start →
+    Cycles arrivals (reset_hardware values image start) reports new →
+    IsTrueRun (layout_of values) arrivals 0 new.cycle (reset (layout_of values) image start) (steps_of reports) (seen new)
 headline_from_reset arrivals values base image start new reports legal loadable cycles =
     headline_of_run (at_reset legal loadable) cycles

@@ -89,7 +89,9 @@ module _ (layout : Layout) (arrivals : List Arrival) where
     count = counts_cycles layout arrivals cycles
 
     -- ---- a run whose cycles all go on
-    going : (reason : Stop) → NoneStops reports → (reason ≡ stop.Breakpoint → ⊥) → ((pc : ℕ) → reason ≡ stop.Stale pc → ⊥) → (reason ≡ stop.Limit → m ≡ n + limit) → (reason ≡ stop.Exhausted → m ≡ 2 ^ 40) →
+    going : (reason : Stop) → NoneStops reports → (reason ≡ stop.Breakpoint → ⊥) →
+        ((pc : ℕ) → reason ≡ stop.Stale pc → ⊥) → (reason ≡ stop.Limit → m ≡ n + limit) →
+        (reason ≡ stop.Exhausted → m ≡ 2 ^ 40) →
         IsTrueStop layout arrivals limit n m (steps_of reports) u reason
     going reason quiet no_break no_stale limited exhausted = grind (arith, false≢true, quiet_run, ends_nowhere)
 
@@ -117,7 +119,8 @@ module _ (layout : Layout) (arrivals : List Arrival) where
     true_stop stop.Exhausted new at is = going stop.Exhausted is.0 (λ e. cc) (λ pc e. cc) (λ e. absurd (cc)) (λ e. sym at ∙ is.2)
 
 -- The theorem for the stop of a run.
-pub headline_of_stop : (arrivals : List Arrival) (limit : ℕ) (old new : Hardware) (reports : List Report) (reason : Stop) → Reachable old → Cycles arrivals old reports new → IsStop limit reports new reason →
+pub headline_of_stop : (arrivals : List Arrival) (limit : ℕ) (old new : Hardware) (reports : List Report) (reason : Stop) →
+    Reachable old → Cycles arrivals old reports new → IsStop limit reports new reason →
     IsTrueStop (layout_of old.values) arrivals limit old.cycle new.cycle (steps_of reports) (seen new) reason
 headline_of_stop arrivals limit old new reports reason reached cycles is =
     true_stop (layout_of old.values) arrivals limit old.cycle new.cycle (seen old) (seen new) reports (cycles_true (always_sound reached) cycles) reason new refl is

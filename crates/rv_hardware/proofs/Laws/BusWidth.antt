@@ -47,7 +47,9 @@ module _ (now total : ℕ) where
 sent_earlier : (v : Values) (i : Option Instr) (D a now : ℕ) (st : Stage) → SoundStage v i D a now st → is_at now (broadcast_of_stage st) ≡ false
 sent_earlier v i D a now st h = grind (arith, ne_eqb)
 
-row_sent_earlier : (D C now : ℕ) (x : Option Execution) → C ≤ now → IfSome x (λ x. (D < x.issued) × (x.issued + x.cost ≤ x.broadcast) × (x.broadcast < C)) → is_at now (broadcast_of_execution x) ≡ false
+row_sent_earlier : (D C now : ℕ) (x : Option Execution) → C ≤ now →
+    IfSome x (λ x. (D < x.issued) × (x.issued + x.cost ≤ x.broadcast) × (x.broadcast < C)) →
+    is_at now (broadcast_of_execution x) ≡ false
 row_sent_earlier D C now x le h = grind (arith, ne_eqb)
 
 -- the field `bus_width` of `Laws`, over every history

@@ -115,7 +115,8 @@ some_of_all [] ys c h = h
 some_of_all (x ∷ xs) ys c h = used_first (x.dispatched == c) (some_of_all xs ys c h)
 
 -- the cycles of a run in which its rows were dispatched are busy
-busy_of_runs : {arrivals : List Arrival} {old new : Hardware} {reports : List Report} → Reachable old → Cycles arrivals old reports new → dispatch_cycles old.cycle new.cycle (rows_of (steps_of reports)) ≤ busy_of reports
+busy_of_runs : {arrivals : List Arrival} {old new : Hardware} {reports : List Report} → Reachable old →
+    Cycles arrivals old reports new → dispatch_cycles old.cycle new.cycle (rows_of (steps_of reports)) ≤ busy_of reports
 busy_of_runs {arrivals} {old} {new} {reports} reached cycles =
     let before = reachable_has_history reached in
     let length_is : new.cycle - old.cycle ≡ length reports = omega (arith, cycles_counted cycles) in
@@ -130,5 +131,7 @@ busy_of_runs {arrivals} {old} {new} {reports} reached cycles =
     omega (arith, here, among, used, busy)
 
 -- the counts of a run
-pub counts_hold : {arrivals : List Arrival} {old new : Hardware} {reports : List Report} → Reachable old → Cycles arrivals old reports new → AreCounted old.cycle new.cycle (steps_of reports) (busy_of reports) (stalls_of reports) (length reports)
+pub counts_hold : {arrivals : List Arrival} {old new : Hardware} {reports : List Report} → Reachable old →
+    Cycles arrivals old reports new →
+    AreCounted old.cycle new.cycle (steps_of reports) (busy_of reports) (stalls_of reports) (length reports)
 counts_hold reached cycles = grind (arith, counts_of_runs, busy_of_runs)

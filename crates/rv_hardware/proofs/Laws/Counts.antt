@@ -43,7 +43,8 @@ AllTell (report ∷ reports) = IsCounted (report.dispatched == 0) report.stall �
 counts_by : (b : Bool) (o : Option Stall) (counts : StallCounts) (n : ℕ) → IsCounted b o → cond (not b) (suc n) n + stall_cycles (counted_stall o counts) ≡ suc (n + stall_cycles counts)
 counts_by b o counts n h = grind (arith, one_more)
 
-counts_from : (counts : StallCounts) (reports : List Report) → AllTell reports → count (λ report. not (report.dispatched == 0)) reports + stall_cycles (stalls_from counts reports) ≡ length reports + stall_cycles counts
+counts_from : (counts : StallCounts) (reports : List Report) → AllTell reports →
+    count (λ report. not (report.dispatched == 0)) reports + stall_cycles (stalls_from counts reports) ≡ length reports + stall_cycles counts
 counts_from counts [] h = refl
 counts_from counts (report ∷ reports) h = grind (arith, counts_by, counts_from (counted_stall report.stall counts) reports h.1)
 

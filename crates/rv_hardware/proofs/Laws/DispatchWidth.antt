@@ -13,7 +13,9 @@ module _ (now total : ℕ) where
   dispatch_leads : (k : ℕ) {d : Dispatching} {t : Turn Dispatching} → k < total → DispatchTurn d t → DispatchedNow k d → Leads (DispatchedNow (suc k)) (DispatchedNow total) t
   dispatch_leads k lt it h = grind (arith, count-push)
 
-  pub dispatch_within : (h : Hardware) → h.values.dispatch_width ≡ total → count (λ e. e.dispatched == now) h.rob.entries ≤ 0 → count (λ e. e.dispatched == now) (dispatch h).hardware.rob.entries ≤ total
+  pub dispatch_within : (h : Hardware) → h.values.dispatch_width ≡ total →
+      count (λ e. e.dispatched == now) h.rob.entries ≤ 0 →
+      count (λ e. e.dispatched == now) (dispatch h).hardware.rob.entries ≤ total
   dispatch_within h width none =
       turns_within total DispatchedNow (DispatchedNow total) dispatch_turn (λ k d lt p. dispatch_leads k lt (dispatch_turn_is d) p) (λ d p. p)
       h.values.dispatch_width 0 (record { hardware = h; dispatched = 0; waits_for = None }) (omega (arith, width)) none

@@ -16,7 +16,9 @@ load_by a i before y h load = grind (arith, Each-weaker, store_by, Each-unmap)
 loads_by : (before : List Row) (row : Row) → StartsAfter (map mark_of_row before) (mark_of_row row) → Each (λ a. LoadsAfterStore a row) before
 loads_by before row h = by_load (is_load_row row) refl
   where
-    by_execution : (y : Option Execution) → IfSome y (λ t. Each (λ a. is_store_row a ≡ true → IfSome a.execution (λ s. s.broadcast < t.issued)) before) → Each (λ a. is_store_row a ≡ true → IfSome a.execution (λ s. IfSome y (λ t. s.broadcast < t.issued))) before
+    by_execution : (y : Option Execution) →
+        IfSome y (λ t. Each (λ a. is_store_row a ≡ true → IfSome a.execution (λ s. s.broadcast < t.issued)) before) →
+        Each (λ a. is_store_row a ≡ true → IfSome a.execution (λ s. IfSome y (λ t. s.broadcast < t.issued))) before
     by_execution None g = Each-all _ (λ a store. both_executed a.execution None tt) before
     by_execution (Some t) g = g
 

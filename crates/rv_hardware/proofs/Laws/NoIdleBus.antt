@@ -117,7 +117,8 @@ bus_by : (v : Values) (c : ℕ) (before : List Row) (row : Row) {o : Option Exec
     IfSome o (λ x. x.issued + x.cost ≤ c → c < x.broadcast → v.bus_width ≤ count_by (is_broadcast_in c) before)
 bus_by v c before row given busy = grind (arith, le-leb, until_now, after_count, Each-all, sent_row, and_second)
 
-in_cycle : {v : Values} (c : ℕ) {bound : ℕ} {row : Row} {o : Option Execution} → row.execution ≡ o → SoundRow v bound row → IfSome o (λ x. x.issued + x.cost ≤ c → c < x.broadcast → (row.fetched ≤ c) × (c < bound))
+in_cycle : {v : Values} (c : ℕ) {bound : ℕ} {row : Row} {o : Option Execution} → row.execution ≡ o →
+    SoundRow v bound row → IfSome o (λ x. x.issued + x.cost ≤ c → c < x.broadcast → (row.fetched ≤ c) × (c < bound))
 in_cycle c given sound = grind arith
 
 -- the field `no_idle_bus` of `Laws`, of every run

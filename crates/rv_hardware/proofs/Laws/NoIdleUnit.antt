@@ -1,7 +1,7 @@
 -- No pipelined unit is idle while an instruction that is no load has its operands.
 pub mod Marks
 pub mod Phases
-use Rattle.rv_hardware.proofs.Words.{◌≡◌, ℕ, ◌+◌, ◌<◌, ◌≤◌, Bool, true, false, cond, ◌&&◌, List, [], ◌∷◌, ◌++◌, map, is_some, IfSome, nat_le, ◌==◌, Some, None, count_by, Option, option_map, sym, refl, ap, ◌∙◌, subst, arith, le-leb, and_from, kind_of_word, at_kind, Kind, Values, Each, Hardware, HasOperandsIn, LeaveNoUnitIdle, is_pipelined, instruction_of_row, is_issued_in, is_row_of_kind, last_from, last_that, passes, producer_among, rows_of, sources_of_row, writes_register, Execution, Row, Step, and_first, and_second, Each-All, Each-place, Each-weaker, EveryAfter, Beginning-EveryAfter, EachAfter-EveryAfter, EveryAfter-EveryPair}
+use Rattle.rv_hardware.proofs.Words.{◌≡◌, ℕ, ◌+◌, ◌<◌, ◌≤◌, Bool, true, false, cond, ◌&&◌, List, [], ◌∷◌, ◌++◌, map, is_some, IfSome, nat_le, ◌==◌, Some, None, count_by, Option, option_map, sym, refl, ap, ◌∙◌, subst, arith, le-leb, and_from, kind_of_word, at_kind, Kind, Values, Each, Hardware, HasOperandsIn, LeaveNoUnitIdle, is_pipelined, instruction_of_row, is_issued_in, is_row_of_kind, last_from, last_that, passes, producer_among, rows_of, sources_of_row, writes_register, Execution, Row, Step, and_first, and_second, Each-All, Each-all, Each-place, Each-weaker, EveryAfter, Beginning-EveryAfter, EachAfter-EveryAfter, EveryAfter-EveryPair}
 use Rattle.rv_hardware.proofs.Laws.PipelinedUnits.{begun_shows}
 use Rattle.rv_hardware.proofs.Laws.RunsOn.{RunsOn, row_of_all, row_of_run, none_earlier, operands_of_all}
 use Rattle.rv_hardware.proofs.Marks.Cited.{IsBefore, writes_mark, IsKnownMark, OperandsKnown, after_law, after_count, History, history_is_sound, Mark, mark_of_row, as_of, as_of-cons, at_end, was_fetched, until, start_until, start_until_now, start_of_execution, broadcast_of_execution, until_by, history_is_orderly, Older, rows_are_older, row_pairs, rows_obey, SoundRow}
@@ -67,6 +67,16 @@ begun_at : (c : ℕ) (x : Option Execution) → starts_at c (start_until c (star
     passes (λ y. y.issued == c) x ≡ true
 begun_at c x h = grind arith
 
+-- where the mark of a row begins in a cycle, the row was issued in it
+begun_in : (k : Kind) (c : ℕ) (a : Row) → (was_fetched c (mark_of_row a) && begins_mark k c (at_end c (mark_of_row a))) ≡ true →
+    is_issued_in k c a ≡ true
+begun_in k c a is =
+    let of_kind = is_row_of_kind k a in
+    let starts = starts_at c (start_until c (start_of_execution a.execution)) in
+    let both = and_second (was_fetched c (mark_of_row a)) (begins_mark k c (at_end c (mark_of_row a))) is in
+    let begun = begun_at c a.execution (and_second of_kind starts both) in
+    and_from of_kind (passes (λ y. y.issued == c) a.execution) (and_first of_kind starts both) begun
+
 -- the field `no_idle_unit` of `Laws`, of every run
 pub law_of_no_idle_unit : {v : Values} {earlier steps : List Step} {old new : Hardware} → RunsOn v earlier steps old new → (k : Kind) →
     is_pipelined v k ≡ true → LeaveNoUnitIdle v k old.cycle (rows_of steps)
@@ -90,7 +100,7 @@ law_of_no_idle_unit {v} {earlier} {steps} {old} {new} run k line before after ro
     by_execution (Some x) e = λ c from dispatched later operands.
         let between = subst (λ o. IfSome o (λ x. (row.dispatched < x.issued) × (x.issued + x.cost ≤ x.broadcast) × (x.broadcast < row.retired))) e sound.stamps.executed_between in
         let fetched : row.fetched ≤ c = omega (arith, dispatched, sound.stamps.dispatched_after_fetch) in
-        let all = Each-weaker _ _ (λ a le. omega (arith, le, fetched)) (rows_of earlier ++ before) in_order in
+        let all = Each-weaker _ _ (λ a le. omega (arith, le, fetched)) _ in_order in
         let may : MayStart k c (as_of c (map mark_of_row (rows_of earlier ++ before))) (at_end c (mark_of_row row)) = record {
           kind = kind;
           plain = plain;
@@ -99,8 +109,7 @@ law_of_no_idle_unit {v} {earlier} {steps} {old} {new} run k line before after ro
           operands = rw (all_fetched c (rows_of earlier ++ before) all) (sources_known c v new.cycle (rows_of earlier ++ before) row older _ (Each-All _ _ (operands_of_all run c from before row operands)));
         } in
         let busy = after_law _ c (rows_of earlier ++ before) after row (busy_rows k line run.all c (omega (arith, later, between.1, between.2, sound.below))) place fetched may in
-        let fewer = after_count (begins_mark k c) (is_issued_in k c) c (rows_of earlier ++ before) (Each-weaker _ _
-        (λ a o g. let both = and_second (was_fetched c (mark_of_row a)) (begins_mark k c (at_end c (mark_of_row a))) g in and_from (is_row_of_kind k a) (passes (λ y. y.issued == c) a.execution) (and_first (is_row_of_kind k a) (starts_at c (start_until c (start_of_execution a.execution))) both) (begun_at c a.execution (and_second (is_row_of_kind k a) (starts_at c (start_until c (start_of_execution a.execution))) both))) (rows_of earlier ++ before) older) in
+        let fewer = after_count (begins_mark k c) (is_issued_in k c) c (rows_of earlier ++ before) (Each-all _ (begun_in k c) _) in
         let same = none_earlier run (begun_shows v k) c from before in
         omega (arith, busy, fewer, same)
       where

@@ -26,7 +26,8 @@ module _ (v : Values) {steps : List Step} {old new : Hardware} {lines : Lines} {
 
 -- over a run
 
-pub run_tells : {v : Values} {arrivals : List Arrival} {steps : List Step} {old new : Hardware} {reports : List Report} → Cycles arrivals old reports new → History v steps old → AllTell reports × (new.cycle ≡ old.cycle + length reports)
+pub run_tells : {v : Values} {arrivals : List Arrival} {steps : List Step} {old new : Hardware} {reports : List Report} →
+    Cycles arrivals old reports new → History v steps old → AllTell reports × (new.cycle ≡ old.cycle + length reports)
 run_tells ended history = (tt, omega arith)
 run_tells {v} {steps} (cycled {old = old} {middle = middle} {report = report} {reports = reports} is rest) history =
     let passed = passes_here v history is in

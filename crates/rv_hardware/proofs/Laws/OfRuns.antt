@@ -1,12 +1,12 @@
 -- The laws hold of every run of the hardware, on hardware that was just reset and on hardware that has run.
-use Rattle.rv_hardware.proofs.Words.{◌≡◌, ℕ, suc, ◌+◌, ◌<◌, ◌≤◌, Bool, true, List, [], ◌∷◌, ◌++◌, IfSome, ◌==◌, Some, None, All, count_by, Option, AllPairs, sym, refl, ap, ◌∙◌, subst, inl, inr, append_assoc, append-nil, arith, All-weaker, at_kind, Arrival, Values, Each, Hardware, AreApartAtPort, DoesNotWait, EachProducer, HasCost, HasOrderedStamps, IsBroadcastFirst, IsFetchedAhead, IsFetchedAfter, IsFetchedSince, IsKnownBefore, IsTrappedSoon, IssuesWithOperands, Laws, LoadsAfterStore, Report, Cycles, Reachable, cycled, ended, steps_of, EachAfter, EachNext, flushes, is_broadcast_in, is_buffered_in, is_dispatched_in, is_executing_in, is_fetched_in, is_in_flight_in, is_issued_in, is_queued_in, is_stationed_in, producer_among, rows_of, is_interrupt, stamp_of, Execution, Row, Step, Retired, All-Each, All-right, Each-append, Each-right, Each-weaker, Each-both, count-count_by, count-append}
+use Rattle.rv_hardware.proofs.Words.{◌≡◌, ℕ, suc, ◌+◌, ◌<◌, ◌≤◌, Bool, true, List, [], ◌∷◌, ◌++◌, IfSome, ◌==◌, Some, None, All, count_by, Option, AllPairs, sym, refl, ap, ◌∙◌, subst, append_assoc, append-nil, arith, All-weaker, at_kind, Arrival, Values, Each, Hardware, AreApartAtPort, DoesNotWait, EachProducer, HasCost, HasOrderedStamps, IsBroadcastFirst, IsFetchedAhead, IsFetchedSince, IsKnownBefore, IsTrappedSoon, IssuesWithOperands, Laws, LoadsAfterStore, Report, Cycles, Reachable, cycled, ended, steps_of, EachAfter, EachNext, flushes, is_broadcast_in, is_buffered_in, is_dispatched_in, is_executing_in, is_fetched_in, is_in_flight_in, is_issued_in, is_queued_in, is_stationed_in, producer_among, rows_of, is_interrupt, stamp_of, Execution, Row, Step, All-Each, All-right, Each-append, Each-right, Each-weaker, Each-both, count-count_by, count-append}
 use Rattle.rv_hardware.proofs.Laws.HeadsDoNotWait.{law_of_heads_do_not_wait}
 use Rattle.rv_hardware.proofs.Laws.FetchedAhead.{law_of_fetched_ahead}
 use Rattle.rv_hardware.proofs.Laws.TrapsSoon.{law_of_traps_soon}
 use Rattle.rv_hardware.proofs.Laws.FirstRow.{law_of_first_row}
 use Rattle.rv_hardware.proofs.Marks.Cited.{History, went_on, reachable_has_history, history_is_sound, history_is_legal, last_from-append}
 use Rattle.rv_hardware.proofs.Laws.OfCycles.{passes_here}
-use Rattle.rv_hardware.proofs.Laws.RunsOn.{RunsOn, rows_of_all, none_earlier, last_stays}
+use Rattle.rv_hardware.proofs.Laws.RunsOn.{RunsOn, rows_of_all, row_of_all, last_stays}
 use Rattle.rv_hardware.proofs.Laws.Within.{law_of_within}
 use Rattle.rv_hardware.proofs.Laws.NoIdleBus.{law_of_no_idle_bus}
 use Rattle.rv_hardware.proofs.Laws.NoIdleDispatch.{law_of_no_idle_dispatch}
@@ -32,17 +32,20 @@ use Rattle.rv_hardware.proofs.Laws.StoreQueue.{law_of_store_queue}
 use Rattle.rv_hardware.proofs.Laws.PipelinedUnits.{law_of_pipelined_units}
 use Rattle.rv_hardware.proofs.Laws.OtherUnits.{law_of_other_units}
 use Rattle.rv_hardware.proofs.Laws.FetchWidth.{law_of_fetch_width}
-use Rattle.rv_hardware.proofs.Laws.FetchBuffer.{law_of_fetch_buffer, buffered_shows}
+use Rattle.rv_hardware.proofs.Laws.FetchBuffer.{law_of_fetch_buffer}
 use Rattle.rv_hardware.proofs.Laws.DispatchWidth.{law_of_dispatch_width}
 use Rattle.rv_hardware.proofs.Laws.BusWidth.{law_of_bus_width}
 
 -- a history goes on by the cycles of a run
-pub history_runs : {v : Values} {arrivals : List Arrival} {steps : List Step} {old new : Hardware} {reports : List Report} → Cycles arrivals old reports new → History v steps old → History v (steps ++ steps_of reports) new
+pub history_runs : {v : Values} {arrivals : List Arrival} {steps : List Step} {old new : Hardware} {reports : List Report} →
+    Cycles arrivals old reports new → History v steps old → History v (steps ++ steps_of reports) new
 history_runs {steps} ended h = rw (append-nil steps) h
 history_runs {v} {steps} (cycled {report = report} {reports = reports} is rest) h = rw (← append_assoc steps report.steps (steps_of reports)) (history_runs rest (went_on h is))
 
 -- the steps of a run are of its cycles
-pub since_by : {v : Values} {arrivals : List Arrival} (b : ℕ) {steps : List Step} {old new : Hardware} {reports : List Report} → Cycles arrivals old reports new → History v steps old → b ≤ old.cycle → Each (λ s. b ≤ stamp_of s) (steps_of reports)
+pub since_by : {v : Values} {arrivals : List Arrival} (b : ℕ) {steps : List Step} {old new : Hardware} {reports : List Report} →
+    Cycles arrivals old reports new → History v steps old → b ≤ old.cycle →
+    Each (λ s. b ≤ stamp_of s) (steps_of reports)
 since_by b ended h le = tt
 since_by {v} b {steps} (cycled {old = old} {middle = middle} {report = report} {reports = reports} is rest) h le =
     let passed = passes_here v h is in
@@ -75,7 +78,7 @@ count_by-last p xs ys n le =
 producer_of_all : (P : Row → Type 0) (first before : List Row) (source : Option ℕ) → IfSome (producer_among (first ++ before) source) P → IfSome (producer_among before source) P
 producer_of_all P first before source h = grind (arith, last_stays, last_from-append)
 
-module _ {v : Values} {earlier : List Step} (steps : List Step) {old new : Hardware} (run : RunsOn v earlier steps old new) where
+module _ {v : Values} {earlier steps : List Step} {old new : Hardware} (run : RunsOn v earlier steps old new) where
   rows_all : (P : Row → Type 0) → All P (rows_of (earlier ++ steps)) → All P (rows_of steps)
   rows_all P h = All-right P _ _ (rw (rows_of_all run) at h)
 
@@ -85,34 +88,13 @@ module _ {v : Values} {earlier : List Step} (steps : List Step) {old new : Hardw
   rows_count : (p : Row → Bool) (n : ℕ) → count_by p (rows_of (earlier ++ steps)) ≤ n → count_by p (rows_of steps) ≤ n
   rows_count p n h = count_by-last p (rows_of earlier) (rows_of steps) n (subst (λ l. count_by p l ≤ n) (rows_of_all run) h)
 
-  -- a row of the run, after all earlier rows
-  rows_after : (P : List Row → Row → Type 0) → EachAfter P (rows_of (earlier ++ steps)) → (before after : List Row) (row : Row) → rows_of steps ≡ before ++ row ∷ after → P (rows_of earlier ++ before) row
-  rows_after P h before after row given = grind (arith, rows_of_all run, append_assoc)
-
   operands_of_run : EachAfter IssuesWithOperands (rows_of steps)
-  operands_of_run before after row at = by_execution row.execution (rows_after IssuesWithOperands (law_of_operands run.all) before after row at)
+  operands_of_run before after row at = by_execution row.execution (law_of_operands run.all (rows_of earlier ++ before) after row (row_of_all run before after row at))
     where
       by_execution : (o : Option Execution) → IfSome o (λ x. EachProducer (IsKnownBefore row x) (rows_of earlier ++ before) row) → IfSome o (λ x. EachProducer (IsKnownBefore row x) before row)
       by_execution None h = tt
       by_execution (Some x) h =
           All-weaker _ _ (λ source k. producer_of_all (IsKnownBefore row x) (rows_of earlier) before source k) _ h
-
-  fetch_of_run : EachNext (IsFetchedAfter v old.cycle (rows_of steps)) steps
-  fetch_of_run before after s t at =
-      by_steps s t (law_of_no_idle_fetch run.all (earlier ++ before) after s t (ap (λ l. earlier ++ l) at ∙ sym (append_assoc earlier before (s ∷ t ∷ after))))
-    where
-      by_cases : (a b : Row) → IsFetchedAfter v 0 (rows_of (earlier ++ steps)) (Retired a) (Retired b) → IsFetchedAfter v old.cycle (rows_of steps) (Retired a) (Retired b)
-      by_cases a b (inl over) = inl over
-      by_cases a b (inr (inl early)) = inr (inl early)
-      by_cases a b (inr (inr full)) = inr (inr (λ c from later sooner.
-          let held = full c (omega arith) later sooner in
-          let all = ap (count_by (is_buffered_in c)) (rows_of_all run) in
-          let same = none_earlier run (buffered_shows v) c from (rows_of steps) in
-          omega (arith, held, all, same)))
-
-      by_steps : (x y : Step) → IsFetchedAfter v 0 (rows_of (earlier ++ steps)) x y → IsFetchedAfter v old.cycle (rows_of steps) x y
-      by_steps (Retired a) (Retired b) h = by_cases a b h
-      by_steps x y h = tt
 
   pub laws_of_steps : Laws v old.cycle new.cycle steps
   laws_of_steps = record {
@@ -146,7 +128,7 @@ module _ {v : Values} {earlier : List Step} (steps : List Step) {old new : Hardw
     no_idle_unit = law_of_no_idle_unit run;
     port = rows_pairs (AreApartAtPort v.forward) (law_of_port run.all);
     fetched_anew = AllPairs-last (λ a b. flushes a ≡ true → IsFetchedSince a b) earlier steps (law_of_fetched_anew run.all);
-    no_idle_fetch = fetch_of_run;
+    no_idle_fetch = law_of_no_idle_fetch run;
     no_idle_dispatch = law_of_no_idle_dispatch run;
   }
 
@@ -155,9 +137,9 @@ pub laws_of_runs : {arrivals : List Arrival} {old new : Hardware} {reports : Lis
 laws_of_runs {old = old} {new = new} {reports = reports} reached cycles =
     let before = reachable_has_history reached in
     let same : old.values ≡ before.0 = (history_is_sound before.2).always.sizes.values in
-    subst (λ v. Laws v old.cycle new.cycle (steps_of reports)) (sym same)
-    (laws_of_steps (steps_of reports) (record {
+    let run : RunsOn before.0 before.1 (steps_of reports) old new = record {
       before = before.2;
       all = history_runs cycles before.2;
       since = since_by old.cycle cycles before.2 (omega arith);
-    }))
+    } in
+    subst (λ v. Laws v old.cycle new.cycle (steps_of reports)) (sym same) (laws_of_steps run)

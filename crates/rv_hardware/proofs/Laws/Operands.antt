@@ -7,7 +7,8 @@ use Rattle.rv_hardware.proofs.Laws.Operands.Known.{Found, StartsAfter}
 map_either : (b : Bool) (row : Row) (o : Option Row) → option_map mark_of_row (cond b (Some row) o) ≡ cond b (Some (mark_of_row row)) (option_map mark_of_row o)
 map_either b row o = grind arith
 
-last_of_rows : (register : ℕ) (o : Option Row) (rows : List Row) → last_from (option_map mark_of_row o) (writes_mark register) (map mark_of_row rows) ≡ option_map mark_of_row (last_from o (writes_register register) rows)
+last_of_rows : (register : ℕ) (o : Option Row) (rows : List Row) →
+    last_from (option_map mark_of_row o) (writes_mark register) (map mark_of_row rows) ≡ option_map mark_of_row (last_from o (writes_register register) rows)
 last_of_rows register o [] = refl
 last_of_rows register o (row ∷ rows) = grind (arith, map_either, last_of_rows register (cond (writes_register register row) (Some row) o) rows)
 

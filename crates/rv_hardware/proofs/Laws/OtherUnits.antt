@@ -12,7 +12,9 @@ executes_mark k c m = is_of_kind k (kind_of_word m.instruction) && start_holds f
 not_executing : (now D C : ℕ) (x : Option Execution) → C ≤ now → Between D C x → start_holds false now (start_of_execution x) ≡ false
 not_executing now D C x le h = grind (arith, and_right, le-ltb)
 
-executing_row : (c D C : ℕ) (x : Option Execution) → Between D C x → passes (λ y. nat_le y.issued c && nat_lt c (y.issued + y.cost)) x ≡ true → (start_holds false c (start_until c (start_of_execution x)) ≡ true) × (D < c) × (c < C)
+executing_row : (c D C : ℕ) (x : Option Execution) → Between D C x →
+    passes (λ y. nat_le y.issued c && nat_lt c (y.issued + y.cost)) x ≡ true →
+    (start_holds false c (start_until c (start_of_execution x)) ≡ true) × (D < c) × (c < C)
 executing_row c D C x h is = grind (arith, and_first, leb-true, ltb-true, and_second)
 
 -- the field `other_units` of `Laws`, over every history

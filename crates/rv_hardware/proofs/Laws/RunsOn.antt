@@ -41,7 +41,9 @@ module _ {v : Values} {earlier steps : List Step} {old new : Hardware} (run : Ru
     row_of_run = Each-place _ (rows_of earlier ++ before) after row (subst (Each (SoundRow v new.cycle)) row_of_all (history_is_sound run.all).rows)
 
   -- none of the earlier rows passes from the run's first cycle on
-  pub none_earlier : {row_test : ℕ → Row → Bool} {test : ℕ → Mark → Bool} → Shows v row_test test → (c : ℕ) → old.cycle ≤ c → (before : List Row) → count_by (row_test c) (rows_of earlier ++ before) ≡ count_by (row_test c) before
+  pub none_earlier : {row_test : ℕ → Row → Bool} {test : ℕ → Mark → Bool} → Shows v row_test test → (c : ℕ) →
+      old.cycle ≤ c → (before : List Row) →
+      count_by (row_test c) (rows_of earlier ++ before) ≡ count_by (row_test c) before
   none_earlier {row_test} {test} shows c le before =
       count_by-rest (row_test c) _ before
       (Each-weaker _ _ (λ row sound. fails_later shows c le sound (row_test c row) refl) _ (history_is_sound run.before).rows)
@@ -58,7 +60,9 @@ module _ {v : Values} {earlier steps : List Step} {old new : Hardware} (run : Ru
       all_sent : Each (λ p. IfSome p.execution (λ y. y.broadcast < c)) (rows_of earlier)
       all_sent = Each-weaker _ _ (λ p s. sent_by p.dispatched p.retired p.execution (omega (arith, s.below, from)) s.stamps.executed_between) _ (history_is_sound run.before).rows
 
-      by_source : (source : Option ℕ) → IfSome (producer_among before source) (λ p. IfSome p.execution (λ y. y.broadcast < c)) → IfSome (producer_among (rows_of earlier ++ before) source) (λ p. IfSome p.execution (λ y. y.broadcast < c))
+      by_source : (source : Option ℕ) →
+          IfSome (producer_among before source) (λ p. IfSome p.execution (λ y. y.broadcast < c)) →
+          IfSome (producer_among (rows_of earlier ++ before) source) (λ p. IfSome p.execution (λ y. y.broadcast < c))
       by_source None k = tt
       by_source (Some register) k =
           rw (last_from-append None (writes_register register) (rows_of earlier) before)

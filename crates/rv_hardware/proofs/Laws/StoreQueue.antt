@@ -107,7 +107,9 @@ module _ (v : Values) (now : ℕ) (steps : List Step) where
 
 -- a cycle
 
-queue_in_cycle : {v : Values} {R : List Mark → Type 0} {earlier : List Step} {old new : Hardware} {lines : Lines} {report : Report} → History v earlier old → Passed v R earlier lines old report new → Queue v old.cycle earlier old → Queue v old.cycle (earlier ++ report.steps) new
+queue_in_cycle : {v : Values} {R : List Mark → Type 0} {earlier : List Step} {old new : Hardware} {lines : Lines} {report : Report} →
+    History v earlier old → Passed v R earlier lines old report new → Queue v old.cycle earlier old →
+    Queue v old.cycle (earlier ++ report.steps) new
 queue_in_cycle {v} {earlier} {old} {new} {lines} {report} before passed ok =
     let first = begin (history_is_legal before) lines new report (anything_is_kept v old.cycle) passed.begins tt in
     let g : Hardware = with_lines lines old in

@@ -7,7 +7,8 @@ use Rattle.rv_hardware.proofs.Marks.Row.{SoundRow}
 
 -- counts as of a cycle
 
-picked : (p : Mark → Bool) (c : ℕ) (b : Bool) (m : Mark) (ms : List Mark) → count p (map (at_end c) (cond b (m ∷ ms) ms)) ≡ cond (b && p (at_end c m)) (suc (count p (map (at_end c) ms))) (count p (map (at_end c) ms))
+picked : (p : Mark → Bool) (c : ℕ) (b : Bool) (m : Mark) (ms : List Mark) →
+    count p (map (at_end c) (cond b (m ∷ ms) ms)) ≡ cond (b && p (at_end c m)) (suc (count p (map (at_end c) ms))) (count p (map (at_end c) ms))
 picked p c b m ms = grind arith
 
 -- a count of marks as they stood at the end of a cycle is a count of the marks
@@ -21,7 +22,8 @@ pub record Shows (v : Values) (row_test : ℕ → Row → Bool) (test : ℕ → 
   pub ends : (c bound : ℕ) (row : Row) → SoundRow v bound row → row_test c row ≡ true → c < row.retired
 
 -- a sound row that retired by a cycle fails the test of that cycle
-pub fails_later : {v : Values} {row_test : ℕ → Row → Bool} {test : ℕ → Mark → Bool} (shows : Shows v row_test test) (c : ℕ) {bound : ℕ} {row : Row} → bound ≤ c → SoundRow v bound row → (b : Bool) → row_test c row ≡ b → row_test c row ≡ false
+pub fails_later : {v : Values} {row_test : ℕ → Row → Bool} {test : ℕ → Mark → Bool} (shows : Shows v row_test test) (c : ℕ) {bound : ℕ} {row : Row} →
+    bound ≤ c → SoundRow v bound row → (b : Bool) → row_test c row ≡ b → row_test c row ≡ false
 fails_later shows c {bound} {row} le sound true is = absurd (let before = shows.ends c bound row sound is in omega (arith, le, before, sound.below))
 fails_later shows c le sound false is = is
 
@@ -56,7 +58,8 @@ pub as_of_place : (c : ℕ) (before after : List Mark) (m : Mark) → was_fetche
 as_of_place c before after m is = as_of-append c before (m ∷ after) ∙ ap (λ l. as_of c before ++ l) (as_of-cons c m after ∙ ap (λ b. cond b (at_end c m ∷ as_of c after) (as_of c after)) is)
 
 -- what marks obeyed at the end of a cycle, of one row after others
-pub after_law : (P : List Mark → Mark → Type 0) (c : ℕ) {rows : List Row} (before after : List Row) (row : Row) → EveryAfter P [] (as_of c (map mark_of_row rows)) → rows ≡ before ++ row ∷ after → row.fetched ≤ c →
+pub after_law : (P : List Mark → Mark → Type 0) (c : ℕ) {rows : List Row} (before after : List Row) (row : Row) →
+    EveryAfter P [] (as_of c (map mark_of_row rows)) → rows ≡ before ++ row ∷ after → row.fetched ≤ c →
     P (as_of c (map mark_of_row before)) (at_end c (mark_of_row row))
 after_law P c before after row h given le = grind (arith, EveryAfter-at, map-append, as_of_place, le-leb)
 

@@ -42,7 +42,8 @@ row_sent now row sound = row_sent_by now row.retired row.dispatched row.executio
 
 -- entries that are known
 
-entry_known_by : (v : Values) (i : Option Instr) (D a now : ℕ) (st : Stage) → SoundStage v i D a now st → is_some (broadcast_of st) ≡ true → is_some (kind_of_word i) ≡ true → IsBefore now (broadcast_of_stage st)
+entry_known_by : (v : Values) (i : Option Instr) (D a now : ℕ) (st : Stage) → SoundStage v i D a now st →
+    is_some (broadcast_of st) ≡ true → is_some (kind_of_word i) ≡ true → IsBefore now (broadcast_of_stage st)
 entry_known_by v i D a now st h known some = grind arith
 
 module _ (v : Values) (d a now : ℕ) where
@@ -110,7 +111,8 @@ stage_sent : (v : Values) (i : Option Instr) (D a now : ℕ) (st : Stage) → So
 stage_sent v i D a now st h given = grind (arith, stage_sent_by)
 
 -- of entries of which none has a result for the bus, each that was ready was broadcast
-pub entries_sent : (v : Values) (d a now : ℕ) (before es : List Entry) → Each (SoundEntry v d a (now + 1)) es → EveryAfter (λ older e. has_result now older e ≡ false) before es → Each (IsSentIfReady now) (map mark_of_entry es)
+pub entries_sent : (v : Values) (d a now : ℕ) (before es : List Entry) → Each (SoundEntry v d a (now + 1)) es →
+    EveryAfter (λ older e. has_result now older e ≡ false) before es → Each (IsSentIfReady now) (map mark_of_entry es)
 entries_sent v d a now before [] sound none = tt
 entries_sent v d a now before (e ∷ es) sound none = (stage_sent v e.instruction e.dispatched a now e.stage sound.0.stage none.0, entries_sent v d a now _ es sound.1 none.1)
 

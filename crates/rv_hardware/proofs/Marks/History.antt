@@ -198,7 +198,8 @@ pub buffered_words : (steps : List Step) (es : List Entry) (fs : List Fetched) �
 buffered_words steps es fs = grind (arith, count-append, rows_not_buffered, entries_not_buffered, words_are_buffered)
 
 -- the words that a cycle fetches are new ones after the marks so far
-pub new_words : {v : Values} {R : List Mark → Type 0} {earlier : List Step} {lines : Lines} {old new : Hardware} {report : Report} (passed : Passed v R earlier lines old report new) → NewWords v old.cycle (marks_in (earlier ++ report.steps) (dispatching lines old).hardware) passed.fetches.added
+pub new_words : {v : Values} {R : List Mark → Type 0} {earlier : List Step} {lines : Lines} {old new : Hardware} {report : Report} (passed : Passed v R earlier lines old report new) →
+    NewWords v old.cycle (marks_in (earlier ++ report.steps) (dispatching lines old).hardware) passed.fetches.added
 new_words {v} {earlier} {lines} {old} {report} passed =
     let d : Hardware = (dispatching lines old).hardware in
     let b = passed.dispatches.basics in

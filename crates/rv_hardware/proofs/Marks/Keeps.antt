@@ -42,7 +42,8 @@ pub record IsKeptInCycle (v : Values) (now : ℕ) (P : Hardware → Type 0) : Ty
   pub dispatch : IsKeptByDispatch P
 
 -- so the phases of a cycle up to dispatch keep it
-pub in_cycle : {v : Values} {R : List Mark → Type 0} {earlier : List Step} {lines : Lines} {old new : Hardware} {report : Report} {P : Hardware → Type 0} → IsKeptInCycle v old.cycle P → Passed v R earlier lines old report new → P old → P (dispatching lines old).hardware
+pub in_cycle : {v : Values} {R : List Mark → Type 0} {earlier : List Step} {lines : Lines} {old new : Hardware} {report : Report} {P : Hardware → Type 0} →
+    IsKeptInCycle v old.cycle P → Passed v R earlier lines old report new → P old → P (dispatching lines old).hardware
 in_cycle {v} {R} {earlier} {lines} {old} {new} {report} {P} kept passed holds =
     let now : ℕ = old.cycle in
     let committed = commit-keeps kept.commit set.contains (with_lines lines old) (kept.lines old lines holds) in

@@ -7,7 +7,9 @@ use Rattle.rv_hardware.proofs.Marks.Row.{SoundRow}
 use Rattle.rv_hardware.proofs.Laws.StepsInOrder.Steps.{InOrder, history_has_steps}
 
 -- pairs of marks give pairs of rows
-pub row_pairs : (R : Mark → Mark → Type 0) {Q : Row → Row → Type 0} → ((a b : Row) → R (mark_of_row a) (mark_of_row b) → Q a b) → (steps : List Step) (h : Hardware) → EveryPair R (marks_in steps h) → EveryPair Q (rows_of steps)
+pub row_pairs : (R : Mark → Mark → Type 0) {Q : Row → Row → Type 0} →
+    ((a b : Row) → R (mark_of_row a) (mark_of_row b) → Q a b) → (steps : List Step) (h : Hardware) →
+    EveryPair R (marks_in steps h) → EveryPair Q (rows_of steps)
 row_pairs R f steps h pairs = grind (arith, EveryPair-weaker, EveryPair-unmap, EveryPair-left)
 
 -- rows that start after others
@@ -44,7 +46,8 @@ every_before P before [] h g = tt
 every_before P before (x ∷ xs) h g = (h, every_before P _ xs (Each-append P before _ h (g.0, tt)) g.1)
 
 -- what follows from two facts of each element behind others holds of each
-pub two_after : {X : Type 0} {P Q R : List X → X → Type 0} → ((b : List X) (x : X) → P b x → Q b x → R b x) → (before xs : List X) → EveryAfter P before xs → EveryAfter Q before xs → EveryAfter R before xs
+pub two_after : {X : Type 0} {P Q R : List X → X → Type 0} → ((b : List X) (x : X) → P b x → Q b x → R b x) →
+    (before xs : List X) → EveryAfter P before xs → EveryAfter Q before xs → EveryAfter R before xs
 two_after f before [] h g = tt
 two_after {P} {Q} {R} f before (x ∷ xs) h g = (f before x h.0 g.0, two_after f _ xs h.1 g.1)
 

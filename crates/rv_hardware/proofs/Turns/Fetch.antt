@@ -42,7 +42,10 @@ only_one : (cycle width room : ℕ) (f : Fetched) (fs : List Fetched) → IsNew 
     Added cycle (suc width) (suc room) (f ∷ fs)
 only_one cycle width room f fs new given = grind arith
 
-by_stop : {cycle width room : ℕ} {f : Fetched} {fs : List Fetched} (stop : FetchStop) (next : ℕ) (o : Option FetchStop) {Rest : Type 0} → IsNew cycle f → (Rest → Added cycle width room fs) → MatchOption o Rest (λ reason. (fs ≡ []) × (next ≡ f.predicted) × (stop ≡ reason)) → Added cycle (suc width) (suc room) (f ∷ fs)
+by_stop : {cycle width room : ℕ} {f : Fetched} {fs : List Fetched} (stop : FetchStop) (next : ℕ) (o : Option FetchStop) {Rest : Type 0} →
+    IsNew cycle f → (Rest → Added cycle width room fs) →
+    MatchOption o Rest (λ reason. (fs ≡ []) × (next ≡ f.predicted) × (stop ≡ reason)) →
+    Added cycle (suc width) (suc room) (f ∷ fs)
 by_stop stop next o new rest h = grind (arith, one_more, only_one)
 
 fetches_add : (answers : Answers) (ram : Memory) (cycle width room pc : ℕ) (fs : List Fetched) (next : ℕ) (stop : FetchStop) →

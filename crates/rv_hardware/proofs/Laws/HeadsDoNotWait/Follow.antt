@@ -80,7 +80,11 @@ module _ {v : Values} {now s : ℕ} {store_waits : Bool} {stale : set.FinSet nat
   row_follows written may = grind (arith, row_decodes, retiring_is_one, retires_soon, known_is)
 
   -- a fault that needs no unit
-  trapped_by_stage : (word : Option ℕ) (i : Option Instr) (D : ℕ) (issue : Option Issue) (cycle : ℕ) (message : Message) (fault : Fault) → SoundStage v i D now now (Finished issue cycle message) → IsShaped word i (Finished issue cycle message) → message.fault ≡ Some fault → needs_no_unit fault.cause ≡ true → ((store_waits && is_store i) ≡ false → D ≤ s + 1) → IsKnownSince now i D (Finished issue cycle message) → now ≤ s + 2
+  trapped_by_stage : (word : Option ℕ) (i : Option Instr) (D : ℕ) (issue : Option Issue) (cycle : ℕ) (message : Message) (fault : Fault) →
+      SoundStage v i D now now (Finished issue cycle message) → IsShaped word i (Finished issue cycle message) →
+      message.fault ≡ Some fault → needs_no_unit fault.cause ≡ true →
+      ((store_waits && is_store i) ≡ false → D ≤ s + 1) → IsKnownSince now i D (Finished issue cycle message) →
+      now ≤ s + 2
   trapped_by_stage word i D issue cycle message fault held found is needs soon since = grind (arith, no_store, not_both)
 
   trap_follows : {issue : Option Issue} {cycle : ℕ} {message : Message} {fault : Fault} → is_serialising e.instruction ≡ false →
@@ -164,7 +168,9 @@ module _ (v : Values) (now : ℕ) (earlier : List Step) where
   more_follow c x all one = subst AllFollow (sym (regroup c x)) (follow-push (earlier ++ c.steps) x all one)
 
   -- a step after which nothing is left
-  flushing : (c : Committing) {x : Step} (g : Hardware) (stop : Option Stop) → stamp_of x ≡ now → AllFollow (earlier ++ c.steps) → Follows (last_stamp (earlier ++ c.steps)) (has_step (earlier ++ c.steps)) x → g.rob.entries ≡ [] → g.front.entries ≡ [] →
+  flushing : (c : Committing) {x : Step} (g : Hardware) (stop : Option Stop) → stamp_of x ≡ now →
+      AllFollow (earlier ++ c.steps) → Follows (last_stamp (earlier ++ c.steps)) (has_step (earlier ++ c.steps)) x →
+      g.rob.entries ≡ [] → g.front.entries ≡ [] →
       Committed (record { hardware = g; steps = c.steps ++ x ∷ []; stop = stop })
   flushing c g stop given all one holds none' = grind (arith, last_is, more_follow)
 

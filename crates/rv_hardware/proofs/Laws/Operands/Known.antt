@@ -33,7 +33,8 @@ module _ {m n : Mark} (goes : GoesOnWith m n) where
   store_goes_on c known some = goes.broadcast c (known (subst (λ i. is_store i ≡ true) goes.instruction some))
 
   -- of a list in which it goes on
-  either : (c : ℕ) (b : Bool) (z : Mark) (o p : Option Mark) → (IfSome o (IsKnownMark c) → IfSome p (IsKnownMark c)) → IfSome (cond b (Some z) o) (IsKnownMark c) → IfSome (cond b (Some z) p) (IsKnownMark c)
+  either : (c : ℕ) (b : Bool) (z : Mark) (o p : Option Mark) → (IfSome o (IsKnownMark c) → IfSome p (IsKnownMark c)) →
+      IfSome (cond b (Some z) o) (IsKnownMark c) → IfSome (cond b (Some z) p) (IsKnownMark c)
   either c b z o p f h = grind arith
 
   last_more : (c : ℕ) (test : Mark → Bool) (mid : List Mark) (o p : Option Mark) → (IfSome o (IsKnownMark c) → IfSome p (IsKnownMark c)) →
@@ -45,7 +46,9 @@ module _ {m n : Mark} (goes : GoesOnWith m n) where
   here c true found h = known_goes_on c h
   here c false found h = h
 
-  last_goes_on : (c register : ℕ) (xs mid : List Mark) → IfSome (last_that (writes_mark register) (xs ++ m ∷ mid)) (IsKnownMark c) → IfSome (last_that (writes_mark register) (xs ++ n ∷ mid)) (IsKnownMark c)
+  last_goes_on : (c register : ℕ) (xs mid : List Mark) →
+      IfSome (last_that (writes_mark register) (xs ++ m ∷ mid)) (IsKnownMark c) →
+      IfSome (last_that (writes_mark register) (xs ++ n ∷ mid)) (IsKnownMark c)
   last_goes_on c register xs mid h =
       let found : Option Mark = last_from None (writes_mark register) xs in
       let same : writes_mark register n ≡ writes_mark register m = ap (λ i. is_target register (target_of_word i)) goes.instruction in

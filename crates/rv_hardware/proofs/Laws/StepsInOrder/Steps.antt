@@ -75,7 +75,9 @@ module _ (v : Values) (now : ℕ) (earlier : List Step) (before : Each (λ s. st
     not_before cycle plain h = grind (arith, regroup, Each-append, true≢false)
 
     -- or leaves what is younger
-    pub leaving : {g : Hardware} (stop : Option Stop) (e : Entry) {es : List Entry} → flushes s ≡ false → Goes v now now now now now (now + 1) Anything (earlier ++ (c.steps ++ s ∷ [])) g → c.hardware.rob.entries ≡ e ∷ es → g.rob.entries ≡ es → g.front.entries ≡ c.hardware.front.entries →
+    pub leaving : {g : Hardware} (stop : Option Stop) (e : Entry) {es : List Entry} → flushes s ≡ false →
+        Goes v now now now now now (now + 1) Anything (earlier ++ (c.steps ++ s ∷ [])) g →
+        c.hardware.rob.entries ≡ e ∷ es → g.rob.entries ≡ es → g.front.entries ≡ c.hardware.front.entries →
         Steps v now earlier (suc k) (record { hardware = g; steps = c.steps ++ s ∷ []; stop = stop })
     leaving stop e {es} plain goes place here front = record {
       goes = goes;

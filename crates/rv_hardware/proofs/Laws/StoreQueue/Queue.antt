@@ -56,7 +56,8 @@ module _ {hit now : ℕ} {rows : List Row} {port : ℕ} {committed : List Store}
   }
 
   -- a store that retires is the last row and the last in the queue
-  pub queue_retires : (row : Row) (seq : ℕ) (access : Option StoreAccess) → is_some access ≡ is_store_row row → row.retired ≤ now → QueueOk hit now (rows ++ row ∷ []) port (committed ++ committed_store seq access)
+  pub queue_retires : (row : Row) (seq : ℕ) (access : Option StoreAccess) → is_some access ≡ is_store_row row →
+      row.retired ≤ now → QueueOk hit now (rows ++ row ∷ []) port (committed ++ committed_store seq access)
   queue_retires row seq access tells le = grind (arith, append-nil, plain_retires, store_retires)
 
 -- a drain
@@ -74,7 +75,8 @@ module _ (hit now : ℕ) (rows : List Row) (port : ℕ) (idle : port ≤ now) wh
   }
   leaves_by false s ss gone kept row begun split over by_now queued = record { gone = gone; kept = row ∷ kept; split = split; over = over; by_now = by_now; queued = queued }
 
-  leaves_from : (gone kept : List Row) (committed : List Store) → filter is_store_row rows ≡ gone ++ kept → Each (λ r. r.retired + hit ≤ now) gone → Each (λ r. r.retired ≤ now) kept → AreQueued hit port kept committed →
+  leaves_from : (gone kept : List Row) (committed : List Store) → filter is_store_row rows ≡ gone ++ kept →
+      Each (λ r. r.retired + hit ≤ now) gone → Each (λ r. r.retired ≤ now) kept → AreQueued hit port kept committed →
       QueueOk hit now rows port (without_drained committed)
   leaves_from gone [] [] split over by_now queued = record { gone = gone; kept = []; split = split; over = over; by_now = tt; queued = tt }
   leaves_from gone (row ∷ kept) (s ∷ ss) split over by_now queued = leaves_by (is_draining s) s ss gone kept row refl split over by_now queued
@@ -84,7 +86,9 @@ module _ (hit now : ℕ) (rows : List Row) (port : ℕ) (idle : port ≤ now) wh
   pub queue_leaves : {committed : List Store} → QueueOk hit now rows port committed → QueueOk hit now rows port (without_drained committed)
   queue_leaves {committed} ok = leaves_from ok.gone ok.kept committed ok.split ok.over ok.by_now ok.queued
 
-  begins_from : (later : ℕ) → now + hit ≤ later → (kept : List Row) (committed : List Store) → Each (λ r. r.retired ≤ now) kept → AreQueued hit port kept committed → AreQueued hit later kept (with_oldest_draining committed)
+  begins_from : (later : ℕ) → now + hit ≤ later → (kept : List Row) (committed : List Store) →
+      Each (λ r. r.retired ≤ now) kept → AreQueued hit port kept committed →
+      AreQueued hit later kept (with_oldest_draining committed)
   begins_from later le [] [] by_now queued = tt
   begins_from later le (row ∷ kept) (s ∷ ss) by_now queued = (λ begun. omega (arith, by_now.0, le), queued_later hit port later kept ss (omega (arith, idle, le)) queued.1)
   begins_from later le kept committed by_now queued = absurd queued
