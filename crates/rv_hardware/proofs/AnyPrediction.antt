@@ -10,13 +10,14 @@ module _ (answers : Answers) (ram : Memory) (cycle : ℕ) where
   any-at : (pc : ℕ) (e : Fetched) → IsFetchedAt answers ram cycle pc e → IsFetchedAt any_prediction ram cycle pc e
   any-at pc e given = grind (arith, any-guess)
 
-  where_none : (A B : Type 0) (C : FetchStop → Type 0) (o : Option FetchStop) → (A → B) → MatchOption o A C → MatchOption o B C
-  where_none A B C o change here = grind arith
+  where_none : {A B : Type 0} (C : FetchStop → Type 0) (o : Option FetchStop) → (A → B) → MatchOption o A C → MatchOption o B C
+  where_none C o change here = grind arith
 
-  any-fetches : (width room pc : ℕ) (es : List Fetched) (next : ℕ) (stop : FetchStop) → Fetches answers ram cycle width room pc es next stop → Fetches any_prediction ram cycle width room pc es next stop
+  any-fetches : (width room pc : ℕ) (es : List Fetched) (next : ℕ) (stop : FetchStop) →
+      Fetches answers ram cycle width room pc es next stop → Fetches any_prediction ram cycle width room pc es next stop
   any-fetches width room pc [] next stop is = is
   any-fetches (suc width) (suc room) pc (e ∷ es) next stop is =
-      (any-at pc e is.0, where_none (Fetches answers ram cycle width room e.predicted es next stop) (Fetches any_prediction ram cycle width room e.predicted es next stop) (λ reason. (es ≡ []) × (next ≡ e.predicted) × (stop ≡ reason)) (stop_after e) (any-fetches width room e.predicted es next stop) is.1)
+      (any-at pc e is.0, where_none (λ reason. (es ≡ []) × (next ≡ e.predicted) × (stop ≡ reason)) (stop_after e) (any-fetches width room e.predicted es next stop) is.1)
   any-fetches width room pc (e ∷ es) next stop is = is
 
   any-into_at : (halted : Bool) (old new : FetchBuffer) (stop : FetchStop)

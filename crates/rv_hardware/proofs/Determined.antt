@@ -33,20 +33,20 @@ module _ (predictor : DescribedPredictor) (ram : Memory) (cycle : ℕ) where
   Rest width room e es next why o =
       MatchOption o (Fetches (answers_of (guide_of predictor)) ram cycle width room e.predicted es next why) (λ reason. (es ≡ []) × (next ≡ e.predicted) × (why ≡ reason))
 
-  rest_once : (width room : ℕ) (e : Fetched) (es es' : List Fetched) (next next' : ℕ) (why why' : FetchStop) (o : Option FetchStop)
+  rest_once : (width room : ℕ) (e : Fetched) {es es' : List Fetched} {next next' : ℕ} {why why' : FetchStop} (o : Option FetchStop)
       → (Fetches (answers_of (guide_of predictor)) ram cycle width room e.predicted es next why → Fetches (answers_of (guide_of predictor)) ram cycle width room e.predicted es' next' why' → AreSame es es' next next' why why')
       → Rest width room e es next why o → Rest width room e es' next' why' o → AreSame es es' next next' why why'
-  rest_once width room e es es' next next' why why' o further is is' = grind arith
+  rest_once width room e o further is is' = grind arith
 
-  same_more : (e e' : Fetched) (es es' : List Fetched) (next next' : ℕ) (why why' : FetchStop) → e ≡ e' → AreSame es es' next next' why why' → AreSame (e ∷ es) (e' ∷ es') next next' why why'
-  same_more e e' es es' next next' why why' first same = record { words = λ i. first i ∷ same.words i; after = same.after; reasons = same.reasons }
+  same_more : {e e' : Fetched} {es es' : List Fetched} {next next' : ℕ} {why why' : FetchStop} → e ≡ e' → AreSame es es' next next' why why' → AreSame (e ∷ es) (e' ∷ es') next next' why why'
+  same_more first same = record { words = λ i. first i ∷ same.words i; after = same.after; reasons = same.reasons }
 
   fetches_once : (width room pc : ℕ) (es es' : List Fetched) (next next' : ℕ) (why why' : FetchStop)
       → Fetches (answers_of (guide_of predictor)) ram cycle width room pc es next why → Fetches (answers_of (guide_of predictor)) ram cycle width room pc es' next' why' → AreSame es es' next next' why why'
   fetches_once (suc width) (suc room) pc (e ∷ es) (e' ∷ es') next next' why why' is is' =
       let first : e ≡ e' = fetched_once pc e e' is.0 is'.0 in
-      same_more e e' es es' next next' why why' first
-      (rest_once width room e es es' next next' why why' (stop_after e) (fetches_once width room e.predicted es es' next next' why why') is.1
+      same_more first
+      (rest_once width room e (stop_after e) (fetches_once width room e.predicted es es' next next' why why') is.1
       (subst (λ f. Rest width room f es' next' why' (stop_after f)) (sym first) is'.1))
   fetches_once (suc width) (suc room) pc (e ∷ es) [] next next' why why' is is' = absurd is'.0
   fetches_once (suc width) (suc room) pc [] es' next next' why why' is is' = absurd is.0
@@ -62,7 +62,9 @@ module _ (predictor : DescribedPredictor) (ram : Memory) (cycle : ℕ) where
   into_once true old new new' why why' is is' = is.0 ∙ sym is'.0
   into_once false old new new' why why' (added, fetches, news) (added', fetches', news') = grind (arith, fetches_once)
 
-  fetch_once : (old new new' : FetchBuffer) (why why' : FetchStop) → FetchesInto (answers_of (guide_of predictor)) ram cycle old new why → FetchesInto (answers_of (guide_of predictor)) ram cycle old new' why' → new ≡ new'
+  fetch_once : (old new new' : FetchBuffer) (why why' : FetchStop) →
+      FetchesInto (answers_of (guide_of predictor)) ram cycle old new why →
+      FetchesInto (answers_of (guide_of predictor)) ram cycle old new' why' → new ≡ new'
   fetch_once old new new' why why' is is' = into_once old.halted old new new' why why' is is'
 
 -- ---- a cycle
@@ -104,7 +106,9 @@ module _ {lines : Lines} {old new new' : GuidedHardware} {report report' : Repor
     left_once = λ i. record { hardware = hardware_once i; predictor = taught_once i }
 
 -- a cycle leaves the one hardware and the one predictor, which is described
-pub cycle_once : {lines : Lines} {old new new' : GuidedHardware} {report report' : Report} (predictor : DescribedPredictor) → old.predictor ≡ guide_of predictor → IsGuidedCycle lines old report new → IsGuidedCycle lines old report' new' → new ≡ new'
+pub cycle_once : {lines : Lines} {old new new' : GuidedHardware} {report report' : Report} (predictor : DescribedPredictor) →
+    old.predictor ≡ guide_of predictor → IsGuidedCycle lines old report new → IsGuidedCycle lines old report' new' →
+    new ≡ new'
 cycle_once {lines} {old} {new} {new'} {report} predictor is cycle cycle' =
     left_once cycle cycle' (fold taught predictor (lessons_of report.steps new.hardware.pc))
     (cycle.learns ∙ ap (λ p. fold after_lesson p (lessons_of report.steps new.hardware.pc)) is ∙ still_described predictor (lessons_of report.steps new.hardware.pc))
@@ -118,7 +122,8 @@ data Ending (new : Hardware) (reason : Stop) : ℕ → List Report → Type 0 wh
   at_stop : {left : ℕ} {report : Report} → report.stop ≡ Some reason → Ending new reason (suc left) (report ∷ [])
   after : {left : ℕ} {report : Report} {reports : List Report} → report.stop ≡ None → Ending new reason left reports → Ending new reason (suc left) (report ∷ reports)
 
-ends_after : {new : Hardware} {reason : Stop} {left : ℕ} {reports : List Report} (before : List Report) → NoneStops before → Ending new reason left reports → Ending new reason (length before + left) (before ++ reports)
+ends_after : {new : Hardware} {reason : Stop} {left : ℕ} {reports : List Report} (before : List Report) →
+    NoneStops before → Ending new reason left reports → Ending new reason (length before + left) (before ++ reports)
 ends_after {new} {reason} {left} {reports} [] none ending = subst (λ n. Ending new reason n reports) (omega arith) ending
 ends_after {new} {reason} {left} {reports} (report ∷ before) none ending =
     subst (λ n. Ending new reason n (report ∷ (before ++ reports))) (omega arith) (after none.0 (ends_after before none.1 ending))
@@ -127,8 +132,10 @@ append_nothing : (reports : List Report) → reports ++ [] ≡ reports
 append_nothing [] = refl
 append_nothing (report ∷ reports) = ap (λ l. report ∷ l) (append_nothing reports)
 
-at_last : (limit : ℕ) (reports : List Report) (new : Hardware) (reason : Stop) (earlier : List Report) (last : Report) → reports ≡ earlier ++ last ∷ [] → NoneStops earlier → last.stop ≡ Some reason → length reports ≤ limit → Ending new reason limit reports
-at_last limit reports new reason earlier last all none stops within =
+at_last : (limit : ℕ) {reports : List Report} (new : Hardware) {reason : Stop} (earlier : List Report) (last : Report) →
+    reports ≡ earlier ++ last ∷ [] → NoneStops earlier → last.stop ≡ Some reason → length reports ≤ limit →
+    Ending new reason limit reports
+at_last limit new {reason} earlier last all none stops within =
     let left = limit - length earlier - 1 in
     subst (λ l. Ending new reason limit l) (sym all)
     (subst (λ n. Ending new reason n (earlier ++ last ∷ [])) (omega (arith, within, ap length all, length-append earlier (last ∷ []))) (ends_after earlier none (at_stop {left = left} stops)))
@@ -141,8 +148,8 @@ ending_of limit reports new stop.Exhausted is =
     let left = limit - length reports - 1 in
     subst (λ l. Ending new stop.Exhausted limit l) (append_nothing reports)
     (subst (λ n. Ending new stop.Exhausted n (reports ++ [])) (omega (arith, is.1)) (ends_after reports is.0 (at_exhaustion {left = left} refl is.2)))
-ending_of limit reports new stop.Breakpoint is = at_last limit reports new stop.Breakpoint is.0.earlier is.0.last is.0.all is.0.none_before is.0.stops is.1
-ending_of limit reports new (stop.Stale pc) is = at_last limit reports new (stop.Stale pc) is.0.earlier is.0.last is.0.all is.0.none_before is.0.stops is.1
+ending_of limit reports new stop.Breakpoint is = at_last limit new is.0.earlier is.0.last is.0.all is.0.none_before is.0.stops is.1
+ending_of limit reports new (stop.Stale pc) is = at_last limit new is.0.earlier is.0.last is.0.all is.0.none_before is.0.stops is.1
 
 -- two runs with the same reports, the same end and the same reason
 pub record IsOneRun (reports reports' : List Report) (new new' : GuidedHardware) (reason reason' : Stop) : Type 0 where
@@ -150,10 +157,11 @@ pub record IsOneRun (reports reports' : List Report) (new new' : GuidedHardware)
   pub ends : new ≡ new'
   pub reasons : reason ≡ reason'
 
-stops_or_not : {reason : Stop} (report report' : Report) → report ≡ report' → report.stop ≡ Some reason → report'.stop ≡ None → ⊥
-stops_or_not report report' same stops none = true≢false (ap is_some (sym stops ∙ ap (λ (r : Report). r.stop) same ∙ none))
+stops_or_not : {reason : Stop} {report report' : Report} → report ≡ report' → report.stop ≡ Some reason → report'.stop ≡ None → ⊥
+stops_or_not same stops none = true≢false (ap is_some (sym stops ∙ ap (λ (r : Report). r.stop) same ∙ none))
 
-one_run : {arrivals : List Arrival} {old new new' : GuidedHardware} {reports reports' : List Report} {reason reason' : Stop} {left : ℕ} (predictor : DescribedPredictor) → old.predictor ≡ guide_of predictor → old.hardware.cycle + left ≤ 2 ^ 40
+one_run : {arrivals : List Arrival} {old new new' : GuidedHardware} {reports reports' : List Report} {reason reason' : Stop} {left : ℕ} (predictor : DescribedPredictor) →
+    old.predictor ≡ guide_of predictor → old.hardware.cycle + left ≤ 2 ^ 40
     → GuidedCycles arrivals old reports new → GuidedCycles arrivals old reports' new' → Ending new.hardware reason left reports → Ending new'.hardware reason' left reports' → IsOneRun reports reports' new new' reason reason'
 one_run predictor is within ended ended (at_limit why) (at_limit why') = record { reports_are = refl; ends = refl; reasons = why ∙ sym why' }
 one_run predictor is within ended ended (at_exhaustion why full) (at_exhaustion why' full') = record { reports_are = refl; ends = refl; reasons = why ∙ sym why' }
@@ -168,8 +176,8 @@ one_run {reason = reason} predictor is within (cycled {report = r} next ended) (
       ends = cycle_once predictor is next next';
       reasons = ap (λ o. unwrap_or o reason) (sym stops ∙ ap (λ (x : Report). x.stop) reports ∙ stops');
     }
-one_run predictor is within (cycled {report = r} next ended) (cycled {report = r'} next' more) (at_stop stops) (after none ending) = absurd (stops_or_not r r' (reported_once next next') stops none)
-one_run predictor is within (cycled {report = r} next more) (cycled {report = r'} next' ended) (after none ending) (at_stop stops) = absurd (stops_or_not r' r (sym (reported_once next next')) stops none)
+one_run predictor is within (cycled {report = r} next ended) (cycled {report = r'} next' more) (at_stop stops) (after none ending) = absurd (stops_or_not (reported_once next next') stops none)
+one_run predictor is within (cycled {report = r} next more) (cycled {report = r'} next' ended) (after none ending) (at_stop stops) = absurd (stops_or_not (sym (reported_once next next')) stops none)
 one_run {arrivals} {new' = new'} {reports' = reports'} predictor is within (cycled {middle = middle} {report = r} {reports = rs} next more) (cycled {middle = middle'} {report = r'} {reports = rs'} next' more') (after none ending) (after none' ending') =
     let lessons = lessons_of r.steps middle.hardware.pc in
     let described = next.learns ∙ ap (λ p. fold after_lesson p lessons) is ∙ still_described predictor lessons in
@@ -178,7 +186,8 @@ one_run {arrivals} {new' = new'} {reports' = reports'} predictor is within (cycl
     record { reports_are = λ i. reported_once next next' i ∷ same.reports_are i; ends = same.ends; reasons = same.reasons }
 
 -- two runs of at most `limit` cycles from the same hardware with the same described predictor are one
-pub run_once : (arrivals : List Arrival) (limit : ℕ) (old : Hardware) (predictor : DescribedPredictor) (reports reports' : List Report) (new new' : GuidedHardware) (reason reason' : Stop) → old.cycle + limit ≤ 2 ^ 40
+pub run_once : (arrivals : List Arrival) (limit : ℕ) (old : Hardware) (predictor : DescribedPredictor) (reports reports' : List Report) (new new' : GuidedHardware) (reason reason' : Stop) →
+    old.cycle + limit ≤ 2 ^ 40
     → GuidedCycles arrivals (record { hardware = old; predictor = guide_of predictor }) reports new → IsStop limit reports new.hardware reason
     → GuidedCycles arrivals (record { hardware = old; predictor = guide_of predictor }) reports' new' → IsStop limit reports' new'.hardware reason' → IsOneRun reports reports' new new' reason reason'
 run_once arrivals limit old predictor reports reports' new new' reason reason' within cycles stops cycles' stops' =

@@ -62,9 +62,9 @@ module _ {X : Type 0} (P : X → Type 0) where
   Each-all f (x ∷ xs) = (f x, Each-all f xs)
 
   -- what follows from two properties of each element holds of each
-  pub Each-both : (Q R : X → Type 0) → ((x : X) → P x → Q x → R x) → (xs : List X) → Each P xs → Each Q xs → Each R xs
-  Each-both Q R f [] h g = tt
-  Each-both Q R f (x ∷ xs) h g = (f x h.0 g.0, Each-both Q R f xs h.1 g.1)
+  pub Each-both : {Q R : X → Type 0} → ((x : X) → P x → Q x → R x) → (xs : List X) → Each P xs → Each Q xs → Each R xs
+  Each-both f [] h g = tt
+  Each-both {Q} {R} f (x ∷ xs) h g = (f x h.0 g.0, Each-both f xs h.1 g.1)
 
   -- of the image of each element, and so of each element of the image
   pub Each-map : {Y : Type 0} (f : Y → X) (ys : List Y) → Each (λ y. P (f y)) ys → Each P (map f ys)

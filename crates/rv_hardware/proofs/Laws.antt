@@ -1,4 +1,4 @@
--- The laws, of all cycles since a reset: a file for each field of `Laws`, in the order of the record, and then what they make of a run.
+-- The laws, of all cycles since a reset or of a run after them: a file for each field of `Laws`, in the order of the record, and then what they make of a run.
 pub mod Within
 pub mod StampsInOrder
 pub mod Costs
@@ -32,6 +32,7 @@ pub mod NoIdleFetch
 pub mod NoIdleDispatch
 pub mod Counts
 pub mod OfCycles
+pub mod RunsOn
 pub mod OfRuns
 pub mod Due
 pub mod Busy

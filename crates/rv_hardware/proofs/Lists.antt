@@ -57,9 +57,9 @@ module _ {X : Type 0} (R : X → X → Type 0) where
   EveryPair-across (x ∷ xs) ys h = (Each-right (R x) xs ys h.0, EveryPair-across xs ys h.1)
 
   -- what follows from a relation of each pair holds of each pair
-  pub EveryPair-weaker : (S : X → X → Type 0) → ((x y : X) → R x y → S x y) → (xs : List X) → EveryPair R xs → EveryPair S xs
-  EveryPair-weaker S f [] h = tt
-  EveryPair-weaker S f (x ∷ xs) h = (Each-weaker (R x) (S x) (f x) xs h.0, EveryPair-weaker S f xs h.1)
+  pub EveryPair-weaker : {S : X → X → Type 0} → ((x y : X) → R x y → S x y) → (xs : List X) → EveryPair R xs → EveryPair S xs
+  EveryPair-weaker f [] h = tt
+  EveryPair-weaker {S} f (x ∷ xs) h = (Each-weaker (R x) (S x) (f x) xs h.0, EveryPair-weaker f xs h.1)
 
   -- of the images of each pair, and so of each pair of images
   pub EveryPair-map : {Y : Type 0} (f : Y → X) (ys : List Y) → EveryPair (λ x y. R (f x) (f y)) ys → EveryPair R (map f ys)
@@ -107,18 +107,18 @@ module _ {X : Type 0} (p : X → Bool) where
   count-map f [] = refl
   count-map f (y ∷ ys) = rw (count-map f ys) refl
 
-  cond-le : (b c : Bool) (n m : ℕ) → (b ≡ true → c ≡ true) → n ≤ m → cond b (suc n) n ≤ cond c (suc m) m
-  cond-le b c n m f le = grind arith
+  cond-le : {b c : Bool} (n m : ℕ) → (b ≡ true → c ≡ true) → n ≤ m → cond b (suc n) n ≤ cond c (suc m) m
+  cond-le n m f le = grind arith
 
   -- where each element that passes one test passes another, the other counts no fewer
   pub count-le : (q : X → Bool) (xs : List X) → Each (λ x. p x ≡ true → q x ≡ true) xs → count p xs ≤ count q xs
   count-le q [] h = omega arith
-  count-le q (x ∷ xs) h = cond-le (p x) (q x) (count p xs) (count q xs) h.0 (count-le q xs h.1)
+  count-le q (x ∷ xs) h = cond-le (count p xs) (count q xs) h.0 (count-le q xs h.1)
 
   -- no more elements pass than there are
   pub count-length : (xs : List X) → count p xs ≤ length xs
   count-length [] = omega arith
-  count-length (x ∷ xs) = cond-le (p x) true (count p xs) (length xs) (λ e. refl) (count-length xs)
+  count-length (x ∷ xs) = cond-le (count p xs) (length xs) (λ e. refl) (count-length xs)
 
   -- another element at a place
   pub count-set-same : (xs ys : List X) (x y : X) → p x ≡ p y → count p (xs ++ x ∷ ys) ≡ count p (xs ++ y ∷ ys)
@@ -204,9 +204,9 @@ module _ {X : Type 0} where
   EveryAfter-moved P Q pre pre' f ys h = rw (append-nil pre') at (moved P Q pre pre' f [] ys (rw (append-nil pre) (h)))
 
   -- where nothing is after it
-  pub EveryAfter-all : (Q : X → Type 0) (P : List X → X → Type 0) → ((before : List X) (x : X) → Q x → P before x) → (before xs : List X) → Each Q xs → EveryAfter P before xs
-  EveryAfter-all Q P f before [] h = tt
-  EveryAfter-all Q P f before (x ∷ xs) h = (f before x h.0, EveryAfter-all Q P f (before ++ x ∷ []) xs h.1)
+  pub EveryAfter-all : {Q : X → Type 0} {P : List X → X → Type 0} → ((before : List X) (x : X) → Q x → P before x) → (before xs : List X) → Each Q xs → EveryAfter P before xs
+  EveryAfter-all f before [] h = tt
+  EveryAfter-all {Q} {P} f before (x ∷ xs) h = (f before x h.0, EveryAfter-all f (before ++ x ∷ []) xs h.1)
 
   -- another element at a place
   pub EveryAfter-set : (P : List X → X → Type 0) (xs ys : List X) (m n : X) → (P xs m → P xs n) → ((mid : List X) (z : X) → P (xs ++ m ∷ mid) z → P (xs ++ n ∷ mid) z) →
@@ -230,14 +230,16 @@ EveryAfter-unmap P f before [] h = tt
 EveryAfter-unmap P f before (y ∷ ys) h = (h.0, EveryAfter-unmap P f (before ++ y ∷ []) ys (rw (map-append f before (y ∷ [])) (h.1)))
 
 -- what follows from what holds of each element behind others holds of each
-pub EveryAfter-weaker : {X : Type 0} (P Q : List X → X → Type 0) → ((before : List X) (x : X) → P before x → Q before x) → (before xs : List X) → EveryAfter P before xs → EveryAfter Q before xs
-EveryAfter-weaker P Q f before [] h = tt
-EveryAfter-weaker P Q f before (x ∷ xs) h = (f before x h.0, EveryAfter-weaker P Q f (before ++ x ∷ []) xs h.1)
+pub EveryAfter-weaker : {X : Type 0} {P Q : List X → X → Type 0} → ((before : List X) (x : X) → P before x → Q before x) → (before xs : List X) → EveryAfter P before xs → EveryAfter Q before xs
+EveryAfter-weaker f before [] h = tt
+EveryAfter-weaker {P} {Q} f before (x ∷ xs) h = (f before x h.0, EveryAfter-weaker f (before ++ x ∷ []) xs h.1)
 
 -- what follows from a property of each element and what holds of each behind others holds of each
-pub EveryAfter-both : {X : Type 0} (P : X → Type 0) (Q R : List X → X → Type 0) → ((before : List X) (x : X) → P x → Q before x → R before x) → (before xs : List X) → Each P xs → EveryAfter Q before xs → EveryAfter R before xs
-EveryAfter-both P Q R f before [] g h = tt
-EveryAfter-both P Q R f before (x ∷ xs) g h = (f before x g.0 h.0, EveryAfter-both P Q R f (before ++ x ∷ []) xs g.1 h.1)
+pub EveryAfter-both : {X : Type 0} {P : X → Type 0} {Q R : List X → X → Type 0} →
+    ((before : List X) (x : X) → P x → Q before x → R before x) → (before xs : List X) → Each P xs →
+    EveryAfter Q before xs → EveryAfter R before xs
+EveryAfter-both f before [] g h = tt
+EveryAfter-both {P} {Q} {R} f before (x ∷ xs) g h = (f before x g.0 h.0, EveryAfter-both f (before ++ x ∷ []) xs g.1 h.1)
 
 -- pairs and what stands after
 

@@ -62,23 +62,25 @@ no_longer_from n before m first count reports since (x ∷ xs) stamped quiet mor
 
 module _ (layout : Layout) (arrivals : List Arrival) where
   -- after so many silent cycles the longest gap is somewhere
-  has_gap : (before : ℕ) {s u : State} {n m : ℕ} {reports : List Report} → TrueCycles layout arrivals s n reports u m → before ≤ n → HasGap n before m (steps_of reports) (longest_gap_from before reports)
+  has_gap : (before : ℕ) {s u : State} {n m : ℕ} {reports : List Report} → TrueCycles layout arrivals s n reports u m →
+      before ≤ n → HasGap n before m (steps_of reports) (longest_gap_from before reports)
   has_gap before {n = n} none few =
       record { first = n - before; since = omega arith; within = omega (arith, few); is_gap = All-nil (IsOutside (n - before) before) }
   has_gap before {n = n} {m = m} (one_more {report = report} {reports = reports} cycle rest) few =
       let behind = All-weaker (λ y. (n + 1 ≤ stamp_of y) × (stamp_of y < m)) (λ y. n + 1 ≤ stamp_of y) (λ y within. within.0) (steps_of reports) (true_run_within layout arrivals rest) in
-      gap_from n before m reports few (omega (arith, counts_cycles layout arrivals rest)) behind report.steps cycle.stamped (has_gap (before + 1) rest (omega (arith, few))) (has_gap 0 rest (omega arith))
+      gap_from n before m reports few (omega (arith, counts_cycles layout arrivals rest)) behind _ cycle.stamped (has_gap (before + 1) rest (omega (arith, few))) (has_gap 0 rest (omega arith))
 
   -- and no gap is longer
   no_longer : (before : ℕ) {s u : State} {n m : ℕ} {reports : List Report} → TrueCycles layout arrivals s n reports u m →
       (first count : ℕ) → n ≤ first + before → first + count ≤ m → IsGap (steps_of reports) first count → count ≤ longest_gap_from before reports
   no_longer before none first count since within silent = omega (arith, since, within)
   no_longer before {n = n} {m = m} (one_more {report = report} {reports = reports} cycle rest) first count since within silent =
-      no_longer_from n before m first count reports since report.steps cycle.stamped silent
+      no_longer_from n before m first count reports since _ cycle.stamped silent
       (no_longer (before + 1) rest first count (omega (arith, since)) within) (λ passed. no_longer 0 rest first count (omega (arith, passed)) within)
 
 -- the longest gap of a run's cycles is what the stamps of its steps give
-pub longest_gap_of_run : {arrivals : List Arrival} {old new : Hardware} {reports : List Report} → Reachable old → Cycles arrivals old reports new → IsLongestGap old.cycle new.cycle (steps_of reports) (longest_gap_of reports)
+pub longest_gap_of_run : {arrivals : List Arrival} {old new : Hardware} {reports : List Report} → Reachable old →
+    Cycles arrivals old reports new → IsLongestGap old.cycle new.cycle (steps_of reports) (longest_gap_of reports)
 longest_gap_of_run {arrivals = arrivals} {old = old} reached cycles =
     let layout = layout_of old.values in
     let true_cycles = cycles_true (always_sound reached) cycles in

@@ -10,17 +10,20 @@ Finds test entries (Some found) =
 
 one_after : (P : List Entry → Entry → Type 0) (before : List Entry) (e : Entry) → EveryAfter P [] before → P before e →
     EveryAfter P [] (before ++ e ∷ [])
-one_after P before e h g = EveryAfter-append P [] before (e ∷ []) h (g, tt)
+one_after P before e h g = EveryAfter-append P [] before _ h (g, tt)
 
-finds_here : (test : List Entry → Entry → Bool) (b : Bool) (before es : List Entry) (e : Entry) (rest : Option (List Entry × Entry)) → b ≡ test before e → EveryAfter (λ older x. test older x ≡ false) [] before → (b ≡ false → Finds test ((before ++ e ∷ []) ++ es) rest) → Finds test (before ++ e ∷ es) (cond b (Some (before, e)) rest)
-finds_here test b before es e rest is given further = grind (arith, append_assoc)
+finds_here : (test : List Entry → Entry → Bool) {b : Bool} (before es : List Entry) (e : Entry) (rest : Option (List Entry × Entry)) →
+    b ≡ test before e → EveryAfter (λ older x. test older x ≡ false) [] before →
+    (b ≡ false → Finds test ((before ++ e ∷ []) ++ es) rest) →
+    Finds test (before ++ e ∷ es) (cond b (Some (before, e)) rest)
+finds_here test before es e rest is given further = grind (arith, append_assoc)
 
 finds_from : (test : List Entry → Entry → Bool) (before es : List Entry) →
     EveryAfter (λ older x. test older x ≡ false) [] before → Finds test (before ++ es) (oldest_from test before es)
 finds_from test before [] none = rw (append-nil before) none
 finds_from test before (e ∷ es) none =
-    finds_here test (test before e) before es e (oldest_from test (before ++ e ∷ []) es) refl none
-    (λ fails. finds_from test (before ++ e ∷ []) es (one_after (λ older x. test older x ≡ false) before e none fails))
+    finds_here test before es e (oldest_from test (before ++ e ∷ []) es) refl none
+    (λ fails. finds_from test _ es (one_after _ before e none fails))
 
 -- what the search for the oldest finds is the oldest that passes, or none passes
 pub oldest_finds : (test : List Entry → Entry → Bool) (es : List Entry) → Finds test es (oldest test es)

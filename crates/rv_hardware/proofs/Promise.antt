@@ -12,7 +12,7 @@ use Rattle.rv_hardware.proofs.LongestGap.{longest_gap_of_run}
 pub promise_of_run : {arrivals : List Arrival} {old new : Hardware} {reports : List Report} → Reachable old → Cycles arrivals old reports new → OnlyLastStops reports →
     IsPromised old.values arrivals old.cycle new.cycle (seen old) (reported_of reports) (seen new)
 promise_of_run {arrivals} {old} {new} {reports} reached cycles only = record {
-  runs = headline_of_run arrivals old new reports reached cycles;
+  runs = headline_of_run reached cycles;
   laws = laws_of_runs reached cycles;
   due = due_interrupts_of_runs reached cycles;
   counted = counts_hold reached cycles;

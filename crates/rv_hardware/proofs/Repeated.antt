@@ -38,23 +38,23 @@ module _ {S : Type 0} (total : ℕ) (P : ℕ → S → Type 0) (Q : S → Type 0
       (turn s) (leads k s (omega (arith, all)) h)
 
 -- turns that keep P while they go on, and leave Q
-pub left_by_turns : {S : Type 0} (P Q : S → Type 0) (turn : S → Turn S) → ((s : S) → P s → Leads P Q (turn s)) →
+pub left_by_turns : {S : Type 0} {P Q : S → Type 0} (turn : S → Turn S) → ((s : S) → P s → Leads P Q (turn s)) →
     ((s : S) → P s → Q s) → (width : ℕ) (s : S) → P s → Q (repeated turn width s)
-left_by_turns P Q turn keeps stops width s holds =
+left_by_turns {P} {Q} turn keeps stops width s holds =
     turns_within width (λ k. P) Q turn (λ k t lt p. keeps t p) stops width 0 s (omega arith) holds
 
 -- what each turn keeps all turns keep
 pub kept_by_turns : {S : Type 0} (P : S → Type 0) (turn : S → Turn S) → ((s : S) → P s → Leaves P (turn s)) →
     (width : ℕ) (s : S) → P s → P (repeated turn width s)
-kept_by_turns P turn keeps width s holds = left_by_turns P P turn keeps (λ t p. p) width s holds
+kept_by_turns P turn keeps width s holds = left_by_turns turn keeps (λ t p. p) width s holds
 
 -- what holds at reset and each cycle of reachable hardware keeps holds of all reachable hardware
-pub always : (P : Hardware → Type 0) →
+pub always : {P : Hardware → Type 0} →
     ((values : Values) (base : ℕ) (image : List ℕ) (start : ℕ) → IsLegal values → IsLoadable values base image start →
     P (reset_hardware values image start)) →
     ((old new : Hardware) (lines : Lines) (report : Report) → Reachable old → P old → old.cycle < 2 ^ 40 →
     IsCycle any_prediction lines old report new → P new) →
     {h : Hardware} → Reachable h → P h
-always P first next (at_reset {values} {base} {image} {start} legal loadable) = first values base image start legal loadable
-always P first next (by_cycle {old} {new} {lines} {report} reached counted cycles) =
-    next old new lines report reached (always P first next reached) counted cycles
+always first next (at_reset {values} {base} {image} {start} legal loadable) = first values base image start legal loadable
+always {P} first next (by_cycle {old} {new} {lines} {report} reached counted cycles) =
+    next old new lines report reached (always first next reached) counted cycles

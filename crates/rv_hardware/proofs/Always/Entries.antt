@@ -1,6 +1,6 @@
 -- An instruction in flight waits for a unit or to be the oldest, or its message tells no more, and no less, than it may.
-use Rattle.rv_hardware.proofs.Words.{◌≡◌, ℕ, Bool, true, ◌||◌, ◌∷◌, ◌++◌, is_some, Some, None, Option, option_and_then, sym, subst, is_of_kind, is_serialising, is_store, kind_of_word, Message, Instr, Lines, Kind, instruction_of, Layout, Effect, State, Each, finished, issue_of, predicting, started, Entry, Stage, Finished, Running, Waiting, Fetched, any_prediction, entry_of_fetched, stage_by, Hardware, broadcast_of, is_waiting, access_of, effect_message, result_of_word, Each-append, Each-left, Each-right, Each-push, Each-change, Each-weaker, arith}
-use Rattle.rv_hardware.proofs.Turns.Cited.{IsNew, fetch_phase, IsKept, phases-kept, IsKeptByChanges, all_squashed, head_retires, one_starts, one_sent, one_mended, one_enters, IsResultOfWord, HasRun}
+use Rattle.rv_hardware.proofs.Words.{◌≡◌, ℕ, Bool, true, ◌||◌, ◌∷◌, ◌++◌, is_some, Some, None, Option, option_and_then, sym, subst, is_of_kind, is_serialising, is_store, kind_of_word, Message, Instr, Lines, Kind, instruction_of, Layout, Effect, State, Each, issue_of, Entry, Stage, Finished, Running, Waiting, Fetched, any_prediction, entry_of_fetched, stage_by, Hardware, broadcast_of, is_waiting, access_of, effect_message, result_of_word, Each-append, Each-left, Each-right, Each-push, Each-change, Each-weaker, arith}
+use Rattle.rv_hardware.proofs.Turns.Cited.{fetch_phase, IsKept, phases-kept, IsKeptByChanges, all_squashed, head_retires, one_starts, one_sent, one_mended, one_enters, IsResultOfWord, HasRun}
 use Rattle.rv_hardware.proofs.Always.Faults.{HasWordOr, IsUnitFault, by_result}
 use Rattle.rv_hardware.proofs.Marks.Sound.{some_kind}
 
@@ -71,10 +71,10 @@ begun_shape : (k : Kind) (e : Entry) (message : Message) → is_waiting e.stage 
     Tells e.word e.instruction message × IsUnitFault message.fault
 begun_shape k e message given of_kind result shaped = grind (arith, result_told, by_result, waits_with_word, some_kind)
 
-known_shape : (cycle : ℕ) (word : Option ℕ) (instruction : Option Instr) (stage : Stage) (message : Message) →
+known_shape : {cycle : ℕ} (word : Option ℕ) (instruction : Option Instr) {stage : Stage} {message : Message} →
     HasRun cycle stage message → IsShaped word instruction stage →
     IsShaped word instruction (Finished (issue_of stage) cycle message)
-known_shape cycle word instruction stage message gives shaped = grind arith
+known_shape word instruction gives shaped = grind arith
 
 -- ---- a dispatch
 word_for : (word : Option ℕ) (instruction : Option Instr) → HasWordFor word instruction →
@@ -84,26 +84,28 @@ word_for word instruction has given = grind arith
 or_true : (b : Bool) → (b || true) ≡ true
 or_true b = grind arith
 
-shaped_by : (word : Option ℕ) (instruction : Option Instr) (kind : Option Kind) (serialising : Bool) (cycle : ℕ) (message : Message) → kind_of_word instruction ≡ kind → is_serialising instruction ≡ serialising → HasWordFor word instruction → Tells word instruction message → IsShaped word instruction (stage_by kind serialising (Finished None cycle message))
+shaped_by : (word : Option ℕ) (instruction : Option Instr) (kind : Option Kind) (serialising : Bool) (cycle : ℕ) (message : Message) →
+    kind_of_word instruction ≡ kind → is_serialising instruction ≡ serialising → HasWordFor word instruction →
+    Tells word instruction message → IsShaped word instruction (stage_by kind serialising (Finished None cycle message))
 shaped_by word instruction kind serialising cycle message of_kind serial has told = grind (arith, word_for, or_true)
 
 shaped_entry : (h : Hardware) (f : Fetched) → FetchedShape f → Shaped (entry_of_fetched h f)
 shaped_entry h f has = grind (arith, shaped_by, result_told)
 
 -- ---- a fetch
-no_word : (word : Option ℕ) (instruction : Option Instr) → instruction ≡ option_and_then instruction_of word →
+no_word : (word : Option ℕ) {instruction : Option Instr} → instruction ≡ option_and_then instruction_of word →
     HasWordFor word instruction
-no_word word instruction is = grind arith
+no_word word is = grind arith
 
 -- each change keeps it
 pub entries_changes : IsKeptByChanges AreShaped
 entries_changes h _ (all_squashed s retired) shape = (tt, tt)
 entries_changes h _ (head_retires e es s message split known faultless) shape = grind arith
-entries_changes h _ (one_starts k older younger e cost message split waits of_kind result costs) shape = (Each-change Shaped older younger e (started (record { cycle = h.cycle; cost = cost }) message e) (begun_shape k e message waits of_kind result) (subst (Each Shaped) split shape.0), shape.1)
-entries_changes h _ (one_sent older younger e message split gives) shape = (Each-change Shaped older younger e (finished message h.cycle e) (known_shape h.cycle e.word e.instruction e.stage message gives) (subst (Each Shaped) split shape.0), shape.1)
+entries_changes h _ (one_starts k older younger e cost message split waits of_kind result costs) shape = (Each-change _ older younger e _ (begun_shape k e message waits of_kind result) (subst (Each Shaped) split shape.0), shape.1)
+entries_changes h _ (one_sent older younger e message split gives) shape = (Each-change _ older younger e _ (known_shape e.word e.instruction gives) (subst (Each Shaped) split shape.0), shape.1)
 entries_changes h _ (one_mended older younger e next split) shape =
     let all : Each Shaped (older ++ e ∷ younger) = subst (Each Shaped) split shape.0 in
-    (Each-push Shaped older (predicting next e) (Each-right Shaped older (e ∷ younger) all).0 (Each-left Shaped older (e ∷ younger) all), tt)
+    (Each-push _ older _ (Each-right _ older _ all).0 (Each-left _ older _ all), tt)
 entries_changes h _ (one_enters fetched rest first none) shape = grind (arith, Each-push, shaped_entry)
 entries_changes h _ _ shape = shape
 
@@ -113,6 +115,6 @@ entries-kept = record {
   phases = phases-kept entries_changes;
   fetch = λ ram cycle h front stop shape fetches.
       let phase = fetch_phase any_prediction ram cycle h.front front stop fetches in
-      let added = Each-weaker (IsNew cycle) FetchedShape (λ f new. no_word f.word f.instruction new.1) phase.added phase.are_new in
-      (shape.0, subst (Each FetchedShape) (sym phase.entries) (Each-append FetchedShape h.front.entries phase.added shape.1 added));
+      let added = Each-weaker _ _ (λ f new. no_word f.word new.1) _ phase.are_new in
+      (shape.0, subst (Each FetchedShape) (sym phase.entries) (Each-append _ _ _ shape.1 added));
 }

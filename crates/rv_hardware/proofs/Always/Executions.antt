@@ -1,5 +1,5 @@
 -- An execution is over within the longest one's time.
-use Rattle.rv_hardware.proofs.Words.{ℕ, ◌+◌, ◌≤◌, Bool, ◌∷◌, ◌++◌, None, Option, subst, arith, Message, Kind, Each, finished, predicting, started, Entry, Stage, Finished, Running, stage_by, Hardware, Each-left, Each-right, Each-push, Each-change, Each-weaker}
+use Rattle.rv_hardware.proofs.Words.{ℕ, ◌+◌, ◌≤◌, Bool, ◌∷◌, ◌++◌, None, Option, subst, arith, Message, Kind, Each, Entry, Stage, Finished, Running, stage_by, Hardware, Each-left, Each-right, Each-push, Each-change, Each-weaker}
 use Rattle.rv_hardware.proofs.Turns.Cited.{IsKept, phases-kept, IsKeptByChanges, all_squashed, head_retires, one_starts, one_sent, one_mended, one_enters, longest_execution}
 
 -- where it executes, it is over by a cycle
@@ -28,14 +28,14 @@ ending_changes h _ (head_retires e es s message split known faultless) ends = gr
 ending_changes h _ (one_starts k older younger e cost message split waits of_kind result costs) ends =
     let limit : ℕ = h.cycle + longest_execution h in
     let over : h.cycle + cost ≤ limit = omega arith in
-    Each-change (Ending limit) older younger e (started (record { cycle = h.cycle; cost = cost }) message e) (λ before. over) (subst (Each (Ending limit)) split ends)
+    Each-change _ older younger e _ (λ before. over) (subst (Each (Ending limit)) split ends)
 ending_changes h _ (one_sent older younger e message split gives) ends =
     let limit : ℕ = h.cycle + longest_execution h in
-    Each-change (Ending limit) older younger e (finished message h.cycle e) (λ before. tt) (subst (Each (Ending limit)) split ends)
+    Each-change _ older younger e _ (λ before. tt) (subst (Each (Ending limit)) split ends)
 ending_changes h _ (one_mended older younger e next split) ends =
     let limit : ℕ = h.cycle + longest_execution h in
     let all : Each (Ending limit) (older ++ e ∷ younger) = subst (Each (Ending limit)) split ends in
-    Each-push (Ending limit) older (predicting next e) (Each-right (Ending limit) older (e ∷ younger) all).0 (Each-left (Ending limit) older (e ∷ younger) all)
+    Each-push _ older _ (Each-right _ older _ all).0 (Each-left _ older _ all)
 ending_changes h _ (one_enters fetched rest first none) ends = grind (arith, Each-push, dispatched_by)
 ending_changes h _ _ ends = ends
 
@@ -47,5 +47,5 @@ ending-kept = record {
       let limit : ℕ = h.cycle + longest_execution h in
       let more : ℕ = h.cycle + 1 + longest_execution h in
       let past : limit ≤ more = omega arith in
-      Each-weaker (Ending limit) (Ending more) (λ e before. one_later limit more e.stage past before) h.rob.entries ends;
+      Each-weaker _ _ (λ e before. one_later limit more e.stage past before) _ ends;
 }

@@ -64,18 +64,18 @@ halted_for : (word : Option ℕ) (straight : Bool) (reason : FetchStop) → stop
 halted_for word straight reason is halted = grind arith
 
 module _ (ram : Memory) (cycle : ℕ) where
-  last_by : (width room : ℕ) (e : Fetched) (es : List Fetched) (next : ℕ) (stop : FetchStop) (behind : Option FetchStop) →
+  last_by : (width room : ℕ) (e : Fetched) (es : List Fetched) (next : ℕ) {stop : FetchStop} {behind : Option FetchStop} →
       stop_after e ≡ behind → stop ≡ Halted →
       (Fetches any_prediction ram cycle width room e.predicted es next stop → last_of e.word (map word_of_fetched es) ≡ None) →
       MatchOption behind (Fetches any_prediction ram cycle width room e.predicted es next stop) (λ reason. (es ≡ []) × (next ≡ e.predicted) × (stop ≡ reason)) → last_of e.word (map word_of_fetched es) ≡ None
-  last_by width room e es next stop behind is halted given rest = grind (arith, halted_for)
+  last_by width room e es next is halted given rest = grind (arith, halted_for)
 
   last_added : (width room pc : ℕ) (added : List Fetched) (next : ℕ) (stop : FetchStop) →
       Fetches any_prediction ram cycle width room pc added next stop → stop ≡ Halted → (before : Option ℕ) →
       last_of before (map word_of_fetched added) ≡ None
   last_added (suc width) (suc room) pc [] next stop words halted before = absurd words.0
   last_added (suc width) (suc room) pc (e ∷ es) next stop (at, rest) halted before =
-      last_by width room e es next stop (stop_after e) refl halted (λ on. last_added width room e.predicted es next stop on halted e.word) rest
+      last_by width room e es next refl halted (λ on. last_added width room e.predicted es next stop on halted e.word) rest
   last_added width room pc (e ∷ es) next stop words halted before = absurd words
   last_added width room pc [] next stop words halted before = absurd (cc (words.0, halted))
 

@@ -26,14 +26,14 @@ cut_last : (xs ys : List (Option Instr)) (x : Option Instr) → AreSerialLast (x
 cut_last [] ys x last = (tt, tt)
 cut_last (y ∷ xs) ys x last = (fewer_others (is_serialising y ≡ false) xs ys x last.0, cut_last xs ys x last.1)
 
-others : (claim : Type 0) (xs : List (Option Instr)) (x : Option Instr) → claim → WhereOthers (xs ++ x ∷ []) claim
-others claim xs x given = grind arith
+others : {claim : Type 0} (xs : List (Option Instr)) (x : Option Instr) → claim → WhereOthers (xs ++ x ∷ []) claim
+others xs x given = grind arith
 
 push_last : (es : List Entry) (x : Option Instr) → is_any_serialising es ≡ false → AreSerialLast (instructions_of es ++ x ∷ [])
 push_last [] x none = (tt, tt)
 push_last (e ∷ es) x none =
     let parts = or_parts (is_serialising e.instruction) (is_any_serialising es) none in
-    (others (is_serialising e.instruction ≡ false) (instructions_of es) x parts.0, push_last es x parts.1)
+    (others (instructions_of es) x parts.0, push_last es x parts.1)
 
 -- one among them is another one with the same instruction
 changed_last : (es older younger : List Entry) (old new : Entry) → new.instruction ≡ old.instruction →

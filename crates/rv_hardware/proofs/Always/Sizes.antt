@@ -57,5 +57,5 @@ pub sizes-kept : IsKept HasSizes
 sizes-kept = kept (λ own. own)
 
 -- it holds at reset
-pub shape-at_reset : (v : Values) (image : List ℕ) (start : ℕ) → IsLegal v → HasShape v (reset_hardware v image start)
-shape-at_reset v image start legal = grind (arith, at_kind-for_each)
+pub shape-at_reset : {v : Values} (image : List ℕ) (start : ℕ) → IsLegal v → HasShape v (reset_hardware v image start)
+shape-at_reset image start legal = grind (arith, at_kind-for_each)

@@ -38,9 +38,9 @@ always-kept v =
     (both-kept queue-kept (both-kept stores-kept (both-kept ending-kept (both-kept held-kept (both-kept port-kept (both-kept last-kept halted-kept))))))
 
 -- it holds at reset, where nothing is in flight and no store waits
-pub always-at_reset : (v : Values) (image : List ℕ) (start : ℕ) → IsLegal v → IsSoundFor v (reset_hardware v image start)
-always-at_reset v image start legal = record {
-  sizes = shape-at_reset v image start legal;
+pub always-at_reset : {v : Values} (image : List ℕ) (start : ℕ) → IsLegal v → IsSoundFor v (reset_hardware v image start)
+always-at_reset {v} image start legal = record {
+  sizes = shape-at_reset image start legal;
   queue = tt;
   stores = stores-at_reset v image start;
   ending = tt;
@@ -64,5 +64,5 @@ sound-cycle {new = new} cycle sound =
 -- it holds of all reachable hardware
 pub sound : {h : Hardware} → Reachable h → IsBounded h
 sound reached =
-    always IsBounded (λ values base image start legal loadable. always-at_reset values image start legal)
+    always (λ values base image start legal loadable. always-at_reset image start legal)
     (λ old new lines report reachable before counted cycle. sound-cycle cycle before) reached

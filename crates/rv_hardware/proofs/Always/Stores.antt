@@ -21,13 +21,13 @@ store_count-append [] ys = omega arith
 store_count-append (x ∷ xs) ys = omega (arith, store_count-append xs ys)
 
 -- they are those that a load looks at
-one_store : (b : Bool) (s : Store) (ss : List Store) (rest : ℕ) → length ss ≡ rest →
+one_store : (b : Bool) (s : Store) (ss : List Store) {rest : ℕ} → length ss ≡ rest →
     length (cond b (s ∷ ss) ss) ≡ cond b 1 0 + rest
-one_store b s ss rest is = grind arith
+one_store b s ss is = grind arith
 
 length-stores : (seq : ℕ) (entries : List Entry) → length (stores_of seq entries) ≡ store_count (instructions_of entries)
 length-stores seq [] = refl
-length-stores seq (e ∷ es) = one_store (is_store e.instruction) _ (stores_of (seq + 1) es) (store_count (instructions_of es)) (length-stores (seq + 1) es)
+length-stores seq (e ∷ es) = one_store (is_store e.instruction) _ (stores_of (seq + 1) es) (length-stores (seq + 1) es)
 
 pub length-stores_after : (h : Hardware) (entries : List Entry) →
     length (stores_after h entries) ≡ length h.committed + store_count (instructions_of entries)
@@ -78,8 +78,8 @@ fits_dispatched : (h : Hardware) (fetched : Fetched) → HasStores h → WaitsFo
     FitQueue h h.committed (h.rob.entries ++ entry_of_fetched h fetched ∷ [])
 fits_dispatched h fetched has given = grind (arith, length-stores_after, fits_one_more, count_of)
 
-fits_at : (h : Hardware) (es : List Entry) → HasStores h → h.rob.entries ≡ es → FitQueue h h.committed es
-fits_at h es has split = subst (FitQueue h h.committed) split has.1
+fits_at : (h : Hardware) {es : List Entry} → HasStores h → h.rob.entries ≡ es → FitQueue h h.committed es
+fits_at h has split = subst (FitQueue h h.committed) split has.1
 
 stores_changes : IsKeptByChanges HasStores
 stores_changes h _ (all_squashed s retired) has = (entries_changes h _ (all_squashed s retired) has.0, omega (arith, has.1))
@@ -88,15 +88,15 @@ stores_changes h _ (store_drained idle) has = (has.0, omega (arith, length_witho
 stores_changes h _ (store_drains access idle is) has = (has.0, omega (arith, length_draining h.committed, has.1))
 stores_changes h _ (one_starts k older younger e cost message split waits of_kind result costs) has = (
   entries_changes h _ (one_starts k older younger e cost message split waits of_kind result costs) has.0,
-  omega (arith, same_count older younger e (started (record { cycle = h.cycle; cost = cost }) message e) refl, fits_at h (older ++ e ∷ younger) has split),
+  omega (arith, same_count older younger e (started (record { cycle = h.cycle; cost = cost }) message e) refl, fits_at h has split),
 )
 stores_changes h _ (one_sent older younger e message split gives) has = (
   entries_changes h _ (one_sent older younger e message split gives) has.0,
-  omega (arith, same_count older younger e (finished message h.cycle e) refl, fits_at h (older ++ e ∷ younger) has split),
+  omega (arith, same_count older younger e (finished message h.cycle e) refl, fits_at h has split),
 )
 stores_changes h _ (one_mended older younger e next split) has = (
   entries_changes h _ (one_mended older younger e next split) has.0,
-  omega (arith, count_of older (e ∷ younger), count_of older (predicting next e ∷ []), fits_at h (older ++ e ∷ younger) has split),
+  omega (arith, count_of older (e ∷ younger), count_of older (predicting next e ∷ []), fits_at h has split),
 )
 stores_changes h _ (one_enters f rest first none) has =
     (entries_changes h _ (one_enters f rest first none) has.0, fits_dispatched h f has none)

@@ -32,7 +32,7 @@ held-kept = record {
       let limit : ℕ = h.cycle + longest_execution h in
       let more : ℕ = h.cycle + 1 + longest_execution h in
       let past : limit ≤ more = omega arith in
-      λ k. Each-weaker (HoldsUntil limit) (HoldsUntil more) (λ start before. later start before past) (at_kind k h.units).starts (held k);
+      λ k. Each-weaker _ _ (λ start before. later start before past) _ (held k);
 } where
   later : {limit more : ℕ} (start : Issue) → start.cycle + start.cost ≤ limit → limit ≤ more → start.cycle + start.cost ≤ more
   later start before past = omega arith

@@ -36,7 +36,7 @@ slack : (queue access latency lines patience : ℕ) → patience ≤ 2 * lines +
 slack queue access latency lines patience most = omega arith
 
 -- ---- the oldest instruction
-module _ (h : Hardware) (sound : IsBounded h) where
+module _ {h : Hardware} (sound : IsBounded h) where
   waiting_most : (load : Bool) (kind : Option Kind) → waiting_time h load kind ≤ port_time h + 2 * longest_execution h + 2
   waiting_most load kind = grind (arith, unit_time-most, free_time-most, no_more)
 
@@ -46,22 +46,23 @@ module _ (h : Hardware) (sound : IsBounded h) where
   more : (instruction : Option Instr) (stage : Stage) → EndsBy (h.cycle + longest_execution h) stage → stage_time h instruction stage ≤ port_time h + longest_write_back h + 2 * longest_execution h + 2
   more instruction stage ends = omega (arith, stage_most instruction stage ends)
 
-  head_most : (instruction : Option Instr) (stage : Stage) → EndsBy (h.cycle + longest_execution h) stage → head_time h instruction stage ≤ port_time h + longest_write_back h + 2 * longest_execution h + 2
+  head_most : (instruction : Option Instr) (stage : Stage) → EndsBy (h.cycle + longest_execution h) stage →
+      head_time h instruction stage ≤ port_time h + longest_write_back h + 2 * longest_execution h + 2
   head_most instruction stage ends = grind (arith, dirty_time-most, more)
 
   -- where something is in flight
   pub flight_time-most : (e : Entry) (es : List Entry) → h.rob.entries ≡ e ∷ es → patience h ≤ port_time h + longest_write_back h + 2 * longest_execution h + 2
   flight_time-most e es split = grind (arith, head_most)
 
-  by_entries : (entries : List Entry) → h.rob.entries ≡ entries → patience h ≤ port_time h + longest_write_back h + 2 * longest_execution h + 4
-  by_entries entries split = grind (arith, fetch_most, flight_time-most)
+  by_entries : {entries : List Entry} → h.rob.entries ≡ entries → patience h ≤ port_time h + longest_write_back h + 2 * longest_execution h + 4
+  by_entries split = grind (arith, fetch_most, flight_time-most)
 
   -- ---- the port
   port_time-most : port_time h ≤ longest_access h + longest_write_back h + 1 + h.values.store_queue * longest_access h
   port_time-most = grind (arith, time_of_stores-most, mul-le-mul_right)
 
   pub patience-most : patience h ≤ 2 * longest_write_back h + (h.values.store_queue + 3) * longest_access h + 2 * greatest_latency h.values + 7
-  patience-most = omega (arith, by_entries h.rob.entries refl, port_time-most)
+  patience-most = omega (arith, by_entries refl, port_time-most)
 
   -- one more cycle, in which a stale word may stop the run, is below the bound too
   pub patience-below : patience h + 1 < gap_bound_of h.values

@@ -22,9 +22,9 @@ never state is given holds = grind arith
 
 module _ (h : Hardware) (idle : h.port_free ≤ h.cycle) (costs : 1 ≤ h.cache.values.hit) where
   -- the oldest of some stores begins its access
-  begins : (s : Store) (ss : List Store) (access : Option StoreAccess) → CanDrain s → access_to_drain s ≡ access → 1 + longest_access h + length ss * longest_access h ≤ port_time h →
+  begins : (s : Store) (ss : List Store) {access : Option StoreAccess} → CanDrain s → access_to_drain s ≡ access → 1 + longest_access h + length ss * longest_access h ≤ port_time h →
       Drains h (start_drain access (record h { committed = s ∷ ss }))
-  begins s ss access can is time = grind (arith, never, access_cost-least, access_cost-most)
+  begins s ss can is time = grind (arith, never, access_cost-least, access_cost-most)
 
   goes_on : (ss : List Store) → IsQueue ss → ((s : Store) (rest : List Store) → ss ≡ s ∷ rest → is_draining s ≡ false) → time_of_stores (longest_access h) ss ≤ port_time h →
       Drains h (start_drain (oldest_to_drain ss) (record h { committed = ss }))
@@ -32,7 +32,7 @@ module _ (h : Hardware) (idle : h.port_free ≤ h.cycle) (costs : 1 ≤ h.cache.
   goes_on (s ∷ ss) queue waits time =
       let is : is_draining s ≡ false = waits s ss refl in
       let whole : cond (is_draining s) 0 (longest_access h) ≡ longest_access h = rw is refl in
-      begins s ss (access_to_drain s) (queue.0, is) refl (omega (arith, whole, time))
+      begins s ss (queue.0, is) refl (omega (arith, whole, time))
 
   leaves : (committed : List Store) → h.committed ≡ committed → IsQueue committed → Drains h (start_drain (oldest_to_drain (without_drained committed)) (record h { committed = without_drained committed }))
   leaves [] is queue = record { fall = omega arith; port = inr (refl, idle) }

@@ -28,7 +28,7 @@ pub same-longest : (h : Hardware) (front : FetchBuffer) →
 same-longest h front = grind (arith, execute-same)
 
 -- ---- the oldest instruction in the phases after issue
-module _ (instruction : Option Instr) (R : Stage → Type 0) (cycle : ℕ)
+module _ (instruction : Option Instr) {R : Stage → Type 0} {cycle : ℕ}
     (closed : (stage : Stage) (message : Message) (issue : Option Issue) → HasRun cycle stage message → R stage → R (Finished issue cycle message)) where
   abbrev HasHead : Hardware → Type 0
   HasHead h = HeadIs instruction R h.rob.entries × (h.cycle ≡ cycle)
@@ -65,15 +65,15 @@ module _ (instruction : Option Instr) (R : Stage → Type 0) (cycle : ℕ)
   head-turn h has = broadcast_turn-keeps head_broadcast h has
 
 -- the phases after issue leave the oldest instruction in such a stage
-pub head-executed : (instruction : Option Instr) (R : Stage → Type 0) (h : Hardware) →
+pub head-executed : (instruction : Option Instr) {R : Stage → Type 0} (h : Hardware) →
     ((stage : Stage) (message : Message) (issue : Option Issue) → HasRun h.cycle stage message → R stage →
     R (Finished issue h.cycle message)) →
     HeadIs instruction R (issue (drain h)).rob.entries → HeadIs instruction R (execute h).hardware.rob.entries
-head-executed instruction R h closed head =
+head-executed instruction {R} h closed head =
     let issued : Hardware = issue (drain h) in
     let number : issued.cycle ≡ h.cycle = (issued-same h).2 in
-    head-dispatched instruction R h.cycle closed (broadcast issued)
-    (head-broadcasted instruction R h.cycle closed issued head number) (broadcast-same issued ∙ number)
+    head-dispatched instruction closed (broadcast issued)
+    (head-broadcasted instruction closed issued head number) (broadcast-same issued ∙ number)
 
 -- ---- its patience in the cycle after
 plain_time : (h : Hardware) (instruction : Option Instr) (stage : Stage) → is_serialising instruction ≡ false →
@@ -88,7 +88,7 @@ module _ (h : Hardware) (instruction : Option Instr) (R : Stage → Type 0) (mos
   -- the patience is no greater than what the oldest instruction's stage allows
   pub head-patience : ((stage : Stage) → R stage → EndsBy limit stage → head_time h instruction stage ≤ most) →
       HeadIs instruction R h.rob.entries → Each (Ending limit) h.rob.entries → patience h ≤ most
-  head-patience bound head ends = head_in h.rob.entries bound head ends
+  head-patience bound head ends = head_in _ bound head ends
 
   -- the same, where the oldest does not serialise
   pub plain-patience : is_serialising instruction ≡ false →
@@ -113,9 +113,9 @@ begun-patience h instruction plain head ends = grind (arith, plain-patience, beg
 
 -- ---- stages and results
 -- a result leaves any stage in one
-pub anywhere_closed : (cycle : ℕ) (stage : Stage) (message : Message) (issue : Option Issue) → HasRun cycle stage message →
+pub anywhere_closed : {cycle : ℕ} (stage : Stage) (message : Message) (issue : Option Issue) → HasRun cycle stage message →
     IsAnywhere stage → IsAnywhere (Finished issue cycle message)
-anywhere_closed cycle stage message issue gives is = tt
+anywhere_closed stage message issue gives is = tt
 
 -- what has begun and gives a result has begun
 pub begun_closed : (cycle : ℕ) (stage : Stage) (message : Message) (issue : Option Issue) → HasRun cycle stage message →

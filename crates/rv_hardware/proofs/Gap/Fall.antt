@@ -34,15 +34,15 @@ module _ (lines : Lines) (old : Hardware) (sound : IsBounded old) where
   module _ (e : Entry) (es : List Entry) (split : h.rob.entries ≡ e ∷ es) where
     -- ---- an instruction that does not wait to be the oldest
     module _ (plain : is_serialising e.instruction ≡ false) where
-      patience_is : (stage : Stage) → e.stage ≡ stage → patience h ≡ stage_time h e.instruction stage
-      patience_is stage at = plain-head h e es split plain ∙ ap (stage_time h e.instruction) at
+      patience_is : {stage : Stage} → e.stage ≡ stage → patience h ≡ stage_time h e.instruction stage
+      patience_is at = plain-head h e es split plain ∙ ap (stage_time h e.instruction) at
 
       unit_falls : (kind : Option Kind) → kind_of_word e.instruction ≡ kind → (is_some kind || is_serialising e.instruction) ≡ true → e.stage ≡ Waiting → Falls h
       unit_falls None of_kind waits at front ram cycle stop fetches after = absurd (cc (waits, plain))
       unit_falls (Some k) of_kind waits at front ram cycle stop fetches after =
           let waiting : Waits e.stage = subst Waits (sym at) refl in
           let head : HeadIs e.instruction Waits h.rob.entries = subst (HeadIs e.instruction Waits) (sym split) (refl, waiting) in
-          fall_waiting h front e.instruction k of_kind plain head sound.sizes drained after.ending sound.held after.held (patience_is Waiting at)
+          fall_waiting h front e.instruction of_kind plain head sound.sizes drained after.ending sound.held after.held (patience_is at)
 
       stage_falls : (stage : Stage) → e.stage ≡ stage → broadcast_of stage ≡ None → IsShaped e.word e.instruction stage → Falls h
       stage_falls Waiting at unknown shaped front ram cycle stop fetches after = grind (arith, unit_falls)
@@ -50,7 +50,7 @@ module _ (lines : Lines) (old : Hardware) (sound : IsBounded old) where
           let end : ℕ = issue.cycle + issue.cost in
           let runs : RunsUntil end e.stage = subst (RunsUntil end) (sym at) refl in
           let head : HeadIs e.instruction (RunsUntil end) h.rob.entries = subst (HeadIs e.instruction (RunsUntil end)) (sym split) (refl, runs) in
-          fall_running h front e.instruction end head plain sound.sizes.legal.pipeline.bus_width.0 after.ending (patience_is (Running issue message) at)
+          fall_running h front e.instruction end head plain sound.sizes.legal.pipeline.bus_width.0 after.ending (patience_is at)
       stage_falls (Finished issue finished message) at unknown shaped front ram cycle stop fetches after = absurd (cc (unknown))
 
       plain_falls : broadcast_of e.stage ≡ None → Falls h
@@ -79,7 +79,8 @@ module _ (lines : Lines) (old : Hardware) (sound : IsBounded old) where
   silent_falls after (e ∷ es) split silent = head_falls e es split after e.instruction refl silent
 
 -- the cycle as a whole
-pub fall : {lines : Lines} {old new : Hardware} {report : Report} → IsCycle any_prediction lines old report new → IsBounded old → report.steps ≡ [] → report.stop ≡ None → patience new + 1 ≤ patience old
+pub fall : {lines : Lines} {old new : Hardware} {report : Report} → IsCycle any_prediction lines old report new →
+    IsBounded old → report.steps ≡ [] → report.stop ≡ None → patience new + 1 ≤ patience old
 fall {lines} {old} {new} {report} cycle sound silent going =
     let h : Hardware = with_lines lines old in
     let committing : Committing = commit set.contains h in

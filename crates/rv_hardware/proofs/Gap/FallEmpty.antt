@@ -38,14 +38,14 @@ some_stations h k sizes = (sizes.legal.kinds k).stations.0
 free_stations : (h : Hardware) (kind : Option Kind) → HasSizes h → h.rob.entries ≡ [] → has_full_stations h kind ≡ false
 free_stations h kind sizes given = grind (arith, le_none, some_stations)
 
-waits_for_stores : (h : Hardware) (fetched : Fetched) → HasSizes h → h.rob.entries ≡ [] → WaitsFor h fetched →
+waits_for_stores : {h : Hardware} {fetched : Fetched} → HasSizes h → h.rob.entries ≡ [] → WaitsFor h fetched →
     h.values.store_queue ≤ length h.committed
-waits_for_stores h fetched sizes given holds = grind (arith, true≢false, le_none, free_stations, and_parts, leb-true, length-append)
+waits_for_stores sizes given holds = grind (arith, true≢false, le_none, free_stations, and_parts, leb-true, length-append)
 
 -- ---- the phases up to dispatch find nothing
-nil_split : (older younger : List Entry) (e : Entry) (entries : List Entry) → entries ≡ [] → entries ≡ older ++ e ∷ younger → ⊥
-nil_split [] younger e entries none split = absurd (cc (none, split))
-nil_split (o ∷ older) younger e entries none split = absurd (cc (none, split))
+nil_split : (older younger : List Entry) (e : Entry) {entries : List Entry} → entries ≡ [] → entries ≡ older ++ e ∷ younger → ⊥
+nil_split [] younger e none split = absurd (cc (none, split))
+nil_split (o ∷ older) younger e none split = absurd (cc (none, split))
 
 abbrev Nothing : ℕ → List Store → FetchBuffer → Hardware → Type 0
 Nothing time stores front g = (g.rob.entries ≡ []) × (next_port_time g ≡ time) × (g.committed ≡ stores) × (g.front ≡ front)
@@ -53,14 +53,14 @@ Nothing time stores front g = (g.rob.entries ≡ []) × (next_port_time g ≡ ti
 module _ (time : ℕ) (stores : List Store) (front : FetchBuffer) where
   nothing_issue : (k : Kind) → IsKeptByIssue (Nothing time stores front) k
   nothing_issue k = record {
-    accesses = λ g older younger e address nothing split ready by. absurd (nil_split older younger e g.rob.entries nothing.0 split);
-    starts = λ g older younger e cost message nothing split waits of_kind result costs. absurd (nil_split older younger e g.rob.entries nothing.0 split);
+    accesses = λ g older younger e address nothing split ready by. absurd (nil_split older younger e nothing.0 split);
+    starts = λ g older younger e cost message nothing split waits of_kind result costs. absurd (nil_split older younger e nothing.0 split);
   }
 
   nothing_broadcast : IsKeptByBroadcast (Nothing time stores front)
   nothing_broadcast = record {
-    broadcasts = λ g older younger e message nothing split gives. absurd (nil_split older younger e g.rob.entries nothing.0 split);
-    mends = λ g older younger e next nothing split. absurd (nil_split older younger e g.rob.entries nothing.0 split);
+    broadcasts = λ g older younger e message nothing split gives. absurd (nil_split older younger e nothing.0 split);
+    mends = λ g older younger e next nothing split. absurd (nil_split older younger e nothing.0 split);
   }
 
 -- ---- dispatch
@@ -81,16 +81,16 @@ data Dispatched (time : ℕ) (before after : Hardware) : Type 0 where
   waits : after ≡ before → IsCons before.front.entries → before.values.store_queue ≤ length before.committed →
       Dispatched time before after
 
-module _ (g : Hardware) (sizes : HasSizes g) (none : g.rob.entries ≡ []) (time : ℕ) (port : next_port_time g ≡ time) (width : ℕ) where
+module _ (g : Hardware) (sizes : HasSizes g) (none : g.rob.entries ≡ []) {time : ℕ} (port : next_port_time g ≡ time) (width : ℕ) where
   abbrev first : Dispatching
   first = record { hardware = g; dispatched = 0; waits_for = None }
 
-  by_turn : (t : Turn Dispatching) → DispatchTurn first t →
+  by_turn : {t : Turn Dispatching} → DispatchTurn first t →
       Dispatched time g (followed_by (repeated dispatch_turn width) t).hardware
-  by_turn _ (buffer_empty words) = none_fetched refl words
-  by_turn _ (word_waits fetched rest reason words why) =
-      waits refl (subst IsCons (sym words) tt) (waits_for_stores g fetched sizes none why)
-  by_turn _ (dispatches fetched rest words nothing) =
+  by_turn (buffer_empty words) = none_fetched refl words
+  by_turn (word_waits fetched rest reason words why) =
+      waits refl (subst IsCons (sym words) tt) (waits_for_stores sizes none why)
+  by_turn (dispatches fetched rest words nothing) =
       let after : Dispatching = record { hardware = with_dispatched fetched rest g; dispatched = 0 + 1; waits_for = None } in
       entered (dispatch_turns-keep (something_dispatch time) width after (pushed_cons g.rob.entries _, port))
 
@@ -100,15 +100,15 @@ dispatched g sizes none time port =
     let wide : g.values.dispatch_width ≡ suc (g.values.dispatch_width - 1) = omega (arith, sizes.legal.pipeline.dispatch_width.0) in
     let first_of_all : Dispatching = record { hardware = g; dispatched = 0; waits_for = None } in
     subst (λ n. Dispatched time g (repeated dispatch_turn n (record { hardware = g; dispatched = 0; waits_for = None })).hardware) (sym wide)
-    (by_turn g sizes none time port (g.values.dispatch_width - 1) (dispatch_turn first_of_all) (dispatch_turn_is first_of_all))
+    (by_turn g sizes none port (g.values.dispatch_width - 1) (dispatch_turn_is first_of_all))
 
 -- ---- in all
 some_time : (access : ℕ) (stores : List Store) → 1 ≤ length stores → 1 ≤ time_of_stores access stores
 some_time access stores some = grind arith
 
-in_flight_most : (g : Hardware) → IsBounded g → (entries : List Entry) → g.rob.entries ≡ entries → IsCons entries →
+in_flight_most : {g : Hardware} → IsBounded g → {entries : List Entry} → g.rob.entries ≡ entries → IsCons entries →
     patience g ≤ port_time g + longest_write_back g + 2 * longest_execution g + 2
-in_flight_most g sound entries split some = grind (arith, flight_time-most)
+in_flight_most sound split some = grind (arith, flight_time-most)
 
 module _ (h : Hardware) (front : FetchBuffer) (ram : Memory) (cycle : ℕ) (stop : FetchStop) (none : h.rob.entries ≡ []) (sizes : HasSizes h) (drains : Drains h (drain h))
     (halts : HaltsAfter h.front.halted (words_of h.rob.entries h.front.entries)) (fetches : FetchesInto any_prediction ram cycle (execute h).hardware.front front stop)
@@ -149,7 +149,7 @@ module _ (h : Hardware) (front : FetchBuffer) (ram : Memory) (cycle : ℕ) (stop
 
   by_dispatch : Dispatched time last d → patience new + 1 ≤ patience h
   by_dispatch (entered some) =
-      let most = in_flight_most new sound new.rob.entries refl some.0 in
+      let most = in_flight_most sound refl some.0 in
       omega (arith, most, some.1, same_lines, same-longest h front, before_is, drains.fall)
   by_dispatch (none_fetched same words) =
       let old_front : d.front ≡ h.front = ap (λ (g : Hardware). g.front) same ∙ nothing.3 in

@@ -49,7 +49,7 @@ module _ (h : Hardware) (front : FetchBuffer) (e : Entry) (split : h.rob.entries
       let after : Alone port dirty issued = issue-keeps (Alone port dirty) (alone_issue port dirty) (drain h) before in
       let lasts : Lasts port dirty (execute h).hardware =
       dispatch-keeps (lasts_dispatch port dirty) (broadcast issued) (broadcast-keeps (lasts_broadcast port dirty) issued after.2) in
-      let there : HeadIs fence IsAnywhere new.rob.entries = head-executed fence IsAnywhere h (anywhere_closed h.cycle) after.1 in
+      let there : HeadIs fence IsAnywhere new.rob.entries = head-executed fence h (anywhere_closed) after.1 in
       head-patience new fence IsAnywhere (port + dirty + 1) (new.cycle + longest_execution new) (λ stage is ends. omega (arith, lasts.0, lasts.1)) there ending
 
 -- ---- stores or the port are waited for
@@ -74,15 +74,15 @@ fall_fence_waits h front e split is drains room waits ending =
     omega (arith, fence_patience h front e split is ending, fence_waits h h.committed refl drains room waits)
 
 -- ---- its write-back begins
-drained_none : (h : Hardware) (stores : List Store) → h.committed ≡ stores → is_drained (record h { committed = stores }) ≡ true → h.committed ≡ []
-drained_none h stores is drained = grind arith
+drained_none : (h : Hardware) {stores : List Store} → h.committed ≡ stores → is_drained (record h { committed = stores }) ≡ true → h.committed ≡ []
+drained_none h is drained = grind arith
 
 -- a cycle in which FENCE.I's write-back begins lowers the patience
 pub fall_write_back : (h : Hardware) (front : FetchBuffer) (e : Entry) → h.rob.entries ≡ e ∷ [] → e.instruction ≡ Some FenceI → is_drained h ≡ true → (write_back_time h == 0) ≡ false →
     AreEnding (later front (execute (with_write_back h)).hardware) → patience (later front (execute (with_write_back h)).hardware) + 1 ≤ port_time h + dirty_time h h.committed + 1
 fall_write_back h front e split is drained dirty ending =
     let g : Hardware = with_write_back h in
-    let none : h.committed ≡ [] = drained_none h h.committed refl drained in
+    let none : h.committed ≡ [] = drained_none h refl drained in
     let some : 1 ≤ write_back_time h = omega (arith, eqb-false (write_back_time h) 0 dirty) in
     let still : drain g ≡ g = busy_same g (lt-leb (h.cycle + write_back_time h) h.cycle (omega (arith, some))) in
     let stores : time_of_stores (longest_access g) g.committed ≡ 0 = ap (time_of_stores (longest_access g)) none in

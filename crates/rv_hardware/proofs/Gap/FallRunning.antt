@@ -50,7 +50,7 @@ module _ (h : Hardware) (front : FetchBuffer) (instruction : Option Instr) (end 
       λ stage message start gives runs.
       let ends : gives.issue.cycle + gives.issue.cost ≡ end = subst (RunsUntil end) gives.runs runs in
       absurd (omega (arith, ends, gives.over, late)) in
-      head-executed instruction (RunsUntil end) h closed runs_issued
+      head-executed instruction h closed runs_issued
 
   left : (g : Hardware) (stage : Stage) → RunsUntil end stage → stage_time g instruction stage ≤ 1 + (end - g.cycle)
   left g stage runs = grind arith
@@ -82,24 +82,24 @@ module _ (h : Hardware) (front : FetchBuffer) (instruction : Option Instr) (end 
   it_is_first due [] younger e runs none = (refl, runs.0)
   it_is_first due (o ∷ older) younger e runs none = absurd (one_is_due due (o ∷ []) runs (none.0, tt))
 
-  first_result : end ≤ h.cycle → (t : Turn Hardware) → BroadcastTurn issued t → Leaves Over t
-  first_result due _ (no_result none) = absurd (one_is_due due issued.rob.entries runs_issued none)
-  first_result due _ (sends older younger e issue message sent late) =
+  first_result : end ≤ h.cycle → {t : Turn Hardware} → BroadcastTurn issued t → Leaves Over t
+  first_result due (no_result none) = absurd (one_is_due due issued.rob.entries runs_issued none)
+  first_result due (sends older younger e issue message sent late) =
       let first = it_is_first due older younger e (subst (HeadIs instruction (RunsUntil end)) sent.place runs_issued) sent.oldest_one in
-      sends-makes made_over issued older younger e issue message sent (first.0, first.1, number)
-  first_result due _ (mends older younger e issue message sent early) =
+      sends-makes made_over sent (first.0, first.1, number)
+  first_result due (mends older younger e issue message sent early) =
       let first = it_is_first due older younger e (subst (HeadIs instruction (RunsUntil end)) sent.place runs_issued) sent.oldest_one in
-      mends-makes made_over issued older younger e issue message sent (first.0, first.1, number)
+      mends-makes made_over sent (first.0, first.1, number)
 
   is_over : end ≤ h.cycle → 1 ≤ issued.values.bus_width → HeadIs instruction IsOver (execute h).hardware.rob.entries
   is_over due wide =
       let width : issued.values.bus_width ≡ suc (issued.values.bus_width - 1) = omega (arith, wide) in
       let rest : ℕ = issued.values.bus_width - 1 in
       let turns : Over (repeated broadcast_turn (suc rest) issued) =
-      left_by_the_rest Over Over (repeated broadcast_turn rest) (λ g over. kept_by_turns Over broadcast_turn (head-turn instruction IsOver h.cycle over_closed) rest g over)
-      (broadcast_turn issued) (first_result due (broadcast_turn issued) (broadcast_turn_is issued)) in
+      left_by_the_rest Over Over (repeated broadcast_turn rest) (λ g over. kept_by_turns Over broadcast_turn (head-turn instruction over_closed) rest g over)
+      (broadcast_turn issued) (first_result due (broadcast_turn_is issued)) in
       let all : Over (broadcast issued) = subst (λ n. Over (repeated broadcast_turn n issued)) (sym width) turns in
-      head-dispatched instruction IsOver h.cycle over_closed (broadcast issued) all.0 all.1
+      head-dispatched instruction over_closed (broadcast issued) all.0 all.1
 
   none_left : (g : Hardware) (stage : Stage) → IsOver stage → stage_time g instruction stage ≤ 0
   none_left g stage over = grind arith

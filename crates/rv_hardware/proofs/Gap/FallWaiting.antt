@@ -27,7 +27,7 @@ free_time-port port unit longest some = grind arith
 idle_time : (h : Hardware) → h.committed ≡ [] → h.port_free ≤ h.cycle → next_port_time h ≡ 0
 idle_time h given idle = grind arith
 
-module _ (h : Hardware) (front : FetchBuffer) (instruction : Option Instr) (k : Kind) (of_kind : kind_of_word instruction ≡ Some k) (plain : is_serialising instruction ≡ false)
+module _ (h : Hardware) (front : FetchBuffer) (instruction : Option Instr) {k : Kind} (of_kind : kind_of_word instruction ≡ Some k) (plain : is_serialising instruction ≡ false)
     (head : HeadIs instruction Waits h.rob.entries) (sizes : HasSizes h) where
   abbrev issued : Hardware
   issued = issue (drain h)
@@ -37,7 +37,7 @@ module _ (h : Hardware) (front : FetchBuffer) (instruction : Option Instr) (k : 
 
   -- ---- it left
   begun : HeadIs instruction HasBegun issued.rob.entries → HeadIs instruction HasBegun new.rob.entries
-  begun left = head-executed instruction HasBegun h (begun_closed h.cycle) left
+  begun left = head-executed instruction h (begun_closed h.cycle) left
 
   fall_begun : HeadIs instruction HasBegun issued.rob.entries → AreEnding new → longest_execution h + 2 ≤ patience h → patience new + 1 ≤ patience h
   fall_begun left ending old = omega (arith, begun-patience new instruction plain (begun left) ending, same-longest h front, old)
@@ -58,16 +58,17 @@ module _ (h : Hardware) (front : FetchBuffer) (instruction : Option Instr) (k : 
   port_when : (g : Hardware) → CanGo instruction g → is_load instruction ≡ true → next_port_time g ≡ 0
   port_when g given load = grind (arith, idle_time)
 
-  waiting_is : (g : Hardware) → waiting_time g (is_load instruction) (kind_of_word instruction) ≡ free_time (cond (is_load instruction) (port_time g) 0) (unit_time g.cycle (at_kind k g.units).starts) (longest_execution g) + longest_execution g + 2
+  waiting_is : (g : Hardware) →
+      waiting_time g (is_load instruction) (kind_of_word instruction) ≡ free_time (cond (is_load instruction) (port_time g) 0) (unit_time g.cycle (at_kind k g.units).starts) (longest_execution g) + longest_execution g + 2
   waiting_is g = ap (waiting_time g (is_load instruction)) of_kind
 
   still_waits : (stage : Stage) → Waits stage → Keeps (execute h).hardware → stage_time new instruction stage ≤ unit_time (h.cycle + 1) pool.starts + longest_execution h + 2
   still_waits stage given keeps = grind (arith, no_port, execute-same, waiting_is, same-longest)
 
-  fall_held : CanStart instruction k of_kind pool h.cycle issued → is_free h.cycle pool ≡ false → AreEnding new → unit_time h.cycle pool.starts ≤ longest_execution h →
+  fall_held : CanStart instruction of_kind pool h.cycle issued → is_free h.cycle pool ≡ false → AreEnding new → unit_time h.cycle pool.starts ≤ longest_execution h →
       patience h ≡ free_time (cond (is_load instruction) (port_time h) 0) (unit_time h.cycle pool.starts) (longest_execution h) + longest_execution h + 2 → patience new + 1 ≤ patience h
   fall_held can held ending most is =
-      let waits : HeadIs instruction Waits new.rob.entries = head-executed instruction Waits h (waits_closed h.cycle) can.0 in
+      let waits : HeadIs instruction Waits new.rob.entries = head-executed instruction h (waits_closed h.cycle) can.0 in
       let keeps : Keeps (execute h).hardware =
       dispatch-keeps keeps_dispatch (broadcast issued) (broadcast-keeps keeps_broadcast issued (can.1, port_when issued can.3)) in
       let patient = plain-patience new instruction Waits (unit_time (h.cycle + 1) pool.starts + longest_execution h + 2) (new.cycle + longest_execution new) plain
@@ -108,14 +109,14 @@ module _ (h : Hardware) (front : FetchBuffer) (instruction : Option Instr) (k : 
   fall_busy busy falls some load ending held is =
       let time : ℕ = next_port_time (drain h) in
       let same = drain-same h in
-      let anywhere : HeadIs instruction IsAnywhere h.rob.entries = head-weaken instruction Waits IsAnywhere (λ stage waits. tt) h.rob.entries head in
+      let anywhere : HeadIs instruction IsAnywhere h.rob.entries = head-weaken instruction Waits (λ stage waits. tt) h.rob.entries head in
       let before : Busy time (drain h) =
       (subst (λ r. HeadIs instruction IsAnywhere r.entries) (sym same.rob) anywhere, omega (arith, busy, same.cycle), refl) in
       let after : Busy time issued = issue-keeps (Busy time) (busy_by_issue time) (drain h) before in
       let lasts : port_time new ≡ time =
       dispatch-keeps (lasts_dispatch time) (broadcast issued) (broadcast-keeps (lasts_broadcast time) issued after.2) in
       let there : HeadIs instruction IsAnywhere new.rob.entries =
-      head-executed instruction IsAnywhere h (anywhere_closed h.cycle) after.0 in
+      head-executed instruction h (anywhere_closed) after.0 in
       let patient = plain-patience new instruction IsAnywhere (port_time new + 2 * longest_execution new + 2) (new.cycle + longest_execution new) plain
       (λ stage waiting ends. still_busy stage ends held) there ending in
       let port : cond (is_load instruction) (port_time h) 0 ≡ port_time h = rw load refl in
@@ -126,14 +127,14 @@ module _ (h : Hardware) (front : FetchBuffer) (instruction : Option Instr) (k : 
   -- ---- in all
   by_start : AreEnding new → AreHeld h →
       patience h ≡ free_time (cond (is_load instruction) (port_time h) 0) (unit_time h.cycle pool.starts) (longest_execution h) + longest_execution h + 2 →
-      IsAfterIssue instruction k of_kind pool h.cycle issued → patience new + 1 ≤ patience h
+      IsAfterIssue instruction of_kind pool h.cycle issued → patience new + 1 ≤ patience h
   by_start ending held is given = grind (arith, fall_held, unit_time-most, fall_begun)
 
   fall_ready : CanGo instruction (drain h) → AreEnding new → AreHeld h →
       patience h ≡ free_time (cond (is_load instruction) (port_time h) 0) (unit_time h.cycle pool.starts) (longest_execution h) + longest_execution h + 2 → patience new + 1 ≤ patience h
   fall_ready can ending held is =
       let same = drain-same h in
-      let start : CanStart instruction k of_kind pool h.cycle (drain h) = (
+      let start : CanStart instruction of_kind pool h.cycle (drain h) = (
         subst (λ r. HeadIs instruction Waits r.entries) (sym same.rob) head,
         ap (at_kind k) same.units,
         same.cycle,

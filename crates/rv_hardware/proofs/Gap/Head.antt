@@ -24,8 +24,8 @@ module _ (instruction : Option Instr) (R : Stage → Type 0) where
   head-push es e head = grind arith
 
   -- what follows from the stage of the oldest holds of it
-  pub head-weaken : (Q : Stage → Type 0) → ((stage : Stage) → R stage → Q stage) → (es : List Entry) → HeadIs instruction R es → HeadIs instruction Q es
-  head-weaken Q weaker es head = grind arith
+  pub head-weaken : {Q : Stage → Type 0} → ((stage : Stage) → R stage → Q stage) → (es : List Entry) → HeadIs instruction R es → HeadIs instruction Q es
+  head-weaken weaker es head = grind arith
 
 -- it waits, or it has begun its execution
 abbrev pub Waits : Stage → Type 0

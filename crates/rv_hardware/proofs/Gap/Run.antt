@@ -19,14 +19,14 @@ same_values : {lines : Lines} {old new : Hardware} {report : Report} → IsCycle
 same_values {lines} {old} {new} cycle =
     ap (λ (h : Hardware). h.values) cycle.others_stay ∙ (phases-keep (same-kept old.values old.cache.values old.cycle) cycle (refl, refl, refl)).0
 
-gaps_below : (arrivals : List Arrival) (bound silent : ℕ) {old new : Hardware} {reports : List Report} → Cycles arrivals old reports new → IsBounded old → gap_bound_of old.values ≡ bound →
+gaps_below : {arrivals : List Arrival} {bound : ℕ} (silent : ℕ) {old new : Hardware} {reports : List Report} → Cycles arrivals old reports new → IsBounded old → gap_bound_of old.values ≡ bound →
     silent + patience old + 1 < bound → OnlyLastStops reports → longest_gap_from silent reports < bound
-gaps_below arrivals bound silent ended well is below only = omega arith
-gaps_below arrivals bound silent {old} (cycled {middle = middle} {report = report} {reports = reports} cycle rest) well is below only =
+gaps_below silent ended well is below only = omega arith
+gaps_below {arrivals} {bound} silent {old} (cycled {middle = middle} {report = report} {reports = reports} cycle rest) well is below only =
     let next_well : IsBounded middle = sound-cycle cycle well in
     let next_is : gap_bound_of middle.values ≡ bound = ap (λ (v : Values). gap_bound_of v) (same_values cycle) ∙ is in
-    cycle_below bound silent (patience old) (patience middle) report (λ silent going. fall cycle well silent going) (omega (arith, patience-below middle next_well, next_is)) below reports
-    (λ more under last. gaps_below arrivals bound more rest next_well next_is under last) only
+    cycle_below bound silent (patience old) (patience middle) report (λ silent going. fall cycle well silent going) (omega (arith, patience-below next_well, next_is)) below reports
+    (λ more under last. gaps_below more rest next_well next_is under last) only
 
 -- ---- consecutive silent cycles
 same_test : (b : Bool) (x x' y y' : ℕ) → x ≤ x' → y ≤ y' → cond b x y ≤ cond b x' y'
@@ -56,7 +56,7 @@ pub no_silence : NoSilence
 no_silence arrivals old new reports reached run only =
     let well = sound reached in
     let longest : longest_gap_of reports < gap_bound_of old.values =
-    gaps_below arrivals (gap_bound_of old.values) 0 run well refl (omega (arith, patience-below old well)) only in
+    gaps_below 0 run well refl (omega (arith, patience-below well)) only in
     record {
       longest = longest;
       consecutive = λ before silent after is quiet.
@@ -74,12 +74,12 @@ one_more [] last none = tt
 one_more (report ∷ []) last none = (none.0, tt)
 one_more (report ∷ next ∷ earlier) last none = (none.0, one_more (next ∷ earlier) last none.1)
 
-pub ends_with-only_last : (reason : Stop) (reports : List Report) → EndsWith reason reports → OnlyLastStops reports
-ends_with-only_last reason reports ends = subst OnlyLastStops (sym ends.all) (one_more ends.earlier ends.last ends.none_before)
+pub ends_with-only_last : {reason : Stop} {reports : List Report} → EndsWith reason reports → OnlyLastStops reports
+ends_with-only_last ends = subst OnlyLastStops (sym ends.all) (one_more ends.earlier ends.last ends.none_before)
 
 -- in a run that stops for a reason, no cycle but the last stops
 pub is_stop-only_last : (limit : ℕ) (reports : List Report) (new : Hardware) (reason : Stop) → IsStop limit reports new reason → OnlyLastStops reports
 is_stop-only_last limit reports new stop.Limit is = none_stops-only_last reports is.0
-is_stop-only_last limit reports new stop.Breakpoint is = ends_with-only_last stop.Breakpoint reports is.0
-is_stop-only_last limit reports new (stop.Stale pc) is = ends_with-only_last (stop.Stale pc) reports is.0
+is_stop-only_last limit reports new stop.Breakpoint is = ends_with-only_last is.0
+is_stop-only_last limit reports new (stop.Stale pc) is = ends_with-only_last is.0
 is_stop-only_last limit reports new stop.Exhausted is = none_stops-only_last reports is.0

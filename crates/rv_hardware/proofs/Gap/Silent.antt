@@ -37,8 +37,8 @@ silent_plain : (h : Hardware) (instruction : Option Instr) (stage : Stage) → i
 silent_plain h instruction stage plain unknown = grind arith
 
 module _ (is_stale : set.FinSet nat_cmp → ℕ → Bool) where
-  turn_steps : (c : Committing) (t : Turn Committing) → CommitTurn is_stale c t → HasStep c → Leaves HasStep t
-  turn_steps c t given some = grind (arith, fence_waits, some_push)
+  turn_steps : {c : Committing} {t : Turn Committing} → CommitTurn is_stale c t → HasStep c → Leaves HasStep t
+  turn_steps given some = grind (arith, fence_waits, some_push)
 
   module _ (h : Hardware) (width : ℕ) where
     abbrev rest : Committing → Committing
@@ -50,15 +50,15 @@ module _ (is_stale : set.FinSet nat_cmp → ℕ → Bool) where
     abbrev Outcome : Turn Committing → Type 0
     Outcome t = (followed_by rest t).steps ≡ [] → (followed_by rest t).stop ≡ None → LeftSilent (followed_by rest t).hardware
 
-    none_reported : (steps : List Step) → IsSome steps → steps ≡ [] → ⊥
-    none_reported steps some given = grind arith
+    none_reported : {steps : List Step} → IsSome steps → steps ≡ [] → ⊥
+    none_reported some given = grind arith
 
     -- a turn that reports is not silent
     reports : (t : Turn Committing) → Leaves HasStep t → Outcome t
     reports (GoesOn c) some silent going =
-        let still = kept_by_turns HasStep (commit_turn is_stale) (λ d was. turn_steps d (commit_turn is_stale d) (commit_turn_is is_stale d) was) width c some in
-        absurd (none_reported (rest c).steps still silent)
-    reports (Ends c) some silent going = absurd (none_reported c.steps some silent)
+        let still = kept_by_turns HasStep (commit_turn is_stale) (λ d was. turn_steps (commit_turn_is is_stale d) was) width c some in
+        absurd (none_reported still silent)
+    reports (Ends c) some silent going = absurd (none_reported some silent)
 
     abbrev start : Committing
     start = record { hardware = h; steps = []; stop = None }
@@ -71,14 +71,14 @@ module _ (is_stale : set.FinSet nat_cmp → ℕ → Bool) where
         SilentFence h after → LeftSilent after
     at_fence e es after split is silent = at_head e es after split (subst (λ i. SilentHead i e.stage h after) (sym is) silent)
 
-    first_outcome : (t : Turn Committing) → CommitTurn is_stale start t → Outcome t
-    first_outcome _ (no_head none) = λ silent going. subst (λ l. SilentAt l h h) (sym none) refl
-    first_outcome _ (stale_head e es at is) = λ silent going. absurd (cc)
-    first_outcome _ (unfinished e es head plain none) = grind (arith, at_head, silent_plain)
-    first_outcome _ (fence_waits e es head is busy) = λ silent going. at_fence e es h head.place is (inl (busy, refl))
-    first_outcome _ (fence_writes e es head is drained dirty) = grind (arith, at_fence)
-    first_outcome _ (retires e es issue cycle message head plain at none) = reports (GoesOn _) tt
-    first_outcome _ _ = reports (Ends _) tt
+    first_outcome : {t : Turn Committing} → CommitTurn is_stale start t → Outcome t
+    first_outcome (no_head none) = λ silent going. subst (λ l. SilentAt l h h) (sym none) refl
+    first_outcome (stale_head e es at is) = λ silent going. absurd (cc)
+    first_outcome (unfinished e es head plain none) = grind (arith, at_head, silent_plain)
+    first_outcome (fence_waits e es head is busy) = λ silent going. at_fence e es h head.place is (inl (busy, refl))
+    first_outcome (fence_writes e es head is drained dirty) = grind (arith, at_fence)
+    first_outcome (retires e es issue cycle message head plain at none) = reports (GoesOn _) tt
+    first_outcome _ = reports (Ends _) tt
 
   unless_silent : (code : Option ℕ) (h : Hardware) → 1 ≤ h.values.commit_width → (commit_unless is_stale code h).steps ≡ [] →
       (commit_unless is_stale code h).stop ≡ None → SilentAt h.rob.entries h (commit_unless is_stale code h).hardware
@@ -87,7 +87,7 @@ module _ (is_stale : set.FinSet nat_cmp → ℕ → Bool) where
       let width : h.values.commit_width ≡ suc (h.values.commit_width - 1) = omega arith in
       let first : Committing = record { hardware = h; steps = []; stop = None } in
       subst (λ w. (repeated (commit_turn is_stale) w first).steps ≡ [] → (repeated (commit_turn is_stale) w first).stop ≡ None → SilentAt h.rob.entries h (repeated (commit_turn is_stale) w first).hardware)
-      (sym width) (first_outcome h (h.values.commit_width - 1) (commit_turn is_stale first) (commit_turn_is is_stale first)) silent going
+      (sym width) (first_outcome h (h.values.commit_width - 1) (commit_turn_is is_stale first)) silent going
 
   -- a commit phase that reports no step and does not stop leaves its oldest waiting
   pub silent_commit : (h : Hardware) → 1 ≤ h.values.commit_width → (commit is_stale h).steps ≡ [] →

@@ -18,7 +18,7 @@ pub begun-issue_kind : (instruction : Option Instr) (j : Kind) (h : Hardware) �
     HeadIs instruction HasBegun (issue_kind j h).rob.entries
 begun-issue_kind instruction j h head = issue_kind-keeps j (starts-keep (begun_by_issue instruction j)) h head
 
-module _ (instruction : Option Instr) (k : Kind) (of_kind : kind_of_word instruction ≡ Some k) (pool : Pool) (cycle : ℕ) where
+module _ (instruction : Option Instr) {k : Kind} (of_kind : kind_of_word instruction ≡ Some k) (pool : Pool) (cycle : ℕ) where
   -- it waits, and can go
   abbrev pub CanStart : Hardware → Type 0
   CanStart h = HeadIs instruction Waits h.rob.entries × (at_kind k h.units ≡ pool) × (h.cycle ≡ cycle) × CanGo instruction h × (1 ≤ (at_kind k h.values.kinds).units)
@@ -72,11 +72,11 @@ module _ (instruction : Option Instr) (k : Kind) (of_kind : kind_of_word instruc
   begun_after units h begun =
       kept_by_turns (λ after. HeadIs instruction HasBegun after.rob.entries) (issue_turn k) (issue_turn-keeps k (starts-keep (begun_by_issue instruction k))) units h begun
 
-  first_turn : (units : ℕ) (h : Hardware) (t : Turn Hardware) → IssueTurn k h t → CanStart h →
+  first_turn : (units : ℕ) {h : Hardware} {t : Turn Hardware} → IssueTurn k h t → CanStart h →
       IsAfterIssue (followed_by (repeated (issue_turn k) units) t)
-  first_turn units h _ (no_unit held) can = grind arith
-  first_turn units h _ (none_ready none) can = absurd (one_is_ready h can h.rob.entries can.0 none)
-  first_turn units h _ (starts older younger e at is none free) can =
+  first_turn units (no_unit held) can = grind arith
+  first_turn units {h} (none_ready none) can = absurd (one_is_ready h can h.rob.entries can.0 none)
+  first_turn units {h} (starts older younger e at is none free) can =
       let first = it_is_first h can older younger e (subst (HeadIs instruction Waits) at can.0) none in
       let begun : Entry = started (record { cycle = h.cycle; cost = cost_of h k (path h older e) }) (message_at h older e) e in
       inr (begun_after units (issued k h older e) (subst (HeadIs instruction HasBegun) (sym (started_entries k h older younger e at))
@@ -85,27 +85,28 @@ module _ (instruction : Option Instr) (k : Kind) (of_kind : kind_of_word instruc
   own_turn : (h : Hardware) → CanStart h → IsAfterIssue (issue_kind k h)
   own_turn h can =
       let some : (at_kind k h.values.kinds).units ≡ suc ((at_kind k h.values.kinds).units - 1) = omega (arith, can.4) in
-      subst (λ units. IsAfterIssue (repeated (issue_turn k) units h)) (sym some) (first_turn ((at_kind k h.values.kinds).units - 1) h (issue_turn k h) (issue_turn_is k h) can)
+      subst (λ units. IsAfterIssue (repeated (issue_turn k) units h)) (sym some) (first_turn ((at_kind k h.values.kinds).units - 1) (issue_turn_is k h) can)
 
 -- the four kinds, one after another
-pub after_issue : (instruction : Option Instr) (k : Kind) (of_kind : kind_of_word instruction ≡ Some k) (pool : Pool) (cycle : ℕ) (h : Hardware) → CanStart instruction k of_kind pool cycle h → IsAfterIssue instruction k of_kind pool cycle (issue h)
+pub after_issue : (instruction : Option Instr) (k : Kind) (of_kind : kind_of_word instruction ≡ Some k) (pool : Pool) (cycle : ℕ) (h : Hardware) →
+    CanStart instruction of_kind pool cycle h → IsAfterIssue instruction of_kind pool cycle (issue h)
 after_issue instruction kind.Alu is pool cycle h can =
     let a : Hardware = issue_kind kind.Alu h in
     let m : Hardware = issue_kind kind.Mul a in
-    let behind = after_others instruction kind.Alu is pool cycle in
-    behind kind.Mem refl (issue_kind kind.Div m) (behind kind.Div refl m (behind kind.Mul refl a (own_turn instruction kind.Alu is pool cycle h can)))
+    let behind = after_others instruction is pool cycle in
+    behind kind.Mem refl (issue_kind kind.Div m) (behind kind.Div refl m (behind kind.Mul refl a (own_turn instruction is pool cycle h can)))
 after_issue instruction kind.Mul is pool cycle h can =
     let a : Hardware = issue_kind kind.Alu h in
     let m : Hardware = issue_kind kind.Mul a in
-    let behind = after_others instruction kind.Mul is pool cycle in
-    behind kind.Mem refl (issue_kind kind.Div m) (behind kind.Div refl m (own_turn instruction kind.Mul is pool cycle a (others_turn instruction kind.Mul is pool cycle kind.Alu refl h can)))
+    let behind = after_others instruction is pool cycle in
+    behind kind.Mem refl (issue_kind kind.Div m) (behind kind.Div refl m (own_turn instruction is pool cycle a (others_turn instruction is pool cycle kind.Alu refl h can)))
 after_issue instruction kind.Div is pool cycle h can =
     let a : Hardware = issue_kind kind.Alu h in
     let m : Hardware = issue_kind kind.Mul a in
-    let before = others_turn instruction kind.Div is pool cycle in
-    after_others instruction kind.Div is pool cycle kind.Mem refl (issue_kind kind.Div m) (own_turn instruction kind.Div is pool cycle m (before kind.Mul refl a (before kind.Alu refl h can)))
+    let before = others_turn instruction is pool cycle in
+    after_others instruction is pool cycle kind.Mem refl (issue_kind kind.Div m) (own_turn instruction is pool cycle m (before kind.Mul refl a (before kind.Alu refl h can)))
 after_issue instruction kind.Mem is pool cycle h can =
     let a : Hardware = issue_kind kind.Alu h in
     let m : Hardware = issue_kind kind.Mul a in
-    let before = others_turn instruction kind.Mem is pool cycle in
-    own_turn instruction kind.Mem is pool cycle (issue_kind kind.Div m) (before kind.Div refl m (before kind.Mul refl a (before kind.Alu refl h can)))
+    let before = others_turn instruction is pool cycle in
+    own_turn instruction is pool cycle (issue_kind kind.Div m) (before kind.Div refl m (before kind.Mul refl a (before kind.Alu refl h can)))

@@ -1,5 +1,5 @@
 -- The broadcast phase changes nothing that programs see, and fetch goes on where the program does.
-use Rattle.rv_hardware.proofs.Words.{◌≡◌, ℕ, ◌+◌, ◌%◌, true, false, List, [], ◌∷◌, ◌++◌, length, is_none, Option, sym, ap, ◌∙◌, subst, and_parts, false≢true, is_branch_or_jump, is_serialising, Message, StoreAccess, Instr, Issue, Lines, Values, Layout, Effect, effect, State, finished, issue_of, predicting, ReorderBuffer, changed, Entry, Finished, broadcast, broadcast_turn, is_mispredicted, mends_early, with_broadcast, with_recovery, Hardware, Turn, effect_message, result_of_word, layout_of, seen, redirected, Leaves, kept_by_turns, arith}
+use Rattle.rv_hardware.proofs.Words.{◌≡◌, ℕ, ◌+◌, ◌%◌, true, false, List, [], ◌∷◌, ◌++◌, length, is_none, Option, sym, ap, ◌∙◌, subst, and_parts, false≢true, is_branch_or_jump, is_serialising, Message, StoreAccess, Instr, Issue, Lines, Values, Layout, Effect, effect, State, finished, issue_of, predicting, ReorderBuffer, changed, Entry, Finished, broadcast, broadcast_turn, is_mispredicted, mends_early, with_broadcast, with_recovery, Hardware, Turn, effect_message, result_of_word, layout_of, seen, Leaves, kept_by_turns, arith}
 use Rattle.rv_hardware.proofs.Headline.Fold.{result_at, behind, IsResult, AreInFlight}
 use Rattle.rv_hardware.proofs.Headline.Invariant.{FollowsProgram, IsSoundAt, with_other_program}
 use Rattle.rv_hardware.proofs.Headline.Retires.{IsTold, effect_told}
@@ -44,11 +44,11 @@ module _ (values : Values) (cycle : ℕ) (state : State) (h : Hardware) (is : Is
 
   program_known : FollowsProgram layout s (with_broadcast seq message h).rob.entries h.front
   program_known =
-      FollowsProgram-staged layout s older e younger (Finished (issue_of e.stage) h.cycle message) h.front h.rob.entries _ sent.place
+      FollowsProgram-staged layout s older e younger (Finished (issue_of e.stage) h.cycle message) sent.place
       (sent_entries h older younger e message sent.place) result is.sound.program
 
   broadcast_one : IsSoundAt values cycle state (with_broadcast seq message h)
-  broadcast_one = with_other_program values cycle state h is h.units (changed (finished message h.cycle) seq h.rob) h.front program_known
+  broadcast_one = with_other_program is h.units (changed (finished message h.cycle) seq h.rob) program_known
 
   -- ---- early recovery: fetch begins anew where the instruction goes on
   abbrev mended : Entry
@@ -65,7 +65,7 @@ module _ (values : Values) (cycle : ℕ) (state : State) (h : Hardware) (is : Is
       AreInFlight-append layout s s older (mended ∷ []) (AreInFlight-older layout s s older (known ∷ younger) both)
       (record { pc = here.pc; word = here.word; instruction = here.instruction; aligned = aligned; result = here.result }, tt) in
       let rob : ReorderBuffer = (with_recovery seq message (with_broadcast seq message h)).rob in
-      with_other_program values cycle state h is h.units rob (redirected message.next_pc h.front) (record {
+      with_other_program is h.units rob (record {
         in_flight = subst (AreInFlight layout s s) (sym after) now;
         buffered = sym (ap (λ (es : List Entry). (behind layout es s).pc) after ∙ ap (λ (t : State). t.pc) (behind-append layout older (mended ∷ []) s));
         aligned = aligned;
@@ -75,15 +75,15 @@ module _ (values : Values) (cycle : ℕ) (state : State) (h : Hardware) (is : Is
   aligned_next wrong = grind (arith, and_parts, after_aligned, AreInFlight-older, result, aligned_result, plain_jump)
 
 module _ (values : Values) (cycle : ℕ) (state : State) where
-  turn_kept : (h : Hardware) (t : Turn Hardware) → BroadcastTurn h t → IsSoundAt values cycle state h →
+  turn_kept : {h : Hardware} {t : Turn Hardware} → BroadcastTurn h t → IsSoundAt values cycle state h →
       Leaves (IsSoundAt values cycle state) t
-  turn_kept h _ (no_result none) is = is
-  turn_kept h _ (sends older younger e issue message sent late) is = broadcast_one values cycle state h is older younger e issue message sent
-  turn_kept h _ (mends older younger e issue message sent early) is =
+  turn_kept (no_result none) is = is
+  turn_kept {h} (sends older younger e issue message sent late) is = broadcast_one values cycle state h is older younger e issue message sent
+  turn_kept {h} (mends older younger e issue message sent early) is =
       let wrong = (and_parts (mends_early h.values.recovery) (is_mispredicted e message) early).1 in
       recovered_one values cycle state h is older younger e issue message sent (aligned_next values cycle state h is older younger e issue message sent wrong)
 
   -- the broadcast phase keeps the hardware sound, with the same state seen
-  pub broadcast_kept : (h : Hardware) → IsSoundAt values cycle state h → IsSoundAt values cycle state (broadcast h)
-  broadcast_kept h is =
-      kept_by_turns (IsSoundAt values cycle state) broadcast_turn (λ now. turn_kept now (broadcast_turn now) (broadcast_turn_is now)) h.values.bus_width h is
+  pub broadcast_kept : {h : Hardware} → IsSoundAt values cycle state h → IsSoundAt values cycle state (broadcast h)
+  broadcast_kept {h} is =
+      kept_by_turns (IsSoundAt values cycle state) broadcast_turn (λ now. turn_kept (broadcast_turn_is now)) h.values.bus_width h is

@@ -17,7 +17,7 @@ unwrap_or-or : (a b : Option ℕ) (d : ℕ) → unwrap_or (option_or a b) d ≡ 
 unwrap_or-or a b d = grind arith
 
 module _ (layout : Layout) where
-  module _ (access : StoreAccess) (legal : IsStoreAccess layout access) (xs : List ℕ) (size : length xs ≡ layout.size) (i : ℕ) where
+  module _ {access : StoreAccess} (legal : IsStoreAccess layout access) (xs : List ℕ) (size : length xs ≡ layout.size) (i : ℕ) where
     abbrev at : ℕ
     at = access.address - layout.base
 

@@ -1,5 +1,5 @@
 -- The commit phase takes the steps of the one-at-a-time machine.
-use Rattle.rv_hardware.proofs.Words.{◌≡◌, ℕ, ◌*◌, Bool, true, false, ◌↔◌, List, [], ◌∷◌, ◌++◌, IfSome, if◌then◌else◌, nat_eq, ◌==◌, Some, None, Option, unwrap_or, sym, refl, ap, ◌∙◌, subst, arith, eqb-true, false≢true, code_of, is_serialising, Message, Cause, Fault, Instr, Csr, FenceI, Mret, Lines, Layout, is_in_ram, word_of, faulted_at, retired_at, due, Effect, Faults, Retires, effect, State, interrupted, stale, trap_taken, interrupt_cause, head_retired, Entry, Committing, commit, commit_turn, commit_turn_of, commit_unless, execute_head, finish_broadcast, finish_head, head_turn, is_drained, stop_of, take_effect, with_fault, with_write_back, write_back_time, Hardware, IsTrueCycle, Lead, nowhere, reference_step, broadcast_of, Ends, GoesOn, row_of, with_result, written_of, layout_of, seen, with_state, flushed, is_breakpoint_cause, Step, Leads, left_by_turns, Values}
+use Rattle.rv_hardware.proofs.Words.{◌≡◌, ℕ, ◌*◌, Bool, true, false, ◌↔◌, List, [], ◌∷◌, ◌++◌, IfSome, if◌then◌else◌, nat_eq, ◌==◌, Some, None, Option, unwrap_or, sym, refl, ap, ◌∙◌, subst, arith, eqb-true, false≢true, code_of, is_serialising, Message, Cause, Fault, Instr, Csr, FenceI, Mret, Lines, Layout, is_in_ram, word_of, faulted_at, retired_at, due, Effect, Faults, Retires, effect, State, interrupted, stale, trap_taken, interrupt_cause, head_retired, Entry, Committing, commit, commit_turn, commit_turn_of, commit_unless, execute_head, finish_broadcast, finish_head, head_turn, is_drained, take_effect, with_fault, with_write_back, write_back_time, Hardware, IsTrueCycle, Lead, nowhere, reference_step, broadcast_of, Ends, GoesOn, row_of, with_result, written_of, layout_of, seen, with_state, flushed, is_breakpoint_cause, Step, Leads, left_by_turns, Values}
 use Rattle.std.specs.FinSet as set
 use Rattle.rv_arch.specs.Step.{Step as MachineStep}
 use Rattle.rv_arch.specs.declared.outcome.RefStep.TheVariants as machine
@@ -46,7 +46,7 @@ module _ (lines : Lines) (before : State) (old : Hardware) where
   done c going = record {
     stays = going.stays;
     sound = going.sound;
-    true_cycle = true_retirements (layout_of c.hardware.values) c.hardware.lines c.hardware.cycle before (seen c.hardware) c.steps going.leads going.retirements c.stop
+    true_cycle = true_retirements c.hardware.cycle going.leads going.retirements
         (λ is. let none = going.no_stop in cc) (λ pc is. absurd (let none = going.no_stop in cc));
   }
 
@@ -61,14 +61,16 @@ module _ (lines : Lines) (before : State) (old : Hardware) where
     s = seen h
 
     -- ---- a trap ends the phase
-    trap_done : (e : Entry) (cause : Cause) (value : ℕ) → e.pc ≡ s.pc → MachineStep layout s h.lines (machine.Trap s.pc cause value) (trap_taken s (code_of cause) value) → IsDone lines before old (with_fault e cause value c)
+    trap_done : (e : Entry) (cause : Cause) (value : ℕ) → e.pc ≡ s.pc →
+        MachineStep layout s h.lines (machine.Trap s.pc cause value) (trap_taken s (code_of cause) value) →
+        IsDone lines before old (with_fault e cause value c)
     trap_done e cause value here takes =
         let now : MachineStep layout s h.lines (machine.Trap e.pc cause value) (trap_taken s (code_of cause) value) =
         subst (λ pc. MachineStep layout s h.lines (machine.Trap pc cause value) (trap_taken s (code_of cause) value)) (sym here) takes in
         record {
           stays = going.stays;
           sound = trap_sound h (code_of cause) value going.sound.memory;
-          true_cycle = true_push layout h.lines h.cycle before s c.steps going.leads going.retirements (step.Trap e.pc cause value h.cycle) (trap_taken s (code_of cause) value) (stop_of cause) now refl
+          true_cycle = true_push h.cycle going.leads going.retirements (step.Trap e.pc cause value h.cycle) (trap_taken s (code_of cause) value) now refl
               (stop_by (is_breakpoint_cause cause)) (no_stale_by (is_breakpoint_cause cause));
         }
 
@@ -101,39 +103,41 @@ module _ (lines : Lines) (before : State) (old : Hardware) where
           calm = going.calm;
           sound = result_sound h e message going.sound es entries result takes.tells.store (eqb-true message.next_pc e.predicted_next is) takes.tells.aligned;
           leads = true_cycle_leads going.leads row retired_now;
-          retirements = retirements_push h.cycle c.steps row going.retirements refl refl;
+          retirements = retirements_push c.steps row going.retirements refl refl;
           no_stop = going.no_stop;
         }
         retire_done false is = record {
           stays = going.stays;
           sound = flushed_sound after takes.tells.aligned going.sound.mepc_aligned (memory_stored h.values h.stale h.cache h.committed going.sound.memory h.rob.retired message.store takes.tells.store);
-          true_cycle = true_push layout h.lines h.cycle before s c.steps going.leads going.retirements row (seen after) c.stop retired_now refl
+          true_cycle = true_push h.cycle going.leads going.retirements row (seen after) retired_now refl
               ((λ is. let none = going.no_stop in absurd (cc)), (λ is. absurd (false≢true is))) (λ pc is. let none = going.no_stop in cc);
         }
 
-      step_done : (message : Message) → message ≡ result_at layout s e → (fault : Option Fault) → message.fault ≡ fault → IsStepOf layout s h.lines e.word e.instruction message fault →
+      step_done : {message : Message} → message ≡ result_at layout s e → {fault : Option Fault} → message.fault ≡ fault → IsStepOf layout s h.lines e.word e.instruction message fault →
           Leads (IsGoing lines before old) (IsDone lines before old) (finish_head e message fault c)
-      step_done message result fault is takes = grind (arith, retire_done, trap_done, here)
+      step_done result is takes = grind (arith, retire_done, trap_done, here)
 
       broadcast_done : is_serialising e.instruction ≡ false → (o : Option Message) → IfSome o (λ b. b ≡ result_at layout s e) →
           Leads (IsGoing lines before old) (IsDone lines before old) (finish_broadcast e o c)
       broadcast_done plain None result = done c going
       broadcast_done plain (Some message) result =
-          step_done message result message.fault refl (step_of layout s h.lines going.sound.pc_aligned e.word e.instruction message plain ready result)
+          step_done result refl (step_of layout s h.lines going.sound.pc_aligned plain ready result)
 
       plain_done : is_serialising e.instruction ≡ false → Leads (IsGoing lines before old) (IsDone lines before old) (finish_broadcast e (broadcast_of e.stage) c)
       plain_done plain = broadcast_done plain (broadcast_of e.stage) (broadcast_is e.stage (result_at layout s e) all.0.result)
 
       -- ---- a serialising instruction executes
-      effect_done : (i : Instr) → e.instruction ≡ Some i → (eff : Effect) → effect layout s h.lines (unwrap_or e.word 0) i ≡ eff → IsSerialEffect h eff → IsDone lines before old (take_effect e eff c)
-      effect_done i is eff gives serial =
+      effect_done : {i : Instr} → e.instruction ≡ Some i → {eff : Effect} → effect layout s h.lines (unwrap_or e.word 0) i ≡ eff → IsSerialEffect h eff → IsDone lines before old (take_effect e eff c)
+      effect_done {i} is {eff} gives serial =
           let known : IsReadyHead layout s h.lines e.word (Some i) = subst (IsReadyHead layout s h.lines e.word) is ready in
           let word = some_word layout s h.lines e.word i known in
           by_effect eff gives serial (subst (λ (w : Option ℕ). IsReadyHead layout s h.lines w (Some i)) word known) where
-            by_effect : (eff : Effect) → effect layout s h.lines (unwrap_or e.word 0) i ≡ eff → IsSerialEffect h eff → IsReadyHead layout s h.lines (Some (unwrap_or e.word 0)) (Some i) → IsDone lines before old (take_effect e eff c)
+            by_effect : (eff : Effect) → effect layout s h.lines (unwrap_or e.word 0) i ≡ eff → IsSerialEffect h eff →
+                IsReadyHead layout s h.lines (Some (unwrap_or e.word 0)) (Some i) →
+                IsDone lines before old (take_effect e eff c)
             by_effect (Faults cause value) gives serial known =
                 let word = unwrap_or e.word 0 in
-                trap_done e cause value here (faulted_at layout s h.lines (fetched layout s h.lines word (Some i) known) word (word_here layout s h.lines word (Some i) known) i (decoded layout s h.lines word i known) cause value gives)
+                trap_done e cause value here (faulted_at layout s h.lines (fetched layout s h.lines known) word (word_here layout s h.lines known) i (decoded layout s h.lines known) cause value gives)
             by_effect (Retires register next) gives serial known =
                 let word = unwrap_or e.word 0 in
                 let row : Step = row_of e register h.cycle in
@@ -141,16 +145,16 @@ module _ (lines : Lines) (before : State) (old : Hardware) where
                 let same : next ≡ seen (flushed after) = ap (λ (ram : List ℕ). record next { ram = ram }) serial.ram_is in
                 let now : MachineStep layout s h.lines (reference_step row) (seen (flushed after)) =
                 subst (λ (t : State). MachineStep layout s h.lines (reference_step row) t) same
-                (retired_at layout s h.lines (fetched layout s h.lines word (Some i) known) e.pc here word (word_here layout s h.lines word (Some i) known) i (decoded layout s h.lines word i known) register next gives) in
+                (retired_at layout s h.lines (fetched layout s h.lines known) e.pc here word (word_here layout s h.lines known) i (decoded layout s h.lines known) register next gives) in
                 record {
                   stays = going.stays;
                   sound = flushed_sound after serial.pc_aligned serial.mepc_aligned serial.memory;
-                  true_cycle = true_push layout h.lines h.cycle before s c.steps going.leads going.retirements row (seen (flushed after)) c.stop now refl
+                  true_cycle = true_push h.cycle going.leads going.retirements row (seen (flushed after)) now refl
                       ((λ is. let none = going.no_stop in absurd (cc)), (λ is. absurd (false≢true is))) (λ pc is. let none = going.no_stop in cc);
                 }
 
   -- ---- FENCE.I may wait
-  module _ (c : Committing) (going : IsGoing lines before old c) where
+  module _ {c : Committing} (going : IsGoing lines before old c) where
     abbrev written_back : Committing
     written_back = record c { hardware = with_write_back c.hardware }
 
@@ -163,14 +167,14 @@ module _ (lines : Lines) (before : State) (old : Hardware) where
       fence_by false clean drained is = done c going
       fence_by true false drained is = done written_back going_on
       fence_by true true drained is =
-          effect_done written_back going_on e es entries not_stale FenceI is _ refl
-          (fence_serial c.hardware going.sound drained c.hardware.lines (unwrap_or e.word 0))
+          effect_done written_back going_on e es entries not_stale is refl
+          (fence_serial going.sound drained c.hardware.lines (unwrap_or e.word 0))
 
       head_done : (i : Option Instr) → e.instruction ≡ i → Leads (IsGoing lines before old) (IsDone lines before old) (head_turn e i c)
       head_done (Some FenceI) is = fence_by (is_drained c.hardware) (write_back_time c.hardware == 0) refl is
       head_done (Some (Csr op rd address source)) is =
-          effect_done c going e es entries not_stale (Csr op rd address source) is _ refl (csr_serial c.hardware going.sound c.hardware.lines (unwrap_or e.word 0) op rd address source)
-      head_done (Some Mret) is = effect_done c going e es entries not_stale Mret is _ refl (mret_serial c.hardware going.sound c.hardware.lines (unwrap_or e.word 0))
+          effect_done c going e es entries not_stale is refl (csr_serial going.sound c.hardware.lines (unwrap_or e.word 0) op rd address source)
+      head_done (Some Mret) is = effect_done c going e es entries not_stale is refl (mret_serial going.sound c.hardware.lines (unwrap_or e.word 0))
       head_done i is = plain_done c going e es entries not_stale (ap is_serialising is)
 
     -- ---- a turn
@@ -192,8 +196,7 @@ module _ (lines : Lines) (before : State) (old : Hardware) where
         record {
           stays = going.stays;
           sound = going.sound;
-          true_cycle = true_retirements (layout_of c.hardware.values) c.hardware.lines c.hardware.cycle before (seen c.hardware) c.steps going.leads going.retirements (Some (stop.Stale e.pc))
-              (λ is. cc)
+          true_cycle = true_retirements c.hardware.cycle going.leads going.retirements (λ is. cc)
               (λ pc is. subst (λ n. MachineStep (layout_of c.hardware.values) (seen c.hardware) c.hardware.lines (machine.Stale n) (seen c.hardware)) (cc) found);
         }
 
@@ -201,7 +204,7 @@ module _ (lines : Lines) (before : State) (old : Hardware) where
   pub turn_done : (c : Committing) (entries : List Entry) → c.hardware.rob.entries ≡ entries → IsGoing lines before old c →
       Leads (IsGoing lines before old) (IsDone lines before old) (commit_turn_of set.contains entries c)
   turn_done c [] are going = done c going
-  turn_done c (e ∷ es) are going = turn_by c going e es are (set.contains c.hardware.stale (word_of e.pc)) refl
+  turn_done c (e ∷ es) are going = turn_by going e es are (set.contains c.hardware.stale (word_of e.pc)) refl
 
 -- ---- the whole phase
 module _ (h : Hardware) (is : IsSound h) where
@@ -217,11 +220,11 @@ module _ (h : Hardware) (is : IsSound h) where
   commit_by (Some code) now = record {
     stays = unchanged;
     sound = trap_sound h (interrupt_cause code) 0 is.memory;
-    true_cycle = true_push (layout_of h.values) h.lines h.cycle (seen h) (seen h) [] nowhere tt (step.Interrupt h.pc (interrupt_cause code) h.cycle) (trap_taken (seen h) (interrupt_cause code) 0) None
+    true_cycle = true_push h.cycle nowhere tt (step.Interrupt h.pc (interrupt_cause code) h.cycle) (trap_taken (seen h) (interrupt_cause code) 0)
         (interrupted code now) refl ((λ same. absurd (cc)), (λ same. absurd (false≢true same))) (λ pc same. cc);
   }
   commit_by None now =
-      left_by_turns (IsGoing h.lines (seen h) h) (IsDone h.lines (seen h) h) (commit_turn set.contains) (λ c going. turn_done h.lines (seen h) h c c.hardware.rob.entries refl going) (done h.lines (seen h) h)
+      left_by_turns (commit_turn set.contains) (λ c going. turn_done h.lines (seen h) h c c.hardware.rob.entries refl going) (done h.lines (seen h) h)
       h.values.commit_width (record { hardware = h; steps = []; stop = None }) (begins_going now)
 
   -- the whole commit phase reports a true cycle, and leaves sound hardware

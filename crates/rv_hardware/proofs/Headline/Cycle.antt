@@ -1,5 +1,5 @@
 -- What a cycle reports leads from what programs saw before it to what they see after it.
-use Rattle.rv_hardware.proofs.Words.{◌≡◌, ℕ, ◌+◌, sym, refl, subst, Lines, Values, State, broadcast, IsCycle, any_prediction, execute, with_lines, Dispatching, drain, Hardware, IsTrueCycle, issue, Report, Reachable, layout_of, seen, always}
+use Rattle.rv_hardware.proofs.Words.{◌≡◌, ℕ, ◌+◌, sym, refl, subst, Lines, Values, State, IsCycle, any_prediction, execute, with_lines, Dispatching, Hardware, IsTrueCycle, Report, Reachable, layout_of, seen, always}
 use Rattle.rv_hardware.proofs.Headline.Broadcast.{broadcast_kept}
 use Rattle.rv_hardware.proofs.Headline.Commit.{IsDone, commit_done}
 use Rattle.rv_hardware.proofs.Headline.Dispatch.{dispatch_kept}
@@ -23,8 +23,7 @@ lines_sound lines h is = record { pc_aligned = is.pc_aligned; mepc_aligned = is.
 -- the phases from drain to dispatch keep the hardware sound, with the same state seen
 pub execute_kept : (values : Values) (cycle : ℕ) (s : State) (h : Hardware) → IsSoundAt values cycle s h → IsSoundAt values cycle s (execute h).hardware
 execute_kept values cycle s h is =
-    dispatch_kept values cycle s (broadcast (issue (drain h)))
-    (broadcast_kept values cycle s (issue (drain h)) (issue_kept values cycle s (drain h) (drain_kept values cycle s h is)))
+    dispatch_kept values cycle s (broadcast_kept values cycle s (issue_kept values cycle s (drain_kept is)))
 
 -- a cycle of sound hardware is true, and leaves sound hardware
 pub cycle_true : (lines : Lines) (old : Hardware) (report : Report) (new : Hardware) → IsSound old → IsCycle any_prediction lines old report new → GoesOnTrue lines old report new
@@ -39,7 +38,7 @@ cycle_true lines old report new is c =
     subst (λ (d : Dispatching). IsSoundAt old.values old.cycle (seen h) d.hardware) (sym c.executes) (execute_kept old.values old.cycle (seen h) h start) in
     let fetched : IsSoundAt old.values (old.cycle + 1) (seen h) new =
     subst (IsSoundAt old.values (old.cycle + 1) (seen h)) (sym c.others_stay)
-    (fetch_kept any_prediction old.values old.cycle (seen h) c.dispatching.hardware executed new.front c.fetch_stop old.cycle (old.cycle + 1) c.fetches) in
+    (fetch_kept any_prediction executed new.front c.fetch_stop old.cycle (old.cycle + 1) c.fetches) in
     record {
       values_are = fetched.values_are;
       cycle_is = fetched.cycle_is;
@@ -57,7 +56,7 @@ cycle_true lines old report new is c =
 
 -- it always holds
 pub always_sound : {h : Hardware} → Reachable h → IsSound h
-always_sound reached = always IsSound reset_sound (λ old new lines report before is below cycles. (cycle_true lines old report new is cycles).sound) reached
+always_sound reached = always reset_sound (λ old new lines report before is below cycles. (cycle_true lines old report new is cycles).sound) reached
 
 -- The theorem for one cycle.
 pub headline_of_cycle : (lines : Lines) (old : Hardware) (report : Report) (new : Hardware) → Reachable old → IsCycle any_prediction lines old report new →

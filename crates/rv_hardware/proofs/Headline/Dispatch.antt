@@ -39,11 +39,11 @@ module _ (h : Hardware) (fetched : Fetched) where
 
 module _ (values : Values) (cycle : ℕ) (state : State) where
   -- the dispatch phase keeps the hardware sound, with the same state seen
-  pub dispatch_kept : (h : Hardware) → IsSoundAt values cycle state h → IsSoundAt values cycle state (dispatch h).hardware
-  dispatch_kept h is =
+  pub dispatch_kept : {h : Hardware} → IsSoundAt values cycle state h → IsSoundAt values cycle state (dispatch h).hardware
+  dispatch_kept {h} is =
       dispatch-keeps {P = IsSoundAt values cycle state} (record {
         dispatches = λ h fetched rest is first none.
-            with_other_program values cycle state h is h.units (pushed (entry_of_fetched h fetched) h.rob) (record h.front { entries = rest })
+            with_other_program is h.units (pushed (entry_of_fetched h fetched) h.rob)
             (dispatched_program h fetched rest
             (subst (λ (es : List Fetched). FollowsProgram (layout_of h.values) (seen h) h.rob.entries (record h.front { entries = es })) first is.sound.program));
       }) h is

@@ -6,7 +6,7 @@ use Rattle.rv_hardware.proofs.Headline.Victim.{access_mixed}
 use Rattle.rv_hardware.proofs.Headline.Words.{length-stored, stored_again, bytes_after-fresh}
 
 -- ---- other stores and bytes, after which programs see the same
-module _ (values : Values) (cycle : ℕ) (s : State) (h : Hardware) (is : IsSoundAt values cycle s h) where
+module _ {values : Values} {cycle : ℕ} {s : State} {h : Hardware} (is : IsSoundAt values cycle s h) where
   -- the hardware with other memory, where that holds what it has to, and programs see the same
   pub with_other_memory : (new : Hardware) → new.values ≡ h.values → new.cycle ≡ h.cycle → new.pc ≡ h.pc → new.csrs ≡ h.csrs →
       new.rob ≡ h.rob → new.front ≡ h.front → seen new ≡ seen h → HoldsMemory new.values new.stale new.cache new.committed → IsSoundAt values cycle s new
@@ -35,7 +35,7 @@ module _ (values : Values) (cycle : ℕ) (state : State) (h : Hardware) where
       let same : bytes_after h.values.ram_base ss h.cache.bytes ≡ bytes_after h.values.ram_base (s ∷ ss) h.cache.bytes =
       ap (bytes_after h.values.ram_base ss) (sym (was.drains.0 is)) in
       let same_seen : seen (with_stores ss) ≡ seen (with_stores (s ∷ ss)) = ap (λ (ram : List ℕ). record (seen h) { ram = ram }) same in
-      with_other_memory values cycle state (with_stores (s ∷ ss)) sound (with_stores ss) refl refl refl refl refl refl same_seen (record {
+      with_other_memory sound (with_stores ss) refl refl refl refl refl refl same_seen (record {
         place = was.place;
         cache_size = was.cache_size;
         consistent = was.consistent;
@@ -91,7 +91,7 @@ module _ (values : Values) (cycle : ℕ) (state : State) (h : Hardware) where
     in_cache =
         ap (λ (state : StoreState). with_store base state new.cache.bytes) drained_is
         ∙ ap (λ (xs : List ℕ). overwritten xs place access.bytes) bytes_are
-        ∙ stored_again (layout_of h.values) access legal h.cache.bytes was.cache_size
+        ∙ stored_again legal h.cache.bytes was.cache_size
         ∙ sym bytes_are
 
     same_ram : bytes_after base (drained ∷ ss) new.cache.bytes ≡ bytes_after base (s ∷ ss) h.cache.bytes
@@ -113,9 +113,9 @@ module _ (values : Values) (cycle : ℕ) (state : State) (h : Hardware) where
     start_one : IsSoundAt values cycle state new
     start_one =
         let mixed = access_mixed h.cache access.address h.cache.backing.bytes was.consistent.size in
-        with_other_memory values cycle state old sound new refl refl refl refl refl refl same_seen (record {
+        with_other_memory sound new refl refl refl refl refl refl same_seen (record {
           place = was.place;
-          cache_size = ap length bytes_are ∙ length-stored (layout_of h.values) access legal h.cache.bytes was.cache_size;
+          cache_size = ap length bytes_are ∙ length-stored legal h.cache.bytes was.cache_size;
           consistent = consistent;
           retired = (
             record {
@@ -146,11 +146,11 @@ module _ (values : Values) (cycle : ℕ) (state : State) (h : Hardware) where
   pub start_kept : (stores : List QueuedStore) → IsSoundAt values cycle state (with_stores stores) → IsSoundAt values cycle state (start_drain (oldest_to_drain stores) (with_stores stores))
   start_kept stores sound = grind (arith, start_first)
 
-drain_by : (b : Bool) (values : Values) (cycle : ℕ) (state : State) (h : Hardware) → IsSoundAt values cycle state h →
+drain_by : (b : Bool) {values : Values} {cycle : ℕ} {state : State} {h : Hardware} → IsSoundAt values cycle state h →
     IsSoundAt values cycle state (if b then start_drain (oldest_to_drain (end_drain h).committed) (end_drain h) else h)
-drain_by false values cycle state h sound = sound
-drain_by true values cycle state h sound = start_kept values cycle state h (without_drained h.committed) (end_kept values cycle state h h.committed sound)
+drain_by false sound = sound
+drain_by true {values} {cycle} {state} {h} sound = start_kept values cycle state h (without_drained h.committed) (end_kept values cycle state h h.committed sound)
 
 -- the drain phase keeps the hardware sound, with the same state seen
-pub drain_kept : (values : Values) (cycle : ℕ) (state : State) (h : Hardware) → IsSoundAt values cycle state h → IsSoundAt values cycle state (drain h)
-drain_kept values cycle state h sound = drain_by (nat_le h.port_free h.cycle) values cycle state h sound
+pub drain_kept : {values : Values} {cycle : ℕ} {state : State} {h : Hardware} → IsSoundAt values cycle state h → IsSoundAt values cycle state (drain h)
+drain_kept {values} {cycle} {state} {h} sound = drain_by (nat_le h.port_free h.cycle) sound

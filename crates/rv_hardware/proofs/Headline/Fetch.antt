@@ -4,7 +4,8 @@ use Rattle.rv_hardware.proofs.Headline.Fold.{IsWordAt, IsInBuffer, AreInBuffer}
 use Rattle.rv_hardware.proofs.Headline.Invariant.{FollowsProgram, IsSound, IsSoundAt}
 use Rattle.rv_hardware.proofs.Headline.Words.{fetched_same, length-bytes_after}
 
-AreInBuffer-append : (layout : Layout) (s : State) (pc middle next : ℕ) (xs ys : List Fetched) → AreInBuffer layout s pc xs middle → AreInBuffer layout s middle ys next → AreInBuffer layout s pc (xs ++ ys) next
+AreInBuffer-append : (layout : Layout) (s : State) (pc middle next : ℕ) (xs ys : List Fetched) →
+    AreInBuffer layout s pc xs middle → AreInBuffer layout s middle ys next → AreInBuffer layout s pc (xs ++ ys) next
 AreInBuffer-append layout s pc middle next [] ys at rest = subst (λ (n : ℕ). AreInBuffer layout s n ys next) at rest
 AreInBuffer-append layout s pc middle next (x ∷ xs) ys all rest = (all.0, AreInBuffer-append layout s x.predicted middle next xs ys all.1 rest)
 
@@ -37,7 +38,9 @@ module _ (answers : Answers) (layout : Layout) (ram : Memory) (s : State) (cycle
       FollowsProgram layout s entries new
   into_by halted entries old new stop given holds = grind (arith, added, AreInBuffer-append)
 
-  pub fetched_program : (entries : List Entry) (old new : FetchBuffer) (stop : FetchStop) → FollowsProgram layout s entries old → FetchesInto answers ram cycle old new stop → FollowsProgram layout s entries new
+  pub fetched_program : (entries : List Entry) (old new : FetchBuffer) (stop : FetchStop) →
+      FollowsProgram layout s entries old → FetchesInto answers ram cycle old new stop →
+      FollowsProgram layout s entries new
   fetched_program entries old new stop program fetches = into_by old.halted entries old new stop program fetches
 
 -- RAM's words are those that programs see, unless they are stale
@@ -45,9 +48,9 @@ pub fresh_words : (h : Hardware) → IsSound h → (pc : ℕ) → pc % 4 ≡ 0 �
 fresh_words h is pc aligned not_stale = grind (arith, fetched_same, length-bytes_after)
 
 -- the hardware once its words were fetched
-pub fetch_kept : (answers : Answers) (values : Values) (cycle : ℕ) (s : State) (h : Hardware) → IsSoundAt values cycle s h → (front : FetchBuffer) (stop : FetchStop) (now next : ℕ) →
+pub fetch_kept : (answers : Answers) {values : Values} {cycle : ℕ} {s : State} {h : Hardware} → IsSoundAt values cycle s h → (front : FetchBuffer) (stop : FetchStop) (now next : ℕ) →
     FetchesInto answers h.cache.backing now h.front front stop → IsSoundAt values next s (record h { front = front; cycle = next })
-fetch_kept answers values cycle s h is front stop now next fetches = record {
+fetch_kept answers {h} is front stop now next fetches = record {
   values_are = is.values_are;
   cycle_is = refl;
   sees = is.sees;

@@ -31,23 +31,23 @@ module _ (layout : Layout) (s : State) (lines : Lines) where
     pub word_is : word ≡ fetched_word layout s.ram s.pc
     pub instruction_is : instruction ≡ option_and_then instruction_of word
 
-  pub outside : (instruction : Option Instr) → IsReadyHead None instruction → is_in_ram layout s.pc 4 ≡ false
-  outside instruction ready = outside_by (is_in_ram layout s.pc 4) (number_at layout s.ram s.pc 4) (sym ready.word_is)
+  pub outside : {instruction : Option Instr} → IsReadyHead None instruction → is_in_ram layout s.pc 4 ≡ false
+  outside ready = outside_by (is_in_ram layout s.pc 4) (number_at layout s.ram s.pc 4) (sym ready.word_is)
 
-  found : (word : ℕ) (instruction : Option Instr) → IsReadyHead (Some word) instruction → IsWordInside (is_in_ram layout s.pc 4) (word_at_pc layout s) word
-  found word instruction ready = inside_by (is_in_ram layout s.pc 4) (number_at layout s.ram s.pc 4) word (sym ready.word_is)
+  found : {word : ℕ} {instruction : Option Instr} → IsReadyHead (Some word) instruction → IsWordInside (is_in_ram layout s.pc 4) (word_at_pc layout s) word
+  found {word} ready = inside_by (is_in_ram layout s.pc 4) (number_at layout s.ram s.pc 4) word (sym ready.word_is)
 
   -- the word of a ready instruction can be fetched at the state's pc
-  pub fetched : (word : ℕ) (instruction : Option Instr) → IsReadyHead (Some word) instruction → IsFetched layout s lines
-  fetched word instruction ready = record { undisturbed = ready.calm; in_ram = (found word instruction ready).within; fresh = ready.fresh }
+  pub fetched : {word : ℕ} {instruction : Option Instr} → IsReadyHead (Some word) instruction → IsFetched layout s lines
+  fetched {word} {instruction} ready = record { undisturbed = ready.calm; in_ram = (found ready).within; fresh = ready.fresh }
 
   -- the word of a ready instruction is the one that memory holds at the pc
-  pub word_here : (word : ℕ) (instruction : Option Instr) → IsReadyHead (Some word) instruction → word ≡ word_at_pc layout s
-  word_here word instruction ready = (found word instruction ready).is
+  pub word_here : {word : ℕ} {instruction : Option Instr} → IsReadyHead (Some word) instruction → word ≡ word_at_pc layout s
+  word_here {word} {instruction} ready = (found ready).is
 
   -- the instruction of a ready word is what the word decodes to
-  pub decoded : (word : ℕ) (i : Instr) → IsReadyHead (Some word) (Some i) → Decodes word i
-  decoded word i ready = Decodes-instruction_of word i (sym ready.instruction_is)
+  pub decoded : {word : ℕ} {i : Instr} → IsReadyHead (Some word) (Some i) → Decodes word i
+  decoded {word} {i} ready = Decodes-instruction_of word i (sym ready.instruction_is)
 
   -- an instruction that was fetched has a word
   pub some_word : (word : Option ℕ) (i : Instr) → IsReadyHead word (Some i) → word ≡ Some (unwrap_or word 0)
@@ -69,21 +69,21 @@ module _ (layout : Layout) (s : State) (lines : Lines) where
   step_of_effect word i (Retires register next) ready is tells = record {
     next = next;
     takes = subst (λ (r : Option (ℕ × ℕ)). Step layout s lines (Retired s.pc word r) next) tells.register_is
-        (retired_at layout s lines (fetched word (Some i) ready) s.pc refl word (word_here word (Some i) ready) i (decoded word i ready) register next is);
+        (retired_at layout s lines (fetched ready) s.pc refl word (word_here ready) i (decoded ready) register next is);
     tells = subst (λ (r : Option (ℕ × ℕ)). IsRetirement layout s next (target_of i) (effect_message (access_of s i) (Retires register next)) r) tells.register_is tells;
   }
   step_of_effect word i (Faults cause value) ready is tells =
-      faulted_at layout s lines (fetched word (Some i) ready) word (word_here word (Some i) ready) i (decoded word i ready) cause value is
+      faulted_at layout s lines (fetched ready) word (word_here ready) i (decoded ready) cause value is
 
   step_of_result : s.pc % 4 ≡ 0 → (word : Option ℕ) (instruction : Option Instr) → is_serialising instruction ≡ false → IsReadyHead word instruction →
       IsStepOf word instruction (result_of_word layout s lines word instruction) (result_of_word layout s lines word instruction).fault
-  step_of_result here None instruction plain ready = unfetched ready.calm (outside instruction ready)
+  step_of_result here None instruction plain ready = unfetched ready.calm (outside ready)
   step_of_result here (Some word) None plain ready = grind (arith, illegal_at, fetched, word_here, IsIllegal-instruction_of)
   step_of_result here (Some word) (Some i) plain ready = grind (arith, step_of_effect, effect_told)
 
   -- where the message of the oldest instruction is its result, the machine takes that step
-  pub step_of : s.pc % 4 ≡ 0 → (word : Option ℕ) (instruction : Option Instr) (message : Message) → is_serialising instruction ≡ false → IsReadyHead word instruction →
+  pub step_of : s.pc % 4 ≡ 0 → {word : Option ℕ} {instruction : Option Instr} {message : Message} → is_serialising instruction ≡ false → IsReadyHead word instruction →
       message ≡ result_of_word layout s no_lines word instruction → IsStepOf word instruction message message.fault
-  step_of here word instruction message plain ready is =
+  step_of here {word} {instruction} plain ready is =
       let same = is ∙ same_result s s layout no_lines lines refl word instruction plain (reads_itself s (sources_of_word instruction)) (λ loads. refl) in
       subst (λ (m : Message). IsStepOf word instruction m m.fault) (sym same) (step_of_result here word instruction plain ready)

@@ -52,6 +52,6 @@ pub record IsSoundAt (values : Values) (cycle : ℕ) (s : State) (h : Hardware) 
   pub sound : IsSound h
 
 -- the hardware with other instructions in flight
-pub with_other_program : (values : Values) (cycle : ℕ) (s : State) (h : Hardware) → IsSoundAt values cycle s h → (units : PerKind Pool) (rob : ReorderBuffer) (front : FetchBuffer) →
+pub with_other_program : {values : Values} {cycle : ℕ} {s : State} {h : Hardware} → IsSoundAt values cycle s h → (units : PerKind Pool) (rob : ReorderBuffer) {front : FetchBuffer} →
     FollowsProgram (layout_of h.values) (seen h) rob.entries front → IsSoundAt values cycle s (record h { units = units; rob = rob; front = front })
-with_other_program values cycle s h is units rob front given = grind arith
+with_other_program is units rob given = grind arith

@@ -1,5 +1,5 @@
 -- The state in which an instruction executes agrees with the one after the older ones where it looks.
-use Rattle.rv_hardware.proofs.Words.{◌≡◌, ℕ, ◌+◌, ◌≤◌, Bool, true, false, cond, List, [], ◌∷◌, ◌++◌, length, is_some, IfSome, if◌then◌else◌, nat_eq, slice_index, slice_index_or as get_or, slice_set, Some, None, Option, sym, refl, ap, ◌∙◌, true≢false, arith, length-set, get_or-set_other, get_or-set_same, eqb-true, and_parts, cond-false, cond-true, eqb-false, false≢true, get_or_past, set_past, list_all-append, list_all, no_lines, is_load, is_serialising, is_store, is_target, sources_of_word, target_of_word, target_of, Message, Instr, Lines, Layout, Effect, effect, State, register_of, with_register, is_known as is_known_store, is_known_state, Store as QueuedStore, Entry, Stage, Hardware, broadcast_of, is_known_from, bytes_after, registers_after, store_of_broadcast, store_of_message, stores_of, with_store, with_value, writes, has_operands, access_of, effect_message, result_of_word, layout_of, seen, state_after, stores_after}
+use Rattle.rv_hardware.proofs.Words.{◌≡◌, ℕ, ◌+◌, ◌≤◌, Bool, true, false, cond, List, [], ◌∷◌, ◌++◌, length, is_some, IfSome, if◌then◌else◌, nat_eq, slice_index, slice_index_or as get_or, slice_set, Some, None, Option, sym, refl, ap, ◌∙◌, true≢false, arith, length-set, get_or-set_other, get_or-set_same, eqb-true, and_parts, cond-false, cond-true, eqb-false, false≢true, get_or_past, set_past, list_all-append, list_all, no_lines, is_load, is_serialising, is_store, is_target, sources_of_word, target_of_word, target_of, Message, Instr, Lines, Layout, Effect, effect, State, register_of, with_register, is_known as is_known_store, is_known_state, Store as QueuedStore, Entry, Stage, Hardware, broadcast_of, is_known_from, bytes_after, registers_after, store_of_broadcast, store_of_message, stores_of, with_store, with_value, has_operands, access_of, effect_message, result_of_word, layout_of, seen, state_after, stores_after}
 use Rattle.rv_hardware.specs.InFlight.{is_known}
 use Rattle.rv_hardware.proofs.Headline.Fold.{result_at, executed, behind, IsResult, AreInFlight}
 use Rattle.rv_hardware.proofs.Headline.Result.{ReadsSame, same_result}
@@ -48,14 +48,14 @@ pub broadcast_is : (stage : Stage) (result : Message) → IsResult result stage 
 broadcast_is stage result is = grind arith
 
 module _ (layout : Layout) (now : State) where
-  known_from : (older : List Entry) (s : State) (registers : List ℕ) (known : Bool) (r : ℕ) → AreInFlight layout now s older →
+  known_from : (older : List Entry) (s : State) (registers : List ℕ) {known : Bool} (r : ℕ) → AreInFlight layout now s older →
       length registers ≡ length s.registers → (known ≡ true → slice_index registers r ≡ register_of s r) → is_known_from known older r ≡ true →
       slice_index (registers_after registers older) r ≡ register_of (behind layout older s) r
-  known_from [] s registers known r all size same test = same test
-  known_from (e ∷ es) s registers known r all size same test =
+  known_from [] s registers r all size same test = same test
+  known_from (e ∷ es) s registers {known} r all size same test =
       let target = target_of_word e.instruction in
       let message = result_at layout s e in
-      known_from es (executed layout e s) (with_value registers target (broadcast_of e.stage)) (if writes e r then is_some (broadcast_of e.stage) else known) r all.1
+      known_from es (executed layout e s) (with_value registers target (broadcast_of e.stage)) r all.1
       (length-with_value registers target (broadcast_of e.stage) ∙ size ∙ sym (length-with_value s.registers target (Some message)))
       (agree_after_one registers s.registers r known target (broadcast_of e.stage) message size same (target_not_zero e.instruction) (broadcast_is e.stage message all.0.result))
       test
@@ -66,7 +66,7 @@ module _ (layout : Layout) (now : State) where
   operands_known older s t (None ∷ sources) all is has = operands_known older s t sources all is has
   operands_known older s t (Some r ∷ sources) all is has =
       let parts = and_parts (is_known older r) (has_operands older sources) has in (
-        ap (λ (xs : List ℕ). slice_index xs r) is ∙ known_from older s s.registers true r all refl (λ h. refl) parts.0,
+        ap (λ (xs : List ℕ). slice_index xs r) is ∙ known_from older s s.registers r all refl (λ h. refl) parts.0,
         operands_known older s t sources all is parts.1,
       )
 
@@ -87,18 +87,18 @@ store_known : (base : ℕ) (xs ys : List ℕ) (broadcast : Option Message) (mess
 store_known base xs ys broadcast message same is known = grind (arith, false≢true)
 
 module _ (layout : Layout) (now : State) where
-  known_by : (b : Bool) (e : Entry) (es : List Entry) (s : State) (seq : ℕ) (bytes : List ℕ) → is_store e.instruction ≡ b → IsResult (result_at layout s e) e.stage → bytes ≡ s.ram →
+  known_by : {b : Bool} (e : Entry) (es : List Entry) (s : State) (seq : ℕ) {bytes : List ℕ} → is_store e.instruction ≡ b → IsResult (result_at layout s e) e.stage → bytes ≡ s.ram →
       ((bytes' : List ℕ) → bytes' ≡ (executed layout e s).ram → list_all is_known_store (stores_of (seq + 1) es) ≡ true → bytes_after layout.base (stores_of (seq + 1) es) bytes' ≡ (behind layout (e ∷ es) s).ram) →
       list_all is_known_store (if b then record { seq = seq; state = store_of_broadcast (broadcast_of e.stage) } ∷ stores_of (seq + 1) es else stores_of (seq + 1) es) ≡ true →
       bytes_after layout.base (if b then record { seq = seq; state = store_of_broadcast (broadcast_of e.stage) } ∷ stores_of (seq + 1) es else stores_of (seq + 1) es) bytes ≡ (behind layout (e ∷ es) s).ram
-  known_by b e es s seq bytes is result same rest known = grind (arith, and_parts, store_known, broadcast_is, no_store)
+  known_by e es s seq is result same rest known = grind (arith, and_parts, store_known, broadcast_is, no_store)
 
-  pub memory_known : (older : List Entry) (s : State) (seq : ℕ) (bytes : List ℕ) → AreInFlight layout now s older → bytes ≡ s.ram →
+  pub memory_known : (older : List Entry) (s : State) (seq : ℕ) {bytes : List ℕ} → AreInFlight layout now s older → bytes ≡ s.ram →
       list_all is_known_store (stores_of seq older) ≡ true → bytes_after layout.base (stores_of seq older) bytes ≡ (behind layout older s).ram
-  memory_known [] s seq bytes all same known = same
-  memory_known (e ∷ es) s seq bytes all same known =
-      known_by (is_store e.instruction) e es s seq bytes refl all.0.result same
-      (λ bytes' same' known'. memory_known es (executed layout e s) (seq + 1) bytes' all.1 same' known') known
+  memory_known [] s seq all same known = same
+  memory_known (e ∷ es) s seq {bytes} all same known =
+      known_by e es s seq refl all.0.result same
+      (λ bytes' same' known'. memory_known es (executed layout e s) (seq + 1) all.1 same' known') known
 
 -- memory after stores in two parts is memory after the second, begun after the first
 pub bytes_after-append : (base : ℕ) (xs ys : List QueuedStore) (bytes : List ℕ) → bytes_after base (xs ++ ys) bytes ≡ bytes_after base ys (bytes_after base xs bytes)
@@ -117,6 +117,6 @@ module _ (h : Hardware) (older : List Entry) (e : Entry) where
       (operands_known (layout_of h.values) (seen h) older (seen h) (state_after h older e.pc) (sources_of_word e.instruction) all refl has)
       (λ loads.
       bytes_after-append h.values.ram_base h.committed (stores_of h.rob.retired older) h.cache.bytes
-      ∙ memory_known (layout_of h.values) (seen h) older (seen h) h.rob.retired (seen h).ram all refl
+      ∙ memory_known (layout_of h.values) (seen h) older (seen h) h.rob.retired all refl
       (and_parts (list_all is_known_store h.committed) (list_all is_known_store (stores_of h.rob.retired older))
       (sym (list_all-append is_known_store h.committed (stores_of h.rob.retired older)) ∙ known loads)).1)

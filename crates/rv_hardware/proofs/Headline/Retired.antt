@@ -6,15 +6,16 @@ use Rattle.rv_hardware.proofs.Headline.Invariant.{DrainInOrder, HoldsMemory, Fol
 use Rattle.rv_hardware.proofs.Headline.Known.{bytes_after-append}
 use Rattle.rv_hardware.proofs.Headline.Retires.{IsStoreAccess}
 use Rattle.rv_hardware.proofs.Headline.Stage.{after_aligned}
-use Rattle.rv_hardware.proofs.Headline.Words.{IsRetiredStore, IsRetiredStore-more, not_marked, now_marked, marked_before, fetched_same, stored_elsewhere, length-stored, length-bytes_after}
+use Rattle.rv_hardware.proofs.Headline.Words.{IsRetiredStore-more, not_marked, now_marked, marked_before, fetched_same, stored_elsewhere, length-stored, length-bytes_after}
 
 -- ---- what a store leaves
 drains_push : (base : ℕ) (bytes : List ℕ) (ss : List QueuedStore) (s : QueuedStore) → is_draining s ≡ false → DrainInOrder base bytes ss → DrainInOrder base bytes (ss ++ s ∷ [])
 drains_push base bytes ss s given drains = grind (arith, true≢false, Each-push)
 
 -- the word of an access lies in RAM
-word_inside : (layout : Layout) (access : StoreAccess) → layout.base % 4 ≡ 0 → layout.size % 4 ≡ 0 → IsStoreAccess layout access → (1 ≤ length access.bytes) → is_in_ram layout (4 * word_of access.address) 4 ≡ true
-word_inside layout access base size legal some = grind (arith, and_from, le-leb)
+word_inside : {layout : Layout} {access : StoreAccess} → layout.base % 4 ≡ 0 → layout.size % 4 ≡ 0 →
+    IsStoreAccess layout access → (1 ≤ length access.bytes) → is_in_ram layout (4 * word_of access.address) 4 ≡ true
+word_inside base size legal some = grind (arith, and_from, le-leb)
 
 module _ (values : Values) (stale : set.FinSet nat_cmp) (cache : Contents Memory) (committed : List QueuedStore) (was : HoldsMemory values stale cache committed) where
   abbrev layout : Layout
@@ -39,18 +40,18 @@ module _ (values : Values) (stale : set.FinSet nat_cmp) (cache : Contents Memory
         place = was.place;
         cache_size = was.cache_size;
         consistent = was.consistent;
-        retired = Each-push (IsRetiredStore layout (set.insert stale word)) committed new
+        retired = Each-push _ _ new
             (record { access = access; phase = Committed; state_is = refl; retired = refl; legal = legal; marked = now_marked stale word })
-            (Each-weaker (IsRetiredStore layout stale) (IsRetiredStore layout (set.insert stale word)) (λ s. IsRetiredStore-more layout stale word s) committed was.retired);
+            (Each-weaker _ _ (λ s. IsRetiredStore-more layout stale word s) _ was.retired);
         drains = drains_push values.ram_base cache.bytes committed new refl was.drains;
         fresh = λ i fresh.
             let parts = not_marked stale word (word_of (values.ram_base + i)) fresh in
             was.fresh i parts.0
-            ∙ sym (stored_elsewhere layout access legal ram size_seen i parts.1)
+            ∙ sym (stored_elsewhere legal ram size_seen i parts.1)
             ∙ ap (λ (xs : List ℕ). get_or xs i 0) (sym (ram_stored seq (Some access)));
         inside = λ other marked. elim (cases_eq other word) [
           | inl same ↦ subst (λ n. is_in_ram layout (4 * n) 4 ≡ true) (sym same)
-              (word_inside layout access was.place.base_aligned was.place.size_aligned legal legal.some)
+              (word_inside was.place.base_aligned was.place.size_aligned legal legal.some)
           | inr apart ↦ was.inside other (marked_before stale word other marked apart)
         ];
       }
@@ -66,8 +67,8 @@ module _ (values : Values) (stale : set.FinSet nat_cmp) (cache : Contents Memory
         let parts = not_marked s.stale (word_of access.address) (word_of pc) fresh in
         let size = ap length same_ram ∙ size_seen in
         at parts.0
-        ∙ fetched_same layout s.ram (with_store values.ram_base (store_of_message (Some access)) s.ram) pc aligned size (length-stored layout access legal s.ram size)
-        (λ i same. sym (stored_elsewhere layout access legal s.ram size i (λ is. parts.1 (sym same ∙ is))))
+        ∙ fetched_same layout s.ram (with_store values.ram_base (store_of_message (Some access)) s.ram) pc aligned size (length-stored legal s.ram size)
+        (λ i same. sym (stored_elsewhere legal s.ram size i (λ is. parts.1 (sym same ∙ is))))
 
 -- ---- words that stay
 module _ (layout : Layout) (s t : State) (keep : (pc : ℕ) (word : Option ℕ) → pc % 4 ≡ 0 → IsWordAt layout s pc word → IsWordAt layout t pc word) where

@@ -59,9 +59,9 @@ module _ (layout : Layout) (s : State) (here : s.pc % 4 ≡ 0) where
   jumps_by : (b : Bool) (cause : Cause) (rd target : ℕ) → is_aligned target 4 ≡ b → IsTold layout s (written rd) None (if b then writes s rd (pc_plus_4 s.pc) target else Faults cause target)
   jumps_by b cause rd target is = grind (arith, writes_told, is_aligned_by_4)
 
-  branches_by : (taken b : Bool) (cause : Cause) (target : ℕ) → is_aligned target 4 ≡ b →
+  branches_by : (taken : Bool) {b : Bool} (cause : Cause) (target : ℕ) → is_aligned target 4 ≡ b →
       IsTold layout s None None (if taken then (if b then goes_to s target else Faults cause target) else goes_to s (pc_plus_4 s.pc))
-  branches_by taken b cause target is = grind (arith, goes_told, aligned_next, is_aligned_by_4)
+  branches_by taken cause target is = grind (arith, goes_told, aligned_next, is_aligned_by_4)
 
   loads_by : (aligned inside : Bool) (a b : Cause) (rd address value : ℕ) →
       IsTold layout s (written rd) None (if not aligned then Faults a address else (if not inside then Faults b address else writes s rd value (pc_plus_4 s.pc)))
@@ -101,7 +101,7 @@ module _ (layout : Layout) (s : State) (here : s.pc % 4 ≡ 0) where
   effect_told lines word (Auipc rd immediate) plain = writes_told rd _ _ (aligned_next s.pc here)
   effect_told lines word (Jal rd offset) plain = jumps_by _ _ rd _ refl
   effect_told lines word (Jalr rd rs1 offset) plain = jumps_by _ _ rd _ refl
-  effect_told lines word (Branch condition rs1 rs2 offset) plain = branches_by (holds condition (register_of s rs1) (register_of s rs2)) (is_aligned (pc_plus s.pc offset) 4) InstructionAddressMisaligned (pc_plus s.pc offset) refl
+  effect_told lines word (Branch condition rs1 rs2 offset) plain = branches_by (holds condition (register_of s rs1) (register_of s rs2)) InstructionAddressMisaligned (pc_plus s.pc offset) refl
   effect_told lines word (Load form rd rs1 offset) plain = loaded form rd (sum (register_of s rs1) (modulo_word offset))
   effect_told lines word (Store width rs1 rs2 offset) plain = stores_by _ _ _ _ width _ _ refl refl
   effect_told lines word (OpImmediate op rd rs1 immediate) plain = writes_told rd _ _ (aligned_next s.pc here)

@@ -88,7 +88,7 @@ module _ (layout : Layout) (arrivals : List Arrival) where
       AllPairs ComesBefore (steps_of reports)
   true_run_in_order none = λ i j d below within. absurd (omega arith)
   true_run_in_order {n = n} {m = m} (one_more {report = report} {reports = reports} cycle rest) =
-      ordered n report.steps (steps_of reports) cycle.precise cycle.stamped
+      ordered n _ _ cycle.precise cycle.stamped
       (All-weaker (IsWithin (n + 1) m) (λ y. n + 1 ≤ stamp_of y) (λ y within. within.0) (steps_of reports) (true_run_within rest)) (true_run_in_order rest)
 
   pub true_run : {s u : State} {n m : ℕ} {reports : List Report} → TrueCycles layout arrivals s n reports u m →
@@ -96,12 +96,15 @@ module _ (layout : Layout) (arrivals : List Arrival) where
   true_run cycles = record { runs = true_run_runs cycles; within = true_run_within cycles; in_order = true_run_in_order cycles }
 
 -- The theorem for the cycles of a run.
-pub headline_of_run : (arrivals : List Arrival) (old new : Hardware) (reports : List Report) → Reachable old →
+pub headline_of_run : {arrivals : List Arrival} {old new : Hardware} {reports : List Report} → Reachable old →
     Cycles arrivals old reports new →
     IsTrueRun (layout_of old.values) arrivals old.cycle new.cycle (seen old) (steps_of reports) (seen new)
-headline_of_run arrivals old new reports reached cycles = true_run (layout_of old.values) arrivals (cycles_true (always_sound reached) cycles)
+headline_of_run {arrivals} {old} reached cycles = true_run (layout_of old.values) arrivals (cycles_true (always_sound reached) cycles)
 
 -- ... and for those of new hardware, which start at the machine's reset.
-pub headline_from_reset : (arrivals : List Arrival) (values : Values) (base : ℕ) (image : List ℕ) (start : ℕ) (new : Hardware) (reports : List Report) → IsLegal values → IsLoadable values base image start → Cycles arrivals (reset_hardware values image start) reports new → IsTrueRun (layout_of values) arrivals 0 new.cycle (reset (layout_of values) image start) (steps_of reports) (seen new)
+pub headline_from_reset : (arrivals : List Arrival) (values : Values) (base : ℕ) (image : List ℕ) (start : ℕ) (new : Hardware) (reports : List Report) →
+    IsLegal values → IsLoadable values base image start →
+    Cycles arrivals (reset_hardware values image start) reports new →
+    IsTrueRun (layout_of values) arrivals 0 new.cycle (reset (layout_of values) image start) (steps_of reports) (seen new)
 headline_from_reset arrivals values base image start new reports legal loadable cycles =
-    headline_of_run arrivals (reset_hardware values image start) new reports (at_reset legal loadable) cycles
+    headline_of_run (at_reset legal loadable) cycles

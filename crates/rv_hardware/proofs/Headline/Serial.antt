@@ -30,7 +30,7 @@ mepc_written kept _ word aligned = aligned
 mepc_by : (writes : Bool) (kept new : Kept) → kept.mepc % 4 ≡ 0 → new.mepc % 4 ≡ 0 → (if writes then new else kept).mepc % 4 ≡ 0
 mepc_by writes kept new aligned given = grind arith
 
-module _ (h : Hardware) (is : IsSound h) where
+module _ {h : Hardware} (is : IsSound h) where
   csr_done : (rd : ℕ) (word : ℕ) (found : Option (ℕ × Kept)) → IfSome found (λ f. f.1.mepc % 4 ≡ 0) → IsSerialEffect h (accesses (seen h) word rd found)
   csr_done rd word found aligned = grind (arith, aligned_next)
 

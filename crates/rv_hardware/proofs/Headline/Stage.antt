@@ -23,6 +23,6 @@ module _ (layout : Layout) (s : State) where
     AreInFlight-staged stage all result = grind (arith, AreInFlight-younger, AreInFlight-append, AreInFlight-older)
 
     -- a new stage that holds the right result leaves all that is in flight as the program has it
-    pub FollowsProgram-staged : (stage : Stage) (front : FetchBuffer) (entries now : List Entry) → entries ≡ older ++ e ∷ younger → now ≡ older ++ record e { stage = stage } ∷ younger →
+    pub FollowsProgram-staged : (stage : Stage) {front : FetchBuffer} {entries now : List Entry} → entries ≡ older ++ e ∷ younger → now ≡ older ++ record e { stage = stage } ∷ younger →
         IsResult (result_at layout (behind layout older s) e) stage → FollowsProgram layout s entries front → FollowsProgram layout s now front
-    FollowsProgram-staged stage front entries now were are result given = grind (arith, behind-staged, AreInFlight-staged)
+    FollowsProgram-staged stage were are result given = grind (arith, behind-staged, AreInFlight-staged)

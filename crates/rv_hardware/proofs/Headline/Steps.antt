@@ -11,10 +11,10 @@ AreRetirements cycle [] = Unit {0}
 AreRetirements cycle (x ∷ xs) = (is_retirement x ≡ true) × (stamp_of x ≡ cycle) × AreRetirements cycle xs
 
 -- one more retirement of the cycle
-pub retirements_push : (cycle : ℕ) (xs : List Step) (x : Step) → AreRetirements cycle xs → is_retirement x ≡ true →
+pub retirements_push : {cycle : ℕ} (xs : List Step) (x : Step) → AreRetirements cycle xs → is_retirement x ≡ true →
     stamp_of x ≡ cycle → AreRetirements cycle (xs ++ x ∷ [])
-retirements_push cycle [] x all retires stamped = (retires, stamped, tt)
-retirements_push cycle (y ∷ xs) x all retires stamped = (all.0, all.1, retirements_push cycle xs x all.2 retires stamped)
+retirements_push [] x all retires stamped = (retires, stamped, tt)
+retirements_push {cycle} (y ∷ xs) x all retires stamped = (all.0, all.1, retirements_push xs x all.2 retires stamped)
 
 true_cycle_stamped : (cycle : ℕ) (xs : List Step) → AreRetirements cycle xs → All (λ s. stamp_of s ≡ cycle) xs
 true_cycle_stamped cycle [] all = All-nil (λ s. stamp_of s ≡ cycle)
@@ -44,18 +44,18 @@ true_cycle_leads (onwards first rest) x takes = onwards first (true_cycle_leads 
 or-none : (b : Bool) → (b || false) ≡ b
 or-none b = grind arith
 
-module _ (layout : Layout) (lines : Lines) (cycle : ℕ) (before s : State) (xs : List Step) (leads : Lead layout lines before xs s) (all : AreRetirements cycle xs) where
+module _ {layout : Layout} {lines : Lines} (cycle : ℕ) {before s : State} {xs : List Step} (leads : Lead layout lines before xs s) (all : AreRetirements cycle xs) where
   -- a cycle that reports retirements alone
-  pub true_retirements : (ending : Option Stop) → (ending ≡ Some stop.Breakpoint → ⊥) →
+  pub true_retirements : {ending : Option Stop} → (ending ≡ Some stop.Breakpoint → ⊥) →
       ((pc : ℕ) → ending ≡ Some (stop.Stale pc) → MachineStep layout s lines (machine.Stale pc) s) →
       IsTrueCycle layout lines cycle before xs ending s
-  true_retirements ending breaks given = grind (arith, true_cycle_precise, true_cycle_stamped, false≢true, true_cycle_breakpoint)
+  true_retirements breaks given = grind (arith, true_cycle_precise, true_cycle_stamped, false≢true, true_cycle_breakpoint)
 
   -- ... and one more step at its end
-  pub true_push : (x : Step) (t : State) (ending : Option Stop) → MachineStep layout s lines (reference_step x) t → stamp_of x ≡ cycle →
+  pub true_push : (x : Step) (t : State) {ending : Option Stop} → MachineStep layout s lines (reference_step x) t → stamp_of x ≡ cycle →
       (ending ≡ Some stop.Breakpoint) ↔ (is_breakpoint x ≡ true) → ((pc : ℕ) → ending ≡ Some (stop.Stale pc) → ⊥) →
       IsTrueCycle layout lines cycle before (xs ++ x ∷ []) ending t
-  true_push x t ending takes stamped breaks stale =
+  true_push x t takes stamped breaks stale =
       let any : list_any is_breakpoint (xs ++ x ∷ []) ≡ is_breakpoint x =
       list_any-append is_breakpoint xs (x ∷ []) ∙ ap (λ (b : Bool). b || (is_breakpoint x || false)) (true_cycle_breakpoint cycle xs all) ∙ or-none (is_breakpoint x) in
       record {

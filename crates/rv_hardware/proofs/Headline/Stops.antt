@@ -68,8 +68,8 @@ module _ (layout : Layout) (arrivals : List Arrival) where
   by_first none = (refl, refl)
   by_first (one_more {t = t} cycle rest) = record { then_sees = t; cycle = cycle; later = rest }
 
-  last_cycle : (earlier : List Report) (last : Report) (s u : State) (n m : ℕ) → TrueCycles layout arrivals s n (earlier ++ last ∷ []) u m → LastCycle s n earlier last u m
-  last_cycle [] last s u n m cycles =
+  last_cycle : (earlier : List Report) (last : Report) {s u : State} {n m : ℕ} → TrueCycles layout arrivals s n (earlier ++ last ∷ []) u m → LastCycle s n earlier last u m
+  last_cycle [] last {s} {u} {n} {m} cycles =
       let first : FirstCycle s n last [] u m = by_first cycles in
       let over : (first.then_sees ≡ u) × (m ≡ n + 1) = by_first first.later in
       record {
@@ -79,9 +79,9 @@ module _ (layout : Layout) (arrivals : List Arrival) where
         cycle = subst (λ (t : State). IsTrueCycle layout (lines_at arrivals n) n s last.steps last.stop t) over.0 first.cycle;
         done_is = over.1;
       }
-  last_cycle (report ∷ earlier) last s u n m cycles =
+  last_cycle (report ∷ earlier) last {s} {u} {n} {m} cycles =
       let first : FirstCycle s n report (earlier ++ last ∷ []) u m = by_first cycles in
-      let rest = last_cycle earlier last first.then_sees u (n + 1) m first.later in
+      let rest = last_cycle earlier last first.later in
       record { middle = rest.middle; number = rest.number; before = one_more first.cycle rest.before; cycle = rest.cycle; done_is = rest.done_is }
 
   module _ (limit n m : ℕ) (s u : State) (reports : List Report) (cycles : TrueCycles layout arrivals s n reports u m) where
@@ -89,14 +89,16 @@ module _ (layout : Layout) (arrivals : List Arrival) where
     count = counts_cycles layout arrivals cycles
 
     -- ---- a run whose cycles all go on
-    going : (reason : Stop) → NoneStops reports → (reason ≡ stop.Breakpoint → ⊥) → ((pc : ℕ) → reason ≡ stop.Stale pc → ⊥) → (reason ≡ stop.Limit → m ≡ n + limit) → (reason ≡ stop.Exhausted → m ≡ 2 ^ 40) →
+    going : (reason : Stop) → NoneStops reports → (reason ≡ stop.Breakpoint → ⊥) →
+        ((pc : ℕ) → reason ≡ stop.Stale pc → ⊥) → (reason ≡ stop.Limit → m ≡ n + limit) →
+        (reason ≡ stop.Exhausted → m ≡ 2 ^ 40) →
         IsTrueStop layout arrivals limit n m (steps_of reports) u reason
     going reason quiet no_break no_stale limited exhausted = grind (arith, false≢true, quiet_run, ends_nowhere)
 
     -- ---- a run whose last cycle ends it
     module _ (earlier : List Report) (last : Report) (all : reports ≡ earlier ++ last ∷ []) (quiet : NoneStops earlier) where
       ending : LastCycle s n earlier last u m
-      ending = last_cycle earlier last s u n m (subst (λ (rs : List Report). TrueCycles layout arrivals s n rs u m) all cycles)
+      ending = last_cycle earlier last (subst (λ (rs : List Report). TrueCycles layout arrivals s n rs u m) all cycles)
 
       steps_are : steps_of reports ≡ steps_of earlier ++ last.steps
       steps_are = ap steps_of all ∙ steps_of-append earlier (last ∷ []) ∙ ap (λ (xs : List Step). steps_of earlier ++ xs) (append-nil last.steps)
@@ -117,7 +119,8 @@ module _ (layout : Layout) (arrivals : List Arrival) where
     true_stop stop.Exhausted new at is = going stop.Exhausted is.0 (λ e. cc) (λ pc e. cc) (λ e. absurd (cc)) (λ e. sym at ∙ is.2)
 
 -- The theorem for the stop of a run.
-pub headline_of_stop : (arrivals : List Arrival) (limit : ℕ) (old new : Hardware) (reports : List Report) (reason : Stop) → Reachable old → Cycles arrivals old reports new → IsStop limit reports new reason →
+pub headline_of_stop : (arrivals : List Arrival) (limit : ℕ) (old new : Hardware) (reports : List Report) (reason : Stop) →
+    Reachable old → Cycles arrivals old reports new → IsStop limit reports new reason →
     IsTrueStop (layout_of old.values) arrivals limit old.cycle new.cycle (steps_of reports) (seen new) reason
 headline_of_stop arrivals limit old new reports reason reached cycles is =
     true_stop (layout_of old.values) arrivals limit old.cycle new.cycle (seen old) (seen new) reports (cycles_true (always_sound reached) cycles) reason new refl is

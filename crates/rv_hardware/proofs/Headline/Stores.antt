@@ -7,7 +7,6 @@ use Rattle.rv_hardware.proofs.Headline.Invariant.{IsSound}
 use Rattle.rv_hardware.proofs.Headline.Known.{no_store}
 use Rattle.rv_hardware.proofs.Headline.Retires.{IsTold, IsStoreAccess, effect_told}
 use Rattle.rv_hardware.proofs.Headline.Split.{AreInFlight-older}
-use Rattle.rv_hardware.proofs.Headline.Words.{IsRetiredStore}
 
 -- a serialising instruction is no store
 pub serialising_is_no_store : (i : Option Instr) → is_serialising i ≡ true → is_store i ≡ false
@@ -49,6 +48,6 @@ stores_inside h reached older younger entries =
     let is : IsSound h = always_sound reached in
     let layout = layout_of h.values in
     let all : AreInFlight layout (seen h) (seen h) older = AreInFlight-older layout (seen h) (seen h) older younger (subst (AreInFlight layout (seen h) (seen h)) entries is.program.in_flight) in
-    Each-append (IsInside layout) h.committed (stores_of h.rob.retired older)
-    (Each-weaker (IsRetiredStore layout h.stale) (IsInside layout) (λ s retired. subst (IsStateInside layout) (sym retired.state_is) retired.legal) h.committed is.memory.retired)
+    Each-append _ _ _
+    (Each-weaker _ _ (λ s retired. subst (IsStateInside layout) (sym retired.state_is) retired.legal) _ is.memory.retired)
     (stores_of_inside layout older h.rob.retired (stages_inside layout (seen h) older (seen h) is.pc_aligned all))

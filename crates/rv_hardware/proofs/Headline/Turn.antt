@@ -30,17 +30,17 @@ module _ (c : Committing) (is : IsSound c.hardware) where
   here : (e : Entry) (es : List Entry) → c.hardware.rob.entries ≡ e ∷ es → e.pc ≡ c.hardware.pc
   here e es place = (subst (AreInFlight (layout_of c.hardware.values) (seen c.hardware) (seen c.hardware)) place is.program.in_flight).0.pc
 
-  by_turn : (t : Turn Committing) → CommitTurn set.contains c t → Leads (GoesFrom c) (GoesFrom c) t
-  by_turn t (stale_head e es at stale) = no_step c (record c { stop = Some (stop.Stale e.pc) }) refl refl
-  by_turn t (fence_writes e es head fence drained dirty) = no_step c (written_back c) refl refl
-  by_turn t (fence_retires e es written next head fence drained) = grind (arith, one_step, here)
-  by_turn t (executes e es written next head serial) = grind (arith, one_step, here)
-  by_turn t (serial_faults e es cause value head serial) = grind (arith, one_step, here)
-  by_turn t (traps e es issue cycle message fault head plain at faults) = grind (arith, one_step, here)
-  by_turn t (retires e es issue cycle message head plain at sound) = grind (arith, one_step, here)
-  by_turn t (retires_last e es issue cycle message head plain at sound) = grind (arith, one_step, here)
-  by_turn t _ = no_step c c refl refl
+  by_turn : {t : Turn Committing} → CommitTurn set.contains c t → Leads (GoesFrom c) (GoesFrom c) t
+  by_turn (stale_head e es at stale) = no_step c (record c { stop = Some (stop.Stale e.pc) }) refl refl
+  by_turn (fence_writes e es head fence drained dirty) = no_step c (written_back c) refl refl
+  by_turn (fence_retires e es written next head fence drained) = grind (arith, one_step, here)
+  by_turn (executes e es written next head serial) = grind (arith, one_step, here)
+  by_turn (serial_faults e es cause value head serial) = grind (arith, one_step, here)
+  by_turn (traps e es issue cycle message fault head plain at faults) = grind (arith, one_step, here)
+  by_turn (retires e es issue cycle message head plain at sound) = grind (arith, one_step, here)
+  by_turn (retires_last e es issue cycle message head plain at sound) = grind (arith, one_step, here)
+  by_turn _ = no_step c c refl refl
 
   -- the steps that a turn of the commit phase adds begin at the committed pc
   pub turn_goes_from : Leads (GoesFrom c) (GoesFrom c) (commit_turn set.contains c)
-  turn_goes_from = by_turn (commit_turn set.contains c) (commit_turn_is set.contains c)
+  turn_goes_from = by_turn (commit_turn_is set.contains c)

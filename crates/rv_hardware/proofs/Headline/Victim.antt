@@ -6,8 +6,8 @@ pub record IsMixed (bytes memory now : List ℕ) : Type 0 where
   pub size : length now ≡ length bytes
   pub either : (i : ℕ) → (get_or now i 0 ≡ get_or memory i 0) ⊎ (get_or now i 0 ≡ get_or bytes i 0)
 
-mixed_same : (bytes memory now : List ℕ) → length memory ≡ length bytes → now ≡ memory → IsMixed bytes memory now
-mixed_same bytes memory now size same = grind arith
+mixed_same : (bytes : List ℕ) {memory now : List ℕ} → length memory ≡ length bytes → now ≡ memory → IsMixed bytes memory now
+mixed_same bytes size same = grind arith
 
 -- a piece of the cache's bytes, however far it reaches
 module _ (bytes memory : List ℕ) (size : length memory ≡ length bytes) (off n : ℕ) where
@@ -44,10 +44,10 @@ module _ (bytes memory : List ℕ) (size : length memory ≡ length bytes) (off 
 line_mixed : (dirty : Bool) (bytes memory : List ℕ) (off n : ℕ) → length memory ≡ length bytes →
     IsMixed bytes memory (cond dirty (overwritten memory off (slice_range bytes off (off + n))) memory)
 line_mixed true bytes memory off n size = piece_mixed bytes memory size off n
-line_mixed false bytes memory off n size = mixed_same bytes memory memory size refl
+line_mixed false bytes memory off n size = mixed_same bytes size refl
 
 victim_mixed : (base line : ℕ) (bytes memory : List ℕ) (victim : Option CacheLine) → length memory ≡ length bytes → IsMixed bytes memory (victim_written base line bytes victim memory)
-victim_mixed base line bytes memory None size = mixed_same bytes memory memory size refl
+victim_mixed base line bytes memory None size = mixed_same bytes size refl
 victim_mixed base line bytes memory (Some v) size = line_mixed v.dirty bytes memory (offset_of base line v.number) line size
 
 -- after an access each byte of RAM is as it was or as the cache has it

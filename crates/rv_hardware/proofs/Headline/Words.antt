@@ -49,7 +49,7 @@ fetched_same layout xs ys pc aligned size size' same = elim (cases_Bool (is_in_r
 ]
 
 -- ---- what a store leaves
-module _ (layout : Layout) (access : StoreAccess) (legal : IsStoreAccess layout access) (xs : List ℕ) (size : length xs ≡ layout.size) where
+module _ {layout : Layout} {access : StoreAccess} (legal : IsStoreAccess layout access) (xs : List ℕ) (size : length xs ≡ layout.size) where
   abbrev at : ℕ
   at = access.address - layout.base
 
@@ -98,7 +98,7 @@ module _ (layout : Layout) (words : set.FinSet nat_cmp) where
   stored_is s xs retired = ap (λ (state : StoreState). with_store layout.base state xs) retired.state_is
 
   pub length-with_retired : (s : QueuedStore) (xs : List ℕ) → IsRetiredStore layout words s → length xs ≡ layout.size → length (with_store layout.base s.state xs) ≡ layout.size
-  length-with_retired s xs retired size = ap length (stored_is s xs retired) ∙ length-stored layout retired.access retired.legal xs size
+  length-with_retired s xs retired size = ap length (stored_is s xs retired) ∙ length-stored retired.legal xs size
 
   -- retired stores leave RAM as long as it is
   pub length-bytes_after : (ss : List QueuedStore) (xs : List ℕ) → Each (IsRetiredStore layout words) ss → length xs ≡ layout.size → length (bytes_after layout.base ss xs) ≡ layout.size

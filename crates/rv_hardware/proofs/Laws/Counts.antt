@@ -21,13 +21,13 @@ tells_some b reason = grind arith
 tells_more : (n : ℕ) (o : Option Stall) → 0 < n → IsCounted (n == 0) (cond (n == 0) o None)
 tells_more n o lt = rw (ne_eqb n 0 (omega arith)) tt
 
-dispatch_tells_turn : (k : ℕ) (d : Dispatching) (t : Turn Dispatching) → DispatchTurn d t → Counts k d → Leads (Counts (suc k)) Tells t
-dispatch_tells_turn k d t given p = grind (arith, tells_some)
+dispatch_tells_turn : (k : ℕ) {d : Dispatching} {t : Turn Dispatching} → DispatchTurn d t → Counts k d → Leads (Counts (suc k)) Tells t
+dispatch_tells_turn k given p = grind (arith, tells_some)
 
 -- the dispatch phase dispatches something or gives a reason for its stall
 pub dispatch_tells : (h : Hardware) → 1 ≤ h.values.dispatch_width → Tells (dispatch h)
 dispatch_tells h le =
-    turns_within h.values.dispatch_width Counts Tells dispatch_turn (λ k d lt p. dispatch_tells_turn k d (dispatch_turn d) (dispatch_turn_is d) p)
+    turns_within h.values.dispatch_width Counts Tells dispatch_turn (λ k d lt p. dispatch_tells_turn k (dispatch_turn_is d) p)
     (λ d p. tells_more d.dispatched d.waits_for (omega (arith, p, le))) h.values.dispatch_width 0 (record { hardware = h; dispatched = 0; waits_for = None }) (omega arith) refl
 
 -- over all cycles
@@ -43,7 +43,8 @@ AllTell (report ∷ reports) = IsCounted (report.dispatched == 0) report.stall �
 counts_by : (b : Bool) (o : Option Stall) (counts : StallCounts) (n : ℕ) → IsCounted b o → cond (not b) (suc n) n + stall_cycles (counted_stall o counts) ≡ suc (n + stall_cycles counts)
 counts_by b o counts n h = grind (arith, one_more)
 
-counts_from : (counts : StallCounts) (reports : List Report) → AllTell reports → count (λ report. not (report.dispatched == 0)) reports + stall_cycles (stalls_from counts reports) ≡ length reports + stall_cycles counts
+counts_from : (counts : StallCounts) (reports : List Report) → AllTell reports →
+    count (λ report. not (report.dispatched == 0)) reports + stall_cycles (stalls_from counts reports) ≡ length reports + stall_cycles counts
 counts_from counts [] h = refl
 counts_from counts (report ∷ reports) h = grind (arith, counts_by, counts_from (counted_stall report.stall counts) reports h.1)
 

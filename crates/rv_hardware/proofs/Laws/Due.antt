@@ -55,34 +55,34 @@ around {arrivals} c (cycled {old = old} {middle = middle} {new = new} {report = 
           record { first = []; here = report; later = reports; begins = old; ends = middle; before = ended; cycle = omega (arith, here, from); is = is; after = rest; steps = refl }
     ]
 
-module _ (v : Values) (earlier : List Step) (arrivals : List Arrival) (c : ℕ) (old new : Hardware) (reports : List Report) (history : History v earlier old) (reached : Reachable old) (a : Around arrivals c old reports new) where
+module _ {v : Values} {earlier : List Step} {arrivals : List Arrival} {c : ℕ} {old new : Hardware} {reports : List Report} (history : History v earlier old) (reached : Reachable old) (a : Around arrivals c old reports new) where
   history_here : History v (earlier ++ steps_of a.first) a.begins
-  history_here = history_runs v earlier a.before history
+  history_here = history_runs a.before history
 
   next_is : a.ends.cycle ≡ a.begins.cycle + 1
   next_is = ap (λ (h : Hardware). h.cycle) a.is.others_stay
 
   first_below : Each (λ s. stamp_of s < c) (steps_of a.first)
-  first_below = Each-weaker (λ s. stamp_of s < a.begins.cycle) (λ s. stamp_of s < c) (λ s lt. omega (arith, lt, a.cycle)) (steps_of a.first) (Each-right (λ s. stamp_of s < a.begins.cycle) earlier (steps_of a.first) (history_has_steps v history_here).before)
+  first_below = Each-weaker _ _ (λ s lt. omega (arith, lt, a.cycle)) _ (Each-right _ earlier _ (history_has_steps history_here).before)
 
   here_in : Each (λ s. stamp_of s ≡ c) a.here.steps
   here_in =
-      Each-weaker (λ s. stamp_of s ≡ a.begins.cycle) (λ s. stamp_of s ≡ c) (λ s at. omega (arith, at, a.cycle)) a.here.steps
-      (steps_of_cycle v (history_is_legal v history_here) (earlier ++ steps_of a.first) a.begins a.ends (lines_at arrivals a.begins.cycle) a.here (history_is_sound v history_here) (history_has_steps v history_here) a.is)
+      Each-weaker _ _ (λ s at. omega (arith, at, a.cycle)) _
+      (steps_of_cycle v (history_is_legal history_here) (earlier ++ steps_of a.first) a.begins a.ends (lines_at arrivals a.begins.cycle) a.here (history_is_sound history_here) (history_has_steps history_here) a.is)
 
   later_after : Each (λ s. c < stamp_of s) (steps_of a.later)
   later_after =
-      Each-weaker (λ s. c + 1 ≤ stamp_of s) (λ s. c < stamp_of s) (λ s le. omega (arith, le)) (steps_of a.later)
-      (since_by v (c + 1) ((earlier ++ steps_of a.first) ++ a.here.steps) a.after (went_on history_here a.is) (omega (arith, next_is, a.cycle)))
+      Each-weaker _ _ (λ s le. omega (arith, le)) _
+      (since_by (c + 1) a.after (went_on history_here a.is) (omega (arith, next_is, a.cycle)))
 
   all_below : steps_below c (steps_of reports) ≡ steps_of a.first
   all_below =
       let below : Step → Bool = λ s. nat_lt (stamp_of s) c in
       ap (filter below) a.steps
       ∙ filter-three below (steps_of a.first) a.here.steps (steps_of a.later)
-      ∙ ap (λ l. l ++ (filter below a.here.steps ++ filter below (steps_of a.later))) (kept_all below (steps_of a.first) (Each-weaker (λ s. stamp_of s < c) (λ s. below s ≡ true) (λ s lt. lt-ltb (stamp_of s) c lt) (steps_of a.first) first_below))
-      ∙ ap (λ l. steps_of a.first ++ (l ++ filter below (steps_of a.later))) (kept_none below a.here.steps (Each-weaker (λ s. stamp_of s ≡ c) (λ s. below s ≡ false) (λ s at. le-ltb (stamp_of s) c (omega (arith, at))) a.here.steps here_in))
-      ∙ ap (λ l. steps_of a.first ++ l) (kept_none below (steps_of a.later) (Each-weaker (λ s. c < stamp_of s) (λ s. below s ≡ false) (λ s lt. le-ltb (stamp_of s) c (omega (arith, lt))) (steps_of a.later) later_after))
+      ∙ ap (λ l. l ++ (filter below a.here.steps ++ filter below (steps_of a.later))) (kept_all below _ (Each-weaker _ _ (λ s lt. lt-ltb (stamp_of s) c lt) _ first_below))
+      ∙ ap (λ l. steps_of a.first ++ (l ++ filter below (steps_of a.later))) (kept_none below _ (Each-weaker _ _ (λ s at. le-ltb (stamp_of s) c (omega (arith, at))) _ here_in))
+      ∙ ap (λ l. steps_of a.first ++ l) (kept_none below _ (Each-weaker _ _ (λ s lt. le-ltb (stamp_of s) c (omega (arith, lt))) _ later_after))
       ∙ append-nil (steps_of a.first)
 
   all_in : steps_in c (steps_of reports) ≡ a.here.steps
@@ -90,9 +90,9 @@ module _ (v : Values) (earlier : List Step) (arrivals : List Arrival) (c : ℕ) 
       let test : Step → Bool = λ s. stamp_of s == c in
       ap (filter test) a.steps
       ∙ filter-three test (steps_of a.first) a.here.steps (steps_of a.later)
-      ∙ ap (λ l. l ++ (filter test a.here.steps ++ filter test (steps_of a.later))) (kept_none test (steps_of a.first) (Each-weaker (λ s. stamp_of s < c) (λ s. test s ≡ false) (λ s lt. ne_eqb (stamp_of s) c (omega (arith, lt))) (steps_of a.first) first_below))
-      ∙ ap (λ l. l ++ filter test (steps_of a.later)) (kept_all test a.here.steps (Each-weaker (λ s. stamp_of s ≡ c) (λ s. test s ≡ true) (λ s at. eq-eqb (stamp_of s) c at) a.here.steps here_in))
-      ∙ ap (λ l. a.here.steps ++ l) (kept_none test (steps_of a.later) (Each-weaker (λ s. c < stamp_of s) (λ s. test s ≡ false) (λ s lt. ne_eqb (stamp_of s) c (omega (arith, lt))) (steps_of a.later) later_after))
+      ∙ ap (λ l. l ++ (filter test a.here.steps ++ filter test (steps_of a.later))) (kept_none test _ (Each-weaker _ _ (λ s lt. ne_eqb (stamp_of s) c (omega (arith, lt))) _ first_below))
+      ∙ ap (λ l. l ++ filter test (steps_of a.later)) (kept_all test _ (Each-weaker _ _ (λ s at. eq-eqb (stamp_of s) c at) _ here_in))
+      ∙ ap (λ l. a.here.steps ++ l) (kept_none test _ (Each-weaker _ _ (λ s lt. ne_eqb (stamp_of s) c (omega (arith, lt))) _ later_after))
       ∙ append-nil a.here.steps
 
   abbrev Reaches : List Step → Type 0
@@ -103,11 +103,11 @@ module _ (v : Values) (earlier : List Step) (arrivals : List Arrival) (c : ℕ) 
 
   taken_around : (s : State) × Run (layout_of old.values) arrivals (seen old) (map stamp_of (steps_below c (steps_of reports))) (map reference_step (steps_below c (steps_of reports))) s ×
       ((code : ℕ) → due s.csrs (lines_at arrivals c) ≡ Some code → steps_in c (steps_of reports) ≡ Interrupt s.pc (interrupt_cause code) c ∷ [])
-  taken_around = (seen a.begins, subst Reaches (sym all_below) (headline_of_run arrivals old a.begins a.first reached a.before).runs, due_is_taken)
+  taken_around = (seen a.begins, subst Reaches (sym all_below) (headline_of_run reached a.before).runs, due_is_taken)
 
 -- an interrupt that is due in a cycle of a run is its one step
 pub due_interrupts_of_runs : {arrivals : List Arrival} {old new : Hardware} {reports : List Report} → Reachable old → Cycles arrivals old reports new →
     TakesDueInterrupts (layout_of old.values) arrivals old.cycle new.cycle (seen old) (steps_of reports)
 due_interrupts_of_runs {arrivals = arrivals} {old = old} {new = new} {reports = reports} reached cycles c from to =
     let before = reachable_has_history reached in
-    taken_around before.0 before.1 arrivals c old new reports before.2 reached (around c cycles from to)
+    taken_around before.2 reached (around c cycles from to)

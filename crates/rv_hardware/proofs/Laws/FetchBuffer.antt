@@ -7,6 +7,6 @@ pub buffered_shows : (v : Values) → Shows v is_buffered_in (λ c. is_buffered_
 buffered_shows v = grind (arith, ltb-true, and_second, and_from, and_first, until_now)
 
 -- the field `fetch_buffer` of `Laws`, over every history
-pub law_of_fetch_buffer : (v : Values) {steps : List Step} {h : Hardware} → History v steps h → NeverMoreThan v.fetch_buffer is_buffered_in (rows_of steps)
-law_of_fetch_buffer v history =
-    counted_law v is_buffered_in (λ c. is_buffered_mark) (buffered_shows v) v.fetch_buffer (λ earlier old new lines report before after passed. (history_is_orderly v after).words) history
+pub law_of_fetch_buffer : {v : Values} {steps : List Step} {h : Hardware} → History v steps h → NeverMoreThan v.fetch_buffer is_buffered_in (rows_of steps)
+law_of_fetch_buffer {v} history =
+    counted_law (buffered_shows v) v.fetch_buffer (λ earlier old new lines report before after passed. (history_is_orderly after).words) history

@@ -6,13 +6,13 @@ fetched_shows : (v : Values) → Shows v is_fetched_in (λ c m. m.fetched == c)
 fetched_shows v = grind (arith, and_from, le-leb, eqb-true)
 
 -- the field `fetch_width` of `Laws`, over every history
-pub law_of_fetch_width : (v : Values) {steps : List Step} {h : Hardware} → History v steps h → NeverMoreThan v.fetch_width is_fetched_in (rows_of steps)
-law_of_fetch_width v history =
-    counted_law v is_fetched_in (λ c m. m.fetched == c) (fetched_shows v) v.fetch_width (λ earlier old new lines report before after passed.
+pub law_of_fetch_width : {v : Values} {steps : List Step} {h : Hardware} → History v steps h → NeverMoreThan v.fetch_width is_fetched_in (rows_of steps)
+law_of_fetch_width {v} history =
+    counted_law (fetched_shows v) v.fetch_width (λ earlier old new lines report before after passed.
     let p : Mark → Bool = λ m. m.fetched == old.cycle in
     let d : Hardware = (dispatching lines old).hardware in
     let ms : List Mark = marks_in (earlier ++ report.steps) d in
-    let words = new_words v _ earlier lines old new report passed in
+    let words = new_words passed in
     let all = ap (count p) passed.new_marks ∙ count-append p ms (map mark_of_fetched passed.fetches.added) in
     let none = count-none p ms (Each-weaker (λ m. m.fetched < old.cycle) (λ m. p m ≡ false) (λ m lt. ne_eqb m.fetched old.cycle (omega (arith, lt))) ms words.by_now) in
     let some = count-map p mark_of_fetched passed.fetches.added in

@@ -16,19 +16,19 @@ load_by a i before y h load = grind (arith, Each-weaker, store_by, Each-unmap)
 loads_by : (before : List Row) (row : Row) → StartsAfter (map mark_of_row before) (mark_of_row row) → Each (λ a. LoadsAfterStore a row) before
 loads_by before row h = by_load (is_load_row row) refl
   where
-    by_execution : (y : Option Execution) → IfSome y (λ t. Each (λ a. is_store_row a ≡ true → IfSome a.execution (λ s. s.broadcast < t.issued)) before) → Each (λ a. is_store_row a ≡ true → IfSome a.execution (λ s. IfSome y (λ t. s.broadcast < t.issued))) before
-    by_execution None g =
-        Each-all (λ a. is_store_row a ≡ true → IfSome a.execution (λ s. Unit {0})) (λ a store. both_executed a.execution None tt) before
+    by_execution : (y : Option Execution) →
+        IfSome y (λ t. Each (λ a. is_store_row a ≡ true → IfSome a.execution (λ s. s.broadcast < t.issued)) before) →
+        Each (λ a. is_store_row a ≡ true → IfSome a.execution (λ s. IfSome y (λ t. s.broadcast < t.issued))) before
+    by_execution None g = Each-all _ (λ a store. both_executed a.execution None tt) before
     by_execution (Some t) g = g
 
     by_load : (b : Bool) → is_load_row row ≡ b → Each (λ a. LoadsAfterStore a row) before
     by_load true is =
-        Each-weaker (λ a. is_store_row a ≡ true → IfSome a.execution (λ s. IfSome row.execution (λ t. s.broadcast < t.issued))) (λ a. LoadsAfterStore a row) (λ a f store load. f store) before
+        Each-weaker _ _ (λ a f store load. f store) before
         (by_execution row.execution (load_by row (instruction_of_row row) before row.execution h is))
-    by_load false is = Each-all (λ a. LoadsAfterStore a row) (λ a store load. absurd (true≢false (sym load ∙ is))) before
+    by_load false is = Each-all _ (λ a store load. absurd (true≢false (sym load ∙ is))) before
 
 -- the field `loads_after_stores` of `Laws`, over every history
-pub law_of_loads_after_stores : (v : Values) {steps : List Step} {h : Hardware} → History v steps h → AllPairs LoadsAfterStore (rows_of steps)
-law_of_loads_after_stores v {steps} history =
-    AllPairs-EveryPair LoadsAfterStore (rows_of steps)
-    (EveryPair-EveryAfter LoadsAfterStore [] (rows_of steps) (EveryAfter-weaker (λ before row. StartsAfter (map mark_of_row before) (mark_of_row row)) (λ before row. Each (λ a. LoadsAfterStore a row) before) loads_by [] (rows_of steps) (rows_start_after v history)))
+pub law_of_loads_after_stores : {v : Values} {steps : List Step} {h : Hardware} → History v steps h → AllPairs LoadsAfterStore (rows_of steps)
+law_of_loads_after_stores {v} {steps} history =
+    AllPairs-EveryPair _ _ (EveryPair-EveryAfter _ [] _ (EveryAfter-weaker loads_by [] _ (rows_start_after history)))

@@ -1,18 +1,20 @@
 -- No pipelined unit is idle while an instruction that is no load has its operands.
 pub mod Marks
 pub mod Phases
-use Rattle.rv_hardware.proofs.Words.{◌≡◌, ℕ, ◌+◌, ◌<◌, ◌≤◌, Bool, true, false, cond, ◌&&◌, List, [], ◌∷◌, map, is_some, IfSome, nat_le, ◌==◌, Some, None, count_by, Option, option_map, sym, refl, ap, ◌∙◌, subst, arith, le-leb, and_from, kind_of_word, at_kind, Kind, Values, Each, Hardware, HasOperandsIn, LeaveNoUnitIdle, is_pipelined, instruction_of_row, is_issued_in, is_row_of_kind, last_from, last_that, passes, producer_among, rows_of, sources_of_row, writes_register, Execution, Row, Step, and_first, and_second, Each-All, Each-place, Each-weaker, EveryAfter, Beginning-EveryAfter, EachAfter-EveryAfter, EveryAfter-EveryPair}
+use Rattle.rv_hardware.proofs.Words.{◌≡◌, ℕ, ◌+◌, ◌<◌, ◌≤◌, Bool, true, false, cond, ◌&&◌, List, [], ◌∷◌, ◌++◌, map, is_some, IfSome, nat_le, ◌==◌, Some, None, count_by, Option, option_map, sym, refl, ap, ◌∙◌, subst, arith, le-leb, and_from, kind_of_word, at_kind, Kind, Values, Each, Hardware, HasOperandsIn, LeaveNoUnitIdle, is_pipelined, instruction_of_row, is_issued_in, is_row_of_kind, last_from, last_that, passes, producer_among, rows_of, sources_of_row, writes_register, Execution, Row, Step, and_first, and_second, Each-All, Each-all, Each-place, Each-weaker, EveryAfter, Beginning-EveryAfter, EachAfter-EveryAfter, EveryAfter-EveryPair}
+use Rattle.rv_hardware.proofs.Laws.PipelinedUnits.{begun_shows}
+use Rattle.rv_hardware.proofs.Laws.RunsOn.{RunsOn, row_of_all, row_of_run, none_earlier, operands_of_all}
 use Rattle.rv_hardware.proofs.Marks.Cited.{IsBefore, writes_mark, IsKnownMark, OperandsKnown, after_law, after_count, History, history_is_sound, Mark, mark_of_row, as_of, as_of-cons, at_end, was_fetched, until, start_until, start_until_now, start_of_execution, broadcast_of_execution, until_by, history_is_orderly, Older, rows_are_older, row_pairs, rows_obey, SoundRow}
 use Rattle.rv_hardware.proofs.Laws.NoIdleUnit.Marks.{MayStart, BusyUnits}
 use Rattle.rv_hardware.proofs.Laws.NoIdleUnit.Phases.{units_are_busy}
 use Rattle.rv_hardware.proofs.Laws.OtherUnits.Rows.{starts_at, begins_mark}
 
-busy_rows : (v : Values) (k : Kind) → (at_kind k v.kinds).pipelined ≡ true → {steps : List Step} {h : Hardware} →
+busy_rows : {v : Values} (k : Kind) → (at_kind k v.kinds).pipelined ≡ true → {steps : List Step} {h : Hardware} →
     History v steps h → (c : ℕ) → c < h.cycle →
     EveryAfter (BusyUnits k (at_kind k v.kinds).units c) [] (as_of c (map mark_of_row (rows_of steps)))
-busy_rows v k line history =
-    rows_obey v (λ c ms. EveryAfter (BusyUnits k (at_kind k v.kinds).units c) [] ms) (λ c xs ys b h. Beginning-EveryAfter (BusyUnits k (at_kind k v.kinds).units c) xs ys b h)
-    (λ earlier old new lines report before after passed. units_are_busy v k line earlier lines old new report _ before passed) history
+busy_rows {v} k line history =
+    rows_obey v (λ c ms. EveryAfter (BusyUnits k (at_kind k v.kinds).units c) [] ms) (λ c xs ys b h. Beginning-EveryAfter _ xs ys b h)
+    (λ earlier old new lines report before after passed. units_are_busy k line before passed) history
 
 -- rows that were all fetched
 all_fetched : (c : ℕ) (rows : List Row) → Each (λ a. a.fetched ≤ c) rows →
@@ -57,7 +59,7 @@ module _ (c : ℕ) where
     sources_known [] h = tt
     sources_known (None ∷ sources) h = (tt, sources_known sources h.1)
     sources_known (Some register ∷ sources) h = (
-      rw (last_of register None before) (found_known (last_that (writes_register register) before) (found_sound None (writes_register register) before tt (Each-weaker (Older v bound row) (SoundRow v bound) (λ a o. o.sound) before older)) h.0),
+      rw (last_of register None before) (found_known (last_that (writes_register register) before) (found_sound None (writes_register register) before tt (Each-weaker _ _ (λ a o. o.sound) before older)) h.0),
       sources_known sources h.1,
     )
 
@@ -65,38 +67,51 @@ begun_at : (c : ℕ) (x : Option Execution) → starts_at c (start_until c (star
     passes (λ y. y.issued == c) x ≡ true
 begun_at c x h = grind arith
 
--- the field `no_idle_unit` of `Laws`, over every history
-pub law_of_no_idle_unit : (v : Values) {steps : List Step} {h : Hardware} → History v steps h → (k : Kind) →
-    is_pipelined v k ≡ true → LeaveNoUnitIdle v k 0 (rows_of steps)
-law_of_no_idle_unit v {steps} {h} history k line before after row at kind plain = by_execution row.execution refl
+-- where the mark of a row begins in a cycle, the row was issued in it
+begun_in : (k : Kind) (c : ℕ) (a : Row) → (was_fetched c (mark_of_row a) && begins_mark k c (at_end c (mark_of_row a))) ≡ true →
+    is_issued_in k c a ≡ true
+begun_in k c a is =
+    let of_kind = is_row_of_kind k a in
+    let starts = starts_at c (start_until c (start_of_execution a.execution)) in
+    let both = and_second (was_fetched c (mark_of_row a)) (begins_mark k c (at_end c (mark_of_row a))) is in
+    let begun = begun_at c a.execution (and_second of_kind starts both) in
+    and_from of_kind (passes (λ y. y.issued == c) a.execution) (and_first of_kind starts both) begun
+
+-- the field `no_idle_unit` of `Laws`, of every run
+pub law_of_no_idle_unit : {v : Values} {earlier steps : List Step} {old new : Hardware} → RunsOn v earlier steps old new → (k : Kind) →
+    is_pipelined v k ≡ true → LeaveNoUnitIdle v k old.cycle (rows_of steps)
+law_of_no_idle_unit {v} {earlier} {steps} {old} {new} run k line before after row at kind plain = by_execution row.execution refl
   where
-    sound : SoundRow v h.cycle row
-    sound = Each-place (SoundRow v h.cycle) before after row (subst (Each (SoundRow v h.cycle)) at (history_is_sound v history).rows)
+    place : rows_of (earlier ++ steps) ≡ (rows_of earlier ++ before) ++ row ∷ after
+    place = row_of_all run before after row at
 
-    older : Each (Older v h.cycle row) before
-    older = EachAfter-EveryAfter (λ b r. Each (Older v h.cycle r) b) (rows_of steps) (rows_are_older v history) before after row at
+    sound : SoundRow v new.cycle row
+    sound = row_of_run run before after row at
 
-    in_order : Each (λ a. a.fetched ≤ row.fetched) before
-    in_order = EachAfter-EveryAfter (λ b r. Each (λ a. a.fetched ≤ r.fetched) b) (rows_of steps) (EveryAfter-EveryPair (λ a b. a.fetched ≤ b.fetched) [] (rows_of steps) tt (row_pairs (λ m n. m.fetched ≤ n.fetched) (λ a b. a.fetched ≤ b.fetched) (λ a b le. le) steps h (history_is_orderly v history).fetched)) before after row at
+    older : Each (Older v new.cycle row) (rows_of earlier ++ before)
+    older = EachAfter-EveryAfter _ _ (rows_are_older run.all) (rows_of earlier ++ before) after row place
+
+    in_order : Each (λ a. a.fetched ≤ row.fetched) (rows_of earlier ++ before)
+    in_order = EachAfter-EveryAfter _ _ (EveryAfter-EveryPair _ [] _ tt (row_pairs (λ m n. m.fetched ≤ n.fetched) (λ a b le. le) (earlier ++ steps) new (history_is_orderly run.all).fetched)) (rows_of earlier ++ before) after row place
 
     by_execution : (o : Option Execution) → row.execution ≡ o →
-        IfSome o (λ x. (c : ℕ) → 0 ≤ c → row.dispatched < c → c < x.issued → HasOperandsIn c before row → (at_kind k v.kinds).units ≤ count_by (is_issued_in k c) before)
+        IfSome o (λ x. (c : ℕ) → old.cycle ≤ c → row.dispatched < c → c < x.issued → HasOperandsIn c before row → (at_kind k v.kinds).units ≤ count_by (is_issued_in k c) before)
     by_execution None e = tt
     by_execution (Some x) e = λ c from dispatched later operands.
         let between = subst (λ o. IfSome o (λ x. (row.dispatched < x.issued) × (x.issued + x.cost ≤ x.broadcast) × (x.broadcast < row.retired))) e sound.stamps.executed_between in
         let fetched : row.fetched ≤ c = omega (arith, dispatched, sound.stamps.dispatched_after_fetch) in
-        let all = Each-weaker (λ a. a.fetched ≤ row.fetched) (λ a. a.fetched ≤ c) (λ a le. omega (arith, le, fetched)) before in_order in
-        let may : MayStart k c (as_of c (map mark_of_row before)) (at_end c (mark_of_row row)) = record {
+        let all = Each-weaker _ _ (λ a le. omega (arith, le, fetched)) _ in_order in
+        let may : MayStart k c (as_of c (map mark_of_row (rows_of earlier ++ before))) (at_end c (mark_of_row row)) = record {
           kind = kind;
           plain = plain;
           dispatched = rw (until_by c row.dispatched (omega (arith, dispatched))) dispatched;
           not_yet = ap (λ o. start_until c (start_of_execution o)) e ∙ not_until c x later;
-          operands = rw (all_fetched c before all) (sources_known c v h.cycle before row older (sources_of_row row) (Each-All (λ source. IfSome (producer_among before source) (λ p. IfSome p.execution (λ y. y.broadcast < c))) (sources_of_row row) operands));
+          operands = rw (all_fetched c (rows_of earlier ++ before) all) (sources_known c v new.cycle (rows_of earlier ++ before) row older _ (Each-All _ _ (operands_of_all run c from before row operands)));
         } in
-        let busy = after_law (BusyUnits k (at_kind k v.kinds).units c) c (rows_of steps) before after row (busy_rows v k line history c (omega (arith, later, between.1, between.2, sound.below))) at fetched may in
-        let fewer = after_count (begins_mark k c) (is_issued_in k c) c before (Each-weaker (Older v h.cycle row) (λ a. (was_fetched c (mark_of_row a) && begins_mark k c (at_end c (mark_of_row a))) ≡ true → is_issued_in k c a ≡ true)
-        (λ a o g. let both = and_second (was_fetched c (mark_of_row a)) (begins_mark k c (at_end c (mark_of_row a))) g in and_from (is_row_of_kind k a) (passes (λ y. y.issued == c) a.execution) (and_first (is_row_of_kind k a) (starts_at c (start_until c (start_of_execution a.execution))) both) (begun_at c a.execution (and_second (is_row_of_kind k a) (starts_at c (start_until c (start_of_execution a.execution))) both))) before older) in
-        omega (arith, busy, fewer)
+        let busy = after_law _ c (rows_of earlier ++ before) after row (busy_rows k line run.all c (omega (arith, later, between.1, between.2, sound.below))) place fetched may in
+        let fewer = after_count (begins_mark k c) (is_issued_in k c) c (rows_of earlier ++ before) (Each-all _ (begun_in k c) _) in
+        let same = none_earlier run (begun_shows v k) c from before in
+        omega (arith, busy, fewer, same)
       where
         not_until : (c : ℕ) (x : Execution) → c < x.issued → start_until c (Some (record { cycle = x.issued; cost = x.cost; faults = false })) ≡ None
         not_until c x lt = start_until_now c (record { cycle = x.issued; cost = x.cost; faults = false }) lt

@@ -1,5 +1,5 @@
 -- An interrupt that is due is the one step of its cycle, and a cycle dispatches something or stalls for one reason.
-use Rattle.rv_hardware.proofs.Words.{◌≡◌, ℕ, ◌+◌, List, [], ◌∷◌, ◌++◌, length, ◌==◌, Some, Option, ap, arith, Arrival, Lines, Values, due, interrupt_cause, commit_unless, IsCycle, any_prediction, Hardware, stall_cycles, Report, Cycles, Reachable, busy_of, cycled, ended, stalls_of, Step, Interrupt}
+use Rattle.rv_hardware.proofs.Words.{◌≡◌, ℕ, ◌+◌, List, [], ◌∷◌, length, ◌==◌, Some, Option, ap, arith, Arrival, Lines, Values, due, interrupt_cause, commit_unless, IsCycle, any_prediction, Hardware, stall_cycles, Report, Cycles, Reachable, busy_of, cycled, ended, stalls_of, Step, Interrupt}
 use Rattle.std.specs.FinSet as set
 use Rattle.rv_hardware.proofs.Laws.Counts.{IsCounted, AllTell, dispatch_tells, busy_and_stalls}
 use Rattle.rv_hardware.proofs.Marks.History.{Anything, History, went_on, Passed, history_is_legal, reachable_has_history, history_passes, sent_all}
@@ -21,17 +21,18 @@ module _ (v : Values) {steps : List Step} {old new : Hardware} {lines : Lines} {
   pub cycle_tells : IsCounted (report.dispatched == 0) report.stall
   cycle_tells =
       let width = ap (λ (w : Values). w.dispatch_width) passes_here.sends.basics.always.sizes.values in
-      let tells = dispatch_tells (sent_all lines old) (omega (arith, width, (history_is_legal v history).pipeline.dispatch_width)) in
+      let tells = dispatch_tells (sent_all lines old) (omega (arith, width, (history_is_legal history).pipeline.dispatch_width)) in
       rw (passes_here.report_is.0, passes_here.report_is.1) tells
 
 -- over a run
 
-pub run_tells : (v : Values) {arrivals : List Arrival} (steps : List Step) {old new : Hardware} {reports : List Report} → Cycles arrivals old reports new → History v steps old → AllTell reports × (new.cycle ≡ old.cycle + length reports)
-run_tells v steps ended history = (tt, omega arith)
-run_tells v steps (cycled {old = old} {middle = middle} {report = report} {reports = reports} is rest) history =
+pub run_tells : {v : Values} {arrivals : List Arrival} {steps : List Step} {old new : Hardware} {reports : List Report} →
+    Cycles arrivals old reports new → History v steps old → AllTell reports × (new.cycle ≡ old.cycle + length reports)
+run_tells ended history = (tt, omega arith)
+run_tells {v} {steps} (cycled {old = old} {middle = middle} {report = report} {reports = reports} is rest) history =
     let passed = passes_here v history is in
     let next : middle.cycle ≡ old.cycle + 1 = ap (λ (h : Hardware). h.cycle) passed.others_stay in
-    let further = run_tells v (steps ++ report.steps) rest (went_on history is) in
+    let further = run_tells rest (went_on history is) in
     ((cycle_tells v history is, further.0), omega (arith, further.1, next))
 
 -- busy cycles and stalls make the cycles of a run
@@ -39,5 +40,5 @@ pub counts_of_runs : {arrivals : List Arrival} {old new : Hardware} {reports : L
     (busy_of reports + stall_cycles (stalls_of reports) ≡ length reports) × (new.cycle ≡ old.cycle + length reports)
 counts_of_runs {reports = reports} reached cycles =
     let before = reachable_has_history reached in
-    let tells = run_tells before.0 before.1 cycles before.2 in
+    let tells = run_tells cycles before.2 in
     (busy_and_stalls reports tells.0, tells.1)

@@ -9,7 +9,7 @@ oldest_by : (x y : Option Execution) → IfSome (broadcast_of_execution y) (λ b
 oldest_by x y h = grind arith
 
 -- the field `oldest_result_first` of `Laws`, over every history
-pub law_of_oldest_result_first : (v : Values) {steps : List Step} {h : Hardware} → History v steps h → AllPairs IsBroadcastFirst (rows_of steps)
-law_of_oldest_result_first v {steps} {h} history =
-    AllPairs-EveryPair IsBroadcastFirst (rows_of steps)
-    (row_pairs OldestFirst IsBroadcastFirst (λ a b p. oldest_by a.execution b.execution p) steps h (history_has_bus_order v history).oldest_first)
+pub law_of_oldest_result_first : {v : Values} {steps : List Step} {h : Hardware} → History v steps h → AllPairs IsBroadcastFirst (rows_of steps)
+law_of_oldest_result_first {v} {steps} {h} history =
+    AllPairs-EveryPair _ _
+    (row_pairs OldestFirst (λ a b p. oldest_by a.execution b.execution p) steps h (history_has_bus_order history).oldest_first)

@@ -12,17 +12,18 @@ executes_mark k c m = is_of_kind k (kind_of_word m.instruction) && start_holds f
 not_executing : (now D C : ℕ) (x : Option Execution) → C ≤ now → Between D C x → start_holds false now (start_of_execution x) ≡ false
 not_executing now D C x le h = grind (arith, and_right, le-ltb)
 
-executing_row : (c D C : ℕ) (x : Option Execution) → Between D C x → passes (λ y. nat_le y.issued c && nat_lt c (y.issued + y.cost)) x ≡ true → (start_holds false c (start_until c (start_of_execution x)) ≡ true) × (D < c) × (c < C)
+executing_row : (c D C : ℕ) (x : Option Execution) → Between D C x →
+    passes (λ y. nat_le y.issued c && nat_lt c (y.issued + y.cost)) x ≡ true →
+    (start_holds false c (start_until c (start_of_execution x)) ≡ true) × (D < c) × (c < C)
 executing_row c D C x h is = grind (arith, and_first, leb-true, ltb-true, and_second)
 
 -- the field `other_units` of `Laws`, over every history
-pub law_of_other_units : (v : Values) {steps : List Step} {h : Hardware} → History v steps h → (k : Kind) → is_pipelined v k ≡ false → FitUnits v k is_executing_in (rows_of steps)
-law_of_other_units v history k pipelined =
-    units_law v k (executes_mark k)
+pub law_of_other_units : {v : Values} {steps : List Step} {h : Hardware} → History v steps h → (k : Kind) → is_pipelined v k ≡ false → FitUnits v k is_executing_in (rows_of steps)
+law_of_other_units {v} history k pipelined =
+    units_law k
     (λ c m h. subst (λ b. (is_of_kind k (kind_of_word m.instruction) && start_holds b c m.start) ≡ true) (sym pipelined) h)
     (λ now row sound. and_right (is_row_of_kind k row) (start_holds false now (start_of_execution row.execution)) (not_executing now row.dispatched row.retired row.execution (omega (arith, sound.below)) sound.stamps.executed_between))
-    (λ now f. and_right (is_of_kind k (kind_of_word f.instruction)) false refl)
-    (is_executing_in k) (record {
+    (λ now f. and_right (is_of_kind k (kind_of_word f.instruction)) false refl) (record {
       mark = λ c bound row sound h.
           let x = executing_row c row.dispatched row.retired row.execution sound.stamps.executed_between (and_second (is_row_of_kind k row) (passes (λ y. nat_le y.issued c && nat_lt c (y.issued + y.cost)) row.execution) h) in
           and_from (nat_le row.fetched c) (is_row_of_kind k row && start_holds false c (start_until c (start_of_execution row.execution))) (le-leb row.fetched c (omega (arith, x.1, sound.stamps.dispatched_after_fetch)))

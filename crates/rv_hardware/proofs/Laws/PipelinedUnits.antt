@@ -18,11 +18,10 @@ pub begun_shows : (v : Values) (k : Kind) → Shows v (is_issued_in k) (begins_m
 begun_shows v k = grind (arith, begun_row, and_second, and_from, le-leb, and_first)
 
 -- the field `pipelined_units` of `Laws`, over every history
-pub law_of_pipelined_units : (v : Values) {steps : List Step} {h : Hardware} → History v steps h → (k : Kind) → is_pipelined v k ≡ true → FitUnits v k is_issued_in (rows_of steps)
-law_of_pipelined_units v history k pipelined =
-    units_law v k (begins_mark k)
+pub law_of_pipelined_units : {v : Values} {steps : List Step} {h : Hardware} → History v steps h → (k : Kind) → is_pipelined v k ≡ true → FitUnits v k is_issued_in (rows_of steps)
+law_of_pipelined_units {v} history k pipelined =
+    units_law k
     (λ c m h. and_from (is_of_kind k (kind_of_word m.instruction)) (start_holds (at_kind k v.kinds).pipelined c m.start) (and_first (is_of_kind k (kind_of_word m.instruction)) (starts_at c m.start) h)
     (subst (λ b. start_holds b c m.start ≡ true) (sym pipelined) (begins_holds c m.start (and_second (is_of_kind k (kind_of_word m.instruction)) (starts_at c m.start) h))))
     (λ now row sound. and_right (is_row_of_kind k row) (starts_at now (start_of_execution row.execution)) (not_begun now row.dispatched row.retired row.execution (omega (arith, sound.below)) sound.stamps.executed_between))
-    (λ now f. and_right (is_of_kind k (kind_of_word f.instruction)) false refl)
-    (is_issued_in k) (begun_shows v k) history
+    (λ now f. and_right (is_of_kind k (kind_of_word f.instruction)) false refl) (begun_shows v k) history

@@ -16,21 +16,21 @@ fresh_pairs : (v : Values) (now : ℕ) (es : List Entry) → Each (SoundEntry v 
     EveryPair (λ a b. OneAtATime v now (mark_of_entry a) (mark_of_entry b)) es
 fresh_pairs v now [] sound = tt
 fresh_pairs v now (e ∷ es) sound = (
-  Each-weaker (SoundEntry v now now now) (λ b. OneAtATime v now (mark_of_entry e) (mark_of_entry b))
+  Each-weaker _ _
       (λ b w. (not_begun_stage v e.instruction e.dispatched now e.stage (λ s. OverBy v now (mark_of_entry b)) sound.0.stage, not_begun_stage v b.instruction b.dispatched now b.stage (λ s. OverBy v now (mark_of_entry e)) w.stage)) es sound.1,
   fresh_pairs v now es sound.1,
 )
 
 -- the port is right in every history
-pub port_of_history : (v : Values) {steps : List Step} {h : Hardware} → History v steps h → PortOk v h.cycle h
-port_of_history v (began image start legal) = record { tie = tt; pairs = tt }
-port_of_history v (went_on {earlier} {old} {new} {lines} {report} before is) =
+pub port_of_history : {v : Values} {steps : List Step} {h : Hardware} → History v steps h → PortOk v h.cycle h
+port_of_history (began image start legal) = record { tie = tt; pairs = tt }
+port_of_history {v} (went_on {earlier} {old} {new} {lines} {report} before is) =
     let passed = history_passes v before is in
-    let ok = in_cycle (port_kept v (history_is_legal v before) old.cycle) passed (port_of_history v before) in
+    let ok = in_cycle (port_kept (history_is_legal before) old.cycle) passed (port_of_history before) in
     let d : Hardware = (dispatching lines old).hardware in
     record {
       tie = subst (λ (g : Hardware). Each (λ e. Tied v g.port_free (mark_of_entry e)) g.rob.entries) (sym passed.others_stay) ok.tie;
-      pairs = fresh_pairs v new.cycle new.rob.entries passed.ends.entries;
+      pairs = fresh_pairs v new.cycle _ passed.ends.entries;
     }
 
 -- rows were over before the cycle
@@ -59,28 +59,28 @@ rows_first v now (row ∷ rows) ms sound h = grind (arith, Each-all, row_pair, r
 words_last : (v : Values) (now : ℕ) (ms : List Mark) (fs : List Fetched) → EveryPair (OneAtATime v now) ms →
     EveryPair (OneAtATime v now) (ms ++ map mark_of_fetched fs)
 words_last v now ms fs h =
-    EveryPair-append (OneAtATime v now) ms (map mark_of_fetched fs) h (among fs)
-    (Each-all (λ m. Each (OneAtATime v now m) (map mark_of_fetched fs)) (λ m. Each-images (OneAtATime v now m) mark_of_fetched (λ f. new_pair v now m (mark_of_fetched f) refl) fs) ms)
+    EveryPair-append _ ms _ h (among fs)
+    (Each-all _ (λ m. Each-images _ _ (λ f. new_pair v now m (mark_of_fetched f) refl) fs) ms)
   where
     among : (gs : List Fetched) → EveryPair (OneAtATime v now) (map mark_of_fetched gs)
     among [] = tt
-    among (g ∷ gs) = (Each-images (OneAtATime v now (mark_of_fetched g)) mark_of_fetched (λ f. new_pair v now (mark_of_fetched g) (mark_of_fetched f) refl) gs, among gs)
+    among (g ∷ gs) = (Each-images _ _ (λ f. new_pair v now (mark_of_fetched g) (mark_of_fetched f) refl) gs, among gs)
 
 abbrev PortAfter : Values → ℕ → List Mark → Mark → Type 0
 PortAfter v c before m = Each (λ a. OneAtATime v c a m) before
 
-port_marks : (v : Values) {steps : List Step} {h : Hardware} → History v steps h → (c : ℕ) → c < h.cycle →
+port_marks : {v : Values} {steps : List Step} {h : Hardware} → History v steps h → (c : ℕ) → c < h.cycle →
     EveryAfter (PortAfter v c) [] (as_of c (map mark_of_row (rows_of steps)))
-port_marks v history =
-    rows_obey v (λ c ms. EveryAfter (PortAfter v c) [] ms) (λ c xs ys b h. Beginning-EveryAfter (PortAfter v c) xs ys b h)
+port_marks {v} history =
+    rows_obey v (λ c ms. EveryAfter (PortAfter v c) [] ms) (λ c xs ys b h. Beginning-EveryAfter _ xs ys b h)
     (λ earlier old new lines report before after passed.
     let all : List Step = earlier ++ report.steps in
     let now : ℕ = old.cycle in
     let d : Hardware = (dispatching lines old).hardware in
-    let ok = in_cycle (port_kept v (history_is_legal v before) old.cycle) passed (port_of_history v before) in
-    let es = EveryPair-map (OneAtATime v now) mark_of_entry d.rob.entries ok.pairs in
-    rw (passed.new_marks) (EveryAfter-EveryPair (OneAtATime v now) [] (marks_in all d ++ map mark_of_fetched passed.fetches.added) tt
-    (words_last v now (marks_in all d) passed.fetches.added (rows_first v now (rows_of all) (map mark_of_entry d.rob.entries ++ map mark_of_fetched d.front.entries) passed.dispatches.basics.rows (words_last v now (map mark_of_entry d.rob.entries) d.front.entries es)))))
+    let ok = in_cycle (port_kept (history_is_legal before) old.cycle) passed (port_of_history before) in
+    let es = EveryPair-map _ _ _ ok.pairs in
+    rw (passed.new_marks) (EveryAfter-EveryPair _ [] _ tt
+    (words_last v now _ passed.fetches.added (rows_first v now _ _ passed.dispatches.basics.rows (words_last v now _ d.front.entries es)))))
     history
 
 -- so of two rows
@@ -97,10 +97,10 @@ of_rows P c (row ∷ rows) h = by_stamp (nat_le row.fetched c) refl (subst (Each
     by_stamp true is k rest = ((λ le. k.0), rest k.1)
     by_stamp false is k rest = ((λ le. absurd (true≢false (sym (le-leb row.fetched c le) ∙ is))), rest k)
 
-every_swap : {X : Type 0} (Q : ℕ → Type 0) (S : ℕ → X → Type 0) (xs : List X) → ((c : ℕ) → Q c → Each (S c) xs) →
+every_swap : {X : Type 0} {Q : ℕ → Type 0} (S : ℕ → X → Type 0) (xs : List X) → ((c : ℕ) → Q c → Each (S c) xs) →
     Each (λ x. (c : ℕ) → Q c → S c x) xs
-every_swap Q S [] h = tt
-every_swap Q S (x ∷ xs) h = ((λ c q. (h c q).0), every_swap Q S xs (λ c q. (h c q).1))
+every_swap S [] h = tt
+every_swap {Q} S (x ∷ xs) h = ((λ c q. (h c q).0), every_swap S xs (λ c q. (h c q).1))
 
 abbrev start_of : Execution → Start
 start_of x = record { cycle = x.issued; cost = x.cost; faults = false }
@@ -124,7 +124,7 @@ when_row v c a x P given le used h = grind (arith, begun_by, row_uses)
 abbrev PortApart : Values → Row → Row → Type 0
 PortApart v a b = uses_port v.forward a ≡ true → uses_port v.forward b ≡ true → IfSome a.execution (λ x. IfSome b.execution (λ y. (x.issued + x.cost ≤ y.issued) ⊎ (y.issued + y.cost ≤ x.issued)))
 
-module _ (v : Values) (bound : ℕ) (a b : Row) (sound_a : SoundRow v bound a) (sound_b : SoundRow v bound b)
+module _ {v : Values} {bound : ℕ} {a b : Row} (sound_a : SoundRow v bound a) (sound_b : SoundRow v bound b)
     (pair : (c : ℕ) → (c < bound) × (b.fetched ≤ c) → a.fetched ≤ c → OneAtATime v c (at_end c (mark_of_row a)) (at_end c (mark_of_row b))) where
   two_apart : (x y : Execution) → a.execution ≡ Some x → b.execution ≡ Some y → uses_port v.forward a ≡ true →
       uses_port v.forward b ≡ true → (x.issued + x.cost ≤ y.issued) ⊎ (y.issued + y.cost ≤ x.issued)
@@ -142,21 +142,19 @@ module _ (v : Values) (bound : ℕ) (a b : Row) (sound_a : SoundRow v bound a) (
             inl (over_row v y.issued a x at (omega (arith, before)) used over)
       ]
 
-  by_executions : (o p : Option Execution) → a.execution ≡ o → b.execution ≡ p → uses_port v.forward a ≡ true →
+  by_executions : {o p : Option Execution} → a.execution ≡ o → b.execution ≡ p → uses_port v.forward a ≡ true →
       uses_port v.forward b ≡ true →
       IfSome o (λ x. IfSome p (λ y. (x.issued + x.cost ≤ y.issued) ⊎ (y.issued + y.cost ≤ x.issued)))
-  by_executions o p given at' used used' = grind (arith, two_apart)
+  by_executions given at' used used' = grind (arith, two_apart)
 
-rows_apart : (v : Values) {steps : List Step} {h : Hardware} → History v steps h → (before after : List Row) (b : Row) →
+rows_apart : {v : Values} {steps : List Step} {h : Hardware} → History v steps h → (before after : List Row) (b : Row) →
     rows_of steps ≡ before ++ b ∷ after → Each (λ a. PortApart v a b) before
-rows_apart v {steps} {h} history before after b at =
-    let all = subst (Each (SoundRow v h.cycle)) at (history_is_sound v history).rows in
-    let sound_b : SoundRow v h.cycle b = Each-place (SoundRow v h.cycle) before after b all in
-    Each-both (SoundRow v h.cycle) (λ a. (c : ℕ) → (c < h.cycle) × (b.fetched ≤ c) → a.fetched ≤ c → OneAtATime v c (at_end c (mark_of_row a)) (at_end c (mark_of_row b))) (λ a. PortApart v a b)
-    (λ a sound_a pair. by_executions v h.cycle a b sound_a sound_b pair a.execution b.execution refl refl) before
-    (Each-left (SoundRow v h.cycle) before (b ∷ after) all)
-    (every_swap (λ c. (c < h.cycle) × (b.fetched ≤ c)) (λ c a. a.fetched ≤ c → OneAtATime v c (at_end c (mark_of_row a)) (at_end c (mark_of_row b))) before
-    (λ c q. of_rows (λ m. OneAtATime v c m (at_end c (mark_of_row b))) c before (after_law (PortAfter v c) c (rows_of steps) before after b (port_marks v history c q.0) at q.1)))
+rows_apart {v} {steps} {h} history before after b at =
+    let all = subst (Each (SoundRow v h.cycle)) at (history_is_sound history).rows in
+    let sound_b : SoundRow v h.cycle b = Each-place _ before after b all in
+    Each-both _ (λ a sound_a pair. by_executions sound_a sound_b pair refl refl) before (Each-left _ before _ all)
+    (every_swap (λ c a. a.fetched ≤ c → OneAtATime v c (at_end c (mark_of_row a)) (at_end c (mark_of_row b))) before
+    (λ c q. of_rows _ c before (after_law _ c before after b (port_marks history c q.0) at q.1)))
 
 -- from places to the recursion
 each_after : {X : Type 0} (P : List X → X → Type 0) (before xs all : List X) → all ≡ before ++ xs → EachAfter P all →
@@ -165,8 +163,8 @@ each_after P before [] all at h = tt
 each_after P before (x ∷ xs) all at h = (h before xs x at, each_after P (before ++ x ∷ []) xs all (at ∙ sym (append_assoc before (x ∷ []) xs)) h)
 
 -- the field `port` of `Laws`, over every history
-pub law_of_port : (v : Values) {steps : List Step} {h : Hardware} → History v steps h →
+pub law_of_port : {v : Values} {steps : List Step} {h : Hardware} → History v steps h →
     AllPairs (AreApartAtPort v.forward) (rows_of steps)
-law_of_port v {steps} history =
-    AllPairs-EveryPair (PortApart v) (rows_of steps)
-    (EveryPair-EveryAfter (PortApart v) [] (rows_of steps) (each_after (λ before b. Each (λ a. PortApart v a b) before) [] (rows_of steps) (rows_of steps) refl (rows_apart v history)))
+law_of_port {v} {steps} history =
+    AllPairs-EveryPair _ _
+    (EveryPair-EveryAfter _ [] _ (each_after (λ before b. Each (λ a. PortApart v a b) before) [] (rows_of steps) (rows_of steps) refl (rows_apart history)))

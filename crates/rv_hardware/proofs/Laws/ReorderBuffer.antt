@@ -7,6 +7,6 @@ pub in_flight_shows : (v : Values) → Shows v is_in_flight_in (λ c. is_in_flig
 in_flight_shows v = grind (arith, leb-true, and_first, ltb-true, and_second, and_from, le-leb, until_by, until_now)
 
 -- the field `reorder_buffer` of `Laws`, over every history
-pub law_of_reorder_buffer : (v : Values) {steps : List Step} {h : Hardware} → History v steps h → NeverMoreThan v.rob is_in_flight_in (rows_of steps)
-law_of_reorder_buffer v history =
-    counted_law v is_in_flight_in (λ c. is_in_flight_mark) (in_flight_shows v) v.rob (λ earlier old new lines report before after passed. (history_is_orderly v after).buffer) history
+pub law_of_reorder_buffer : {v : Values} {steps : List Step} {h : Hardware} → History v steps h → NeverMoreThan v.rob is_in_flight_in (rows_of steps)
+law_of_reorder_buffer {v} history =
+    counted_law (in_flight_shows v) v.rob (λ earlier old new lines report before after passed. (history_is_orderly after).buffer) history

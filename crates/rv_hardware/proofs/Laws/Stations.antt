@@ -13,6 +13,6 @@ pub stationed_shows : (v : Values) (k : Kind) → Shows v (is_stationed_in k) (�
 stationed_shows v k = grind (arith, and_first, leb-true, and_second, issued_after, and_from, le-leb, until_by, retired_after)
 
 -- the field `stations` of `Laws`, over every history
-pub law_of_stations : (v : Values) {steps : List Step} {h : Hardware} → History v steps h → (k : Kind) → NeverMoreThan (stations_of v k) (is_stationed_in k) (rows_of steps)
-law_of_stations v history k =
-    counted_law v (is_stationed_in k) (λ c. is_stationed_mark k) (stationed_shows v k) (at_kind k v.kinds).stations (λ earlier old new lines report before after passed. (history_is_orderly v after).stations k) history
+pub law_of_stations : {v : Values} {steps : List Step} {h : Hardware} → History v steps h → (k : Kind) → NeverMoreThan (stations_of v k) (is_stationed_in k) (rows_of steps)
+law_of_stations {v} history k =
+    counted_law (stationed_shows v k) (at_kind k v.kinds).stations (λ earlier old new lines report before after passed. (history_is_orderly after).stations k) history

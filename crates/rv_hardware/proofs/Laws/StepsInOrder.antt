@@ -5,6 +5,6 @@ use Rattle.rv_hardware.proofs.Marks.History.{History}
 use Rattle.rv_hardware.proofs.Laws.StepsInOrder.Steps.{InOrder, history_has_steps}
 
 -- the field `steps_in_order` of `Laws`, over every history
-pub law_of_steps_in_order : (v : Values) {steps : List Step} {h : Hardware} → History v steps h → AllPairs (λ a b. stamp_of a ≤ stamp_of b) steps
-law_of_steps_in_order v {steps} history =
-    AllPairs-EveryPair (λ a b. stamp_of a ≤ stamp_of b) steps (EveryPair-weaker InOrder (λ a b. stamp_of a ≤ stamp_of b) (λ a b o. o.order) steps (history_has_steps v history).pairs)
+pub law_of_steps_in_order : {v : Values} {steps : List Step} {h : Hardware} → History v steps h → AllPairs (λ a b. stamp_of a ≤ stamp_of b) steps
+law_of_steps_in_order {v} {steps} history =
+    AllPairs-EveryPair _ steps (EveryPair-weaker _ (λ a b o. o.order) steps (history_has_steps history).pairs)

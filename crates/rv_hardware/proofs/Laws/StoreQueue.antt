@@ -39,39 +39,38 @@ module _ (v : Values) (now : ℕ) (earlier : List Step) (is_stale : set.FinSet n
   serial_row c e es written port place serial le p ok =
       let row : Row = row_at e written c.hardware.cycle in
       let plain = row_is_store c e es written place (may_retire_serial e.instruction e.stage serial) p ∙ serialising_is_no_store e.instruction serial in
-      let more = plain_retires v.cache.hit now (rows_of (earlier ++ c.steps)) c.hardware.port_free c.hardware.committed ok row plain in
-      rw (pushed c (Retired row)) (queue_later v.cache.hit now (rows_of (earlier ++ c.steps) ++ row ∷ []) c.hardware.port_free c.hardware.committed more port le)
+      let more = plain_retires ok row plain in
+      rw (pushed c (Retired row)) (queue_later more port le)
 
   -- a result
-  result_row : (c : Committing) (e : Entry) (es : List Entry) (issue : Option Issue) (cycle : ℕ) (message : Message) →
+  result_row : (c : Committing) (e : Entry) (es : List Entry) {issue : Option Issue} {cycle : ℕ} {message : Message} →
       c.hardware.rob.entries ≡ e ∷ es → e.stage ≡ Finished issue cycle message → message.fault ≡ None →
       InCommit v now earlier is_stale c → Queues c →
       Queue v now (earlier ++ (c.steps ++ Retired (row_at e (written_of e message) c.hardware.cycle) ∷ [])) (retired_with e message c).hardware
-  result_row c e es issue cycle message place given holds p ok =
+  result_row c e es {issue} {cycle} {message} place given holds p ok =
       let row : Row = row_at e (written_of e message) c.hardware.cycle in
-      let same = row_is_store c e es (written_of e message) place (may_retire_finished e.instruction e.stage issue cycle message given holds) p in
+      let same = row_is_store c e es (written_of e message) place (may_retire_finished e.instruction given holds) p in
       let tells = (told_at_end e.word e.instruction e.stage message (ap broadcast_of given) (subst (Each Shaped) place p.basics.always.stores.0.0).0).store holds in
-      rw (pushed c (Retired row)) (queue_retires v.cache.hit now (rows_of (earlier ++ c.steps)) c.hardware.port_free c.hardware.committed ok row c.hardware.rob.retired message.store (tells ∙ sym same) (omega (arith, p.basics.cycle)))
+      rw (pushed c (Retired row)) (queue_retires ok row c.hardware.rob.retired message.store (tells ∙ sym same) (omega (arith, p.basics.cycle)))
 
   commit_queue : (c : Committing) (t : Turn Committing) → CommitTurn is_stale c t → InCommit v now earlier is_stale c → Queues c →
       Leads Queues Queues t
   commit_queue c _ (fence_writes e es head is drained dirty) p ok =
-      queue_later v.cache.hit now (rows_of (earlier ++ c.steps)) c.hardware.port_free c.hardware.committed ok (written_back c).hardware.port_free (omega (arith, drained_idle _ c.hardware drained))
+      queue_later ok (written_back c).hardware.port_free (omega (arith, drained_idle _ c.hardware drained))
   commit_queue c _ (fence_retires e es written next head is drained) p ok =
       serial_row c e es written (written_back c).hardware.port_free head.place (ap is_serialising is) (omega (arith, drained_idle _ c.hardware drained)) p ok
   commit_queue c _ (executes e es written next head serial) p ok = serial_row c e es written c.hardware.port_free head.place serial (omega arith) p ok
   commit_queue c _ (serial_faults e es cause value head serial) p ok = no_row c (Trap e.pc cause value c.hardware.cycle) (with_fault e cause value c).hardware refl refl refl ok
   commit_queue c _ (traps e es issue cycle message fault head plain at is) p ok = no_row c (Trap e.pc fault.cause fault.value c.hardware.cycle) (with_fault e fault.cause fault.value c).hardware refl refl refl ok
   commit_queue c _ (retires e es issue cycle message head plain at none) p ok =
-      result_row c e es issue cycle message head.place at none p ok
-  commit_queue c _ (retires_last e es issue cycle message head plain at none) p ok = result_row c e es issue cycle message head.place at none p ok
+      result_row c e es head.place at none p ok
+  commit_queue c _ (retires_last e es issue cycle message head plain at none) p ok = result_row c e es head.place at none p ok
   commit_queue c _ _ p ok = ok
 
   commit_queue_by : (o : Option ℕ) (h : Hardware) → InCommit v now earlier is_stale (record { hardware = h; steps = []; stop = None }) → Queue v now (earlier ++ []) h → Queue v now (earlier ++ (commit_unless is_stale o h).steps) (commit_unless is_stale o h).hardware
   commit_queue_by (Some code) h p ok =
       no_row (record { hardware = h; steps = []; stop = None }) (Interrupt h.pc (interrupt_cause code) h.cycle) (commit_unless is_stale (Some code) h).hardware refl refl refl ok
-  commit_queue_by None h p ok =
-      commit_turns_keep v now earlier is_stale Queues commit_queue h.values.commit_width (record { hardware = h; steps = []; stop = None }) p ok
+  commit_queue_by None h p ok = commit_turns_keep v now earlier is_stale commit_queue h.values.commit_width p ok
 
 -- drain, and the phases after it
 
@@ -82,17 +81,17 @@ module _ (v : Values) (now : ℕ) (steps : List Step) where
   drain_queue : IsKeptByDrain Drained
   drain_queue = record {
     leaves = λ h p idle.
-        let le = leb-true h.port_free h.cycle idle in (p.0, p.1, queue_leaves v.cache.hit now (rows_of steps) h.port_free (omega (arith, le, p.0)) h.committed p.2);
+        let le = leb-true h.port_free h.cycle idle in (p.0, p.1, queue_leaves v.cache.hit now (rows_of steps) h.port_free (omega (arith, le, p.0)) p.2);
     drains = λ h access p idle is.
         let le = leb-true h.port_free h.cycle idle in
-        (p.0, p.1, queue_begins v.cache.hit now (rows_of steps) h.port_free (omega (arith, le, p.0)) _ (omega (arith, p.0, access_cost-least h.cache access.address, ap (λ (c : CacheValues). c.hit) p.1)) h.committed p.2);
+        (p.0, p.1, queue_begins v.cache.hit now (rows_of steps) h.port_free (omega (arith, le, p.0)) _ (omega (arith, p.0, access_cost-least h.cache access.address, ap (λ (c : CacheValues). c.hit) p.1)) p.2);
   }
 
   issue_queue : (k : Kind) → IsKeptByIssue (Queue v now steps) k
   issue_queue k = record {
     accesses = λ h older younger e address ok split ready by.
         let idle = subst (λ q. has_port h q ≡ true) by (has_its_port h older e (ready-parts h k older e ready).loads) in
-        queue_later v.cache.hit now (rows_of steps) h.port_free h.committed ok _ (port_grows h (FromCache address) idle);
+        queue_later ok _ (port_grows h (FromCache address) idle);
     starts = λ h older younger e cost message ok split waits of_kind result costs. ok;
   }
 
@@ -108,21 +107,23 @@ module _ (v : Values) (now : ℕ) (steps : List Step) where
 
 -- a cycle
 
-queue_in_cycle : (v : Values) (R : List Mark → Type 0) {earlier : List Step} {old new : Hardware} {lines : Lines} {report : Report} → History v earlier old → Passed v R earlier lines old report new → Queue v old.cycle earlier old → Queue v old.cycle (earlier ++ report.steps) new
-queue_in_cycle v R {earlier} {old} {new} {lines} {report} before passed ok =
-    let first = begin v (history_is_legal v before) Anything earlier lines old new report (anything_is_kept v old.cycle) passed.begins tt in
+queue_in_cycle : {v : Values} {R : List Mark → Type 0} {earlier : List Step} {old new : Hardware} {lines : Lines} {report : Report} →
+    History v earlier old → Passed v R earlier lines old report new → Queue v old.cycle earlier old →
+    Queue v old.cycle (earlier ++ report.steps) new
+queue_in_cycle {v} {earlier} {old} {new} {lines} {report} before passed ok =
+    let first = begin (history_is_legal before) lines new report (anything_is_kept v old.cycle) passed.begins tt in
     let g : Hardware = with_lines lines old in
     let committed = commit_queue_by v old.cycle earlier set.contains (due g.csrs g.lines) g first (rw (append-nil earlier) ok) in
     let at_commit : Queue v old.cycle (earlier ++ report.steps) (committing lines old).hardware = rw (passed.steps) committed in
     let done = executed_queue v old.cycle (earlier ++ report.steps) (committing lines old).hardware (passed.committed.basics.cycle, passed.committed.basics.always.sizes.cache, at_commit) in
     subst (λ (h : Hardware). Queue v old.cycle (earlier ++ report.steps) h) (sym passed.others_stay) done
 
-pub queue_of_history : (v : Values) {steps : List Step} {h : Hardware} → History v steps h → Queue v h.cycle steps h
-queue_of_history v (began image start legal) = record { gone = []; kept = []; split = refl; over = tt; by_now = tt; queued = tt }
-queue_of_history v (went_on {earlier} {old} {new} {lines} {report} before is) =
+pub queue_of_history : {v : Values} {steps : List Step} {h : Hardware} → History v steps h → Queue v h.cycle steps h
+queue_of_history (began image start legal) = record { gone = []; kept = []; split = refl; over = tt; by_now = tt; queued = tt }
+queue_of_history {v} (went_on {earlier} {old} {new} {lines} {report} before is) =
     let passed = history_passes v before is in
     let next : new.cycle ≡ old.cycle + 1 = ap (λ (h : Hardware). h.cycle) passed.others_stay in
-    queue_next v.cache.hit old.cycle (rows_of (earlier ++ report.steps)) new.port_free new.committed (queue_in_cycle v Anything before passed (queue_of_history v before)) new.cycle (omega (arith, next))
+    queue_next (queue_in_cycle before passed (queue_of_history before)) new.cycle (omega (arith, next))
 
 -- counts
 
@@ -138,18 +139,18 @@ module _ (hit now : ℕ) where
   abbrev is_late : Row → Bool
   is_late row = nat_lt now (row.retired + hit)
 
-  late_by : (b : Bool) (row : Row) (m : ℕ) (rows : List Row) → m ≡ count is_late rows →
+  late_by : (b : Bool) (row : Row) {m : ℕ} (rows : List Row) → m ≡ count is_late rows →
       cond (b && is_late row) (suc m) m ≡ count is_late (cond b (row ∷ rows) rows)
-  late_by b row m rows same = grind arith
+  late_by b row rows same = grind arith
 
   late_rows : (rows : List Row) →
       count (λ row. is_queued_mark hit now (mark_of_row row)) rows ≡ count is_late (filter is_store_row rows)
   late_rows [] = refl
-  late_rows (row ∷ rows) = late_by (is_store_row row) row (count (λ r. is_queued_mark hit now (mark_of_row r)) rows) (filter is_store_row rows) (late_rows rows)
+  late_rows (row ∷ rows) = late_by (is_store_row row) row (filter is_store_row rows) (late_rows rows)
 
-  queued_rows : (rows : List Row) (port : ℕ) (committed : List Store) → QueueOk hit now rows port committed →
+  queued_rows : {rows : List Row} {port : ℕ} {committed : List Store} → QueueOk hit now rows port committed →
       count (λ row. is_queued_mark hit now (mark_of_row row)) rows ≤ length committed
-  queued_rows rows port committed ok = grind (arith, late_rows, count-append, count-none, Each-weaker, le-ltb, count-length, queued_length)
+  queued_rows ok = grind (arith, late_rows, count-append, count-none, Each-weaker, le-ltb, count-length, queued_length)
 
   counted_by : (b : Bool) (m n : ℕ) → m ≡ n → cond (b && true) (suc m) m ≡ cond b 1 0 + n
   counted_by b m n same = grind arith
@@ -158,49 +159,49 @@ module _ (hit now : ℕ) where
   queued_entries [] = refl
   queued_entries (e ∷ es) = counted_by (is_store e.instruction) _ _ (queued_entries es)
 
-law_by_cycle : (v : Values) {steps : List Step} {h : Hardware} → History v steps h → (c : ℕ) → c < h.cycle →
+law_by_cycle : {v : Values} {steps : List Step} {h : Hardware} → History v steps h → (c : ℕ) → c < h.cycle →
     count (is_queued_mark v.cache.hit c) (as_of c (map mark_of_row (rows_of steps))) ≤ v.store_queue
-law_by_cycle v history =
+law_by_cycle {v} history =
     rows_obey v (λ c ms. count (is_queued_mark v.cache.hit c) ms ≤ v.store_queue) (λ c xs ys b le. let less = Beginning-count (is_queued_mark v.cache.hit c) xs ys b in omega (arith, less, le))
     (λ earlier old new lines report before after passed.
     let p : Mark → Bool = is_queued_mark v.cache.hit old.cycle in
-    let ok = queue_in_cycle v (Extends old.cycle (marks_in earlier old)) before passed (queue_of_history v before) in
+    let ok = queue_in_cycle before passed (queue_of_history before) in
     let parts = count_marks p (earlier ++ report.steps) new.rob.entries new.front.entries in
-    let rows = queued_rows v.cache.hit old.cycle (rows_of (earlier ++ report.steps)) new.port_free new.committed ok in
+    let rows = queued_rows v.cache.hit old.cycle ok in
     let entries = queued_entries v.cache.hit old.cycle new.rob.entries in
     let words = count-none (λ f. p (mark_of_fetched f)) new.front.entries
     (Each-all (λ f. p (mark_of_fetched f) ≡ false) (λ f. and_right (is_store f.instruction) false refl) new.front.entries) in
-    let room = (history_is_sound v after).always.stores.1 in
-    let values = ap (λ (w : Values). w.store_queue) (history_is_sound v after).always.sizes.values in
+    let room = (history_is_sound after).always.stores.1 in
+    let values = ap (λ (w : Values). w.store_queue) (history_is_sound after).always.sizes.values in
     omega (arith, parts, rows, entries, words, room, values)) history
 
 -- so of rows
 
-row_is_queued : (v : Values) (c bound : ℕ) (row : Row) → SoundRow v bound row → is_queued_in v.cache.hit c row ≡ true →
+row_is_queued : {v : Values} (c : ℕ) {bound : ℕ} {row : Row} → SoundRow v bound row → is_queued_in v.cache.hit c row ≡ true →
     (was_fetched c (mark_of_row row) && is_queued_mark v.cache.hit c (at_end c (mark_of_row row))) ≡ true
-row_is_queued v c bound row sound h = grind (arith, and_first, leb-true, and_second, and_from, le-leb, until_by)
+row_is_queued c sound h = grind (arith, and_first, leb-true, and_second, and_from, le-leb, until_by)
 
 -- after the last cycle no more rows are counted than in it
-still_queued : (v : Values) (c now : ℕ) (row : Row) → now ≤ c → SoundRow v (now + 1) row → is_queued_in v.cache.hit c row ≡ true →
+still_queued : {v : Values} (c now : ℕ) {row : Row} → now ≤ c → SoundRow v (now + 1) row → is_queued_in v.cache.hit c row ≡ true →
     is_queued_in v.cache.hit now row ≡ true
-still_queued v c now row le sound h = grind (arith, and_first, ltb-true, and_second, and_from, le-leb, lt-ltb)
+still_queued c now le sound h = grind (arith, and_first, ltb-true, and_second, and_from, le-leb, lt-ltb)
 
-module _ (v : Values) {steps : List Step} {h : Hardware} (history : History v steps h) where
+module _ {v : Values} {steps : List Step} {h : Hardware} (history : History v steps h) where
   queued_before : (c : ℕ) → c < h.cycle → count (is_queued_in v.cache.hit c) (rows_of steps) ≤ v.store_queue
   queued_before c lt =
       let p : Mark → Bool = is_queued_mark v.cache.hit c in
-      let law = law_by_cycle v history c lt in
+      let law = law_by_cycle history c lt in
       let counts = count-as_of p c (map mark_of_row (rows_of steps)) ∙ count-map (λ m. was_fetched c m && p (at_end c m)) mark_of_row (rows_of steps) in
-      let fewer = count-le (is_queued_in v.cache.hit c) (λ row. was_fetched c (mark_of_row row) && p (at_end c (mark_of_row row))) (rows_of steps)
-      (Each-weaker (SoundRow v h.cycle) (λ row. is_queued_in v.cache.hit c row ≡ true → (was_fetched c (mark_of_row row) && p (at_end c (mark_of_row row))) ≡ true) (λ row sound. row_is_queued v c h.cycle row sound) (rows_of steps) (history_is_sound v history).rows) in
+      let fewer = count-le (is_queued_in v.cache.hit c) (λ row. was_fetched c (mark_of_row row) && p (at_end c (mark_of_row row))) _
+      (Each-weaker _ _ (λ row sound. row_is_queued c sound) _ (history_is_sound history).rows) in
       omega (arith, law, counts, fewer)
 
   queued_by : (n c : ℕ) → h.cycle ≡ n → n ≤ c → count (is_queued_in v.cache.hit c) (rows_of steps) ≤ v.store_queue
   queued_by zero c at le = grind (arith, count-none, Each-weaker, history_is_sound)
   queued_by (suc now) c at le =
-      let fewer = count-le (is_queued_in v.cache.hit c) (is_queued_in v.cache.hit now) (rows_of steps)
-      (Each-weaker (SoundRow v h.cycle) (λ row. is_queued_in v.cache.hit c row ≡ true → is_queued_in v.cache.hit now row ≡ true)
-      (λ row sound. still_queued v c now row (omega (arith, le)) (subst (λ n. SoundRow v n row) (omega (arith, at)) sound)) (rows_of steps) (history_is_sound v history).rows) in
+      let fewer = count-le (is_queued_in v.cache.hit c) (is_queued_in v.cache.hit now) _
+      (Each-weaker _ _
+      (λ row sound. still_queued c now (omega (arith, le)) (subst (λ n. SoundRow v n row) (omega (arith, at)) sound)) _ (history_is_sound history).rows) in
       let law = queued_before now (omega (arith, at)) in
       omega (arith, fewer, law)
 

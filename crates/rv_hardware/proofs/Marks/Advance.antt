@@ -96,13 +96,13 @@ agree_by : (now : ℕ) (m n p : Mark) → n ≡ p → (m.fetched ≡ p.fetched) 
 agree_by now m n p is agree = rw is agree
 
 -- a mark that goes on was the same at the end of every earlier cycle
-pub advances_agree : (v : Values) (now : ℕ) (xs : List Mark) (m n : Mark) → Advances v now xs m n → Agree now m n
-advances_agree v now xs m n (mark_starts a) = grind (arith, agree_by, start_until_now)
-advances_agree v now xs m n given = grind (arith, agree_by, until_now)
+pub advances_agree : {v : Values} {now : ℕ} {xs : List Mark} {m n : Mark} → Advances v now xs m n → Agree now m n
+advances_agree (mark_starts a) = grind (arith, agree_by, start_until_now)
+advances_agree given = grind (arith, agree_by, until_now)
 
 -- so the marks go on from those at the start of the cycle
 pub extends_kept : (v : Values) (now : ℕ) (from : List Mark) → Kept v now (Extends now from)
 extends_kept v now from = record {
-  cut = λ xs ys went. Extends-trans now from (xs ++ ys) xs went (Extends-cut now xs ys);
-  set = λ xs ys m n a went. Extends-trans now from (xs ++ m ∷ ys) (xs ++ n ∷ ys) went (Extends-change now xs ys m n (advances_agree v now xs m n a));
+  cut = λ xs ys went. Extends-trans from (xs ++ ys) xs went (Extends-cut now xs ys);
+  set = λ xs ys m n a went. Extends-trans from (xs ++ m ∷ ys) (xs ++ n ∷ ys) went (Extends-change now xs ys m n (advances_agree a));
 }

@@ -20,10 +20,10 @@ is_waiting_is st h = grind arith
 -- the entries of each phase are sound
 
 -- an instruction that starts to execute stays sound
-pub started_sound : (v : Values) (now b : ℕ) (k : Kind) (e : Entry) (cost : ℕ) (message : Message) → SoundEntry v now (now + 1) b e →
+pub started_sound : {v : Values} {now b : ℕ} (k : Kind) {e : Entry} (cost : ℕ) (message : Message) → SoundEntry v now (now + 1) b e →
     is_of_kind k (kind_of_word e.instruction) ≡ true → SoundCost v e.instruction (start_of_issue (record { cycle = now; cost = cost }) message) →
     SoundEntry v now (now + 1) b (started (record { cycle = now; cost = cost }) message e)
-started_sound v now b k e cost message sound kind costs = grind (arith, some_kind)
+started_sound k cost message sound kind costs = grind (arith, some_kind)
 
 finished_stage : (v : Values) (i : Option Instr) (D now : ℕ) (st : Stage) (issue : Issue) (message : Message) →
     st ≡ Running issue message → issue.cycle + issue.cost ≤ now → SoundStage v i D (now + 1) (now + 1) st →
@@ -31,19 +31,19 @@ finished_stage : (v : Values) (i : Option Instr) (D now : ℕ) (st : Stage) (iss
 finished_stage v i D now st issue message given over sound = grind arith
 
 -- an instruction whose result is broadcast stays sound
-pub finished_sound : (v : Values) (now : ℕ) (e : Entry) (issue : Issue) (message : Message) →
+pub finished_sound : {v : Values} {now : ℕ} {e : Entry} {issue : Issue} {message : Message} →
     SoundEntry v now (now + 1) (now + 1) e → e.stage ≡ Running issue message → issue.cycle + issue.cost ≤ now →
     SoundEntry v now (now + 1) (now + 1) (finished message now e)
-finished_sound v now e issue message sound given over = grind (arith, finished_stage)
+finished_sound sound given over = grind (arith, finished_stage)
 
 -- another predicted pc leaves an instruction sound
-pub predicting_sound : (v : Values) (d a b next : ℕ) (e : Entry) → SoundEntry v d a b e → SoundEntry v d a b (predicting next e)
-predicting_sound v d a b next e sound = record { decoded = sound.decoded; after_fetch = sound.after_fetch; by_now = sound.by_now; stage = sound.stage }
+pub predicting_sound : {v : Values} {d a b : ℕ} (next : ℕ) {e : Entry} → SoundEntry v d a b e → SoundEntry v d a b (predicting next e)
+predicting_sound next sound = record { decoded = sound.decoded; after_fetch = sound.after_fetch; by_now = sound.by_now; stage = sound.stage }
 
 -- the mark of an instruction whose result is broadcast is stamped with the cycle
-pub finished_mark : (now : ℕ) (e : Entry) (issue : Issue) (message : Message) → e.stage ≡ Running issue message →
+pub finished_mark : (now : ℕ) (e : Entry) {issue : Issue} {message : Message} → e.stage ≡ Running issue message →
     mark_of_entry (finished message now e) ≡ record (mark_of_entry e) { broadcast = Some now }
-finished_mark now e issue message given = grind arith
+finished_mark now e given = grind arith
 
 -- an instruction that is dispatched
 

@@ -16,7 +16,7 @@ pub use Rattle.rv_hardware.proofs.Marks.Evidence.{last_from-append, last_from-Ea
 pub use Rattle.rv_hardware.proofs.Marks.Sound.{SoundStage, SoundEntry, SoundFetched, kind_is_plain, serial_has_no_kind, is_of_kind_is, some_kind, row_decodes, positive_cost}
 pub use Rattle.rv_hardware.proofs.Marks.Row.{SoundRow, row_at, MayRetire, may_retire_serial, may_retire_finished, retiring_is_one}
 pub use Rattle.rv_hardware.proofs.Marks.Basics.{is_waiting_is, finished_mark, dispatched_mark}
-pub use Rattle.rv_hardware.proofs.Marks.Phases.{Goes, Commits, commit_turn_keeps, Issues, start_is, issue_turn_keeps, issue_kind_keeps, Broadcasts, send_is, broadcast_turn_keeps, broadcast_keeps, dispatch_keeps, goes_later, with_marks}
+pub use Rattle.rv_hardware.proofs.Marks.Phases.{Goes, Commits, commit_turn_keeps, Issues, start_is, issue_turn_keeps, issue_kind_keeps, Broadcasts, send_is, broadcast_turn_keeps, broadcast_keeps, dispatch_keeps, before_broadcast, before_dispatch, with_marks}
 pub use Rattle.rv_hardware.proofs.Marks.History.{committing, drained, issued_all, sent_all, dispatching, Passed, begin, cycle_passes, History, began, went_on, history_is_legal, Anything, anything_is_kept, history_is_sound, history_passes, is_buffered_mark, KeptMarks, buffered_words, new_words, marks_of_history, reachable_has_history}
 pub use Rattle.rv_hardware.proofs.Marks.Past.{as_of_now, marks_settled, rows_obey}
 pub use Rattle.rv_hardware.proofs.Marks.Order.{IsDispatchedFirst, history_is_orderly}

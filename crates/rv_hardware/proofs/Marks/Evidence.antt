@@ -27,8 +27,8 @@ row_known_by : (now C : ℕ) (i : Option Instr) (x : Option Execution) (D : ℕ)
     IfSome x (λ x. (D < x.issued) × (x.issued + x.cost ≤ x.broadcast) × (x.broadcast < C)) → is_some (kind_of_word i) ≡ true → IsBefore now (broadcast_of_execution x)
 row_known_by now C i x D le same h some = grind arith
 
-pub row_known : (v : Values) (now : ℕ) (row : Row) → SoundRow v (now + 1) row → IsKnownMark now (mark_of_row row)
-row_known v now row sound some = grind (arith, row_known_by)
+pub row_known : {v : Values} (now : ℕ) (row : Row) → SoundRow v (now + 1) row → IsKnownMark now (mark_of_row row)
+row_known now row sound some = grind (arith, row_known_by)
 
 store_has_unit : (i : Option Instr) → is_store i ≡ true → is_some (kind_of_word i) ≡ true
 store_has_unit i h = grind arith
@@ -37,12 +37,13 @@ row_sent_by : (now C D : ℕ) (x : Option Execution) → C ≤ now → IfSome x 
     IfSome (start_of_execution x) (λ s. s.cycle + s.cost ≤ now → IsBefore (now + 1) (broadcast_of_execution x))
 row_sent_by now C D x le h = grind arith
 
-row_sent : (v : Values) (now : ℕ) (row : Row) → SoundRow v (now + 1) row → IsSentIfReady now (mark_of_row row)
-row_sent v now row sound = row_sent_by now row.retired row.dispatched row.execution (omega (arith, sound.below)) sound.stamps.executed_between
+row_sent : {v : Values} (now : ℕ) (row : Row) → SoundRow v (now + 1) row → IsSentIfReady now (mark_of_row row)
+row_sent now row sound = row_sent_by now row.retired row.dispatched row.execution (omega (arith, sound.below)) sound.stamps.executed_between
 
 -- entries that are known
 
-entry_known_by : (v : Values) (i : Option Instr) (D a now : ℕ) (st : Stage) → SoundStage v i D a now st → is_some (broadcast_of st) ≡ true → is_some (kind_of_word i) ≡ true → IsBefore now (broadcast_of_stage st)
+entry_known_by : (v : Values) (i : Option Instr) (D a now : ℕ) (st : Stage) → SoundStage v i D a now st →
+    is_some (broadcast_of st) ≡ true → is_some (kind_of_word i) ≡ true → IsBefore now (broadcast_of_stage st)
 entry_known_by v i D a now st h known some = grind arith
 
 module _ (v : Values) (d a now : ℕ) where
@@ -60,14 +61,14 @@ module _ (v : Values) (d a now : ℕ) where
 
   module _ (rows : List Row) (sound_rows : Each (SoundRow v (now + 1)) rows) where
     rows_known : Each (IsKnownMark now) (map mark_of_row rows)
-    rows_known = Each-map (IsKnownMark now) mark_of_row rows (Each-weaker (SoundRow v (now + 1)) (λ row. IsKnownMark now (mark_of_row row)) (row_known v now) rows sound_rows)
+    rows_known = Each-map _ _ rows (Each-weaker _ _ (row_known now) rows sound_rows)
 
     register_known : (older : List Entry) (register : ℕ) → Each (SoundEntry v d a now) older → is_known older register ≡ true →
         IfSome (last_that (writes_mark register) (map mark_of_row rows ++ map mark_of_entry older)) (IsKnownMark now)
     register_known older register sound h =
         rw (last_from-append None (writes_mark register) (map mark_of_row rows) (map mark_of_entry older))
         (known_from register true (last_from None (writes_mark register) (map mark_of_row rows)) older
-        (λ e. last_from-Each (IsKnownMark now) None (writes_mark register) (map mark_of_row rows) tt rows_known) sound h)
+        (λ e. last_from-Each _ None (writes_mark register) _ tt rows_known) sound h)
 
     -- where an instruction has its operands, the marks of their producers are known
     pub operands_known : (older : List Entry) (sources : List (Option ℕ)) → Each (SoundEntry v d a now) older → has_operands older sources ≡ true →
@@ -80,22 +81,21 @@ module _ (v : Values) (d a now : ℕ) where
     known_broadcast : (seq : ℕ) (o : Option Message) → is_known_store (record { seq = seq; state = store_of_broadcast o }) ≡ true → is_some o ≡ true
     known_broadcast seq o k = grind arith
 
-    stores_by : (b : Bool) (seq : ℕ) (e : Entry) (es : List Entry) → is_store e.instruction ≡ b → SoundEntry v d a now e →
+    stores_by : {b : Bool} (seq : ℕ) {e : Entry} (es : List Entry) → is_store e.instruction ≡ b → SoundEntry v d a now e →
         (list_all is_known_store (stores_of (seq + 1) es) ≡ true → Each (IsKnownStore now) (map mark_of_entry es)) →
         list_all is_known_store (cond b (record { seq = seq; state = store_of_broadcast (broadcast_of e.stage) } ∷ stores_of (seq + 1) es) (stores_of (seq + 1) es)) ≡ true →
         Each (IsKnownStore now) (map mark_of_entry (e ∷ es))
-    stores_by b seq e es is sound rest k = grind (arith, entry_known, known_broadcast, and_first, store_has_unit, and_second, true≢false)
+    stores_by seq es is sound rest k = grind (arith, entry_known, known_broadcast, and_first, store_has_unit, and_second, true≢false)
 
     stores_all : (seq : ℕ) (older : List Entry) → Each (SoundEntry v d a now) older → list_all is_known_store (stores_of seq older) ≡ true → Each (IsKnownStore now) (map mark_of_entry older)
     stores_all seq [] sound h = tt
-    stores_all seq (e ∷ es) sound h = stores_by (is_store e.instruction) seq e es refl sound.0 (λ k. stores_all (seq + 1) es sound.1 k) h
+    stores_all seq (e ∷ es) sound h = stores_by seq es refl sound.0 (λ k. stores_all (seq + 1) es sound.1 k) h
 
     -- where each older store in flight is known, the marks of all older stores are known
     pub stores_known : (committed : List QueuedStore) (seq : ℕ) (older : List Entry) → Each (SoundEntry v d a now) older → list_all is_known_store (committed ++ stores_of seq older) ≡ true →
         Each (IsKnownStore now) (map mark_of_row rows ++ map mark_of_entry older)
     stores_known committed seq older sound h =
-        Each-append (IsKnownStore now) (map mark_of_row rows) (map mark_of_entry older)
-        (Each-weaker (IsKnownMark now) (IsKnownStore now) (λ m known store. known (store_has_unit m.instruction store)) (map mark_of_row rows) rows_known)
+        Each-append _ _ _ (Each-weaker _ _ (λ m known store. known (store_has_unit m.instruction store)) _ rows_known)
         (stores_all seq older sound
         (and_second (list_all is_known_store committed) (list_all is_known_store (stores_of seq older))
         (sym (list_all-append is_known_store committed (stores_of seq older)) ∙ h)))
@@ -111,20 +111,20 @@ stage_sent : (v : Values) (i : Option Instr) (D a now : ℕ) (st : Stage) → So
 stage_sent v i D a now st h given = grind (arith, stage_sent_by)
 
 -- of entries of which none has a result for the bus, each that was ready was broadcast
-pub entries_sent : (v : Values) (d a now : ℕ) (before es : List Entry) → Each (SoundEntry v d a (now + 1)) es → EveryAfter (λ older e. has_result now older e ≡ false) before es → Each (IsSentIfReady now) (map mark_of_entry es)
+pub entries_sent : (v : Values) (d a now : ℕ) (before es : List Entry) → Each (SoundEntry v d a (now + 1)) es →
+    EveryAfter (λ older e. has_result now older e ≡ false) before es → Each (IsSentIfReady now) (map mark_of_entry es)
 entries_sent v d a now before [] sound none = tt
-entries_sent v d a now before (e ∷ es) sound none = (stage_sent v e.instruction e.dispatched a now e.stage sound.0.stage none.0, entries_sent v d a now (before ++ e ∷ []) es sound.1 none.1)
+entries_sent v d a now before (e ∷ es) sound none = (stage_sent v e.instruction e.dispatched a now e.stage sound.0.stage none.0, entries_sent v d a now _ es sound.1 none.1)
 
 -- each row that was ready was broadcast
 pub rows_sent : (v : Values) (now : ℕ) (rows : List Row) → Each (SoundRow v (now + 1)) rows → Each (IsSentIfReady now) (map mark_of_row rows)
-rows_sent v now rows sound = Each-map (IsSentIfReady now) mark_of_row rows (Each-weaker (SoundRow v (now + 1)) (λ row. IsSentIfReady now (mark_of_row row)) (row_sent v now) rows sound)
+rows_sent v now rows sound = Each-map _ _ rows (Each-weaker _ _ (row_sent now) rows sound)
 
 -- where nothing older has a result for the bus, each older mark that was ready was broadcast
 pub none_waits : (v : Values) (d a now : ℕ) (rows : List Row) (older : List Entry) → Each (SoundRow v (now + 1)) rows → Each (SoundEntry v d a (now + 1)) older →
     EveryAfter (λ before e. has_result now before e ≡ false) [] older → Each (IsSentIfReady now) (map mark_of_row rows ++ map mark_of_entry older)
 none_waits v d a now rows older sound_rows sound none =
-    Each-append (IsSentIfReady now) (map mark_of_row rows) (map mark_of_entry older)
-    (Each-map (IsSentIfReady now) mark_of_row rows (Each-weaker (SoundRow v (now + 1)) (λ row. IsSentIfReady now (mark_of_row row)) (row_sent v now) rows sound_rows))
+    Each-append _ _ _ (Each-map _ _ rows (Each-weaker _ _ (row_sent now) rows sound_rows))
     (entries_sent v d a now [] older sound none)
 
 -- there is room
@@ -132,9 +132,7 @@ none_waits v d a now rows older sound_rows sound none =
 -- rows and instructions in flight were dispatched
 pub rows_and_entries_are_dispatched : (rows : List Row) (es : List Entry) → Each (λ x. is_some x.dispatched ≡ true) (map mark_of_row rows ++ map mark_of_entry es)
 rows_and_entries_are_dispatched rows es =
-    Each-append (λ x. is_some x.dispatched ≡ true) (map mark_of_row rows) (map mark_of_entry es)
-    (Each-images (λ x. is_some x.dispatched ≡ true) mark_of_row (λ row. refl) rows)
-    (Each-images (λ x. is_some x.dispatched ≡ true) mark_of_entry (λ e. refl) es)
+    Each-append _ _ _ (Each-images _ _ (λ row. refl) rows) (Each-images _ _ (λ e. refl) es)
 
 -- no more marks are in flight than the reorder buffer has entries
 pub in_flight_room : (rows : List Row) (es : List Entry) → count is_in_flight_mark (map mark_of_row rows ++ map mark_of_entry es) ≤ length es
@@ -147,8 +145,8 @@ in_flight_room rows es =
     let some = count-length (λ e. is_in_flight_mark (mark_of_entry e)) es in
     omega (arith, both, none, all, some)
 
-row_started : (v : Values) (bound : ℕ) (k : Kind) (row : Row) → SoundRow v bound row → is_stationed_mark k (mark_of_row row) ≡ false
-row_started v bound k row sound = grind (arith, some_kind)
+row_started : {v : Values} {bound : ℕ} (k : Kind) (row : Row) → SoundRow v bound row → is_stationed_mark k (mark_of_row row) ≡ false
+row_started k row sound = grind (arith, some_kind)
 
 stationed_by : (v : Values) (i : Option Instr) (D a b : ℕ) (st : Stage) (k : Kind) → SoundStage v i D a b st → (is_of_kind k (kind_of_word i) && (true && is_none (start_of_stage st))) ≡ true →
     (is_waiting st && is_of_kind k (kind_of_word i)) ≡ true
@@ -162,7 +160,7 @@ pub stations_room : (v : Values) (d a b bound : ℕ) (k : Kind) (rows : List Row
     count (is_stationed_mark k) (map mark_of_row rows ++ map mark_of_entry es) ≤ length (filter (is_stationed k) es)
 stations_room v d a b bound k rows es sound_rows sound =
     let both = count-append (is_stationed_mark k) (map mark_of_row rows) (map mark_of_entry es) in
-    let none = count-map (is_stationed_mark k) mark_of_row rows ∙ count-none (λ row. is_stationed_mark k (mark_of_row row)) rows (Each-weaker (SoundRow v bound) (λ row. is_stationed_mark k (mark_of_row row) ≡ false) (row_started v bound k) rows sound_rows) in
+    let none = count-map (is_stationed_mark k) mark_of_row rows ∙ count-none (λ row. is_stationed_mark k (mark_of_row row)) rows (Each-weaker _ _ (row_started k) rows sound_rows) in
     let all = count-map (is_stationed_mark k) mark_of_entry es in
     let some = count-le (λ e. is_stationed_mark k (mark_of_entry e)) (is_stationed k) es (entries_stationed v d a b k es sound) in
     let same = length-filter (is_stationed k) es ∙ sym (count-count_by (is_stationed k) es) in

@@ -5,7 +5,7 @@ use Rattle.rv_hardware.proofs.Marks.Advance.{Kept}
 use Rattle.rv_hardware.proofs.Marks.Basics.{Basics}
 use Rattle.rv_hardware.proofs.Turns.Cited.{FetchPhase, IsNew, fetch_phase, cycle-keeps}
 use Rattle.rv_hardware.proofs.Marks.List.{Mark, mark_of_row, mark_of_entry, mark_of_fetched, marks, marks_in, marks_fetched}
-use Rattle.rv_hardware.proofs.Marks.Phases.{Goes, commit_keeps, drain_keeps, issue_keeps, broadcast_keeps, dispatch_keeps, goes_later}
+use Rattle.rv_hardware.proofs.Marks.Phases.{Goes, commit_keeps, drain_keeps, issue_keeps, broadcast_keeps, dispatch_keeps, goes_later, before_drain, before_broadcast, before_dispatch}
 use Rattle.rv_hardware.proofs.Always.Sound.{IsSoundFor, always-kept, always-at_reset}
 use Rattle.rv_hardware.proofs.Marks.Row.{SoundRow}
 use Rattle.rv_hardware.proofs.Marks.Sound.{SoundEntry, SoundFetched}
@@ -50,12 +50,12 @@ pub record Passed (v : Values) (R : List Mark → Type 0) (earlier : List Step) 
   pub ends : Sound v (earlier ++ report.steps) new
   pub new_marks : marks_in (earlier ++ report.steps) new ≡ marks_in (earlier ++ report.steps) (dispatching lines old).hardware ++ map mark_of_fetched fetches.added
 
-module _ (v : Values) (legal : IsLegal v) (R : List Mark → Type 0) (earlier : List Step) (lines : Lines) (old new : Hardware) (report : Report) (kept : Kept v old.cycle R) (begins : Sound v earlier old) (holds : R (marks_in earlier old)) where
+module _ {v : Values} (legal : IsLegal v) {R : List Mark → Type 0} {earlier : List Step} (lines : Lines) {old : Hardware} (new : Hardware) (report : Report) (kept : Kept v old.cycle R) (begins : Sound v earlier old) (holds : R (marks_in earlier old)) where
   -- with the cycle's lines, what held between two cycles holds before the commit phase
   pub begin : Goes v old.cycle old.cycle old.cycle old.cycle old.cycle (old.cycle + 1) R (earlier ++ []) (with_lines lines old)
   begin =
       rw (append-nil earlier)
-      (goes_later v old.cycle old.cycle old.cycle old.cycle old.cycle old.cycle old.cycle old.cycle old.cycle (old.cycle + 1) R earlier (with_lines lines old) (omega arith) (omega arith) (omega arith) (omega arith) (record {
+      (goes_later old.cycle old.cycle old.cycle (old.cycle + 1) (omega arith) (omega arith) (omega arith) (omega arith) (record {
         basics = record {
           cycle = refl;
           always = (always-kept v).phases.lines old lines begins.always;
@@ -66,7 +66,7 @@ module _ (v : Values) (legal : IsLegal v) (R : List Mark → Type 0) (earlier : 
         marks = holds;
       }))
 
-  module _ (steps : List Step) (d : Hardware) (dispatched : Goes v old.cycle (old.cycle + 1) (old.cycle + 1) (old.cycle + 1) old.cycle (old.cycle + 1) R steps d)
+  module _ {steps : List Step} {d : Hardware} (dispatched : Goes v old.cycle (old.cycle + 1) (old.cycle + 1) (old.cycle + 1) old.cycle (old.cycle + 1) R steps d)
       (fetches : FetchPhase old.cycle d.front new.front) (others_stay : new ≡ record d { front = new.front; cycle = old.cycle + 1 }) (always : IsSoundFor v new) where
     ended : Basics v (old.cycle + 1) (old.cycle + 1) (old.cycle + 1) (old.cycle + 1) (old.cycle + 1) (old.cycle + 1) steps new
     ended = record {
@@ -74,9 +74,9 @@ module _ (v : Values) (legal : IsLegal v) (R : List Mark → Type 0) (earlier : 
       always = always;
       rows = dispatched.basics.rows;
       entries = subst (Each (SoundEntry v (old.cycle + 1) (old.cycle + 1) (old.cycle + 1))) (sym (ap (λ (h : Hardware). h.rob.entries) others_stay)) dispatched.basics.entries;
-      fetched = rw (fetches.entries) (Each-append (SoundFetched (old.cycle + 1)) d.front.entries fetches.added
-          (Each-weaker (SoundFetched old.cycle) (SoundFetched (old.cycle + 1)) (λ f w. (omega (arith, w.0), w.1)) d.front.entries dispatched.basics.fetched)
-          (Each-weaker (IsNew old.cycle) (SoundFetched (old.cycle + 1)) (λ f w. (omega (arith, w.0), w.1)) fetches.added fetches.are_new));
+      fetched = rw (fetches.entries) (Each-append _ _ _
+          (Each-weaker _ _ (λ f w. (omega (arith, w.0), w.1)) _ dispatched.basics.fetched)
+          (Each-weaker _ _ (λ f w. (omega (arith, w.0), w.1)) _ fetches.are_new));
     }
 
     more_marks : marks_in steps new ≡ marks_in steps d ++ map mark_of_fetched fetches.added
@@ -88,19 +88,16 @@ module _ (v : Values) (legal : IsLegal v) (R : List Mark → Type 0) (earlier : 
       let steps : report.steps ≡ (committing lines old).steps = ap (λ r. r.steps) is.reports ∙ ap (λ (c : Committing). c.steps) is.commits in
       let d_is : is.dispatching ≡ dispatching lines old = is.executes ∙ ap (λ (c : Committing). execute c.hardware) is.commits in
       let committed = subst (λ l. Goes v old.cycle old.cycle old.cycle old.cycle old.cycle (old.cycle + 1) R (earlier ++ l) (committing lines old).hardware) (sym steps)
-      (commit_keeps v old.cycle R kept earlier set.contains (with_lines lines old) begin) in
-      let drains = drain_keeps v old.cycle old.cycle (old.cycle + 1) old.cycle old.cycle (old.cycle + 1) R (earlier ++ report.steps) (committing lines old).hardware
-      (goes_later v old.cycle old.cycle old.cycle old.cycle old.cycle (old.cycle + 1) old.cycle (old.cycle + 1) old.cycle (old.cycle + 1) R (earlier ++ report.steps) (committing lines old).hardware (omega arith) (omega arith) (omega arith) (omega arith) committed) in
-      let issues = issue_keeps v legal old.cycle R kept (earlier ++ report.steps) (drained lines old) drains in
-      let sends = broadcast_keeps v old.cycle R kept (earlier ++ report.steps) (issued_all lines old)
-      (goes_later v old.cycle old.cycle (old.cycle + 1) old.cycle old.cycle (old.cycle + 1) old.cycle (old.cycle + 1) (old.cycle + 1) (old.cycle + 1) R (earlier ++ report.steps) (issued_all lines old) (omega arith) (omega arith) (omega arith) (omega arith) issues) in
-      let dispatched = dispatch_keeps v old.cycle R kept (earlier ++ report.steps) (sent_all lines old)
-      (goes_later v old.cycle old.cycle (old.cycle + 1) (old.cycle + 1) old.cycle (old.cycle + 1) (old.cycle + 1) (old.cycle + 1) (old.cycle + 1) (old.cycle + 1) R (earlier ++ report.steps) (sent_all lines old) (omega arith) (omega arith) (omega arith) (omega arith) sends) in
+      (commit_keeps kept earlier set.contains begin) in
+      let drains = drain_keeps (before_drain committed) in
+      let issues = issue_keeps legal kept (earlier ++ report.steps) drains in
+      let sends = broadcast_keeps kept (earlier ++ report.steps) (before_broadcast issues) in
+      let dispatched = dispatch_keeps kept (earlier ++ report.steps) (before_dispatch sends) in
       let fetches = subst (λ (d : Dispatching). FetchPhase old.cycle d.hardware.front new.front) d_is
       (fetch_phase any_prediction is.dispatching.hardware.cache.backing old.cycle is.dispatching.hardware.front new.front is.fetch_stop is.fetches) in
       let others_stay = subst (λ (d : Dispatching). new ≡ record d.hardware { front = new.front; cycle = old.cycle + 1 }) d_is is.others_stay in
       let always = cycle-keeps (always-kept v) is begins.always in
-      let at_end = ended (earlier ++ report.steps) (dispatching lines old).hardware dispatched fetches others_stay always in
+      let at_end = ended dispatched fetches others_stay always in
       record {
         begins = begins;
         marks = holds;
@@ -114,7 +111,7 @@ module _ (v : Values) (legal : IsLegal v) (R : List Mark → Type 0) (earlier : 
         steps = steps;
         report_is = (ap (λ r. r.dispatched) is.reports ∙ ap (λ (d : Dispatching). d.dispatched) d_is, ap (λ r. r.stall) is.reports ∙ ap stall_of d_is);
         ends = subst (λ n. Basics v n n n n n n (earlier ++ report.steps) new) (sym at_end.cycle) at_end;
-        new_marks = more_marks (earlier ++ report.steps) (dispatching lines old).hardware dispatched fetches others_stay always;
+        new_marks = more_marks dispatched fetches others_stay always;
       }
 
 -- all cycles since the reset, with all their steps
@@ -124,14 +121,14 @@ pub data History (v : Values) : List Step → Hardware → Type 0 where
       History v earlier old → IsCycle any_prediction lines old report new → History v (earlier ++ report.steps) new
 
 -- the description of every history is legal
-pub history_is_legal : (v : Values) {steps : List Step} {h : Hardware} → History v steps h → IsLegal v
-history_is_legal v (began image start legal) = legal
-history_is_legal v (went_on before is) = history_is_legal v before
+pub history_is_legal : {v : Values} {steps : List Step} {h : Hardware} → History v steps h → IsLegal v
+history_is_legal (began image start legal) = legal
+history_is_legal {v} (went_on before is) = history_is_legal before
 
-sound_at_reset : (v : Values) (image : List ℕ) (start : ℕ) → IsLegal v → Sound v [] (reset_hardware v image start)
-sound_at_reset v image start legal = record {
+sound_at_reset : {v : Values} (image : List ℕ) (start : ℕ) → IsLegal v → Sound v [] (reset_hardware v image start)
+sound_at_reset {v} image start legal = record {
   cycle = refl;
-  always = always-at_reset v image start legal;
+  always = always-at_reset image start legal;
   rows = tt;
   entries = tt;
   fetched = tt;
@@ -146,15 +143,15 @@ pub anything_is_kept : (v : Values) (now : ℕ) → Kept v now Anything
 anything_is_kept v now = record { cut = λ xs ys r. tt; set = λ xs ys m n a r. tt }
 
 -- what is basic holds in every history
-pub history_is_sound : (v : Values) {steps : List Step} {h : Hardware} → History v steps h → Sound v steps h
-history_is_sound v (began image start legal) = sound_at_reset v image start legal
-history_is_sound v (went_on {earlier} {old} {new} {lines} {report} before is) = (cycle_passes v (history_is_legal v before) Anything earlier lines old new report (anything_is_kept v old.cycle) (history_is_sound v before) tt is).ends
+pub history_is_sound : {v : Values} {steps : List Step} {h : Hardware} → History v steps h → Sound v steps h
+history_is_sound {v} (began image start legal) = sound_at_reset image start legal
+history_is_sound {v} (went_on {earlier} {old} {new} {lines} {report} before is) = (cycle_passes (history_is_legal before) lines new report (anything_is_kept v old.cycle) (history_is_sound before) tt is).ends
 
 -- each phase of a cycle after a history keeps what is basic
 pub history_passes : (v : Values) {earlier : List Step} {old new : Hardware} {lines : Lines} {report : Report} → History v earlier old →
     IsCycle any_prediction lines old report new → Passed v Anything earlier lines old report new
 history_passes v {earlier} {old} {new} {lines} {report} before is =
-    cycle_passes v (history_is_legal v before) Anything earlier lines old new report (anything_is_kept v old.cycle) (history_is_sound v before) tt is
+    cycle_passes (history_is_legal before) lines new report (anything_is_kept v old.cycle) (history_is_sound before) tt is
 
 -- the words that a cycle adds to some marks
 abbrev pub is_buffered_mark : Mark → Bool
@@ -178,11 +175,10 @@ pub fetched_before : (v : Values) (now : ℕ) (steps : List Step) (es : List Ent
     Each (SoundRow v (now + 1)) (rows_of steps) → Each (SoundEntry v (now + 1) (now + 1) (now + 1)) es →
     Each (SoundFetched now) fs → Each (λ m. m.fetched < now) (marks steps es fs)
 fetched_before v now steps es fs rows entries words =
-    Each-append (λ m. m.fetched < now) (map mark_of_row (rows_of steps)) (map mark_of_entry es ++ map mark_of_fetched fs)
-    (Each-map (λ m. m.fetched < now) mark_of_row (rows_of steps) (Each-weaker (SoundRow v (now + 1)) (λ row. row.fetched < now) (λ row w. omega (arith, w.stamps.dispatched_after_fetch, w.stamps.retired_after_dispatch, w.below)) (rows_of steps) rows))
-    (Each-append (λ m. m.fetched < now) (map mark_of_entry es) (map mark_of_fetched fs)
-    (Each-map (λ m. m.fetched < now) mark_of_entry es (Each-weaker (SoundEntry v (now + 1) (now + 1) (now + 1)) (λ e. e.fetched < now) (λ e w. omega (arith, w.after_fetch, w.by_now)) es entries))
-    (Each-map (λ m. m.fetched < now) mark_of_fetched fs (Each-weaker (SoundFetched now) (λ f. f.cycle < now) (λ f w. w.0) fs words)))
+    Each-append _ _ _
+    (Each-map _ _ _ (Each-weaker _ _ (λ row w. omega (arith, w.stamps.dispatched_after_fetch, w.stamps.retired_after_dispatch, w.below)) _ rows))
+    (Each-append _ _ _ (Each-map _ _ es (Each-weaker _ _ (λ e w. omega (arith, w.after_fetch, w.by_now)) es entries))
+    (Each-map _ _ fs (Each-weaker _ _ (λ f w. w.0) fs words)))
 
 rows_not_buffered : (rows : List Row) → count is_buffered_mark (map mark_of_row rows) ≡ 0
 rows_not_buffered [] = refl
@@ -202,27 +198,28 @@ pub buffered_words : (steps : List Step) (es : List Entry) (fs : List Fetched) �
 buffered_words steps es fs = grind (arith, count-append, rows_not_buffered, entries_not_buffered, words_are_buffered)
 
 -- the words that a cycle fetches are new ones after the marks so far
-pub new_words : (v : Values) (R : List Mark → Type 0) (earlier : List Step) (lines : Lines) (old new : Hardware) (report : Report) (passed : Passed v R earlier lines old report new) → NewWords v old.cycle (marks_in (earlier ++ report.steps) (dispatching lines old).hardware) passed.fetches.added
-new_words v R earlier lines old new report passed =
+pub new_words : {v : Values} {R : List Mark → Type 0} {earlier : List Step} {lines : Lines} {old new : Hardware} {report : Report} (passed : Passed v R earlier lines old report new) →
+    NewWords v old.cycle (marks_in (earlier ++ report.steps) (dispatching lines old).hardware) passed.fetches.added
+new_words {v} {earlier} {lines} {old} {report} passed =
     let d : Hardware = (dispatching lines old).hardware in
     let b = passed.dispatches.basics in
     record {
-      by_now = fetched_before v old.cycle (earlier ++ report.steps) d.rob.entries d.front.entries b.rows b.entries b.fetched;
+      by_now = fetched_before v old.cycle (earlier ++ report.steps) _ _ b.rows b.entries b.fetched;
       are_new = passed.fetches.are_new;
       within_width = omega (arith, passed.fetches.within_width, b.always.sizes.width);
       within_room = omega (arith, passed.fetches.within_room, b.always.sizes.room, buffered_words (earlier ++ report.steps) d.rob.entries d.front.entries);
     }
 
 -- a property of marks that is kept holds in every history
-pub marks_of_history : (v : Values) (R : ℕ → List Mark → Type 0) → KeptMarks v R → {steps : List Step} {h : Hardware} →
+pub marks_of_history : {v : Values} {R : ℕ → List Mark → Type 0} → KeptMarks v R → {steps : List Step} {h : Hardware} →
     History v steps h → R h.cycle (marks_in steps h)
-marks_of_history v R r (began image start legal) = r.at_reset
-marks_of_history v R r (went_on {earlier} {old} {new} {lines} {report} before is) =
-    let passed = cycle_passes v (history_is_legal v before) (R old.cycle) earlier lines old new report (r.kept old.cycle) (history_is_sound v before) (marks_of_history v R r before) is in
+marks_of_history r (began image start legal) = r.at_reset
+marks_of_history {v} {R} r (went_on {earlier} {old} {new} {lines} {report} before is) =
+    let passed = cycle_passes (history_is_legal before) lines new report (r.kept old.cycle) (history_is_sound before) (marks_of_history r before) is in
     let d : Hardware = (dispatching lines old).hardware in
     let steps : List Step = earlier ++ report.steps in
     let next : new.cycle ≡ old.cycle + 1 = ap (λ (h : Hardware). h.cycle) passed.others_stay in
-    let words = new_words v (R old.cycle) earlier lines old new report passed in
+    let words = new_words passed in
     rw (next, passed.new_marks) (r.more old.cycle (marks_in steps d) passed.fetches.added words passed.dispatches.marks)
 
 -- whatever is reachable has a history

@@ -121,8 +121,8 @@ pub Extends-self : (now : ℕ) (ms : List Mark) → Extends now ms ms
 Extends-self now ms c lt = Beginning-self (as_of c ms)
 
 -- what begins as marks did that begin as others did begins as these
-pub Extends-trans : (now : ℕ) (xs ys zs : List Mark) → Extends now xs ys → Extends now ys zs → Extends now xs zs
-Extends-trans now xs ys zs f g c lt = Beginning-trans (as_of c zs) (as_of c ys) (as_of c xs) (g c lt) (f c lt)
+pub Extends-trans : {now : ℕ} (xs ys zs : List Mark) → Extends now xs ys → Extends now ys zs → Extends now xs zs
+Extends-trans xs ys zs f g c lt = Beginning-trans (as_of c zs) (as_of c ys) (as_of c xs) (g c lt) (f c lt)
 
 -- the marks of instructions in flight in two parts
 pub marks_append : (xs ys : List Entry) → map mark_of_entry (xs ++ ys) ≡ map mark_of_entry xs ++ map mark_of_entry ys

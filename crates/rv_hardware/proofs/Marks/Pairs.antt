@@ -1,20 +1,21 @@
 -- A relation of each two marks gives one of each two rows, and the rows before a row are sound.
-use Rattle.rv_hardware.proofs.Words.{◌≡◌, ℕ, ◌≤◌, true, List, [], ◌∷◌, ◌++◌, map, None, Option, is_serialising, is_target, kind_of_word, target_of_word, Instr, Values, Each, Hardware, instruction_of_row, rows_of, Row, Step, Retired, Each-append, Each-both, EveryPair, EveryAfter, EveryPair-left, EveryPair-weaker, EveryPair-unmap, EveryAfter-left, EveryAfter-unmap, EveryAfter-EveryPair, arith}
+use Rattle.rv_hardware.proofs.Words.{◌≡◌, ℕ, ◌≤◌, true, List, [], ◌∷◌, map, None, Option, is_serialising, is_target, kind_of_word, target_of_word, Instr, Values, Each, Hardware, instruction_of_row, rows_of, Row, Step, Retired, Each-append, Each-both, EveryPair, EveryAfter, EveryPair-left, EveryPair-weaker, EveryPair-unmap, EveryAfter-left, EveryAfter-unmap, EveryAfter-EveryPair, arith}
 use Rattle.rv_hardware.proofs.Marks.History.{History, history_is_sound}
-use Rattle.rv_hardware.proofs.Marks.List.{Mark, marks_in, mark_of_row, mark_of_entry, mark_of_fetched}
+use Rattle.rv_hardware.proofs.Marks.List.{Mark, marks_in, mark_of_row}
 use Rattle.rv_hardware.proofs.Laws.Operands.Known.{StartsAfter, history_starts_after}
 use Rattle.rv_hardware.proofs.Marks.Row.{SoundRow}
 use Rattle.rv_hardware.proofs.Laws.StepsInOrder.Steps.{InOrder, history_has_steps}
 
 -- pairs of marks give pairs of rows
-pub row_pairs : (R : Mark → Mark → Type 0) (Q : Row → Row → Type 0) → ((a b : Row) → R (mark_of_row a) (mark_of_row b) → Q a b) → (steps : List Step) (h : Hardware) → EveryPair R (marks_in steps h) → EveryPair Q (rows_of steps)
-row_pairs R Q f steps h pairs = grind (arith, EveryPair-weaker, EveryPair-unmap, EveryPair-left)
+pub row_pairs : (R : Mark → Mark → Type 0) {Q : Row → Row → Type 0} →
+    ((a b : Row) → R (mark_of_row a) (mark_of_row b) → Q a b) → (steps : List Step) (h : Hardware) →
+    EveryPair R (marks_in steps h) → EveryPair Q (rows_of steps)
+row_pairs R f steps h pairs = grind (arith, EveryPair-weaker, EveryPair-unmap, EveryPair-left)
 
 -- rows that start after others
-pub rows_start_after : (v : Values) {steps : List Step} {h : Hardware} → History v steps h → EveryAfter (λ before row. StartsAfter (map mark_of_row before) (mark_of_row row)) [] (rows_of steps)
-rows_start_after v {steps} {h} history =
-    EveryAfter-unmap StartsAfter mark_of_row [] (rows_of steps)
-    (EveryAfter-left StartsAfter [] (map mark_of_row (rows_of steps)) (map mark_of_entry h.rob.entries ++ map mark_of_fetched h.front.entries) (history_starts_after v history))
+pub rows_start_after : {v : Values} {steps : List Step} {h : Hardware} → History v steps h → EveryAfter (λ before row. StartsAfter (map mark_of_row before) (mark_of_row row)) [] (rows_of steps)
+rows_start_after {v} {steps} {h} history =
+    EveryAfter-unmap _ _ [] _ (EveryAfter-left _ [] _ _ (history_starts_after history))
 
 -- an instruction that writes a register and uses no unit serialises
 pub writer_serialises : (register : ℕ) (i : Option Instr) → kind_of_word i ≡ None → is_target register (target_of_word i) ≡ true → is_serialising i ≡ true
@@ -42,17 +43,18 @@ rows_in_pairs (step ∷ steps) h = rows_in_pairs steps h.1
 -- each row after those that are older, which are sound
 every_before : {X : Type 0} (P : X → Type 0) (before xs : List X) → Each P before → Each P xs → EveryAfter (λ b x. Each P b) before xs
 every_before P before [] h g = tt
-every_before P before (x ∷ xs) h g = (h, every_before P (before ++ x ∷ []) xs (Each-append P before (x ∷ []) h (g.0, tt)) g.1)
+every_before P before (x ∷ xs) h g = (h, every_before P _ xs (Each-append P before _ h (g.0, tt)) g.1)
 
 -- what follows from two facts of each element behind others holds of each
-pub two_after : {X : Type 0} (P Q R : List X → X → Type 0) → ((b : List X) (x : X) → P b x → Q b x → R b x) → (before xs : List X) → EveryAfter P before xs → EveryAfter Q before xs → EveryAfter R before xs
-two_after P Q R f before [] h g = tt
-two_after P Q R f before (x ∷ xs) h g = (f before x h.0 g.0, two_after P Q R f (before ++ x ∷ []) xs h.1 g.1)
+pub two_after : {X : Type 0} {P Q R : List X → X → Type 0} → ((b : List X) (x : X) → P b x → Q b x → R b x) →
+    (before xs : List X) → EveryAfter P before xs → EveryAfter Q before xs → EveryAfter R before xs
+two_after f before [] h g = tt
+two_after {P} {Q} {R} f before (x ∷ xs) h g = (f before x h.0 g.0, two_after f _ xs h.1 g.1)
 
 -- in every history what is known of older rows holds of all before a row
-pub rows_are_older : (v : Values) {steps : List Step} {h : Hardware} → History v steps h → EveryAfter (λ before row. Each (Older v h.cycle row) before) [] (rows_of steps)
-rows_are_older v {steps} {h} history =
-    two_after (λ before row. Each (SoundRow v h.cycle) before) (λ before row. Each (λ a. SerialFirst a row) before) (λ before row. Each (Older v h.cycle row) before)
-    (λ before row sounds serials. Each-both (SoundRow v h.cycle) (λ a. SerialFirst a row) (Older v h.cycle row) (λ a s t. record { sound = s; serial = t }) before sounds serials) [] (rows_of steps)
-    (every_before (SoundRow v h.cycle) [] (rows_of steps) tt (history_is_sound v history).rows)
-    (EveryAfter-EveryPair SerialFirst [] (rows_of steps) tt (rows_in_pairs steps (history_has_steps v history).pairs))
+pub rows_are_older : {v : Values} {steps : List Step} {h : Hardware} → History v steps h → EveryAfter (λ before row. Each (Older v h.cycle row) before) [] (rows_of steps)
+rows_are_older {v} {steps} {h} history =
+    two_after
+    (λ before row sounds serials. Each-both _ (λ a s t. record { sound = s; serial = t }) before sounds serials) [] _
+    (every_before _ [] _ tt (history_is_sound history).rows)
+    (EveryAfter-EveryPair _ [] _ tt (rows_in_pairs steps (history_has_steps history).pairs))

@@ -2,7 +2,6 @@
 use Rattle.rv_hardware.proofs.Words.{◌≡◌, ℕ, ◌+◌, ◌<◌, ◌≤◌, List, [], ◌∷◌, ◌++◌, map, IfSome, Some, Option, sym, refl, ap, subst, inl, inr, arith, le-leb, cases_lt, Instr, Lines, Values, Each, Entry, Stage, Fetched, Hardware, Report, rows_of, Execution, Row, Step, Each-append, Each-weaker, Each-map, Beginning}
 use Rattle.rv_hardware.proofs.Marks.Basics.{Basics}
 use Rattle.rv_hardware.proofs.Marks.Advance.{extends_kept}
-use Rattle.rv_hardware.proofs.Turns.Fetch.{IsNew}
 use Rattle.rv_hardware.proofs.Marks.History.{dispatching, Passed, History, began, went_on, cycle_passes, history_is_legal, history_is_sound}
 use Rattle.rv_hardware.proofs.Marks.List.{Mark, Start, mark_of_row, mark_of_entry, mark_of_fetched, marks, marks_in, at_end, as_of, as_of-append, until, start_until, start_of_execution, broadcast_of_execution, start_of_stage, broadcast_of_stage, Extends, Extends-self, Extends-trans, Extends-more, until_by}
 use Rattle.rv_hardware.proofs.Marks.Row.{SoundRow}
@@ -27,15 +26,15 @@ execution_settled : (now D C : ℕ) (x : Option Execution) → C ≤ now → IfS
     (start_until now (start_of_execution x) ≡ start_of_execution x) × (until now (broadcast_of_execution x) ≡ broadcast_of_execution x)
 execution_settled now D C x le h = grind (arith, start_past, until_by)
 
-pub row_settled : (v : Values) (now : ℕ) (row : Row) → SoundRow v (now + 1) row → Settled now (mark_of_row row)
-row_settled v now row sound = grind (arith, execution_settled, until_by)
+pub row_settled : {v : Values} (now : ℕ) (row : Row) → SoundRow v (now + 1) row → Settled now (mark_of_row row)
+row_settled now row sound = grind (arith, execution_settled, until_by)
 
 stage_settled : (v : Values) (i : Option Instr) (D now : ℕ) (st : Stage) → SoundStage v i D (now + 1) (now + 1) st →
     (start_until now (start_of_stage st) ≡ start_of_stage st) × (until now (broadcast_of_stage st) ≡ broadcast_of_stage st)
 stage_settled v i D now st h = grind (arith, start_past, until_by)
 
-entry_settled : (v : Values) (now : ℕ) (e : Entry) → SoundEntry v (now + 1) (now + 1) (now + 1) e → Settled now (mark_of_entry e)
-entry_settled v now e sound = grind (arith, stage_settled, until_by)
+entry_settled : {v : Values} (now : ℕ) (e : Entry) → SoundEntry v (now + 1) (now + 1) (now + 1) e → Settled now (mark_of_entry e)
+entry_settled now e sound = grind (arith, stage_settled, until_by)
 
 fetched_settled : (now : ℕ) (f : Fetched) → SoundFetched (now + 1) f → Settled now (mark_of_fetched f)
 fetched_settled now f sound = (omega (arith, sound.0), refl)
@@ -44,11 +43,9 @@ fetched_settled now f sound = (omega (arith, sound.0), refl)
 pub marks_settled : (v : Values) (now : ℕ) (steps : List Step) (es : List Entry) (fs : List Fetched) → Each (SoundRow v (now + 1)) (rows_of steps) →
     Each (SoundEntry v (now + 1) (now + 1) (now + 1)) es → Each (SoundFetched (now + 1)) fs → Each (Settled now) (marks steps es fs)
 marks_settled v now steps es fs rows entries words =
-    Each-append (Settled now) (map mark_of_row (rows_of steps)) (map mark_of_entry es ++ map mark_of_fetched fs)
-    (Each-map (Settled now) mark_of_row (rows_of steps) (Each-weaker (SoundRow v (now + 1)) (λ row. Settled now (mark_of_row row)) (row_settled v now) (rows_of steps) rows))
-    (Each-append (Settled now) (map mark_of_entry es) (map mark_of_fetched fs)
-    (Each-map (Settled now) mark_of_entry es (Each-weaker (SoundEntry v (now + 1) (now + 1) (now + 1)) (λ e. Settled now (mark_of_entry e)) (entry_settled v now) es entries))
-    (Each-map (Settled now) mark_of_fetched fs (Each-weaker (SoundFetched (now + 1)) (λ f. Settled now (mark_of_fetched f)) (fetched_settled now) fs words)))
+    Each-append _ _ _ (Each-map _ _ _ (Each-weaker _ _ (row_settled now) _ rows))
+    (Each-append _ _ _ (Each-map _ _ es (Each-weaker _ _ (entry_settled now) es entries))
+    (Each-map _ _ fs (Each-weaker _ _ (fetched_settled now) fs words)))
 
 -- what the marks of each past cycle obey
 abbrev pub Past : (ℕ → List Mark → Type 0) → List Step → Hardware → Type 0
@@ -59,29 +56,29 @@ abbrev pub IsKeptByBeginnings : (ℕ → List Mark → Type 0) → Type 0
 IsKeptByBeginnings P = (c : ℕ) (xs ys : List Mark) → Beginning xs ys → P c ys → P c xs
 
 module _ (v : Values) (P : ℕ → List Mark → Type 0) (closed : IsKeptByBeginnings P) where
-  past_goes_on : (earlier : List Step) (old new : Hardware) (lines : Lines) (report : Report) → Passed v (Extends old.cycle (marks_in earlier old)) earlier lines old report new →
+  past_goes_on : {earlier : List Step} {old new : Hardware} {lines : Lines} {report : Report} → Passed v (Extends old.cycle (marks_in earlier old)) earlier lines old report new →
       P old.cycle (marks_in (earlier ++ report.steps) new) → Past P earlier old → Past P (earlier ++ report.steps) new
-  past_goes_on earlier old new lines report passed own past c lt =
+  past_goes_on {earlier} {old} {new} {lines} {report} passed own past c lt =
       let next : new.cycle ≡ old.cycle + 1 = ap (λ (h : Hardware). h.cycle) passed.others_stay in
       let ends = subst (λ n. Basics v n n n n n n (earlier ++ report.steps) new) next passed.ends in
       let d : Hardware = (dispatching lines old).hardware in
-      let words = Each-map (λ m. old.cycle ≤ m.fetched) mark_of_fetched passed.fetches.added (Each-weaker (IsNew old.cycle) (λ f. old.cycle ≤ f.cycle) (λ f w. omega (arith, w.0)) passed.fetches.added passed.fetches.are_new) in
+      let words = Each-map _ _ _ (Each-weaker _ _ (λ f w. omega (arith, w.0)) _ passed.fetches.are_new) in
       let goes = subst (Extends old.cycle (marks_in earlier old)) (sym passed.new_marks)
-      (Extends-trans old.cycle (marks_in earlier old) (marks_in (earlier ++ report.steps) d) (marks_in (earlier ++ report.steps) d ++ map mark_of_fetched passed.fetches.added) passed.dispatches.marks
-      (Extends-more old.cycle (marks_in (earlier ++ report.steps) d) (map mark_of_fetched passed.fetches.added) words)) in
+      (Extends-trans (marks_in earlier old) (marks_in (earlier ++ report.steps) d) (marks_in (earlier ++ report.steps) d ++ map mark_of_fetched passed.fetches.added) passed.dispatches.marks
+      (Extends-more old.cycle (marks_in (earlier ++ report.steps) d) _ words)) in
       elim (cases_lt c old.cycle) [
         | inl before ↦ closed c (as_of c (marks_in (earlier ++ report.steps) new)) (as_of c (marks_in earlier old)) (goes c before) (past c before)
         | inr since ↦
             let same : c ≡ old.cycle = omega (arith, next) in
-            rw (same, as_of_now old.cycle (marks_in (earlier ++ report.steps) new) (marks_settled v old.cycle (earlier ++ report.steps) new.rob.entries new.front.entries ends.rows ends.entries ends.fetched)) own
+            rw (same, as_of_now old.cycle (marks_in (earlier ++ report.steps) new) (marks_settled v old.cycle (earlier ++ report.steps) _ _ ends.rows ends.entries ends.fetched)) own
       ]
 
   module _ (own : (earlier : List Step) (old new : Hardware) (lines : Lines) (report : Report) → History v earlier old → History v (earlier ++ report.steps) new → Passed v (Extends old.cycle (marks_in earlier old)) earlier lines old report new → P old.cycle (marks_in (earlier ++ report.steps) new)) where
     pub history_obeys : {steps : List Step} {h : Hardware} → History v steps h → Past P steps h
     history_obeys (began image start legal) = λ c lt. absurd (omega arith)
     history_obeys (went_on {earlier} {old} {new} {lines} {report} before is) =
-        let passed = cycle_passes v (history_is_legal v before) (Extends old.cycle (marks_in earlier old)) earlier lines old new report (extends_kept v old.cycle (marks_in earlier old)) (history_is_sound v before) (Extends-self old.cycle (marks_in earlier old)) is in
-        past_goes_on earlier old new lines report passed (own earlier old new lines report before (went_on before is) passed) (history_obeys before)
+        let passed = cycle_passes (history_is_legal before) lines new report (extends_kept v old.cycle (marks_in earlier old)) (history_is_sound before) (Extends-self old.cycle (marks_in earlier old)) is in
+        past_goes_on passed (own earlier old new lines report before (went_on before is) passed) (history_obeys before)
 
     -- the rows are a beginning of the marks
     pub rows_obey : {steps : List Step} {h : Hardware} → History v steps h → (c : ℕ) → c < h.cycle → P c (as_of c (map mark_of_row (rows_of steps)))

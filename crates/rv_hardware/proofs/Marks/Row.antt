@@ -66,14 +66,14 @@ pub may_retire_serial : (i : Option Instr) (st : Stage) → is_serialising i ≡
 may_retire_serial i st serial = grind arith
 
 -- an instruction whose result is no fault may retire
-pub may_retire_finished : (i : Option Instr) (st : Stage) (issue : Option Issue) (cycle : ℕ) (message : Message) → st ≡ Finished issue cycle message → message.fault ≡ None → MayRetire i st
-may_retire_finished i st issue cycle message at none = rw at (inr none)
+pub may_retire_finished : (i : Option Instr) {st : Stage} {issue : Option Issue} {cycle : ℕ} {message : Message} → st ≡ Finished issue cycle message → message.fault ≡ None → MayRetire i st
+may_retire_finished i at none = rw at (inr none)
 
 -- what may retire is an instruction
 pub retiring_is_one : (v : Values) (now : ℕ) (e : Entry) → SoundEntry v now now now e → MayRetire e.instruction e.stage → e.instruction ≡ None → ⊥
 retiring_is_one v now e sound may = (execution_is_sound v e.instruction e.dispatched now e.stage sound.stage may).is_one
 
-module _ (v : Values) (now : ℕ) (e : Entry) (written : Option (ℕ × ℕ)) (sound : SoundEntry v now now now e) (may : MayRetire e.instruction e.stage) where
+module _ {v : Values} {now : ℕ} {e : Entry} (written : Option (ℕ × ℕ)) (sound : SoundEntry v now now now e) (may : MayRetire e.instruction e.stage) where
   held : SoundExecution v e.instruction e.dispatched now e.stage
   held = execution_is_sound v e.instruction e.dispatched now e.stage sound.stage may
 

@@ -55,14 +55,14 @@ pub some_kind : (k : Kind) (o : Option Kind) → is_of_kind k o ≡ true → is_
 some_kind k o is = ap is_some (is_of_kind_is k o is)
 
 -- the word of an instruction decodes to it
-decodes_by : (i : Option Instr) (word : Option ℕ) → i ≡ option_and_then instruction_of word → (i ≡ None → ⊥) →
+decodes_by : {i : Option Instr} (word : Option ℕ) → i ≡ option_and_then instruction_of word → (i ≡ None → ⊥) →
     instruction_of (unwrap_or word 0) ≡ i
-decodes_by i word is some = grind arith
+decodes_by word is some = grind arith
 
 -- the word of the row decodes to the instruction
 pub row_decodes : (e : Entry) → e.instruction ≡ option_and_then instruction_of e.word → (e.instruction ≡ None → ⊥) →
     instruction_of (unwrap_or e.word 0) ≡ e.instruction
-row_decodes e is some = decodes_by e.instruction e.word is some
+row_decodes e is some = decodes_by e.word is some
 
 -- what an access costs is one of the costs of a load
 
@@ -114,5 +114,5 @@ positive_access : (c : CacheValues) (forward : ℕ) (hit : Bool) (dropped : Opti
 positive_access c forward hit dropped le = grind arith
 
 -- every execution costs one cycle at least
-pub positive_cost : (v : Values) → IsLegal v → (h : Hardware) → HasShape v h → (k : Kind) (p : Path) → 0 < cost_of h k p
-positive_cost v legal h shape k p = grind (arith, positive_latency, positive_access)
+pub positive_cost : {v : Values} → IsLegal v → (h : Hardware) → HasShape v h → (k : Kind) (p : Path) → 0 < cost_of h k p
+positive_cost legal h shape k p = grind (arith, positive_latency, positive_access)

@@ -27,9 +27,8 @@ count_in_flight p {v} {R} {earlier} {lines} {old} {new} {report} passed no_row n
     ap (count p) passed.new_marks
     ∙ count-append p (marks_in (earlier ++ report.steps) d) (map mark_of_fetched passed.fetches.added) in
     let parts = count_marks p (earlier ++ report.steps) d.rob.entries d.front.entries in
-    let rows = count-none (λ row. p (mark_of_row row)) all
-    (Each-weaker (SoundRow v (old.cycle + 1)) (λ row. p (mark_of_row row) ≡ false) no_row all passed.dispatches.basics.rows) in
+    let rows = count-none (λ row. p (mark_of_row row)) all (Each-weaker _ _ no_row all passed.dispatches.basics.rows) in
     let words : (fs : List Fetched) → count (λ f. p (mark_of_fetched f)) fs ≡ 0 =
-    λ fs. count-none (λ f. p (mark_of_fetched f)) fs (Each-all (λ f. p (mark_of_fetched f) ≡ false) no_word fs) in
+    λ fs. count-none (λ f. p (mark_of_fetched f)) fs (Each-all _ no_word fs) in
     let added = count-map p mark_of_fetched passed.fetches.added ∙ words passed.fetches.added in
     omega (arith, marked, parts, rows, words d.front.entries, added)

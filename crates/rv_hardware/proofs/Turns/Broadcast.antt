@@ -40,11 +40,11 @@ pub data BroadcastTurn (h : Hardware) : Turn Hardware → Type 0 where
       (mends_early h.values.recovery && is_mispredicted e message) ≡ true →
       BroadcastTurn h (Ends (with_recovery (h.rob.retired + length older) message (with_broadcast (h.rob.retired + length older) message h)))
 
-entry_turn : (h : Hardware) (older younger : List Entry) (e : Entry) (issue : Issue) (message : Message) →
+entry_turn : {h : Hardware} {older younger : List Entry} {e : Entry} {issue : Issue} {message : Message} →
     Sends h older younger e issue message → (b : Bool) → (mends_early h.values.recovery && is_mispredicted e message) ≡ b →
     BroadcastTurn h (cond b (Ends (with_recovery (h.rob.retired + length older) message (with_broadcast (h.rob.retired + length older) message h))) (GoesOn (with_broadcast (h.rob.retired + length older) message h)))
-entry_turn h older younger e issue message is true early = mends older younger e issue message is early
-entry_turn h older younger e issue message is false early = sends older younger e issue message is early
+entry_turn {older} {younger} {e} {issue} {message} is true early = mends older younger e issue message is early
+entry_turn {older} {younger} {e} {issue} {message} is false early = sends older younger e issue message is early
 
 found_turn : (h : Hardware) (found : Option (List Entry × Entry)) → Finds (has_result h.cycle) h.rob.entries found →
     BroadcastTurn h (broadcast_oldest h found)
@@ -53,7 +53,7 @@ found_turn h (Some found) finds =
     let held = result_cases h.cycle found.1.stage finds.2 in
     let is : Sends h found.0 finds.0 found.1 held.issue held.message = record { place = finds.1; runs = held.runs; over = held.over; oldest_one = finds.3 } in
     subst (λ r. BroadcastTurn h (broadcast_result h (h.rob.retired + length found.0) found.1 r)) (sym held.result)
-    (entry_turn h found.0 finds.0 found.1 held.issue held.message is (mends_early h.values.recovery && is_mispredicted found.1 held.message) refl)
+    (entry_turn is (mends_early h.values.recovery && is_mispredicted found.1 held.message) refl)
 
 -- what the definition's turn of the broadcast phase leaves is one of these outcomes
 pub broadcast_turn_is : (h : Hardware) → BroadcastTurn h (broadcast_turn h)

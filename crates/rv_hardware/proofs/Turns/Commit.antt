@@ -69,7 +69,7 @@ module _ (is_stale : set.FinSet nat_cmp → ℕ → Bool) where
         is_serialising e.instruction ≡ false → e.stage ≡ Finished issue cycle message → message.fault ≡ None →
         CommitTurn c (Ends (retired_and_flushed e message c))
 
-  module _ (c : Committing) (e : Entry) (es : List Entry) (head : Head is_stale c e es) where
+  module _ {c : Committing} {e : Entry} {es : List Entry} (head : Head is_stale c e es) where
     by_effect : is_serialising e.instruction ≡ true → (result : Effect) → CommitTurn c (Ends (take_effect e result c))
     by_effect serial (Retires written next) = executes e es written next head serial
     by_effect serial (Faults cause value) = serial_faults e es cause value head serial
@@ -87,21 +87,21 @@ module _ (is_stale : set.FinSet nat_cmp → ℕ → Bool) where
     by_drained is true drained = by_write_back is drained (write_back_time c.hardware == 0) refl
     by_drained is false busy = fence_waits e es head is busy
 
-    by_prediction : (issue : Option Issue) (cycle : ℕ) (message : Message) → is_serialising e.instruction ≡ false →
+    by_prediction : {issue : Option Issue} {cycle : ℕ} {message : Message} → is_serialising e.instruction ≡ false →
         e.stage ≡ Finished issue cycle message → message.fault ≡ None → (b : Bool) →
         CommitTurn c (cond b (GoesOn (retired_with e message c)) (Ends (retired_and_flushed e message c)))
-    by_prediction issue cycle message plain at none true = retires e es issue cycle message head plain at none
-    by_prediction issue cycle message plain at none false = retires_last e es issue cycle message head plain at none
+    by_prediction {issue} {cycle} {message} plain at none true = retires e es issue cycle message head plain at none
+    by_prediction {issue} {cycle} {message} plain at none false = retires_last e es issue cycle message head plain at none
 
-    by_fault : (issue : Option Issue) (cycle : ℕ) (message : Message) → is_serialising e.instruction ≡ false →
+    by_fault : {issue : Option Issue} {cycle : ℕ} {message : Message} → is_serialising e.instruction ≡ false →
         e.stage ≡ Finished issue cycle message → (fault : Option Fault) → message.fault ≡ fault →
         CommitTurn c (finish_head e message fault c)
-    by_fault issue cycle message plain at None is = by_prediction issue cycle message plain at is (message.next_pc == e.predicted_next)
-    by_fault issue cycle message plain at (Some fault) is = traps e es issue cycle message fault head plain at is
+    by_fault {issue} {cycle} {message} plain at None is = by_prediction plain at is (message.next_pc == e.predicted_next)
+    by_fault {issue} {cycle} {message} plain at (Some fault) is = traps e es issue cycle message fault head plain at is
 
     by_stage : is_serialising e.instruction ≡ false → (st : Stage) → e.stage ≡ st →
         CommitTurn c (finish_broadcast e (broadcast_of st) c)
-    by_stage plain (Finished issue cycle message) at = by_fault issue cycle message plain at message.fault refl
+    by_stage plain (Finished issue cycle message) at = by_fault plain at message.fault refl
     by_stage plain st at = unfinished e es head plain (ap broadcast_of at)
 
     by_instruction : (i : Option Instr) → e.instruction ≡ i → CommitTurn c (head_turn e i c)
@@ -114,7 +114,7 @@ module _ (is_stale : set.FinSet nat_cmp → ℕ → Bool) where
   by_stale : (c : Committing) (e : Entry) (es : List Entry) (b : Bool) → c.hardware.rob.entries ≡ e ∷ es → is_stale c.hardware.stale (word_of e.pc) ≡ b →
       CommitTurn c (cond b (Ends (record c { stop = Some (stop.Stale e.pc) })) (head_turn e e.instruction c))
   by_stale c e es true at is = stale_head e es at is
-  by_stale c e es false at is = by_instruction c e es (record { place = at; fresh = is }) e.instruction refl
+  by_stale c e es false at is = by_instruction (record { place = at; fresh = is }) e.instruction refl
 
   turn_of : (c : Committing) (es : List Entry) → c.hardware.rob.entries ≡ es → CommitTurn c (commit_turn_of is_stale es c)
   turn_of c [] at = no_head at

@@ -8,17 +8,17 @@ pub record Adds (answers : Answers) (ram : Memory) (cycle : ℕ) (old new : Fetc
   pub is : new ≡ record old { entries = old.entries ++ added; next_pc = new.next_pc; halted = is_halted stop }
 
 module _ (answers : Answers) (ram : Memory) (cycle : ℕ) (old new : FetchBuffer) (stop : FetchStop) where
-  cases_by : (P : Type 0) (b : Bool) → old.halted ≡ b → (old.halted ≡ true → new ≡ old → P) →
+  cases_by : {P : Type 0} {b : Bool} → old.halted ≡ b → (old.halted ≡ true → new ≡ old → P) →
       (old.halted ≡ false → Adds answers ram cycle old new stop → P) →
       MatchBool b ((new ≡ old) × (stop ≡ Halted)) ((added : List Fetched) ×
       Fetches answers ram cycle old.width (old.capacity - length old.entries) old.next_pc added new.next_pc stop ×
       (new ≡ record old { entries = old.entries ++ added; next_pc = new.next_pc; halted = is_halted stop })) → P
-  cases_by P b is halted runs given = grind arith
+  cases_by is halted runs given = grind arith
 
   -- fetch is halted and nothing changes, or it adds words
-  pub fetch-cases : (P : Type 0) → (old.halted ≡ true → new ≡ old → P) →
+  pub fetch-cases : {P : Type 0} → (old.halted ≡ true → new ≡ old → P) →
       (old.halted ≡ false → Adds answers ram cycle old new stop → P) → FetchesInto answers ram cycle old new stop → P
-  fetch-cases P halted runs fetches = cases_by P old.halted refl halted runs fetches
+  fetch-cases {P} halted runs fetches = cases_by refl halted runs fetches
 
 -- a word that a fetch adds
 abbrev pub IsNew : ℕ → Fetched → Type 0
@@ -42,14 +42,17 @@ only_one : (cycle width room : ℕ) (f : Fetched) (fs : List Fetched) → IsNew 
     Added cycle (suc width) (suc room) (f ∷ fs)
 only_one cycle width room f fs new given = grind arith
 
-by_stop : (cycle width room : ℕ) (f : Fetched) (fs : List Fetched) (stop : FetchStop) (next : ℕ) (o : Option FetchStop) (Rest : Type 0) → IsNew cycle f → (Rest → Added cycle width room fs) → MatchOption o Rest (λ reason. (fs ≡ []) × (next ≡ f.predicted) × (stop ≡ reason)) → Added cycle (suc width) (suc room) (f ∷ fs)
-by_stop cycle width room f fs stop next o Rest new rest h = grind (arith, one_more, only_one)
+by_stop : {cycle width room : ℕ} {f : Fetched} {fs : List Fetched} (stop : FetchStop) (next : ℕ) (o : Option FetchStop) {Rest : Type 0} →
+    IsNew cycle f → (Rest → Added cycle width room fs) →
+    MatchOption o Rest (λ reason. (fs ≡ []) × (next ≡ f.predicted) × (stop ≡ reason)) →
+    Added cycle (suc width) (suc room) (f ∷ fs)
+by_stop stop next o new rest h = grind (arith, one_more, only_one)
 
 fetches_add : (answers : Answers) (ram : Memory) (cycle width room pc : ℕ) (fs : List Fetched) (next : ℕ) (stop : FetchStop) →
     Fetches answers ram cycle width room pc fs next stop → Added cycle width room fs
 fetches_add answers ram cycle width room pc [] next stop h = ends_with_none cycle width room stop h.0
 fetches_add answers ram cycle (suc width) (suc room) pc (f ∷ fs) next stop h =
-    by_stop cycle width room f fs stop next (stop_after f) (Fetches answers ram cycle width room f.predicted fs next stop) (h.0.cycle_is, h.0.instruction_is)
+    by_stop stop next (stop_after f) (h.0.cycle_is, h.0.instruction_is)
     (fetches_add answers ram cycle width room f.predicted fs next stop) h.1
 fetches_add answers ram cycle width room pc (f ∷ fs) next stop h = absurd h
 

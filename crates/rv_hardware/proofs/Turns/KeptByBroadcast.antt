@@ -22,7 +22,7 @@ abbrev pub IsKeptByBroadcast : (Hardware → Type 0) → Type 0
 IsKeptByBroadcast P = IsMadeByBroadcast (λ h older e. P h) P
 
 module _ {P : Hardware → List Entry → Entry → Type 0} {Q : Hardware → Type 0} (made : IsMadeByBroadcast P Q) where
-  module _ (h : Hardware) (older younger : List Entry) (e : Entry) (issue : Issue) (message : Message)
+  module _ {h : Hardware} {older younger : List Entry} {e : Entry} {issue : Issue} {message : Message}
       (sent : Sends h older younger e issue message) (holds : P h older e) where
     abbrev seq : ℕ
     seq = h.rob.retired + length older
@@ -42,12 +42,12 @@ module _ {P : Hardware → List Entry → Entry → Type 0} {Q : Hardware → Ty
         (made.mends (with_entries (older ++ over ∷ younger) h) older younger over message.next_pc known refl)
 
 module _ {P : Hardware → Type 0} (kept : IsKeptByBroadcast P) where
-  turn-keeps : (h : Hardware) (t : Turn Hardware) → BroadcastTurn h t → P h → Leaves P t
-  turn-keeps h t given holds = grind (arith, sends-makes, mends-makes)
+  turn-keeps : {h : Hardware} {t : Turn Hardware} → BroadcastTurn h t → P h → Leaves P t
+  turn-keeps given holds = grind (arith, sends-makes, mends-makes)
 
   -- so a turn of the broadcast phase keeps it
   pub broadcast_turn-keeps : (h : Hardware) → P h → Leaves P (broadcast_turn h)
-  broadcast_turn-keeps h holds = turn-keeps h (broadcast_turn h) (broadcast_turn_is h) holds
+  broadcast_turn-keeps h holds = turn-keeps (broadcast_turn_is h) holds
 
   -- and so the broadcast phase does
   pub broadcast-keeps : (h : Hardware) → P h → P (broadcast h)

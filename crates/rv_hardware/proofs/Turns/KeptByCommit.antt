@@ -27,9 +27,9 @@ module _ {P : Hardware → Type 0} (kept : IsKeptByCommit P) where
   faulted e cause value c holds =
       kept.empties c.hardware (trap_taken (seen c.hardware) (code_of cause) value) c.hardware.rob.retired holds
 
-  result_retired : (h : Hardware) (e : Entry) (es : List Entry) (message : Message) → P h → h.rob.entries ≡ e ∷ es →
+  result_retired : (h : Hardware) (e : Entry) (es : List Entry) {message : Message} → P h → h.rob.entries ≡ e ∷ es →
       broadcast_of e.stage ≡ Some message → message.fault ≡ None → P (with_result e message h)
-  result_retired h e es message holds split known faultless =
+  result_retired h e es {message} holds split known faultless =
       let s : State = record {
         pc = message.next_pc;
         registers = with_value h.registers (target_of_word e.instruction) (Some message);
@@ -47,23 +47,23 @@ module _ {P : Hardware → Type 0} (kept : IsKeptByCommit P) where
 
   module _ (is_stale : set.FinSet nat_cmp → ℕ → Bool) where
     -- each outcome of a turn keeps it
-    pub commit_outcome-keeps : (c : Committing) (t : Turn Committing) → CommitTurn is_stale c t → Holds c → Leaves Holds t
-    commit_outcome-keeps c _ (fence_writes e es head is drained dirty) holds = kept.writes_back c.hardware holds drained
-    commit_outcome-keeps c _ (fence_retires e es written next head is drained) holds =
+    pub commit_outcome-keeps : {c : Committing} {t : Turn Committing} → CommitTurn is_stale c t → Holds c → Leaves Holds t
+    commit_outcome-keeps {c} (fence_writes e es head is drained dirty) holds = kept.writes_back c.hardware holds drained
+    commit_outcome-keeps {c} (fence_retires e es written next head is drained) holds =
         took_effect e written next (written_back c) (kept.writes_back c.hardware holds drained)
-    commit_outcome-keeps c _ (executes e es written next head serial) holds = took_effect e written next c holds
-    commit_outcome-keeps c _ (serial_faults e es cause value head serial) holds = faulted e cause value c holds
-    commit_outcome-keeps c _ (traps e es issue cycle message fault head plain at is) holds = faulted e fault.cause fault.value c holds
-    commit_outcome-keeps c _ (retired e es issue cycle message head plain at none) holds =
-        result_retired c.hardware e es message holds head.place (ap broadcast_of at) none
-    commit_outcome-keeps c _ (retires_last e es issue cycle message head plain at none) holds =
+    commit_outcome-keeps {c} (executes e es written next head serial) holds = took_effect e written next c holds
+    commit_outcome-keeps {c} (serial_faults e es cause value head serial) holds = faulted e cause value c holds
+    commit_outcome-keeps {c} (traps e es issue cycle message fault head plain at is) holds = faulted e fault.cause fault.value c holds
+    commit_outcome-keeps {c} (retired e es issue cycle message head plain at none) holds =
+        result_retired c.hardware e es holds head.place (ap broadcast_of at) none
+    commit_outcome-keeps {c} (retires_last e es issue cycle message head plain at none) holds =
         let h : Hardware = with_result e message c.hardware in
-        kept.empties h (seen h) h.rob.retired (result_retired c.hardware e es message holds head.place (ap broadcast_of at) none)
-    commit_outcome-keeps c _ _ holds = holds
+        kept.empties h (seen h) h.rob.retired (result_retired c.hardware e es holds head.place (ap broadcast_of at) none)
+    commit_outcome-keeps _ holds = holds
 
     -- a turn of the commit phase keeps it
     pub commit_turn-keeps : (c : Committing) → Holds c → Leaves Holds (commit_turn is_stale c)
-    commit_turn-keeps c holds = commit_outcome-keeps c (commit_turn is_stale c) (commit_turn_is is_stale c) holds
+    commit_turn-keeps c holds = commit_outcome-keeps (commit_turn_is is_stale c) holds
 
     -- an interrupt or the turns keep it
     pub unless-keeps : (code : Option ℕ) (h : Hardware) → P h → P (commit_unless is_stale code h).hardware

@@ -12,14 +12,14 @@ module _ {P : Hardware → Type 0} (kept : IsKeptByDispatch P) where
   abbrev Holds : Dispatching → Type 0
   Holds d = P d.hardware
 
-  turn-keeps : (d : Dispatching) (t : Turn Dispatching) → DispatchTurn d t → Holds d → Leaves Holds t
-  turn-keeps d _ (dispatched f fs at nothing) holds = kept.dispatches d.hardware f fs holds at nothing
-  turn-keeps d _ _ holds = holds
+  turn-keeps : {d : Dispatching} {t : Turn Dispatching} → DispatchTurn d t → Holds d → Leaves Holds t
+  turn-keeps {d} (dispatched f fs at nothing) holds = kept.dispatches d.hardware f fs holds at nothing
+  turn-keeps _ holds = holds
 
   -- so the turns of the dispatch phase keep it
   pub dispatch_turns-keep : (width : ℕ) (d : Dispatching) → P d.hardware → P (repeated dispatch_turn width d).hardware
   dispatch_turns-keep width d holds =
-      kept_by_turns Holds dispatch_turn (λ d p. turn-keeps d (dispatch_turn d) (dispatch_turn_is d) p) width d holds
+      kept_by_turns Holds dispatch_turn (λ d p. turn-keeps (dispatch_turn_is d) p) width d holds
 
   -- and so the dispatch phase does
   pub dispatch-keeps : (h : Hardware) → P h → P (dispatch h).hardware

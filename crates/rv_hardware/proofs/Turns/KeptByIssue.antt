@@ -61,13 +61,13 @@ module _ {P : Hardware → Type 0} {k : Kind} (kept : IsKeptByIssue P k) where
   starts-keep h older younger e holds split is free = grind (arith, ready-parts, begins_by)
 
 module _ {P : Hardware → Type 0} (k : Kind) (keeps : KeepsStarts P k) where
-  turn-keeps : (h : Hardware) (t : Turn Hardware) → IssueTurn k h t → P h → Leaves P t
-  turn-keeps h _ (starts older younger e at is none free) holds = keeps h older younger e holds at is free
-  turn-keeps h _ _ holds = holds
+  turn-keeps : {h : Hardware} {t : Turn Hardware} → IssueTurn k h t → P h → Leaves P t
+  turn-keeps {h} (starts older younger e at is none free) holds = keeps h older younger e holds at is free
+  turn-keeps _ holds = holds
 
   -- so a turn of the issue phase keeps it
   pub issue_turn-keeps : (h : Hardware) → P h → Leaves P (issue_turn k h)
-  issue_turn-keeps h holds = turn-keeps h (issue_turn k h) (issue_turn_is k h) holds
+  issue_turn-keeps h holds = turn-keeps (issue_turn_is k h) holds
 
   -- and so the turns of a kind do
   pub issue_kind-keeps : (h : Hardware) → P h → P (issue_kind k h)

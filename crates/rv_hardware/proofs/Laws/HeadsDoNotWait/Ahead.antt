@@ -9,7 +9,7 @@ use Rattle.rv_hardware.proofs.Laws.HeadsDoNotWait.Next.{Next, HasNext, next_exec
 some_station : (v : Values) → IsLegal v → (k : Kind) → 0 < (at_kind k v.kinds).stations
 some_station v legal k = omega (arith, (legal.kinds k).stations)
 
-module _ (v : Values) (legal : IsLegal v) where
+module _ {v : Values} (legal : IsLegal v) where
   -- with nothing in flight only a store waits
   station_free : (h : Hardware) → HasShape v h → h.rob.entries ≡ [] → (o : Option Kind) → has_full_stations h o ≡ true → ⊥
   station_free h shape given o full = grind (arith, leb-true, some_station)
@@ -19,26 +19,26 @@ module _ (v : Values) (legal : IsLegal v) where
       (store_waits ≡ false → h.committed ≡ []) → has_full_queue h f ≡ true → (store_waits && is_store f.instruction) ≡ true
   queue_free store_waits h f shape given unused is = grind (arith, and_first, leb-true, and_second)
 
-  waits_as_store : (store_waits : Bool) (h : Hardware) (f : Fetched) → HasShape v h → h.rob.entries ≡ [] →
+  waits_as_store : {store_waits : Bool} {h : Hardware} {f : Fetched} → HasShape v h → h.rob.entries ≡ [] →
       (store_waits ≡ false → h.committed ≡ []) → WaitsFor h f → (store_waits && is_store f.instruction) ≡ true
-  waits_as_store store_waits h f shape given unused holds = grind (arith, true≢false, leb-true, station_free, queue_free)
+  waits_as_store shape given unused holds = grind (arith, true≢false, leb-true, station_free, queue_free)
 
   -- what dispatch leaves in the fetch buffer where nothing is in flight
-  only_store_left : (store_waits : Bool) (g : Hardware) (now : ℕ) (d : Dispatching) → d ≡ dispatch g → g.values ≡ v →
+  only_store_left : {store_waits : Bool} (g : Hardware) {now : ℕ} {d : Dispatching} → d ≡ dispatch g → g.values ≡ v →
       g.cycle ≡ now → HasShape v d.hardware → (store_waits ≡ false → d.hardware.committed ≡ []) →
       (f : Fetched) (fs : List Fetched) → d.hardware.rob.entries ≡ [] → d.hardware.front.entries ≡ f ∷ fs →
       (store_waits && is_store f.instruction) ≡ true
-  only_store_left store_waits g now d is values cycle shape unused f fs none first =
+  only_store_left {store_waits} g {now} {d} is values cycle shape unused f fs none first =
       by_left (subst (λ (x : Dispatching). (f : Fetched) (fs : List Fetched) → x.hardware.front.entries ≡ f ∷ fs → (v.dispatch_width ≤ count (λ (e : Entry). e.dispatched == now) x.hardware.rob.entries) ⊎ WaitsFor x.hardware f) (sym is)
       (dispatch_leaves v now g (ap (λ (w : Values). w.dispatch_width) values) cycle) f fs first)
     where
       by_left : (v.dispatch_width ≤ count (λ (e : Entry). e.dispatched == now) d.hardware.rob.entries) ⊎ WaitsFor d.hardware f →
           (store_waits && is_store f.instruction) ≡ true
       by_left (inl wide) = let empty = ap (λ es. count (λ (e : Entry). e.dispatched == now) es) none in absurd (omega (arith, wide, empty, legal.pipeline.dispatch_width))
-      by_left (inr why) = waits_as_store store_waits d.hardware f shape none unused why
+      by_left (inr why) = waits_as_store shape none unused why
 
   -- a front with nothing in flight and nothing fetched fetches
-  module _ (now s : ℕ) (store_waits : Bool) (stale : set.FinSet nat_cmp) (front : FetchBuffer) (added : List Fetched) (new : Each (IsNew now) added) (width : front.width ≡ v.fetch_width) (room : front.capacity ≡ v.fetch_buffer)
+  module _ (now s : ℕ) (store_waits : Bool) (stale : set.FinSet nat_cmp) (front : FetchBuffer) {added : List Fetched} (new : Each (IsNew now) added) (width : front.width ≡ v.fetch_width) (room : front.capacity ≡ v.fetch_buffer)
       (goes_on : added ≡ [] → (front.halted ≡ true) ⊎ ((front.width ≡ 0) ⊎ (front.capacity - length front.entries ≡ 0))) where
     fetches_one : (b : Bool) → front.halted ≡ b → HaltsAfter b [] → length front.entries ≡ 0 → added ≡ [] → ⊥
     fetches_one b is behind empty given = grind (arith, true≢false)
@@ -47,10 +47,10 @@ module _ (v : Values) (legal : IsLegal v) where
         Next (now + 1) (now + 1) s store_waits stale [] more
     next_added more are none_of le = grind arith
 
-    next_fetched : (es : List Entry) (fs : List Fetched) → front.entries ≡ fs → HaltsAfter front.halted (words_of es fs) →
+    next_fetched : {es : List Entry} {fs : List Fetched} → front.entries ≡ fs → HaltsAfter front.halted (words_of es fs) →
         ((f : Fetched) (gs : List Fetched) → es ≡ [] → fs ≡ f ∷ gs → (store_waits && is_store f.instruction) ≡ true) →
         Next (now + 1) now s store_waits stale es fs → Next (now + 1) (now + 1) s store_waits stale es (fs ++ added)
-    next_fetched es fs given behind stores next = grind (arith, true≢false, next_added, fetches_one)
+    next_fetched given behind stores next = grind (arith, true≢false, next_added, fetches_one)
 
 both_empty : (xs ys : List Step) → xs ++ ys ≡ [] → (xs ≡ []) × (ys ≡ [])
 both_empty [] ys none = (refl, none)
@@ -70,18 +70,18 @@ not_empty steps x none = absurd (let all = length-append steps (x ∷ []) in ome
 abbrev IsUnused : Committing → Type 0
 IsUnused c = c.steps ≡ [] → c.hardware.committed ≡ []
 
-turn_unused : (c : Committing) (t : Turn Committing) → CommitTurn set.contains c t → IsUnused c → Leads IsUnused IsUnused t
-turn_unused c _ (fence_retires e es written next head is drained) p = λ none. not_empty c.steps _ none
-turn_unused c _ (executes e es written next head serial) p = λ none. not_empty c.steps _ none
-turn_unused c _ (serial_faults e es cause value head serial) p = λ none. not_empty c.steps _ none
-turn_unused c _ (traps e es issue cycle message fault head plain at is) p = λ none. not_empty c.steps _ none
-turn_unused c _ (retires e es issue cycle message head plain at none) p = λ empty. not_empty c.steps _ empty
-turn_unused c _ (retires_last e es issue cycle message head plain at none) p = λ empty. not_empty c.steps _ empty
-turn_unused c _ _ p = p
+turn_unused : {c : Committing} {t : Turn Committing} → CommitTurn set.contains c t → IsUnused c → Leads IsUnused IsUnused t
+turn_unused {c} (fence_retires e es written next head is drained) p = λ none. not_empty c.steps _ none
+turn_unused {c} (executes e es written next head serial) p = λ none. not_empty c.steps _ none
+turn_unused {c} (serial_faults e es cause value head serial) p = λ none. not_empty c.steps _ none
+turn_unused {c} (traps e es issue cycle message fault head plain at is) p = λ none. not_empty c.steps _ none
+turn_unused {c} (retires e es issue cycle message head plain at none) p = λ empty. not_empty c.steps _ empty
+turn_unused {c} (retires_last e es issue cycle message head plain at none) p = λ empty. not_empty c.steps _ empty
+turn_unused _ p = p
 
 commit_unused : (o : Option ℕ) (h : Hardware) → h.committed ≡ [] → IsUnused (commit_unless set.contains o h)
 commit_unused (Some code) h none = λ empty. absurd (cc)
-commit_unused None h none = kept_by_turns IsUnused (commit_turn set.contains) (λ c p. turn_unused c (commit_turn set.contains c) (commit_turn_is set.contains c) p) h.values.commit_width (record { hardware = h; steps = []; stop = None }) (λ empty. none)
+commit_unused None h none = kept_by_turns IsUnused (commit_turn set.contains) (λ c p. turn_unused (commit_turn_is set.contains c) p) h.values.commit_width (record { hardware = h; steps = []; stop = None }) (λ empty. none)
 
 execute_unused : (h : Hardware) → h.committed ≡ [] → (execute h).hardware.committed ≡ []
 execute_unused h none =
@@ -114,10 +114,10 @@ module _ (v : Values) {earlier : List Step} {old new : Hardware} {lines : Lines}
   committed : Committed v old.cycle earlier (committing lines old)
   committed =
       let g : Hardware = with_lines lines old in
-      let begins = history_is_sound v before in
-      let first = begin v (history_is_legal v before) Anything earlier lines old new report (anything_is_kept v old.cycle) begins tt in
-      let legal = history_is_legal v before in
-      commit_leads_by v old.cycle earlier v.commit_width (omega (arith, legal.pipeline.commit_width)) (due g.csrs g.lines) g (ap (λ (w : Values). w.commit_width) begins.always.sizes.values) first
+      let begins = history_is_sound before in
+      let first = begin (history_is_legal before) lines new report (anything_is_kept v old.cycle) begins tt in
+      let legal = history_is_legal before in
+      commit_leads_by v old.cycle earlier (omega (arith, legal.pipeline.commit_width)) (due g.csrs g.lines) (ap (λ (w : Values). w.commit_width) begins.always.sizes.values) first
       (rw (append-nil earlier) (past.follow)) (rw (append-nil earlier) (past.next))
 
   here : earlier ++ report.steps ≡ earlier ++ (committing lines old).steps
@@ -133,7 +133,7 @@ module _ (v : Values) {earlier : List Step} {old new : Hardware} {lines : Lines}
   dispatched = next_executed old.cycle (last_stamp (earlier ++ report.steps)) (has_step (earlier ++ report.steps)) (committing lines old).hardware (passed.committed.basics.cycle, subst (λ l. Next (old.cycle + 1) old.cycle (last_stamp l) (has_step l) (committing lines old).hardware.stale (committing lines old).hardware.rob.entries (committing lines old).hardware.front.entries) (sym here) committed.next)
 
   d_halted : IsHalted (dispatching lines old).hardware
-  d_halted = subst (λ (x : Dispatching). IsHalted x.hardware) d_is (phases-keep halted-kept.phases is ((history_is_sound v before).always.halted))
+  d_halted = subst (λ (x : Dispatching). IsHalted x.hardware) d_is (phases-keep halted-kept.phases is ((history_is_sound before).always.halted))
 
   -- no store has retired where there is no step
   c_unused : earlier ++ report.steps ≡ [] → (committing lines old).hardware.committed ≡ []
@@ -146,26 +146,25 @@ module _ (v : Values) {earlier : List Step} {old new : Hardware} {lines : Lines}
   fetched =
       let h : Hardware = (dispatching lines old).hardware in
       let b = passed.dispatches.basics in
-      next_fetched v (history_is_legal v before) old.cycle (last_stamp (earlier ++ report.steps)) (has_step (earlier ++ report.steps)) h.stale h.front passed.fetches.added passed.fetches.are_new b.always.sizes.width b.always.sizes.room passed.fetches.goes_on
-      h.rob.entries h.front.entries refl d_halted.1
-      (λ f gs none first. only_store_left v (history_is_legal v before) (has_step (earlier ++ report.steps)) (sent_all lines old) old.cycle (dispatching lines old) refl passed.sends.basics.always.sizes.values passed.sends.basics.cycle b.always.sizes (λ none_yet. d_unused (no_step (earlier ++ report.steps) none_yet)) f gs none first)
+      next_fetched (history_is_legal before) old.cycle (last_stamp (earlier ++ report.steps)) (has_step (earlier ++ report.steps)) h.stale h.front passed.fetches.are_new b.always.sizes.width b.always.sizes.room passed.fetches.goes_on refl d_halted.1
+      (λ f gs none first. only_store_left (history_is_legal before) (sent_all lines old) refl passed.sends.basics.always.sizes.values passed.sends.basics.cycle b.always.sizes (λ none_yet. d_unused (no_step (earlier ++ report.steps) none_yet)) f gs none first)
       dispatched.1
 
   next_goes_on : NextPast (earlier ++ report.steps) new
   next_goes_on = grind (arith, here, committed, passed, fetched, d_unused)
 
-history_has_next : (v : Values) {steps : List Step} {h : Hardware} → History v steps h → NextPast steps h
-history_has_next v (began image start legal) = record { follow = tt; next = omega arith; unused = λ none. refl }
-history_has_next v (went_on before is) = next_goes_on v before (history_has_next v before) is
+history_has_next : {v : Values} {steps : List Step} {h : Hardware} → History v steps h → NextPast steps h
+history_has_next (began image start legal) = record { follow = tt; next = omega arith; unused = λ none. refl }
+history_has_next {v} (went_on before is) = next_goes_on v before (history_has_next before) is
 
 -- each step follows the one before it as the laws say
-pub all_follow : (v : Values) {steps : List Step} {h : Hardware} → History v steps h → AllFollow steps
-all_follow v history = (history_has_next v history).follow
+pub all_follow : {v : Values} {steps : List Step} {h : Hardware} → History v steps h → AllFollow steps
+all_follow {v} history = (history_has_next history).follow
 
-module _ (v : Values) {steps : List Step} {h : Hardware} (history : History v steps h) where
+module _ {v : Values} {steps : List Step} {h : Hardware} (history : History v steps h) where
   -- of two neighbouring steps of a run the second follows the first without waiting
   pub follows : (first rest : List Step) (a b : Step) → steps ≡ first ++ a ∷ b ∷ rest → Follows (stamp_of a) true b
   follows first rest a b at =
-      let all : AllFollow ((first ++ a ∷ []) ++ b ∷ rest) = subst AllFollow (at ∙ sym (append_assoc first (a ∷ []) (b ∷ rest))) (all_follow v history) in
+      let all : AllFollow ((first ++ a ∷ []) ++ b ∷ rest) = subst AllFollow (at ∙ sym (append_assoc first (a ∷ []) (b ∷ rest))) (all_follow history) in
       subst (λ w. Follows (stamp_of a) w b) (has_step-push first a)
-      (subst (λ n. Follows n (has_step (first ++ a ∷ [])) b) (last_stamp-push first a) (EveryAfter-at (λ before x. Follows (last_stamp before) (has_step before) x) (first ++ a ∷ []) rest b all))
+      (subst (λ n. Follows n (has_step (first ++ a ∷ [])) b) (last_stamp-push first a) (EveryAfter-at _ _ rest b all))

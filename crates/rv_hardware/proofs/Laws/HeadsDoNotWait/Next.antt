@@ -1,5 +1,5 @@
 -- The next instruction of the program, in flight or in the fetch buffer, keeps its reason not to have retired.
-use Rattle.rv_hardware.proofs.Words.{◌≡◌, ℕ, ◌+◌, ◌≤◌, Bool, true, false, ◌&&◌, ◌⊎◌, List, [], ◌∷◌, ◌++◌, Some, None, Option, nat_cmp, ap, subst, inr, arith, is_fence_i, is_serialising, is_store, Message, Instr, Kind, word_of, finished, issue_of, predicting, started, Entry, Stage, Finished, Running, Waiting, Fetched, broadcast, execute, stage_by, drain, Hardware, issue}
+use Rattle.rv_hardware.proofs.Words.{◌≡◌, ℕ, ◌+◌, ◌≤◌, Bool, true, false, ◌&&◌, ◌⊎◌, List, [], ◌∷◌, ◌++◌, Some, None, Option, nat_cmp, ap, subst, inr, arith, is_fence_i, is_serialising, is_store, Message, Instr, Kind, word_of, issue_of, Entry, Stage, Finished, Running, Waiting, Fetched, broadcast, execute, stage_by, drain, Hardware, issue}
 use Rattle.std.specs.FinSet as set
 use Rattle.rv_hardware.proofs.Marks.Cited.{HasRun, IsKeptByBroadcast, broadcast-keeps, IsKeptByDispatch, dispatch-keeps, IsKeptByDrain, drain-keeps, IsKeptByIssue, issue-keeps}
 
@@ -29,11 +29,11 @@ Next n m s store_waits stale [] (f ∷ fs) = (f.cycle ≤ s) × ((store_waits &&
 Next n m s store_waits stale [] [] = m ≤ s
 
 module _ (n m s : ℕ) (store_waits : Bool) (stale : set.FinSet nat_cmp) where
-  next-change : (older younger others : List Entry) (old new : Entry) (fs gs : List Fetched) →
+  next-change : (older younger others : List Entry) {old new : Entry} (fs gs : List Fetched) →
       (NextEntry n s store_waits stale old → NextEntry n s store_waits stale new) →
       Next n m s store_waits stale (older ++ old ∷ younger) fs → Next n m s store_waits stale (older ++ new ∷ others) gs
-  next-change [] younger others old new fs gs goes next = goes next
-  next-change (o ∷ older) younger others old new fs gs goes next = next
+  next-change [] younger others fs gs goes next = goes next
+  next-change (o ∷ older) younger others fs gs goes next = next
 
   next-push : (es : List Entry) (e : Entry) (f : Fetched) (rest : List Fetched) →
       ((f.cycle ≤ s) × ((store_waits && is_store f.instruction) ≡ false → m ≤ s + 1) → NextEntry n s store_waits stale e) →
@@ -46,9 +46,9 @@ module _ (now s : ℕ) (store_waits : Bool) where
   abbrev pub HasNext : Hardware → Type 0
   HasNext h = (h.cycle ≡ now) × Next (now + 1) now s store_waits h.stale h.rob.entries h.front.entries
 
-  known_now : (cycle D : ℕ) (i : Option Instr) (message : Message) (st : Stage) → cycle ≡ now → HasRun cycle st message →
+  known_now : {cycle : ℕ} (D : ℕ) (i : Option Instr) {message : Message} {st : Stage} → cycle ≡ now → HasRun cycle st message →
       IsKnownSince (now + 1) i D (Finished (issue_of st) cycle message)
-  known_now cycle D i message st at gives = rw (ap issue_of gives.runs) (omega (arith, at))
+  known_now D i at gives = rw (ap issue_of gives.runs) (omega (arith, at))
 
   known_at_dispatch : (cycle : ℕ) (i : Option Instr) (message : Message) (kind : Option Kind) (serial : Bool) → cycle ≡ now →
       IsKnownSince (now + 1) i cycle (stage_by kind serial (Finished None cycle message))
@@ -62,7 +62,7 @@ module _ (now s : ℕ) (store_waits : Bool) where
     accesses = λ h older younger e address has split ready by. has;
     starts = λ h older younger e cost message has split waits of_kind result costs. (
       has.0,
-      next-change (now + 1) now s store_waits h.stale older younger younger e (started (record { cycle = h.cycle; cost = cost }) message e) h.front.entries h.front.entries
+      next-change (now + 1) now s store_waits h.stale older younger younger h.front.entries h.front.entries
           (λ next. record { fetched = next.fetched; dispatched = next.dispatched; reason = inr (inr (inr tt)) })
           (subst (λ es. Next (now + 1) now s store_waits h.stale es h.front.entries) split has.1),
     );
@@ -72,13 +72,13 @@ module _ (now s : ℕ) (store_waits : Bool) where
   next_broadcast = record {
     broadcasts = λ h older younger e message has split gives. (
       has.0,
-      next-change (now + 1) now s store_waits h.stale older younger younger e (finished message h.cycle e) h.front.entries h.front.entries
-          (λ next. record { fetched = next.fetched; dispatched = next.dispatched; reason = inr (inr (inr (known_now h.cycle e.dispatched e.instruction message e.stage has.0 gives))) })
+      next-change (now + 1) now s store_waits h.stale older younger younger h.front.entries h.front.entries
+          (λ next. record { fetched = next.fetched; dispatched = next.dispatched; reason = inr (inr (inr (known_now e.dispatched e.instruction has.0 gives))) })
           (subst (λ es. Next (now + 1) now s store_waits h.stale es h.front.entries) split has.1),
     );
     mends = λ h older younger e next has split. (
       has.0,
-      next-change (now + 1) now s store_waits h.stale older younger [] e (predicting next e) h.front.entries []
+      next-change (now + 1) now s store_waits h.stale older younger [] h.front.entries []
           (λ is. record { fetched = is.fetched; dispatched = is.dispatched; reason = is.reason })
           (subst (λ es. Next (now + 1) now s store_waits h.stale es h.front.entries) split has.1),
     );

@@ -60,13 +60,13 @@ abbrev pub held_after : (ℕ → ℕ) → List Mark → ℕ → ℕ
 held_after held [] = held
 held_after held (m ∷ ms) = held_after (with_word held m) ms
 
-held_more : (b : Bool) (h n k : ℕ) → k ≡ cond b (suc h) h + n → k ≡ h + cond b (suc n) n
-held_more b h n k is = grind arith
+held_more : (b : Bool) (h n : ℕ) {k : ℕ} → k ≡ cond b (suc h) h + n → k ≡ h + cond b (suc n) n
+held_more b h n is = grind arith
 
 -- the buffer held as many words as before, and those of the marks that are words
 pub held_count : (held : ℕ → ℕ) (ms : List Mark) (c : ℕ) → held_after held ms c ≡ held c + count (is_word c) ms
 held_count held [] c = omega arith
-held_count held (m ∷ ms) c = held_more (is_word c m) (held c) (count (is_word c) ms) (held_after (with_word held m) ms c) (held_count (with_word held m) ms c)
+held_count held (m ∷ ms) c = held_more (is_word c m) (held c) (count (is_word c) ms) (held_count (with_word held m) ms c)
 
 -- one that goes on
 
@@ -112,7 +112,7 @@ module _ (v : Values) (now : ℕ) (halted : Bool) where
   goes_on : (xs : List Mark) (m n : Mark) → Advances v now xs m n → WentOn m n
   goes_on xs m n given = grind (arith, advances_agree, not_sent_yet)
 
-  module _ (m n : Mark) (g : WentOn m n) where
+  module _ {m n : Mark} (g : WentOn m n) where
     same_word : (c : ℕ) → c < now → is_word c m ≡ is_word c n
     same_word c lt = λ i. was_fetched c (record m { fetched = g.fetched i }) && is_buffered_mark (g.before c lt i)
 

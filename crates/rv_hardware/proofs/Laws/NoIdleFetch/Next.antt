@@ -1,7 +1,7 @@
 -- What is in flight, or is fetched next, was fetched no later than the last step.
 use Rattle.rv_hardware.proofs.Words.{◌≡◌, ℕ, ◌+◌, ◌-◌, ◌≤◌, Bool, true, ◌⊎◌, List, [], ◌∷◌, ◌++◌, length, Some, None, Option, nat_cmp, sym, refl, ap, ◌∙◌, subst, true≢false, append_assoc, append-nil, arith, Lines, Kind, Values, due, interrupt_cause, Each, Entry, FetchBuffer, Fetched, broadcast, Committing, commit_unless, with_fault, IsCycle, any_prediction, with_lines, dispatch, drain, Hardware, issue, Turn, Report, written_of, EachNext, stamp_of, Step, Interrupt, Retired, Trap, Each-weaker, Leads}
 use Rattle.std.specs.FinSet as set
-use Rattle.rv_hardware.proofs.Marks.Cited.{IsKeptByBroadcast, broadcast-keeps, IsKeptByDispatch, dispatch-keeps, IsKeptByDrain, drain-keeps, IsKeptByIssue, issue-keeps, HaltsAfter, words_of, runs-empty, CommitTurn, fence_retires, executes, serial_faults, traps, retires, retires_last, executed, written_back, retired_with, retired_and_flushed, head_retired_entries, Anything, anything_is_kept, Passed, History, began, went_on, begin, committing, dispatching, history_is_legal, history_is_sound, history_passes, InCommit, commit_turns_keep, IsNew, row_at, SoundEntry, SoundFetched}
+use Rattle.rv_hardware.proofs.Marks.Cited.{IsKeptByBroadcast, broadcast-keeps, IsKeptByDispatch, dispatch-keeps, IsKeptByDrain, drain-keeps, IsKeptByIssue, issue-keeps, HaltsAfter, words_of, runs-empty, CommitTurn, fence_retires, executes, serial_faults, traps, retires, retires_last, executed, written_back, retired_with, retired_and_flushed, head_retired_entries, Anything, anything_is_kept, Passed, History, began, went_on, begin, committing, dispatching, history_is_legal, history_is_sound, history_passes, InCommit, commit_turns_keep, row_at, SoundEntry, SoundFetched}
 use Rattle.rv_hardware.proofs.Laws.NoIdleFetch.Links.{LastIs, last_at, last_of}
 use Rattle.rv_hardware.proofs.Laws.NoIdleFetch.Rows.{stays_halted}
 
@@ -34,10 +34,10 @@ module _ {X : Type 0} (R : X → X → Type 0) where
   next_at [] after x y h = h.0
   next_at (z ∷ before) after x y h = next_at before after x y h.1
 
-last_weaker : {X : Type 0} (P Q : X → Type 0) → ((x : X) → P x → Q x) → (xs : List X) → LastIs P xs → LastIs Q xs
-last_weaker P Q f [] h = tt
-last_weaker P Q f (x ∷ []) h = f x h
-last_weaker P Q f (x ∷ y ∷ ys) h = last_weaker P Q f (y ∷ ys) h
+last_weaker : {X : Type 0} {P Q : X → Type 0} → ((x : X) → P x → Q x) → (xs : List X) → LastIs P xs → LastIs Q xs
+last_weaker f [] h = tt
+last_weaker f (x ∷ []) h = f x h
+last_weaker {P} {Q} f (x ∷ y ∷ ys) h = last_weaker f (y ∷ ys) h
 
 -- the cycle in which the oldest instruction in flight was fetched, or a word will be
 abbrev coming : ℕ → List Entry → List Fetched → ℕ
@@ -82,7 +82,7 @@ module _ (v : Values) (now : ℕ) (earlier : List Step) (is_stale : set.FinSet n
 
   no_row_next : (c : Committing) (s : Step) → ((a : Step) → IsFetchedNext a s) → Following c →
       LastIs (λ a. IsFetchedNext a s) (earlier ++ c.steps)
-  no_row_next c s f p = last_weaker (λ a. coming now c.hardware.rob.entries c.hardware.front.entries ≤ stamp_of a) (λ a. IsFetchedNext a s) (λ a h. f a) (earlier ++ c.steps) p.1
+  no_row_next c s f p = last_weaker (λ a h. f a) (earlier ++ c.steps) p.1
 
   commit_follows : (c : Committing) (t : Turn Committing) → CommitTurn is_stale c t → InCommit v now earlier is_stale c →
       Following c → Leads Following Following t
@@ -92,7 +92,7 @@ module _ (v : Values) (now : ℕ) (earlier : List Step) (is_stale : set.FinSet n
   commit_follows c _ (traps e es begun cycle message fault head plain at is) q p = one_more c (Trap e.pc fault.cause fault.value c.hardware.cycle) (with_fault e fault.cause fault.value c).hardware q.basics.cycle (omega arith) (no_row_next c (Trap e.pc fault.cause fault.value c.hardware.cycle) (λ a. tt) p) p
   commit_follows c _ (retires e es begun cycle message head plain at none) q p =
       let these = subst (Each (SoundEntry v now now now)) head.place q.basics.entries in
-      let by = coming_by v now es c.hardware.front.entries these.1 q.basics.fetched in
+      let by = coming_by v now es _ these.1 q.basics.fetched in
       one_more c (Retired (row_at e (written_of e message) c.hardware.cycle)) (retired_with e message c).hardware q.basics.cycle (subst (λ l. coming now l c.hardware.front.entries ≤ now) (sym (head_retired_entries c.hardware.rob e es head.place)) by) (head_next c e es (written_of e message) head.place p) p
   commit_follows c _ (retires_last e es begun cycle message head plain at none) q p = one_more c (Retired (row_at e (written_of e message) c.hardware.cycle)) (retired_and_flushed e message c).hardware q.basics.cycle (omega arith) (head_next c e es (written_of e message) head.place p) p
   commit_follows c _ _ q p = p
@@ -102,7 +102,7 @@ module _ (v : Values) (now : ℕ) (earlier : List Step) (is_stale : set.FinSet n
       let c : Committing = record { hardware = h; steps = []; stop = None } in
       let s : Step = Interrupt h.pc (interrupt_cause code) h.cycle in
       one_more c s (commit_unless is_stale (Some code) h).hardware q.basics.cycle (omega arith) (no_row_next c s (λ a. tt) p) p
-  commit_follows_by None h q p = commit_turns_keep v now earlier is_stale Following commit_follows h.values.commit_width (record { hardware = h; steps = []; stop = None }) q p
+  commit_follows_by None h q p = commit_turns_keep v now earlier is_stale commit_follows h.values.commit_width q p
 
 -- the other phases leave the oldest
 
@@ -131,17 +131,17 @@ module _ (now t : ℕ) where
 
 -- fetch leaves something in flight
 
-coming_fetched : (now : ℕ) (es : List Entry) (fs added : List Fetched) → Each (λ f. f.cycle ≡ now) added →
+coming_fetched : (now : ℕ) {es : List Entry} (fs added : List Fetched) → Each (λ f. f.cycle ≡ now) added →
     (es ≡ [] → fs ++ added ≡ [] → ⊥) → coming (now + 1) es (fs ++ added) ≡ coming now es fs
-coming_fetched now es fs added new some = grind arith
+coming_fetched now fs added new some = grind arith
 
 -- a fetch that goes on, into a buffer with room, leaves something there
-leaves_some : (entries added : List Fetched) (halted : Bool) (width capacity most room : ℕ) → width ≡ most → capacity ≡ room → 1 ≤ most → 1 ≤ room →
+leaves_some : (entries : List Fetched) {added : List Fetched} {halted : Bool} {width capacity most room : ℕ} → width ≡ most → capacity ≡ room → 1 ≤ most → 1 ≤ room →
     (halted ≡ true → ⊥) → (added ≡ [] → (halted ≡ true) ⊎ ((width ≡ 0) ⊎ (capacity - length entries ≡ 0))) → entries ++ added ≡ [] → ⊥
-leaves_some [] added halted width capacity most room same same' wide roomy runs goes_on none = grind arith
-leaves_some (f ∷ fs) added halted width capacity most room same same' wide roomy runs goes_on none = absurd (cc)
+leaves_some [] same same' wide roomy runs goes_on none = grind arith
+leaves_some (f ∷ fs) same same' wide roomy runs goes_on none = absurd (cc)
 
-module _ (v : Values) {earlier : List Step} {old new : Hardware} {lines : Lines} {report : Report} (before : History v earlier old) (is : IsCycle any_prediction lines old report new) where
+module _ {v : Values} {earlier : List Step} {old new : Hardware} {lines : Lines} {report : Report} (before : History v earlier old) (is : IsCycle any_prediction lines old report new) where
   abbrev Passes : Type 0
   Passes = Passed v Anything earlier lines old report new
 
@@ -150,30 +150,30 @@ module _ (v : Values) {earlier : List Step} {old new : Hardware} {lines : Lines}
 
   something_is_there : (passed : Passes) → d.rob.entries ≡ [] → d.front.entries ++ passed.fetches.added ≡ [] → ⊥
   something_is_there passed none none' =
-      let here = (history_is_sound v (went_on before is)).always.halted.1 in
+      let here = (history_is_sound (went_on before is)).always.halted.1 in
       let entries = ap (λ (h : Hardware). h.rob.entries) passed.others_stay ∙ none in
       let runs = runs-empty new.front.halted (subst (HaltsAfter new.front.halted) (ap (λ es. words_of es new.front.entries) entries ∙ ap (words_of []) (passed.fetches.entries ∙ none')) here) in
-      let legal = (history_is_legal v before).pipeline in
+      let legal = (history_is_legal before).pipeline in
       let sizes = passed.dispatches.basics.always.sizes in
-      leaves_some d.front.entries passed.fetches.added d.front.halted d.front.width d.front.capacity v.fetch_width v.fetch_buffer sizes.width sizes.room (omega (arith, legal.fetch_width)) (omega (arith, legal.fetch_buffer))
+      leaves_some d.front.entries sizes.width sizes.room (omega (arith, legal.fetch_width)) (omega (arith, legal.fetch_buffer))
       (λ halted. true≢false (sym halted ∙ ap (λ (r : FetchBuffer). r.halted) (sym (stays_halted is halted)) ∙ runs)) passed.fetches.goes_on none'
 
   next_in_cycle : AreFetchedNext old.cycle earlier old → AreFetchedNext new.cycle (earlier ++ report.steps) new
   next_in_cycle p =
       let passed = history_passes v before is in
-      let first = begin v (history_is_legal v before) Anything earlier lines old new report (anything_is_kept v old.cycle) (history_is_sound v before) tt in
+      let first = begin (history_is_legal before) lines new report (anything_is_kept v old.cycle) (history_is_sound before) tt in
       let g : Hardware = with_lines lines old in
       let c : Hardware = (committing lines old).hardware in
       let after = commit_follows_by v old.cycle earlier set.contains (due g.csrs g.lines) g first (rw (append-nil earlier) p) in
       let executed = executed_comes old.cycle (coming old.cycle c.rob.entries c.front.entries) c refl in
-      let fetched = coming_fetched old.cycle d.rob.entries d.front.entries passed.fetches.added (Each-weaker (IsNew old.cycle) (λ f. f.cycle ≡ old.cycle) (λ f w. w.0) passed.fetches.added passed.fetches.are_new) (something_is_there passed) in
+      let fetched = coming_fetched old.cycle d.front.entries _ (Each-weaker _ _ (λ f w. w.0) _ passed.fetches.are_new) (something_is_there passed) in
       let here = ap (λ (h : Hardware). coming h.cycle h.rob.entries new.front.entries) passed.others_stay ∙ ap (coming (old.cycle + 1) d.rob.entries) passed.fetches.entries ∙ fetched ∙ executed in
       rw (passed.steps, here) after
 
-next_of_history : (v : Values) {steps : List Step} {h : Hardware} → History v steps h → AreFetchedNext h.cycle steps h
-next_of_history v (began image start legal) = (tt, tt)
-next_of_history v (went_on before is) = next_in_cycle v before is (next_of_history v before)
+next_of_history : {v : Values} {steps : List Step} {h : Hardware} → History v steps h → AreFetchedNext h.cycle steps h
+next_of_history (began image start legal) = (tt, tt)
+next_of_history {v} (went_on before is) = next_in_cycle before is (next_of_history before)
 
 -- a row that comes next was fetched by then
-pub next_was_fetched : (v : Values) {steps : List Step} {h : Hardware} → History v steps h → EachNext IsFetchedNext steps
-next_was_fetched v history before after a b at = next_at IsFetchedNext before after a b (subst (EveryNext IsFetchedNext) at (next_of_history v history).0)
+pub next_was_fetched : {v : Values} {steps : List Step} {h : Hardware} → History v steps h → EachNext IsFetchedNext steps
+next_was_fetched {v} history before after a b at = next_at IsFetchedNext before after a b (subst (EveryNext IsFetchedNext) at (next_of_history history).0)

@@ -50,14 +50,14 @@ module _ (n : ℕ) (halted : Bool) where
         length (rows_of (earlier ++ (c.steps ++ Retired (row_at e written c.hardware.cycle) ∷ []))) ≡ length (rows_of (earlier ++ c.steps)) + 1
     one_row c e written = grind (arith, append_assoc, rows_append, length-append)
 
-    commit_goes : (c : Committing) (t : Turn Committing) → CommitTurn is_stale c t → Committed c → Leads Committed Committed t
-    commit_goes c t given p = grind (arith, one_row, head_retired_entries, not_empty)
+    commit_goes : {c : Committing} {t : Turn Committing} → CommitTurn is_stale c t → Committed c → Leads Committed Committed t
+    commit_goes given p = grind (arith, one_row, head_retired_entries, not_empty)
 
     -- the commit phase squashes nothing, or everything
     pub commit_goes_by : (o : Option ℕ) (h : Hardware) → WholeOrNone (earlier ++ []) h → Committed (commit_unless is_stale o h)
     commit_goes_by (Some code) h p = inr (refl, refl, refl)
     commit_goes_by None h p =
-        kept_by_turns Committed (commit_turn is_stale) (λ c q. commit_goes c (commit_turn is_stale c) (commit_turn_is is_stale c) q) h.values.commit_width (record { hardware = h; steps = []; stop = None }) p
+        kept_by_turns Committed (commit_turn is_stale) (λ c q. commit_goes (commit_turn_is is_stale c) q) h.values.commit_width (record { hardware = h; steps = []; stop = None }) p
 
   module _ (v : Values) (now : ℕ) (steps : List Step) where
     drain_goes : IsKeptByDrain (WholeOrNone steps)
@@ -82,13 +82,13 @@ module _ (n : ℕ) (halted : Bool) where
     is_early : (r : Recovery) → mends_early r ≡ true → r ≡ Early
     is_early r is = grind arith
 
-    broadcast_leads : (h : Hardware) (t : Turn Hardware) → BroadcastTurn h t → Sending h → Leads Sending LeftByBroadcast t
-    broadcast_leads h _ (no_result none) p = inl p.2
-    broadcast_leads h _ (sends older younger e issue message sent late) p =
+    broadcast_leads : {h : Hardware} {t : Turn Hardware} → BroadcastTurn h t → Sending h → Leads Sending LeftByBroadcast t
+    broadcast_leads (no_result none) p = inl p.2
+    broadcast_leads {h} (sends older younger e issue message sent late) p =
         let more = starts_goes h older younger e (finished message h.cycle e) sent.place p.2 in
         let entries = sent_entries h older younger e message sent.place in
         (p.0, p.1, inl (omega (arith, more.0, ap length entries), more.1))
-    broadcast_leads h _ (mends older younger e issue message sent early) p =
+    broadcast_leads {h} (mends older younger e issue message sent early) p =
         inr (record {
           older = older;
           last = predicting message.next_pc (finished message h.cycle e);
@@ -96,11 +96,11 @@ module _ (n : ℕ) (halted : Bool) where
           words = refl;
           runs = refl;
           early = ap (λ (w : Values). w.recovery) (sym p.1) ∙ is_early h.values.recovery (and_first (mends_early h.values.recovery) (is_mispredicted e message) early);
-          sent = ap (λ (m : Mark). m.broadcast) (finished_mark h.cycle e issue message sent.runs) ∙ ap Some p.0;
+          sent = ap (λ (m : Mark). m.broadcast) (finished_mark h.cycle e sent.runs) ∙ ap Some p.0;
         })
 
     broadcast_goes : (h : Hardware) → Sending h → LeftByBroadcast (broadcast h)
-    broadcast_goes h p = left_by_turns Sending LeftByBroadcast broadcast_turn (λ g q. broadcast_leads g (broadcast_turn g) (broadcast_turn_is g) q) (λ g q. inl q.2) h.values.bus_width h p
+    broadcast_goes h p = left_by_turns broadcast_turn (λ g q. broadcast_leads (broadcast_turn_is g) q) (λ g q. inl q.2) h.values.bus_width h p
 
     no_words : {P : Type 0} (h : Hardware) (f : Fetched) (fs : List Fetched) → h.front.entries ≡ f ∷ fs → h.front.entries ≡ [] → P
     no_words h f fs first none = not_empty f fs (sym first ∙ none)

@@ -1,7 +1,7 @@
 -- In every history each mark tells why the next was not fetched earlier.
 use Rattle.rv_hardware.proofs.Words.{◌≡◌, ℕ, ◌+◌, ◌-◌, ◌<◌, ◌≤◌, true, false, ◌⊎◌, List, [], ◌∷◌, ◌++◌, map, length, Some, None, Option, sym, refl, ap, ◌∙◌, subst, inl, inr, true≢false, append-nil, arith, length-append, cases_lt, Lines, Early, Values, due, Each, FetchBuffer, Fetched, Committing, IsCycle, any_prediction, execute, with_lines, Dispatching, Hardware, Report, rows_of, Row, Step, Each-weaker, Each-map, count}
 use Rattle.std.specs.FinSet as set
-use Rattle.rv_hardware.proofs.Marks.Cited.{fetch-cases, IsNew, count-as_of, Passed, History, began, went_on, is_buffered_mark, buffered_words, committing, issued_all, dispatching, cycle_passes, history_is_legal, history_is_sound, Mark, mark_of_row, mark_of_entry, mark_of_fetched, marks_in, marks, marks_at_entry, as_of_now, marks_settled, SoundRow, SoundFetched}
+use Rattle.rv_hardware.proofs.Marks.Cited.{fetch-cases, IsNew, count-as_of, Passed, History, began, went_on, is_buffered_mark, buffered_words, committing, issued_all, dispatching, cycle_passes, history_is_legal, history_is_sound, Mark, mark_of_row, mark_of_entry, mark_of_fetched, marks_in, marks, marks_at_entry, as_of_now, marks_settled, SoundRow}
 use Rattle.rv_hardware.proofs.Laws.NoIdleFetch.Links.{with_word, IsBy, Followed, IsOpen, Linked, LastIs, held_after, held_count, WasLinked, was_linked_kept, linked_stays, linked_on, linked_cut, linked_words, last_at}
 use Rattle.rv_hardware.proofs.Laws.NoIdleFetch.Phases.{size, size_of_marks, Uncut, LeftByBroadcast, commit_goes_by, drain_and_issue, broadcast_and_dispatch}
 
@@ -15,9 +15,9 @@ last_row v now [] sound = tt
 last_row v now (row ∷ []) sound = inl (let below = sound.0 in omega (arith, below.below))
 last_row v now (row ∷ r ∷ rs) sound = last_row v now (r ∷ rs) sound.1
 
-no_rest : {X : Type 0} (xs rest : List X) (n : ℕ) → length (xs ++ rest) ≡ n → length xs ≡ n → rest ≡ []
-no_rest xs [] n all one = refl
-no_rest xs (y ∷ ys) n all one = absurd (let both = length-append xs (y ∷ ys) in omega (arith, both, all, one))
+no_rest : {X : Type 0} (xs rest : List X) {n : ℕ} → length (xs ++ rest) ≡ n → length xs ≡ n → rest ≡ []
+no_rest xs [] all one = refl
+no_rest xs (y ∷ ys) all one = absurd (let both = length-append xs (y ∷ ys) in omega (arith, both, all, one))
 
 -- a front that is halted stays
 pub stays_halted : {lines : Lines} {old new : Hardware} {report : Report} → IsCycle any_prediction lines old report new →
@@ -26,7 +26,6 @@ stays_halted {lines} {old} {new} {report} is =
     let same : is.dispatching ≡ dispatching lines old = is.executes ∙ ap (λ (c : Committing). execute c.hardware) is.commits in
     subst (λ (d : Dispatching). d.hardware.front.halted ≡ true → new.front ≡ d.hardware.front) same
     (fetch-cases any_prediction is.dispatching.hardware.cache.backing old.cycle is.dispatching.hardware.front new.front is.fetch_stop
-    (is.dispatching.hardware.front.halted ≡ true → new.front ≡ is.dispatching.hardware.front)
     (λ halted stays h. stays) (λ runs adds h. absurd (true≢false (sym h ∙ runs))) is.fetches)
 
 module _ (v : Values) {earlier : List Step} {old new : Hardware} {lines : Lines} {report : Report} (before : History v earlier old) (is : IsCycle any_prediction lines old report new)
@@ -36,7 +35,7 @@ module _ (v : Values) {earlier : List Step} {old new : Hardware} {lines : Lines}
 
   passed : Passed v Was earlier lines old report new
   passed =
-      cycle_passes v (history_is_legal v before) Was earlier lines old new report (was_linked_kept v old.cycle old.front.halted (length (marks_in earlier old))) (history_is_sound v before)
+      cycle_passes (history_is_legal before) lines new report (was_linked_kept v old.cycle old.front.halted (length (marks_in earlier old))) (history_is_sound before)
       ([], rw (append-nil (marks_in earlier old)) linked, rw (append-nil (marks_in earlier old)) refl) is
 
   abbrev d : Hardware
@@ -64,8 +63,8 @@ module _ (v : Values) {earlier : List Step} {old new : Hardware} {lines : Lines}
   abbrev Next : List Mark → Type 0
   Next ms = Linked v (old.cycle + 1) (IsOpen v new.front.halted (old.cycle + 1)) (λ c. 0) ms
 
-  new_ones : (fs : List Fetched) → passed.fetches.added ≡ fs → Each (λ m. m.fetched ≡ old.cycle) (map mark_of_fetched fs)
-  new_ones fs at = Each-map (λ m. m.fetched ≡ old.cycle) mark_of_fetched fs (Each-weaker (IsNew old.cycle) (λ f. f.cycle ≡ old.cycle) (λ f w. w.0) fs (subst (Each (IsNew old.cycle)) at passed.fetches.are_new))
+  new_ones : {fs : List Fetched} → passed.fetches.added ≡ fs → Each (λ m. m.fetched ≡ old.cycle) (map mark_of_fetched fs)
+  new_ones {fs} at = Each-map _ _ fs (Each-weaker _ _ (λ f w. w.0) fs (subst (Each (IsNew old.cycle)) at passed.fetches.are_new))
 
   -- after a squash
 
@@ -82,12 +81,12 @@ module _ (v : Values) {earlier : List Step} {old new : Hardware} {lines : Lines}
     where
       by_reason : (d.front.halted ≡ true) ⊎ ((d.front.width ≡ 0) ⊎ (d.front.capacity - length d.front.entries ≡ 0)) → ⊥
       by_reason (inl halted) = true≢false (sym halted ∙ runs)
-      by_reason (inr (inl narrow)) = let legal = (history_is_legal v before).pipeline.fetch_width in omega (arith, narrow, passed.dispatches.basics.always.sizes.width, legal)
-      by_reason (inr (inr full)) = let legal = (history_is_legal v before).pipeline.fetch_buffer in let empty = ap length none in omega (arith, full, empty, passed.dispatches.basics.always.sizes.room, legal)
+      by_reason (inr (inl narrow)) = let legal = (history_is_legal before).pipeline.fetch_width in omega (arith, narrow, passed.dispatches.basics.always.sizes.width, legal)
+      by_reason (inr (inr full)) = let legal = (history_is_legal before).pipeline.fetch_buffer in let empty = ap length none in omega (arith, full, empty, passed.dispatches.basics.always.sizes.room, legal)
   after_squash last none runs (f ∷ fs) at =
       let was = passed.dispatches.marks in
       let cut = linked_cut v old.cycle (IsOpen v old.front.halted old.cycle) (Squashes v old.cycle) (λ c. 0) (marks_in all d) was.0 last was.1 in
-      let these = new_ones (f ∷ fs) at in
+      let these = new_ones at in
       linked_on v old.cycle Behind (IsOpen v new.front.halted (old.cycle + 1)) (λ c. 0) (marks_in all d) (mark_of_fetched f) (map mark_of_fetched fs) (squash_followed (mark_of_fetched f) these.0) cut
       (λ h. linked_words v old.cycle new.front.halted h (map mark_of_fetched (f ∷ fs)) these)
 
@@ -97,7 +96,7 @@ module _ (v : Values) {earlier : List Step} {old new : Hardware} {lines : Lines}
     still : Linked v old.cycle (IsOpen v old.front.halted old.cycle) (λ c. 0) (marks_in all d)
     still =
         let was = passed.dispatches.marks in
-        let none = no_rest (marks_in all d) was.0 (length (marks_in earlier old)) was.2 (size_of_marks all d ∙ uncut.0) in
+        let none = no_rest (marks_in all d) was.0 was.2 (size_of_marks all d ∙ uncut.0) in
         subst (Linked v old.cycle (IsOpen v old.front.halted old.cycle) (λ c. 0)) (ap (λ l. marks_in all d ++ l) none ∙ append-nil (marks_in all d)) was.1
 
     on_followed : (f : Fetched) (fs : List Fetched) → passed.fetches.added ≡ f ∷ fs → f.cycle ≡ old.cycle →
@@ -110,10 +109,10 @@ module _ (v : Values) {earlier : List Step} {old new : Hardware} {lines : Lines}
     full_now : d.front.capacity - length d.front.entries ≡ 0 → v.fetch_buffer ≤ held_after (λ c. 0) (marks_in all d) old.cycle
     full_now full =
         let b = passed.dispatches.basics in
-        let words = Each-weaker (SoundFetched old.cycle) (SoundFetched (old.cycle + 1)) (λ f w. (omega (arith, w.0), w.1)) d.front.entries b.fetched in
+        let words = Each-weaker _ _ (λ f w. (omega (arith, w.0), w.1)) _ b.fetched in
         let held = held_count (λ c. 0) (marks_in all d) old.cycle in
         let counts = count-as_of is_buffered_mark old.cycle (marks_in all d) in
-        let settled = ap (count is_buffered_mark) (as_of_now old.cycle (marks_in all d) (marks_settled v old.cycle all d.rob.entries d.front.entries b.rows b.entries words)) in
+        let settled = ap (count is_buffered_mark) (as_of_now old.cycle _ (marks_settled v old.cycle all _ _ b.rows b.entries words)) in
         let many = buffered_words all d.rob.entries d.front.entries in
         omega (arith, full, b.always.sizes.room, held, counts, settled, many)
 
@@ -141,11 +140,11 @@ module _ (v : Values) {earlier : List Step} {old new : Hardware} {lines : Lines}
         by_reason (inl halted) =
             linked_stays v old.cycle (IsOpen v old.front.halted old.cycle) (IsOpen v new.front.halted (old.cycle + 1)) (λ c. 0) (marks_in all d)
             (λ h x same was. inl (ap (λ (r : FetchBuffer). r.halted) (stays_halted is halted) ∙ halted)) still
-        by_reason (inr (inl narrow)) = absurd (let legal = (history_is_legal v before).pipeline.fetch_width in omega (arith, narrow, passed.dispatches.basics.always.sizes.width, legal))
+        by_reason (inr (inl narrow)) = absurd (let legal = (history_is_legal before).pipeline.fetch_width in omega (arith, narrow, passed.dispatches.basics.always.sizes.width, legal))
         by_reason (inr (inr full)) =
             linked_stays v old.cycle (IsOpen v old.front.halted old.cycle) (IsOpen v new.front.halted (old.cycle + 1)) (λ c. 0) (marks_in all d) (stays_open (full_now full)) still
     goes_on (f ∷ fs) at =
-        let these = new_ones (f ∷ fs) at in
+        let these = new_ones at in
         linked_on v old.cycle (IsOpen v old.front.halted old.cycle) (IsOpen v new.front.halted (old.cycle + 1)) (λ c. 0) (marks_in all d) (mark_of_fetched f) (map mark_of_fetched fs) (on_followed f fs at these.0) still
         (λ h. linked_words v old.cycle new.front.halted h (map mark_of_fetched (f ∷ fs)) these)
 
@@ -154,7 +153,7 @@ module _ (v : Values) {earlier : List Step} {old new : Hardware} {lines : Lines}
   by_squash (inl (inl uncut)) = goes_on uncut passed.fetches.added refl
   by_squash (inl (inr empty)) =
       after_squash
-      (subst (LastIs (Squashes v old.cycle)) (sym (ap (λ es. marks all es d.front.entries) empty.0 ∙ ap (λ fs. marks all [] fs) empty.1 ∙ append-nil (map mark_of_row (rows_of all)))) (last_row v old.cycle (rows_of all) passed.dispatches.basics.rows))
+      (subst (LastIs (Squashes v old.cycle)) (sym (ap (λ es. marks all es d.front.entries) empty.0 ∙ ap (λ fs. marks all [] fs) empty.1 ∙ append-nil (map mark_of_row (rows_of all)))) (last_row v old.cycle _ passed.dispatches.basics.rows))
       empty.1 empty.2 passed.fetches.added refl
   by_squash (inr mended) =
       after_squash
@@ -166,7 +165,7 @@ module _ (v : Values) {earlier : List Step} {old new : Hardware} {lines : Lines}
   linked_in_cycle = rw (ap (λ (h : Hardware). h.cycle) passed.others_stay, passed.new_marks) (by_squash left)
 
 -- in every history each mark tells why the next one was not fetched earlier
-pub marks_are_linked : (v : Values) {steps : List Step} {h : Hardware} → History v steps h →
+pub marks_are_linked : {v : Values} {steps : List Step} {h : Hardware} → History v steps h →
     Linked v h.cycle (IsOpen v h.front.halted h.cycle) (λ c. 0) (marks_in steps h)
-marks_are_linked v (began image start legal) = tt
-marks_are_linked v (went_on before is) = linked_in_cycle v before is (marks_are_linked v before)
+marks_are_linked (began image start legal) = tt
+marks_are_linked {v} (went_on before is) = linked_in_cycle v before is (marks_are_linked before)

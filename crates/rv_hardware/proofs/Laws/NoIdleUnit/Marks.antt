@@ -59,31 +59,31 @@ same_known : (now : ℕ) (m n : Mark) → n.instruction ≡ m.instruction → n.
     IsKnownMark now m
 same_known now m n instruction broadcast h some = subst (IsBefore now) broadcast (h (subst (λ i. is_some (kind_of_word i) ≡ true) (sym instruction) some))
 
-goes_back : (v : Values) (now : ℕ) (xs : List Mark) (m n : Mark) → Advances v now xs m n → Back now m n
-goes_back v now xs m n (mark_is_sent a) = grind (arith, not_now)
-goes_back v now xs m n given = grind (arith, same_known)
+goes_back : {v : Values} {now : ℕ} {xs : List Mark} {m n : Mark} → Advances v now xs m n → Back now m n
+goes_back (mark_is_sent a) = grind (arith, not_now)
+goes_back given = grind (arith, same_known)
 
 -- the mark itself, once it went on
 
 some_not_none : {X P : Type 0} (o : Option X) (x : X) → o ≡ Some x → o ≡ None → P
 some_not_none o x some none = absurd (cc)
 
-itself : (k : Kind) (j : ℕ) (v : Values) (now : ℕ) (xs : List Mark) (m n : Mark) → Advances v now xs m n →
+itself : (k : Kind) (j : ℕ) {v : Values} {now : ℕ} {xs : List Mark} {m n : Mark} → Advances v now xs m n →
     BusyUnits k j now xs m → BusyUnits k j now xs n
-itself k j v now xs m n given h may = grind (arith, some_not_none, not_now)
+itself k j given h may = grind (arith, some_not_none, not_now)
 
-still_begins : (k : Kind) (v : Values) (now : ℕ) (xs : List Mark) (m n : Mark) → Advances v now xs m n →
+still_begins : (k : Kind) {v : Values} {now : ℕ} {xs : List Mark} {m n : Mark} → Advances v now xs m n →
     begins_mark k now m ≡ true → begins_mark k now n ≡ true
-still_begins k v now xs m n given h = grind (arith, never_both)
+still_begins k given h = grind (arith, never_both)
 
 -- marks that go on keep it that, where one could start but does not, so many that are older did
 pub busy_units_are_kept : (k : Kind) (j : ℕ) (v : Values) (now : ℕ) → Kept v now (EveryAfter (BusyUnits k j now) [])
 busy_units_are_kept k j v now = record {
-  cut = λ xs ys h. EveryAfter-left (BusyUnits k j now) [] xs ys h;
-  set = λ xs ys m n a h. EveryAfter-set (BusyUnits k j now) xs ys m n (itself k j v now xs m n a)
+  cut = λ xs ys h. EveryAfter-left _ [] xs ys h;
+  set = λ xs ys m n a h. EveryAfter-set _ xs ys m n (itself k j a)
       (λ mid z busy may.
-      let back = goes_back v now xs m n a in
-      let grown = count-set-grows (begins_mark k now) xs mid m n (still_begins k v now xs m n a) in
+      let back = goes_back a in
+      let grown = count-set-grows (begins_mark k now) xs mid m n (still_begins k a) in
       let before = busy (may_back now m n back.instruction back.known k xs mid z may) in
       omega (arith, grown, before)) h;
 }
@@ -104,17 +104,17 @@ module _ (v : Values) (k : Kind) (now : ℕ) where
       writes e register ≡ true → IsKnownMark now (mark_of_entry e) → is_some (broadcast_of e.stage) ≡ true
   writer_known d a b e register sound plain writes_it known = grind (arith, true≢false, writer_serialises, broadcast_by)
 
-  known_either : (b : Bool) (d i j : ℕ) (e : Entry) (register : ℕ) (known : Bool) (found : Option Mark) → writes e register ≡ b →
+  known_either : {b : Bool} {d i j : ℕ} {e : Entry} (register : ℕ) {known : Bool} (found : Option Mark) → writes e register ≡ b →
       SoundEntry v d i j e → is_serialising e.instruction ≡ false → (IfSome found (IsKnownMark now) → known ≡ true) →
       IfSome (cond b (Some (mark_of_entry e)) found) (IsKnownMark now) → cond b (is_some (broadcast_of e.stage)) known ≡ true
-  known_either b d i j e register known found is sound plain before h = grind (arith, writer_known)
+  known_either register found is sound plain before h = grind (arith, writer_known)
 
   known_from : (d i j register : ℕ) (known : Bool) (found : Option Mark) (es : List Entry) → Each (SoundEntry v d i j) es →
       Each (λ e. is_serialising e.instruction ≡ false) es → (IfSome found (IsKnownMark now) → known ≡ true) →
       IfSome (last_from found (writes_mark register) (map mark_of_entry es)) (IsKnownMark now) →
       is_known_from known es register ≡ true
   known_from d i j register known found [] sound plain before h = before h
-  known_from d i j register known found (e ∷ es) sound plain before h = grind (arith, known_either, known_from d i j register (cond (writes e register) (is_some (broadcast_of e.stage)) known) (cond (writes e register) (Some (mark_of_entry e)) found) es sound.1 plain.1 (known_either (writes e register) d i j e register known found refl sound.0 plain.0 before) h)
+  known_from d i j register known found (e ∷ es) sound plain before h = grind (arith, known_either, known_from d i j register (cond (writes e register) (is_some (broadcast_of e.stage)) known) (cond (writes e register) (Some (mark_of_entry e)) found) es sound.1 plain.1 (known_either register found refl sound.0 plain.0 before) h)
 
   operands_by : (d i j : ℕ) (rows : List Row) (older : List Entry) (sources : List (Option ℕ)) → Each (SoundEntry v d i j) older →
       Each (λ e. is_serialising e.instruction ≡ false) older →
@@ -162,6 +162,6 @@ module _ (v : Values) (k : Kind) (now : ℕ) where
     (λ may. absurd (true≢false (sym (may_is_ready d i j rows h before e sounds (older_plain before es e last) sound.0 may) ∙ none.0))),
     subst (λ l. EveryAfter (λ b m. MayStart k now b m → ⊥) l (map mark_of_entry es))
         (ap (λ l. map mark_of_row rows ++ l) (marks_append before (e ∷ [])) ∙ sym (append_assoc (map mark_of_row rows) (map mark_of_entry before) (mark_of_entry e ∷ [])))
-        (entries_do_not_start d i j rows h (before ++ e ∷ []) es (Each-append (SoundEntry v d i j) before (e ∷ []) sounds (sound.0, tt)) sound.1
+        (entries_do_not_start d i j rows h _ es (Each-append _ before _ sounds (sound.0, tt)) sound.1
         (subst (λ l. AreSerialLast (instructions_of l)) (sym (append_assoc before (e ∷ []) es)) last) none.1),
   )

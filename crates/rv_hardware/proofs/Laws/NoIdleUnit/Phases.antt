@@ -3,7 +3,7 @@ use Rattle.rv_hardware.proofs.Words.{◌≡◌, ℕ, suc, ◌+◌, ◌<◌, ◌�
 use Rattle.std.specs.FinSet as set
 use Rattle.rv_isa.specs.declared.operations.Kind.TheVariants as kind
 use Rattle.rv_units.specs.Pool.{started as started_unit}
-use Rattle.rv_hardware.proofs.Marks.Cited.{broadcast-keeps, commit-keeps, dispatch-keeps, drain-same, ready-parts, issue-by, issue_kind-keeps, InCycle, starts_in_cycle, IsBefore, Starts, Anything, anything_is_kept, History, began, went_on, Passed, history_is_legal, committing, drained, issued_all, sent_all, dispatching, history_passes, IssueTurn, issue_turn_is, access_keeps, message_at, started_entries, Mark, mark_of_row, mark_of_entry, mark_of_fetched, marks, marks_in, marks_at_entry, Issues, issue_turn_keeps, issue_kind_keeps, start_is, with_marks, goes_later, broadcast_keeps, dispatch_keeps, AreSerialLast, cut_serial, instructions_of, SoundEntry}
+use Rattle.rv_hardware.proofs.Marks.Cited.{broadcast-keeps, commit-keeps, dispatch-keeps, drain-same, ready-parts, issue-by, issue_kind-keeps, InCycle, starts_in_cycle, IsBefore, Starts, Anything, anything_is_kept, History, began, went_on, Passed, history_is_legal, committing, drained, issued_all, sent_all, dispatching, history_passes, IssueTurn, issue_turn_is, access_keeps, message_at, started_entries, Mark, mark_of_row, mark_of_entry, mark_of_fetched, marks, marks_in, marks_at_entry, Issues, issue_turn_keeps, issue_kind_keeps, start_is, with_marks, before_broadcast, before_dispatch, broadcast_keeps, dispatch_keeps, AreSerialLast, cut_serial, instructions_of, SoundEntry}
 use Rattle.rv_hardware.proofs.Laws.NoIdleUnit.Marks.{MayStart, BusyUnits, may_back, busy_units_are_kept, rows_do_not_start, words_do_not_start, entries_do_not_start}
 use Rattle.rv_hardware.proofs.Laws.OtherUnits.Rows.{starts_at, begins_mark}
 use Rattle.rv_hardware.proofs.Laws.OtherUnits.Phases.{issued_units}
@@ -28,26 +28,26 @@ filter-append_length : (now : ℕ) (xs : List Issue) (s : Issue) →
 filter-append_length now [] s = grind arith
 filter-append_length now (x ∷ xs) s = grind (arith, filter-append_length now xs s)
 
-module _ (v : Values) (legal : IsLegal v) (now : ℕ) (steps : List Step) (k : Kind) where
+module _ {v : Values} (legal : IsLegal v) (now : ℕ) (steps : List Step) (k : Kind) where
   abbrev units_here : ℕ
   units_here = (at_kind k v.kinds).units
 
   abbrev Busy : ℕ → Hardware → Type 0
-  Busy j h = Issues v legal now Anything (anything_is_kept v now) steps h × EveryAfter (BusyUnits k j now) [] (marks_in steps h) × (length (holding now (at_kind k h.units).starts) ≤ j)
+  Busy j h = Issues legal (anything_is_kept v now) steps h × EveryAfter (BusyUnits k j now) [] (marks_in steps h) × (length (holding now (at_kind k h.units).starts) ≤ j)
 
   never_busy : (j : ℕ) (before xs : List Mark) → EveryAfter (λ b m. MayStart k now b m → ⊥) before xs →
       EveryAfter (BusyUnits k j now) before xs
-  never_busy j before xs h = EveryAfter-weaker (λ b m. MayStart k now b m → ⊥) (BusyUnits k j now) (λ b m never may. absurd (never may)) before xs h
+  never_busy j before xs h = EveryAfter-weaker (λ b m never may. absurd (never may)) before xs h
 
-  none_started : (j : ℕ) (h : Hardware) → Issues v legal now Anything (anything_is_kept v now) steps h →
+  none_started : (j : ℕ) (h : Hardware) → Issues legal (anything_is_kept v now) steps h →
       EveryAfter (λ b e. is_ready h k b e ≡ false) [] h.rob.entries → EveryAfter (BusyUnits k j now) [] (marks_in steps h)
   none_started j h p none =
       let rows : List Mark = map mark_of_row (rows_of steps) in
       let es : List Mark = map mark_of_entry h.rob.entries in
-      EveryAfter-append (BusyUnits k j now) [] rows (es ++ map mark_of_fetched h.front.entries) (never_busy j [] rows (rows_do_not_start v k now (now + 1) [] (rows_of steps) p.basics.rows))
-      (EveryAfter-append (BusyUnits k j now) rows es (map mark_of_fetched h.front.entries)
-      (never_busy j rows es (subst (λ l. EveryAfter (λ b m. MayStart k now b m → ⊥) l es) (append-nil rows) (entries_do_not_start v k now now (now + 1) now (rows_of steps) h [] h.rob.entries tt p.basics.entries p.basics.always.last none)))
-      (never_busy j (rows ++ es) (map mark_of_fetched h.front.entries) (words_do_not_start v k now (rows ++ es) h.front.entries)))
+      EveryAfter-append _ [] rows _ (never_busy j [] rows (rows_do_not_start v k now (now + 1) [] _ p.basics.rows))
+      (EveryAfter-append _ rows es _
+      (never_busy j rows es (subst (λ l. EveryAfter (λ b m. MayStart k now b m → ⊥) l es) (append-nil rows) (entries_do_not_start v k now now (now + 1) now (rows_of steps) h [] _ tt p.basics.entries p.basics.always.last none)))
+      (never_busy j _ _ (words_do_not_start v k now (rows ++ es) h.front.entries)))
 
   module _ (j : ℕ) (h : Hardware) (older younger : List Entry) (e : Entry) (at : h.rob.entries ≡ older ++ e ∷ younger) (is : is_ready h k older e ≡ true)
       (none : EveryAfter (λ before x. is_ready h k before x ≡ false) [] older) (p : Busy j h) where
@@ -55,7 +55,7 @@ module _ (v : Values) (legal : IsLegal v) (now : ℕ) (steps : List Step) (k : K
     begun = started (record { cycle = h.cycle; cost = cost_of h k (path h older e) }) (message_at h older e) e
 
     evidence : Starts v now (map mark_of_row (rows_of steps) ++ map mark_of_entry older) (mark_of_entry e) (mark_of_entry begun)
-    evidence = start_is v legal now Anything (anything_is_kept v now) steps k h older younger e at is p.0
+    evidence = start_is legal (anything_is_kept v now) steps k h older younger e at is p.0
 
     after_start : EveryAfter (BusyUnits k (suc j) now) [] (marks_in steps (issued k h older e))
     after_start =
@@ -65,16 +65,16 @@ module _ (v : Values) (legal : IsLegal v) (now : ℕ) (steps : List Step) (k : K
         let m : Mark = mark_of_entry e in
         let n : Mark = mark_of_entry begun in
         let front = ap (λ r. r.entries) (access_keeps (path h older e) h).front in
-        let olders = Each-left (SoundEntry v now (now + 1) now) older (e ∷ younger) (subst (Each (SoundEntry v now (now + 1) now)) at p.0.basics.entries) in
-        let old = EveryAfter-right (BusyUnits k j now) [] xs (m ∷ ys) (subst (EveryAfter (BusyUnits k j now) []) (ap (λ es. marks steps es h.front.entries) at ∙ marks_at_entry steps older younger e h.front.entries) p.1) in
+        let olders = Each-left _ older _ (subst (Each (SoundEntry v now (now + 1) now)) at p.0.basics.entries) in
+        let old = EveryAfter-right _ [] xs _ (subst (EveryAfter (BusyUnits k j now) []) (ap (λ es. marks steps es h.front.entries) at ∙ marks_at_entry steps older younger e h.front.entries) p.1) in
         let serial = cut_serial older (e ∷ younger) (subst (λ l. AreSerialLast (instructions_of l)) at p.0.basics.always.last) in
         let same_start : n.start ≡ Some evidence.start = ap (λ x. x.start) evidence.becomes in
         rw (started_entries k h older younger e at, front, marks_at_entry steps older younger begun h.front.entries)
-        (EveryAfter-append (BusyUnits k (suc j) now) [] xs (n ∷ ys)
-        (EveryAfter-append (BusyUnits k (suc j) now) [] rows (map mark_of_entry older) (never_busy (suc j) [] rows (rows_do_not_start v k now (now + 1) [] (rows_of steps) p.0.basics.rows))
-        (never_busy (suc j) rows (map mark_of_entry older) (subst (λ l. EveryAfter (λ b z. MayStart k now b z → ⊥) l (map mark_of_entry older)) (append-nil rows) (entries_do_not_start v k now now (now + 1) now (rows_of steps) h [] older tt olders serial none)))) (
+        (EveryAfter-append _ [] xs _
+        (EveryAfter-append _ [] rows _ (never_busy (suc j) [] rows (rows_do_not_start v k now (now + 1) [] _ p.0.basics.rows))
+        (never_busy (suc j) rows _ (subst (λ l. EveryAfter (λ b z. MayStart k now b z → ⊥) l (map mark_of_entry older)) (append-nil rows) (entries_do_not_start v k now now (now + 1) now (rows_of steps) h [] older tt olders serial none)))) (
           (λ may. absurd (has_begun may.not_yet)),
-          EveryAfter-moved (BusyUnits k j now) (BusyUnits k (suc j) now) (xs ++ m ∷ []) (xs ++ n ∷ [])
+          EveryAfter-moved _ _ _ _
               (λ mid z busy may.
               let here : MayStart k now (xs ++ m ∷ mid) z = may_back now m n refl (λ known some. subst (IsBefore now) (ap (λ x. x.broadcast) evidence.becomes) (known some)) k xs mid z (subst (λ l. MayStart k now l z) (append_assoc xs (n ∷ []) mid) may) in
               let before = busy (subst (λ l. MayStart k now l z) (sym (append_assoc xs (m ∷ []) mid)) here) in
@@ -93,18 +93,18 @@ module _ (v : Values) (legal : IsLegal v) (now : ℕ) (steps : List Step) (k : K
       length (holding now (at_kind k (issued k h older e).units).starts) ≤ suc j
   held_after j h older e cycle le = grind (arith, issued_units, with_kind-own, filter-append_length, fewer_held)
 
-  busy_leads : (j : ℕ) (h : Hardware) (t : Turn Hardware) → j < units_here → IssueTurn k h t → Busy j h →
-      Leads (Issues v legal now Anything (anything_is_kept v now) steps) (Issues v legal now Anything (anything_is_kept v now) steps) t → Leads (Busy (suc j)) (λ g. EveryAfter (BusyUnits k units_here now) [] (marks_in steps g)) t
-  busy_leads j h t lt given p goes = grind (arith, ltb-false, none_started, after_start, held_after)
+  busy_leads : (j : ℕ) {h : Hardware} {t : Turn Hardware} → j < units_here → IssueTurn k h t → Busy j h →
+      Leads (Issues legal (anything_is_kept v now) steps) (Issues legal (anything_is_kept v now) steps) t → Leads (Busy (suc j)) (λ g. EveryAfter (BusyUnits k units_here now) [] (marks_in steps g)) t
+  busy_leads j lt given p goes = grind (arith, ltb-false, none_started, after_start, held_after)
 
-  pub kind_is_busy : (h : Hardware) → Issues v legal now Anything (anything_is_kept v now) steps h →
+  pub kind_is_busy : (h : Hardware) → Issues legal (anything_is_kept v now) steps h →
       Over now (at_kind k h.units) → EveryAfter (BusyUnits k units_here now) [] (marks_in steps (issue_kind k h))
   kind_is_busy h p over =
-      let none = ap (λ l. length l) (none_holds now (at_kind k h.units).starts over) in
+      let none = ap (λ l. length l) (none_holds now _ over) in
       turns_within units_here Busy (λ g. EveryAfter (BusyUnits k units_here now) [] (marks_in steps g)) (issue_turn k)
-      (λ j g lt q. busy_leads j g (issue_turn k g) lt (issue_turn_is k g) q (issue_turn_keeps v legal now Anything (anything_is_kept v now) steps k g (issue_turn k g) (issue_turn_is k g) q.0))
+      (λ j g lt q. busy_leads j lt (issue_turn_is k g) q (issue_turn_keeps legal (anything_is_kept v now) steps (issue_turn_is k g) q.0))
       (λ g q. q.1) (at_kind k h.values.kinds).units 0 h (let same = ap (λ (w : Values). (at_kind k w.kinds).units) p.basics.always.sizes.values in omega (arith, same))
-      (p, EveryAfter-all (λ m. Unit {0}) (BusyUnits k 0 now) (λ b m u may. omega arith) [] (marks_in steps h) (Each-all (λ m. Unit {0}) (λ m. tt) (marks_in steps h)), omega (arith, none))
+      (p, EveryAfter-all (λ b m u may. omega arith) [] (marks_in steps h) (Each-all (λ m. Unit {0}) (λ m. tt) (marks_in steps h)), omega (arith, none))
 
 -- the other phases leave the units as they are
 
@@ -164,45 +164,45 @@ module _ (v : Values) (legal : IsLegal v) (now : ℕ) (steps : List Step) (k : K
   BusyNow = EveryAfter (BusyUnits k (at_kind k v.kinds).units now) []
 
   abbrev KeepsBusy : Hardware → Type 0
-  KeepsBusy h = Issues v legal now BusyNow (busy_units_are_kept k (at_kind k v.kinds).units v now) steps h
+  KeepsBusy h = Issues legal (busy_units_are_kept k (at_kind k v.kinds).units v now) steps h
 
-  plain : (h : Hardware) → Issues v legal now Anything (anything_is_kept v now) steps h → (j : Kind) →
-      Issues v legal now Anything (anything_is_kept v now) steps (issue_kind j h)
-  plain h p j = issue_kind_keeps v legal now Anything (anything_is_kept v now) steps j h p
+  plain : {h : Hardware} → Issues legal (anything_is_kept v now) steps h → (j : Kind) →
+      Issues legal (anything_is_kept v now) steps (issue_kind j h)
+  plain {h} p j = issue_kind_keeps legal (anything_is_kept v now) steps j p
 
-  on : (h : Hardware) → KeepsBusy h → (j : Kind) → KeepsBusy (issue_kind j h)
-  on h p j = issue_kind_keeps v legal now BusyNow (busy_units_are_kept k (at_kind k v.kinds).units v now) steps j h p
+  on : {h : Hardware} → KeepsBusy h → (j : Kind) → KeepsBusy (issue_kind j h)
+  on {h} p j = issue_kind_keeps legal (busy_units_are_kept k (at_kind k v.kinds).units v now) steps j p
 
-  here : (h : Hardware) → Issues v legal now Anything (anything_is_kept v now) steps h → Over now (at_kind k h.units) →
+  here : (h : Hardware) → Issues legal (anything_is_kept v now) steps h → Over now (at_kind k h.units) →
       KeepsBusy (issue_kind k h)
-  here h p over = with_marks v now now (now + 1) now now (now + 1) Anything BusyNow steps (issue_kind k h) (kind_is_busy v legal now steps k h p over) (plain h p k)
+  here h p over = with_marks BusyNow (kind_is_busy legal now steps k h p over) (plain p k)
 
 -- the issue phase of all kinds
-module _ (v : Values) (legal : IsLegal v) (now : ℕ) (steps : List Step) (h : Hardware) (p : Issues v legal now Anything (anything_is_kept v now) steps h) where
+module _ {v : Values} (legal : IsLegal v) {now : ℕ} {steps : List Step} {h : Hardware} (p : Issues legal (anything_is_kept v now) steps h) where
   pub issue_is_busy : (k : Kind) → (at_kind k v.kinds).pipelined ≡ true → Over now (at_kind k h.units) →
       EveryAfter (BusyUnits k (at_kind k v.kinds).units now) [] (marks_in steps (issue h))
   issue_is_busy kind.Alu line over =
       let a = issue_kind kind.Alu h in
       let m = issue_kind kind.Mul a in
-      (on v legal now steps kind.Alu line (issue_kind kind.Div m) (on v legal now steps kind.Alu line m (on v legal now steps kind.Alu line a (here v legal now steps kind.Alu line h p over) kind.Mul) kind.Div) kind.Mem).marks
+      (on v legal now steps kind.Alu line (on v legal now steps kind.Alu line (on v legal now steps kind.Alu line (here v legal now steps kind.Alu line h p over) kind.Mul) kind.Div) kind.Mem).marks
   issue_is_busy kind.Mul line over =
       let a = issue_kind kind.Alu h in
       let m = issue_kind kind.Mul a in
-      let at_a = plain v legal now steps kind.Mul line h p kind.Alu in
+      let at_a = plain v legal now steps kind.Mul line p kind.Alu in
       let over_a = subst (Over now) (sym (apart_kind v legal now steps kind.Mul line (at_kind kind.Mul h.units) kind.Alu h refl refl)) over in
-      (on v legal now steps kind.Mul line (issue_kind kind.Div m) (on v legal now steps kind.Mul line m (here v legal now steps kind.Mul line a at_a over_a) kind.Div) kind.Mem).marks
+      (on v legal now steps kind.Mul line (on v legal now steps kind.Mul line (here v legal now steps kind.Mul line a at_a over_a) kind.Div) kind.Mem).marks
   issue_is_busy kind.Div line over =
       let a = issue_kind kind.Alu h in
       let m = issue_kind kind.Mul a in
-      let at_m = plain v legal now steps kind.Div line a (plain v legal now steps kind.Div line h p kind.Alu) kind.Mul in
+      let at_m = plain v legal now steps kind.Div line (plain v legal now steps kind.Div line p kind.Alu) kind.Mul in
       let pool : Pool = at_kind kind.Div h.units in
       let over_m = subst (Over now) (sym (apart_kind v legal now steps kind.Div line pool kind.Mul a refl (apart_kind v legal now steps kind.Div line pool kind.Alu h refl refl))) over in
-      (on v legal now steps kind.Div line (issue_kind kind.Div m) (here v legal now steps kind.Div line m at_m over_m) kind.Mem).marks
+      (on v legal now steps kind.Div line (here v legal now steps kind.Div line m at_m over_m) kind.Mem).marks
   issue_is_busy kind.Mem line over =
       let a = issue_kind kind.Alu h in
       let m = issue_kind kind.Mul a in
       let d = issue_kind kind.Div m in
-      let at_d = plain v legal now steps kind.Mem line m (plain v legal now steps kind.Mem line a (plain v legal now steps kind.Mem line h p kind.Alu) kind.Mul) kind.Div in
+      let at_d = plain v legal now steps kind.Mem line (plain v legal now steps kind.Mem line (plain v legal now steps kind.Mem line p kind.Alu) kind.Mul) kind.Div in
       let pool : Pool = at_kind kind.Mem h.units in
       let over_d = subst (Over now) (sym (apart_kind v legal now steps kind.Mem line pool kind.Div m refl (apart_kind v legal now steps kind.Mem line pool kind.Mul a refl (apart_kind v legal now steps kind.Mem line pool kind.Alu h refl refl)))) over in
       (here v legal now steps kind.Mem line d at_d over_d).marks
@@ -212,36 +212,36 @@ module _ (v : Values) (legal : IsLegal v) (now : ℕ) (steps : List Step) (h : H
 over_at_reset : (v : Values) (k : Kind) → Over 0 (at_kind k (for_each free_pool v.kinds))
 over_at_reset v k = rw (at_kind-for_each free_pool v.kinds k) tt
 
-pub over_of_history : (v : Values) (k : Kind) → (at_kind k v.kinds).pipelined ≡ true → {steps : List Step} {h : Hardware} →
+pub over_of_history : {v : Values} (k : Kind) → (at_kind k v.kinds).pipelined ≡ true → {steps : List Step} {h : Hardware} →
     History v steps h → Over h.cycle (at_kind k h.units)
-over_of_history v k line (began image start legal) = over_at_reset v k
-over_of_history v k line (went_on {earlier} {old} {new} {lines} {report} before is) =
-    let legal = history_is_legal v before in
+over_of_history {v} k line (began image start legal) = over_at_reset v k
+over_of_history {v} k line (went_on {earlier} {old} {new} {lines} {report} before is) =
+    let legal = history_is_legal before in
     let passed = history_passes v before is in
-    let begins = subst (λ u. Over old.cycle (at_kind k u)) (sym (begin_units lines old)) (over_of_history v k line before) in
-    let later = Each-weaker (λ s. s.cycle + s.cost ≤ old.cycle) (λ s. s.cycle + s.cost ≤ old.cycle + 1) (λ s le. omega (arith, le)) (at_kind k (drained lines old).units).starts begins in
+    let begins = subst (λ u. Over old.cycle (at_kind k u)) (sym (begin_units lines old)) (over_of_history k line before) in
+    let later = Each-weaker _ _ (λ s le. omega (arith, le)) _ begins in
     let issues = timely_issue v legal old.cycle (earlier ++ report.steps) k line (drained lines old) ((passed.drains.basics.always.sizes, passed.drains.basics.cycle), later) in
     let next : new.cycle ≡ old.cycle + 1 = ap (λ (h : Hardware). h.cycle) passed.others_stay in
     let units : new.units ≡ (issued_all lines old).units = ap (λ (h : Hardware). h.units) passed.others_stay ∙ end_units lines old in
     rw next (subst (λ u. Over (old.cycle + 1) (at_kind k u)) (sym units) issues.1)
 
 -- at the end of a cycle
-pub units_are_busy : (v : Values) (k : Kind) → (at_kind k v.kinds).pipelined ≡ true →
-    (earlier : List Step) (lines : Lines) (old new : Hardware) (report : Report) (R : List Mark → Type 0) →
+pub units_are_busy : {v : Values} (k : Kind) → (at_kind k v.kinds).pipelined ≡ true →
+    {earlier : List Step} {lines : Lines} {old new : Hardware} {report : Report} {R : List Mark → Type 0} →
     History v earlier old → Passed v R earlier lines old report new →
     EveryAfter (BusyUnits k (at_kind k v.kinds).units old.cycle) [] (marks_in (earlier ++ report.steps) new)
-units_are_busy v k line earlier lines old new report R before passed =
-    let legal = history_is_legal v before in
+units_are_busy {v} k line {earlier} {lines} {old} {report} {R} before passed =
+    let legal = history_is_legal before in
     let now : ℕ = old.cycle in
     let all : List Step = earlier ++ report.steps in
     let n : ℕ = (at_kind k v.kinds).units in
-    let begins = subst (λ u. Over now (at_kind k u)) (sym (begin_units lines old)) (over_of_history v k line before) in
-    let busy = issue_is_busy v legal now all (drained lines old) (with_marks v now now (now + 1) now now (now + 1) R Anything all (drained lines old) tt passed.drains) k line begins in
+    let begins = subst (λ u. Over now (at_kind k u)) (sym (begin_units lines old)) (over_of_history k line before) in
+    let busy = issue_is_busy legal (with_marks Anything tt passed.drains) k line begins in
     let i : Hardware = issued_all lines old in
     let s : Hardware = sent_all lines old in
-    let issued = goes_later v now now (now + 1) now now (now + 1) now (now + 1) (now + 1) (now + 1) (EveryAfter (BusyUnits k n now) []) all i (omega arith) (omega arith) (omega arith) (omega arith) (with_marks v now now (now + 1) now now (now + 1) R (EveryAfter (BusyUnits k n now) []) all i busy passed.issues) in
-    let sent = broadcast_keeps v now (EveryAfter (BusyUnits k n now) []) (busy_units_are_kept k n v now) all i issued in
-    let dispatched = dispatch_keeps v now (EveryAfter (BusyUnits k n now) []) (busy_units_are_kept k n v now) all s (goes_later v now now (now + 1) (now + 1) now (now + 1) (now + 1) (now + 1) (now + 1) (now + 1) (EveryAfter (BusyUnits k n now) []) all s (omega arith) (omega arith) (omega arith) (omega arith) sent) in
-    rw (passed.new_marks) (EveryAfter-append (BusyUnits k n now) [] (marks_in all (dispatching lines old).hardware) (map mark_of_fetched passed.fetches.added) dispatched.marks
-    (EveryAfter-weaker (λ b m. MayStart k now b m → ⊥) (BusyUnits k n now) (λ b m never may. absurd (never may)) (marks_in all (dispatching lines old).hardware) (map mark_of_fetched passed.fetches.added)
+    let issued = before_broadcast (with_marks (EveryAfter (BusyUnits k n now) []) busy passed.issues) in
+    let sent = broadcast_keeps (busy_units_are_kept k n v now) all issued in
+    let dispatched = dispatch_keeps (busy_units_are_kept k n v now) all (before_dispatch sent) in
+    rw (passed.new_marks) (EveryAfter-append _ [] _ _ dispatched.marks
+    (EveryAfter-weaker (λ b m never may. absurd (never may)) _ _
     (words_do_not_start v k now (marks_in all (dispatching lines old).hardware) passed.fetches.added)))

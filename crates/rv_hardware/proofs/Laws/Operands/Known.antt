@@ -22,10 +22,10 @@ record GoesOnWith (m n : Mark) : Type 0 where
 not_before : {P : Type 0} (c : ℕ) (o : Option ℕ) → o ≡ None → IsBefore c o → P
 not_before c o none h = absurd (subst (IsBefore c) none h)
 
-goes_on : (v : Values) (now : ℕ) (xs : List Mark) (m n : Mark) → Advances v now xs m n → GoesOnWith m n
-goes_on v now xs m n given = grind (arith, not_before)
+goes_on : {v : Values} {now : ℕ} {xs : List Mark} {m n : Mark} → Advances v now xs m n → GoesOnWith m n
+goes_on given = grind (arith, not_before)
 
-module _ (m n : Mark) (goes : GoesOnWith m n) where
+module _ {m n : Mark} (goes : GoesOnWith m n) where
   known_goes_on : (c : ℕ) → IsKnownMark c m → IsKnownMark c n
   known_goes_on c known some = goes.broadcast c (known (subst (λ i. is_some (kind_of_word i) ≡ true) goes.instruction some))
 
@@ -33,7 +33,8 @@ module _ (m n : Mark) (goes : GoesOnWith m n) where
   store_goes_on c known some = goes.broadcast c (known (subst (λ i. is_store i ≡ true) goes.instruction some))
 
   -- of a list in which it goes on
-  either : (c : ℕ) (b : Bool) (z : Mark) (o p : Option Mark) → (IfSome o (IsKnownMark c) → IfSome p (IsKnownMark c)) → IfSome (cond b (Some z) o) (IsKnownMark c) → IfSome (cond b (Some z) p) (IsKnownMark c)
+  either : (c : ℕ) (b : Bool) (z : Mark) (o p : Option Mark) → (IfSome o (IsKnownMark c) → IfSome p (IsKnownMark c)) →
+      IfSome (cond b (Some z) o) (IsKnownMark c) → IfSome (cond b (Some z) p) (IsKnownMark c)
   either c b z o p f h = grind arith
 
   last_more : (c : ℕ) (test : Mark → Bool) (mid : List Mark) (o p : Option Mark) → (IfSome o (IsKnownMark c) → IfSome p (IsKnownMark c)) →
@@ -45,7 +46,9 @@ module _ (m n : Mark) (goes : GoesOnWith m n) where
   here c true found h = known_goes_on c h
   here c false found h = h
 
-  last_goes_on : (c register : ℕ) (xs mid : List Mark) → IfSome (last_that (writes_mark register) (xs ++ m ∷ mid)) (IsKnownMark c) → IfSome (last_that (writes_mark register) (xs ++ n ∷ mid)) (IsKnownMark c)
+  last_goes_on : (c register : ℕ) (xs mid : List Mark) →
+      IfSome (last_that (writes_mark register) (xs ++ m ∷ mid)) (IsKnownMark c) →
+      IfSome (last_that (writes_mark register) (xs ++ n ∷ mid)) (IsKnownMark c)
   last_goes_on c register xs mid h =
       let found : Option Mark = last_from None (writes_mark register) xs in
       let same : writes_mark register n ≡ writes_mark register m = ap (λ i. is_target register (target_of_word i)) goes.instruction in
@@ -60,7 +63,7 @@ module _ (m n : Mark) (goes : GoesOnWith m n) where
   operands_go_on c xs mid (Some register ∷ sources) h = (last_goes_on c register xs mid h.0, operands_go_on c xs mid sources h.1)
 
   stores_go_on : (c : ℕ) (xs mid : List Mark) → Each (IsKnownStore c) (xs ++ m ∷ mid) → Each (IsKnownStore c) (xs ++ n ∷ mid)
-  stores_go_on c xs mid h = Each-set (IsKnownStore c) xs mid m n (store_goes_on c (Each-place (IsKnownStore c) xs mid m h)) h
+  stores_go_on c xs mid h = Each-set _ xs mid m n (store_goes_on c (Each-place _ xs mid m h)) h
 
   found_goes_on : (xs mid : List Mark) (z : Mark) (o : Option Start) → IfSome o (λ s. Found (xs ++ m ∷ mid) z.instruction s.cycle) → IfSome o (λ s. Found (xs ++ n ∷ mid) z.instruction s.cycle)
   found_goes_on xs mid z o h = grind (arith, operands_go_on, stores_go_on)
@@ -74,8 +77,8 @@ none_started xs n none = rw none tt
 starts_now : (v : Values) (now : ℕ) (xs : List Mark) (m n : Mark) → Starts v now xs m n → StartsAfter xs n
 starts_now v now xs m n a = grind arith
 
-it_goes_on : (v : Values) (now : ℕ) (xs : List Mark) (m n : Mark) → Advances v now xs m n → StartsAfter xs m → StartsAfter xs n
-it_goes_on v now xs m n given h = grind (arith, same_start, starts_now)
+it_goes_on : {v : Values} {now : ℕ} {xs : List Mark} {m n : Mark} → Advances v now xs m n → StartsAfter xs m → StartsAfter xs n
+it_goes_on given h = grind (arith, same_start, starts_now)
 
 new_have_not_started : (before : List Mark) (fs : List Fetched) → EveryAfter StartsAfter before (map mark_of_fetched fs)
 new_have_not_started before [] = tt
@@ -85,12 +88,12 @@ pub starts_are_kept : (v : Values) → KeptMarks v (λ now ms. EveryAfter Starts
 starts_are_kept v = record {
   at_reset = tt;
   kept = λ now. record {
-    cut = λ xs ys h. EveryAfter-left StartsAfter [] xs ys h;
-    set = λ xs ys m n a h. EveryAfter-set StartsAfter xs ys m n (it_goes_on v now xs m n a) (λ mid z k. found_goes_on m n (goes_on v now xs m n a) xs mid z z.start k) h;
+    cut = λ xs ys h. EveryAfter-left _ [] xs ys h;
+    set = λ xs ys m n a h. EveryAfter-set _ xs ys m n (it_goes_on a) (λ mid z k. found_goes_on (goes_on a) xs mid z z.start k) h;
   };
-  more = λ now ms fs words h. EveryAfter-append StartsAfter [] ms (map mark_of_fetched fs) h (new_have_not_started ms fs);
+  more = λ now ms fs words h. EveryAfter-append _ [] ms _ h (new_have_not_started ms fs);
 }
 
 -- in every history each mark started behind what it waits for
-pub history_starts_after : (v : Values) {steps : List Step} {h : Hardware} → History v steps h → EveryAfter StartsAfter [] (marks_in steps h)
-history_starts_after v history = marks_of_history v (λ now ms. EveryAfter StartsAfter [] ms) (starts_are_kept v) history
+pub history_starts_after : {v : Values} {steps : List Step} {h : Hardware} → History v steps h → EveryAfter StartsAfter [] (marks_in steps h)
+history_starts_after {v} history = marks_of_history (starts_are_kept v) history

@@ -37,8 +37,8 @@ module _ (v : Values) (now : ℕ) (k : Kind) (pool : Pool) where
       ((c : ℕ) → now ≤ c → count (λ e. holds_mark v k c (mark_of_entry e)) fs ≤ count (λ e. holds_mark v k c (mark_of_entry e)) es) → Held v now k pool es → Held v now k pool fs
   held_fewer es fs less h = grind arith
 
-  pub held_later : (later : ℕ) (es : List Entry) → now ≤ later → Held v now k pool es → Held v later k pool es
-  held_later later es le h = grind (arith, Each-weaker)
+  pub held_later : (later : ℕ) {es : List Entry} → now ≤ later → Held v now k pool es → Held v later k pool es
+  held_later later le h = grind (arith, Each-weaker)
 
   -- one more start, on a free unit
   pub held_started : (older younger : List Entry) (e x : Entry) (cost : ℕ) → pool.is_pipelined ≡ (at_kind k v.kinds).pipelined → pool.units ≡ (at_kind k v.kinds).units → is_free now pool ≡ true →
@@ -55,14 +55,14 @@ module _ (v : Values) (now : ℕ) (k : Kind) (pool : Pool) where
             let some = count-length (holds_unit c) kept in
             let one = count-length (holds_unit c) (fresh ∷ []) in
             omega (arith, all, some, one, room, units);
-        begun = Each-append (λ s. s.cycle ≤ now) kept (fresh ∷ []) (Each-filter (λ s. s.cycle ≤ now) (holds_unit now) pool.starts h.begun) (omega arith, tt);
+        begun = Each-append _ kept _ (Each-filter _ _ _ h.begun) (omega arith, tt);
       }
     where
       tie : (c : ℕ) → now ≤ c → (fresh : Issue) (kept : List Issue) → count (λ z. holds_mark v k c (mark_of_entry z)) (older ++ x ∷ younger) ≤ count (holds_unit c) (holding now pool.starts ++ record { cycle = now; cost = held_for pool.is_pipelined cost } ∷ [])
       tie c le fresh kept = by_test (holds_mark v k c (mark_of_entry x)) refl
         where
           old : count (holds_unit c) pool.starts ≤ count (holds_unit c) (holding now pool.starts)
-          old = filter_holds (holds_unit c) (holds_unit now) pool.starts (Each-weaker (λ s. s.cycle ≤ now) (λ s. holds_unit c s ≡ true → holds_unit now s ≡ true) (λ s begun hold. holds_between now c s le begun hold) pool.starts h.begun)
+          old = filter_holds (holds_unit c) (holds_unit now) pool.starts (Each-weaker _ _ (λ s begun hold. holds_between now c s le begun hold) _ h.begun)
 
           by_test : (b : Bool) → holds_mark v k c (mark_of_entry x) ≡ b → count (λ z. holds_mark v k c (mark_of_entry z)) (older ++ x ∷ younger) ≤ count (holds_unit c) (holding now pool.starts ++ record { cycle = now; cost = held_for pool.is_pipelined cost } ∷ [])
           by_test true is =
@@ -99,7 +99,7 @@ pub issued_units : (k : Kind) (h : Hardware) (older : List Entry) (e : Entry) �
 issued_units k h older e = grind (arith, access_keeps)
 
 module _ (v : Values) (now : ℕ) where
-  module _ (k : Kind) (h : Hardware) (older younger : List Entry) (e : Entry) (at : h.rob.entries ≡ older ++ e ∷ younger) (ready : IsReady h k older e) (free : is_free h.cycle (at_kind k h.units) ≡ true) (p : InCycle v now h × AllHeld v now h) where
+  module _ {k : Kind} {h : Hardware} {older : List Entry} (younger : List Entry) {e : Entry} (at : h.rob.entries ≡ older ++ e ∷ younger) (ready : IsReady h k older e) (free : is_free h.cycle (at_kind k h.units) ≡ true) (p : InCycle v now h × AllHeld v now h) where
     abbrev cost_here : ℕ
     cost_here = cost_of h k (path h older e)
 
@@ -142,7 +142,7 @@ units_kept v now = record {
   lines = λ h levels held. held;
   commit = units_commit v now;
   drain = record { leaves = λ h held idle. held; drains = λ h access held idle is. held };
-  issue = λ k h older younger e here held at is free. started_units v now k h older younger e at (ready-parts h k older e is) free (here, held);
+  issue = λ k h older younger e here held at is free. started_units v now younger at (ready-parts h k older e is) free (here, held);
   broadcast = units_broadcast v now;
   dispatch = units_dispatch v now;
 }
@@ -151,12 +151,12 @@ units_at_reset : (v : Values) (k : Kind) → Held v 0 k (at_kind k (for_each fre
 units_at_reset v k = rw (at_kind-for_each free_pool v.kinds k) (record { tied = λ c le. omega arith; within = λ c le. omega arith; begun = tt })
 
 -- in every history all units are held within their number
-pub units_of_history : (v : Values) {steps : List Step} {h : Hardware} → History v steps h → AllHeld v h.cycle h
-units_of_history v (began image start legal) = units_at_reset v
-units_of_history v (went_on {earlier} {old} {new} {lines} {report} before is) = λ k.
+pub units_of_history : {v : Values} {steps : List Step} {h : Hardware} → History v steps h → AllHeld v h.cycle h
+units_of_history {v} (began image start legal) = units_at_reset v
+units_of_history {v} (went_on {earlier} {old} {new} {lines} {report} before is) = λ k.
     let passed = history_passes v before is in
-    let held = in_cycle (units_kept v old.cycle) passed (units_of_history v before) in
+    let held = in_cycle (units_kept v old.cycle) passed (units_of_history before) in
     let d : Hardware = (dispatching lines old).hardware in
     let next : new.cycle ≡ old.cycle + 1 = ap (λ (h : Hardware). h.cycle) passed.others_stay in
     subst (λ (g : Hardware). Held v new.cycle k (at_kind k g.units) g.rob.entries) (sym passed.others_stay)
-    (held_later v old.cycle k (at_kind k d.units) new.cycle d.rob.entries (omega (arith, next)) (held k))
+    (held_later v old.cycle k (at_kind k d.units) new.cycle (omega (arith, next)) (held k))

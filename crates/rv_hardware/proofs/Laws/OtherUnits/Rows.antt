@@ -8,7 +8,7 @@ abbrev pub Between : ℕ → ℕ → Option Execution → Type 0
 Between D C x = IfSome x (λ x. (D < x.issued) × (x.issued + x.cost ≤ x.broadcast) × (x.broadcast < C))
 
 -- at most as many as hold a unit
-module _ (v : Values) (k : Kind) (test : ℕ → Mark → Bool)
+module _ {v : Values} (k : Kind) {test : ℕ → Mark → Bool}
     (holds : (c : ℕ) (m : Mark) → test c m ≡ true → holds_mark v k c m ≡ true)
     (gone : (now : ℕ) (row : Row) → SoundRow v (now + 1) row → test now (mark_of_row row) ≡ false)
     (no_word : (now : ℕ) (f : Fetched) → test now (mark_of_fetched f) ≡ false) where
@@ -19,17 +19,17 @@ module _ (v : Values) (k : Kind) (test : ℕ → Mark → Bool)
       let p : Mark → Bool = test old.cycle in
       let d : Hardware = (dispatching lines old).hardware in
       let all = count_in_flight p passed (gone old.cycle) (no_word old.cycle) in
-      let held = in_cycle (units_kept v old.cycle) passed (units_of_history v before) k in
+      let held = in_cycle (units_kept v old.cycle) passed (units_of_history before) k in
       let entries = count-le (λ e. p (mark_of_entry e)) (λ e. holds_mark v k old.cycle (mark_of_entry e)) d.rob.entries (Each-all (λ e. p (mark_of_entry e) ≡ true → holds_mark v k old.cycle (mark_of_entry e) ≡ true) (λ e. holds old.cycle (mark_of_entry e)) d.rob.entries) in
       let tied = held.tied old.cycle (omega arith) in
       let within = held.within old.cycle (omega arith) in
       omega (arith, all, entries, tied, within)
 
-  module _ (row_test : ℕ → Row → Bool) (shows : Shows v row_test test) where
+  module _ {row_test : ℕ → Row → Bool} (shows : Shows v row_test test) where
     -- in no cycle do more rows pass a test of holding a unit than there are units
     pub units_law : {steps : List Step} {h : Hardware} → History v steps h → (c : ℕ) →
         count_by (row_test c) (rows_of steps) ≤ (at_kind k v.kinds).units
-    units_law history = counted_law v row_test test shows (at_kind k v.kinds).units held_at_end history
+    units_law history = counted_law shows (at_kind k v.kinds).units held_at_end history
 
 -- a start in a cycle
 abbrev pub starts_at : ℕ → Option Start → Bool

@@ -50,13 +50,13 @@ path_without : (h : Hardware) (older : List Entry) (s : State) (i : Option Instr
     has_port h (path_of h older s i) ≡ true
 path_without h older s i plain = grind arith
 
-port_by : (b c d : Bool) → (b ≡ false → d ≡ true) → (not b || (c && d)) ≡ true → d ≡ true
-port_by b c d f h = grind arith
+port_by : {b : Bool} (c : Bool) {d : Bool} → (b ≡ false → d ≡ true) → (not b || (c && d)) ≡ true → d ≡ true
+port_by c f h = grind arith
 
 -- an instruction that may leave its station has the port that its path needs
 pub has_its_port : (h : Hardware) (older : List Entry) (e : Entry) → may_load h older e ≡ true →
     has_port h (path h older e) ≡ true
-has_its_port h older e may = port_by (is_load e.instruction) (list_all is_known_store (stores_after h older)) (has_port h (path h older e)) (λ plain. path_without h older (state_after h older e.pc) e.instruction plain) may
+has_its_port h older e may = port_by (list_all is_known_store (stores_after h older)) (λ plain. path_without h older (state_after h older e.pc) e.instruction plain) may
 
 -- the port is not free earlier
 pub port_grows : (h : Hardware) (p : Path) → has_port h p ≡ true → h.port_free ≤ (with_access p h).port_free

@@ -12,20 +12,20 @@ pub record PortOk (v : Values) (now : ℕ) (h : Hardware) : Type 0 where
   pub tie : Each (λ e. Tied v h.port_free (mark_of_entry e)) h.rob.entries
   pub pairs : EveryPair (λ a b. OneAtATime v now (mark_of_entry a) (mark_of_entry b)) h.rob.entries
 
-used_weaker : (v : Values) (i : Option Instr) (o : Option Start) (P Q : Start → Type 0) → ((s : Start) → P s → Q s) → IfSome o (λ s. uses_cache v i s ≡ true → P s) → IfSome o (λ s. uses_cache v i s ≡ true → Q s)
-used_weaker v i o P Q f h = grind arith
+used_weaker : (v : Values) (i : Option Instr) (o : Option Start) {P Q : Start → Type 0} → ((s : Start) → P s → Q s) → IfSome o (λ s. uses_cache v i s ≡ true → P s) → IfSome o (λ s. uses_cache v i s ≡ true → Q s)
+used_weaker v i o f h = grind arith
 
 tied_later : (v : Values) (c d : ℕ) (m : Mark) → c ≤ d → Tied v c m → Tied v d m
-tied_later v c d m le h = used_weaker v m.instruction m.start (λ s. (s.cycle + s.cost ≤ c) × (0 < s.cost)) (λ s. (s.cycle + s.cost ≤ d) × (0 < s.cost)) (λ s k. (omega (arith, k.0, le), k.1)) h
+tied_later v c d m le h = used_weaker v m.instruction m.start (λ s k. (omega (arith, k.0, le), k.1)) h
 
 tied_over : (v : Values) (c d : ℕ) (m : Mark) → c ≤ d → Tied v c m → OverBy v d m
-tied_over v c d m le h = used_weaker v m.instruction m.start (λ s. (s.cycle + s.cost ≤ c) × (0 < s.cost)) (λ s. s.cycle + s.cost ≤ d) (λ s k. omega (arith, k.0, le)) h
+tied_over v c d m le h = used_weaker v m.instruction m.start (λ s k. omega (arith, k.0, le)) h
 
 -- the same entries, or fewer
 
-pub port_same : (v : Values) (now : ℕ) (g h : Hardware) → g.rob.entries ≡ h.rob.entries → h.port_free ≤ g.port_free →
+pub port_same : {v : Values} {now : ℕ} (g : Hardware) {h : Hardware} → g.rob.entries ≡ h.rob.entries → h.port_free ≤ g.port_free →
     PortOk v now h → PortOk v now g
-port_same v now g h given le ok = grind (arith, Each-weaker, tied_later)
+port_same g given le ok = grind (arith, Each-weaker, tied_later)
 
 -- where the port is found idle, it is free by now
 pub drained_idle : (a : Bool) (h : Hardware) → (a && nat_le h.port_free h.cycle) ≡ true → h.port_free ≤ h.cycle
@@ -38,14 +38,14 @@ port_commit v now = record {
     tie = (subst (Each (λ x. Tied v h.port_free (mark_of_entry x))) split ok.tie).1;
     pairs = (subst (EveryPair (λ a b. OneAtATime v now (mark_of_entry a) (mark_of_entry b))) split ok.pairs).1;
   };
-  writes_back = λ h ok drained. let le = drained_idle _ h drained in port_same v now (with_write_back h) h refl (omega (arith, le)) ok;
+  writes_back = λ h ok drained. let le = drained_idle _ h drained in port_same (with_write_back h) refl (omega (arith, le)) ok;
 }
 
 port_drain : (v : Values) (now : ℕ) → IsKeptByDrain (PortOk v now)
 port_drain v now = record {
   leaves = λ h ok idle. record { tie = ok.tie; pairs = ok.pairs };
   drains = λ h access ok idle is.
-      let le = leb-true h.port_free h.cycle idle in port_same v now (with_drained access h) h refl (omega (arith, le)) ok;
+      let le = leb-true h.port_free h.cycle idle in port_same (with_drained access h) refl (omega (arith, le)) ok;
 }
 
 -- issue
@@ -58,8 +58,8 @@ pair_with_new v now a x (inr none) = grind (arith, used_weaker)
 pub turned : (v : Values) (now : ℕ) (a b : Mark) → OneAtATime v now a b → OneAtATime v now b a
 turned v now a b p = (p.1, p.0)
 
-module _ (v : Values) (legal : IsLegal v) (now : ℕ) where
-  module _ (k : Kind) (h : Hardware) (older younger : List Entry) (e : Entry) (at : h.rob.entries ≡ older ++ e ∷ younger) (ready : IsReady h k older e) (p : InCycle v now h × PortOk v now h) where
+module _ {v : Values} (legal : IsLegal v) (now : ℕ) where
+  module _ {k : Kind} {h : Hardware} {older : List Entry} (younger : List Entry) {e : Entry} (at : h.rob.entries ≡ older ++ e ∷ younger) (ready : IsReady h k older e) (p : InCycle v now h × PortOk v now h) where
     abbrev new_start : Start
     new_start = start_of_issue (record { cycle = h.cycle; cost = cost_of h k (path h older e) }) (message_at h older e)
 
@@ -87,28 +87,27 @@ module _ (v : Values) (legal : IsLegal v) (now : ℕ) where
         by_use : (b : Bool) → uses_cache v e.instruction (new_start) ≡ b →
             Each (λ z. OneAtATime v now (mark_of_entry z) (mark_of_entry new_entry)) xs
         by_use true used =
-            Each-weaker (λ z. Tied v h.port_free (mark_of_entry z)) (λ z. OneAtATime v now (mark_of_entry z) (mark_of_entry new_entry))
+            Each-weaker _ _
             (λ z k. pair_with_new v now (mark_of_entry z) (mark_of_entry new_entry) (inl (tied_later v h.port_free now (mark_of_entry z) (let idle = (by_cache used).0 in omega (arith, idle, p.0.1)) k))) xs tie
         by_use false used =
-            Each-weaker (λ z. Tied v h.port_free (mark_of_entry z)) (λ z. OneAtATime v now (mark_of_entry z) (mark_of_entry new_entry))
+            Each-weaker _ _
             (λ z k. pair_with_new v now (mark_of_entry z) (mark_of_entry new_entry) (inr (λ is. absurd (true≢false (sym is ∙ used))))) xs tie
 
     pub started_port : PortOk v now (issued k h older e)
     started_port =
         let tie = subst (Each (λ z. Tied v h.port_free (mark_of_entry z))) at p.1.tie in
         let pairs = subst (EveryPair (λ a b. OneAtATime v now (mark_of_entry a) (mark_of_entry b))) at p.1.pairs in
-        let olders = Each-left (λ z. Tied v h.port_free (mark_of_entry z)) older (e ∷ younger) tie in
-        let youngers = (Each-right (λ z. Tied v h.port_free (mark_of_entry z)) older (e ∷ younger) tie).1 in
-        let right = EveryPair-right (λ a b. OneAtATime v now (mark_of_entry a) (mark_of_entry b)) older (e ∷ younger) pairs in
+        let olders = Each-left _ older _ tie in
+        let youngers = (Each-right _ older _ tie).1 in
+        let right = EveryPair-right _ older _ pairs in
         record {
           tie = rw (started_entries k h older younger e at)
-              (Each-set (λ z. Tied v new_port (mark_of_entry z)) older younger e new_entry (λ used. ((by_cache used).1, positive_cost v legal h p.0.0 k (path h older e)))
-              (Each-weaker (λ z. Tied v h.port_free (mark_of_entry z)) (λ z. Tied v new_port (mark_of_entry z)) (λ z w. tied_later v h.port_free new_port (mark_of_entry z) grows w) (older ++ e ∷ younger) tie));
+              (Each-set _ older younger e _ (λ used. ((by_cache used).1, positive_cost legal h p.0.0 k (path h older e)))
+              (Each-weaker _ _ (λ z w. tied_later v h.port_free new_port (mark_of_entry z) grows w) _ tie));
           pairs = rw (started_entries k h older younger e at)
-              (EveryPair-append (λ a b. OneAtATime v now (mark_of_entry a) (mark_of_entry b)) older (new_entry ∷ younger) (EveryPair-left (λ a b. OneAtATime v now (mark_of_entry a) (mark_of_entry b)) older (e ∷ younger) pairs)
-              (Each-weaker (λ z. OneAtATime v now (mark_of_entry z) (mark_of_entry new_entry)) (λ z. OneAtATime v now (mark_of_entry new_entry) (mark_of_entry z)) (λ z w. turned v now (mark_of_entry z) (mark_of_entry new_entry) w) younger (others younger youngers), right.1)
-              (Each-both (λ a. Each (λ b. OneAtATime v now (mark_of_entry a) (mark_of_entry b)) (e ∷ younger)) (λ a. OneAtATime v now (mark_of_entry a) (mark_of_entry new_entry)) (λ a. Each (λ b. OneAtATime v now (mark_of_entry a) (mark_of_entry b)) (new_entry ∷ younger)) (λ a w n. (n, w.1)) older
-              (EveryPair-across (λ a b. OneAtATime v now (mark_of_entry a) (mark_of_entry b)) older (e ∷ younger) pairs) (others older olders)));
+              (EveryPair-append _ older _ (EveryPair-left _ older _ pairs)
+              (Each-weaker _ _ (λ z w. turned v now (mark_of_entry z) (mark_of_entry new_entry) w) younger (others younger youngers), right.1)
+              (Each-both _ (λ a w n. (n, w.1)) older (EveryPair-across _ older _ pairs) (others older olders)));
         }
 
 -- broadcast and dispatch: what began stays
@@ -125,16 +124,16 @@ same_second : (v : Values) (now : ℕ) (m n z : Mark) → n.instruction ≡ m.in
     OneAtATime v now z n
 same_second v now m n z instruction start h = turned v now n z (same_first v now m n z instruction start (turned v now z m h))
 
-module _ (v : Values) (now : ℕ) (g h : Hardware) (older younger : List Entry) (e x : Entry) (at : h.rob.entries ≡ older ++ e ∷ younger)
+module _ {v : Values} {now : ℕ} (g : Hardware) {h : Hardware} (older younger : List Entry) (e x : Entry) (at : h.rob.entries ≡ older ++ e ∷ younger)
     (instruction : (mark_of_entry x).instruction ≡ (mark_of_entry e).instruction) (start : (mark_of_entry x).start ≡ (mark_of_entry e).start) (port : g.port_free ≡ h.port_free) (ok : PortOk v now h) where
   set_tie : Each (λ z. Tied v g.port_free (mark_of_entry z)) (older ++ x ∷ younger)
   set_tie =
       rw port (let tie = subst (Each (λ z. Tied v h.port_free (mark_of_entry z))) at ok.tie in
-      Each-set (λ z. Tied v h.port_free (mark_of_entry z)) older younger e x (same_tied v h.port_free (mark_of_entry e) (mark_of_entry x) instruction start (Each-place (λ z. Tied v h.port_free (mark_of_entry z)) older younger e tie)) tie)
+      Each-set _ older younger e x (same_tied v h.port_free (mark_of_entry e) (mark_of_entry x) instruction start (Each-place _ older younger e tie)) tie)
 
   set_pairs : EveryPair (λ a b. OneAtATime v now (mark_of_entry a) (mark_of_entry b)) (older ++ x ∷ younger)
   set_pairs =
-      EveryPair-set (λ a b. OneAtATime v now (mark_of_entry a) (mark_of_entry b)) older younger e x
+      EveryPair-set _ older younger e x
       (λ z w. same_second v now (mark_of_entry e) (mark_of_entry x) (mark_of_entry z) instruction start w) (λ z w. same_first v now (mark_of_entry e) (mark_of_entry x) (mark_of_entry z) instruction start w)
       (subst (EveryPair (λ a b. OneAtATime v now (mark_of_entry a) (mark_of_entry b))) at ok.pairs)
 
@@ -143,19 +142,19 @@ module _ (v : Values) (now : ℕ) (g h : Hardware) (older younger : List Entry) 
 
   port_cut : g.rob.entries ≡ older ++ x ∷ [] → PortOk v now g
   port_cut at' = record {
-    tie = rw at' (Each-left (λ z. Tied v g.port_free (mark_of_entry z)) (older ++ x ∷ []) younger (rw (append_assoc older (x ∷ []) younger) set_tie));
-    pairs = rw at' (EveryPair-left (λ a b. OneAtATime v now (mark_of_entry a) (mark_of_entry b)) (older ++ x ∷ []) younger (rw (append_assoc older (x ∷ []) younger) set_pairs));
+    tie = rw at' (Each-left _ _ younger (rw (append_assoc older (x ∷ []) younger) set_tie));
+    pairs = rw at' (EveryPair-left _ _ younger (rw (append_assoc older (x ∷ []) younger) set_pairs));
   }
 
 port_broadcast : (v : Values) (now : ℕ) → IsKeptByBroadcast (PortOk v now)
 port_broadcast v now = record {
   broadcasts = λ h older younger e message ok split gives.
       let x : Entry = finished message h.cycle e in
-      let same = finished_mark h.cycle e gives.issue message gives.runs in
-      port_set v now (with_entries (older ++ x ∷ younger) h) h older younger e x split refl (ap (λ (m : Mark). m.start) same) refl ok refl;
+      let same = finished_mark h.cycle e gives.runs in
+      port_set (with_entries (older ++ x ∷ younger) h) older younger e x split refl (ap (λ (m : Mark). m.start) same) refl ok refl;
   mends = λ h older younger e next ok split.
       let x : Entry = predicting next e in
-      port_cut v now (with_mended next (older ++ x ∷ []) h) h older younger e x split refl refl refl ok refl;
+      port_cut (with_mended next (older ++ x ∷ []) h) older younger e x split refl refl refl ok refl;
 }
 
 not_started : (v : Values) (m : Mark) (P : Start → Type 0) → m.start ≡ None → WhereUsed v m P
@@ -169,5 +168,5 @@ port_dispatch : (v : Values) (now : ℕ) → IsKeptByDispatch (PortOk v now)
 port_dispatch v now = grind (arith, dispatched_mark, Each-append, not_started, EveryPair-append, Each-all, new_pair)
 
 -- each phase of a cycle keeps it
-pub port_kept : (v : Values) → IsLegal v → (now : ℕ) → IsKeptInCycle v now (PortOk v now)
-port_kept v legal now = grind (arith, port_commit, port_drain, started_port, ready-parts, port_broadcast, port_dispatch)
+pub port_kept : {v : Values} → IsLegal v → (now : ℕ) → IsKeptInCycle v now (PortOk v now)
+port_kept legal now = grind (arith, port_commit, port_drain, started_port, ready-parts, port_broadcast, port_dispatch)

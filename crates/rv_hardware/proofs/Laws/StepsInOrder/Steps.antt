@@ -3,7 +3,7 @@ use Rattle.rv_hardware.proofs.Words.{nat_eq as eqb, ◌≡◌, ℕ, suc, ◌+◌
 use Rattle.std.specs.FinSet as set
 use Rattle.rv_hardware.proofs.Marks.Advance.{Kept, Advances}
 use Rattle.rv_hardware.proofs.Marks.List.{Mark, mark_of_row, mark_of_entry, mark_of_fetched, marks_in}
-use Rattle.rv_hardware.proofs.Turns.Commit.{CommitTurn, stale_head, fence_writes, fence_retires, executes, serial_faults, traps, retires, retires_last, executed, written_back, retired_with, retired_and_flushed, commit_turn_is, head_retired_entries}
+use Rattle.rv_hardware.proofs.Turns.Commit.{CommitTurn, stale_head, fence_writes, fence_retires, executes, serial_faults, traps, retires, retires_last, commit_turn_is, head_retired_entries}
 use Rattle.rv_hardware.proofs.Marks.History.{Anything, anything_is_kept, Sound, Passed, History, began, went_on, begin, committing, dispatching, cycle_passes, history_is_legal, history_is_sound}
 use Rattle.rv_hardware.proofs.Marks.Phases.{Goes, Commits, commit_turn_keeps, commit_keeps, execute_keeps, with_marks}
 use Rattle.rv_hardware.proofs.Marks.Row.{retiring_is_one, row_at, may_retire_finished}
@@ -38,63 +38,65 @@ module _ (v : Values) (now : ℕ) (earlier : List Step) (before : Each (λ s. st
     pub plain : Each Plain c.steps
 
   -- one more step of this cycle
-  module _ (k : ℕ) (c : Committing) (s : Step) (p : Going k c) (at : stamp_of s ≡ now) (alone : is_interrupt s ≡ false) (anew : Each (λ a. flushes a ≡ true → IsFetchedSince a s) (earlier ++ c.steps)) where
+  module _ {k : ℕ} {c : Committing} (s : Step) (p : Going k c) (at : stamp_of s ≡ now) (alone : is_interrupt s ≡ false) (anew : Each (λ a. flushes a ≡ true → IsFetchedSince a s) (earlier ++ c.steps)) where
     regroup : earlier ++ (c.steps ++ s ∷ []) ≡ (earlier ++ c.steps) ++ s ∷ []
     regroup = sym (append_assoc earlier c.steps (s ∷ []))
 
     from_earlier : Each (λ a. InOrder a s) earlier
     from_earlier =
-        Each-both (λ a. stamp_of a < now) (λ a. flushes a ≡ true → IsFetchedSince a s) (λ a. InOrder a s)
+        Each-both _
         (λ a lt new. record { order = omega (arith, lt, at); alone = λ h. omega (arith, lt, at); last = λ h. omega (arith, lt, at); anew = new }) earlier before
-        (Each-left (λ a. flushes a ≡ true → IsFetchedSince a s) earlier c.steps anew)
+        (Each-left _ earlier _ anew)
 
     from_now : Each (λ a. InOrder a s) c.steps
     from_now =
-        Each-both (λ a. (stamp_of a ≡ now) × Plain a) (λ a. flushes a ≡ true → IsFetchedSince a s) (λ a. InOrder a s) (λ a h new. grind (arith, true≢false)) c.steps
-        (Each-both (λ a. stamp_of a ≡ now) Plain (λ a. (stamp_of a ≡ now) × Plain a) (λ a e f. (e, f)) c.steps p.steps.of_now p.plain)
-        (Each-right (λ a. flushes a ≡ true → IsFetchedSince a s) earlier c.steps anew)
+        Each-both (λ a. (stamp_of a ≡ now) × Plain a) (λ a h new. grind (arith, true≢false)) c.steps
+        (Each-both (λ a. stamp_of a ≡ now) (λ a e f. (e, f)) c.steps p.steps.of_now p.plain)
+        (Each-right _ earlier _ anew)
 
     more_pairs : EveryPair InOrder (earlier ++ (c.steps ++ s ∷ []))
     more_pairs =
-        rw regroup (EveryPair-append InOrder (earlier ++ c.steps) (s ∷ []) p.steps.pairs (tt, tt)
-        (Each-weaker (λ a. InOrder a s) (λ a. Each (InOrder a) (s ∷ [])) (λ a h. (h, tt)) (earlier ++ c.steps) (Each-append (λ a. InOrder a s) earlier c.steps from_earlier from_now)))
+        rw regroup (EveryPair-append _ _ _ p.steps.pairs (tt, tt)
+        (Each-weaker _ _ (λ a h. (h, tt)) _ (Each-append _ earlier _ from_earlier from_now)))
 
     more_of_now : Each (λ a. stamp_of a ≡ now) (c.steps ++ s ∷ [])
-    more_of_now = Each-append (λ a. stamp_of a ≡ now) c.steps (s ∷ []) p.steps.of_now (at, tt)
+    more_of_now = Each-append _ _ _ p.steps.of_now (at, tt)
 
     more_within : length (c.steps ++ s ∷ []) ≤ suc k
     more_within = let all = length-append c.steps (s ∷ []) in omega (arith, all, p.steps.within)
 
     -- which flushes everything
-    pub flushing : (g : Hardware) (stop : Option Stop) → Goes v now now now now now (now + 1) Anything (earlier ++ (c.steps ++ s ∷ [])) g → g.rob.entries ≡ [] → g.front.entries ≡ [] →
+    pub flushing : {g : Hardware} (stop : Option Stop) → Goes v now now now now now (now + 1) Anything (earlier ++ (c.steps ++ s ∷ [])) g → g.rob.entries ≡ [] → g.front.entries ≡ [] →
         Steps v now earlier (suc k) (record { hardware = g; steps = c.steps ++ s ∷ []; stop = stop })
-    flushing g stop goes none none' = record { goes = goes; pairs = more_pairs; of_now = more_of_now; within = more_within; entries = rw none tt; words = rw none' tt }
+    flushing stop goes none none' = record { goes = goes; pairs = more_pairs; of_now = more_of_now; within = more_within; entries = rw none tt; words = rw none' tt }
 
     not_before : (cycle : ℕ) → flushes s ≡ false → NotBefore (earlier ++ c.steps) cycle →
         NotBefore (earlier ++ (c.steps ++ s ∷ [])) cycle
     not_before cycle plain h = grind (arith, regroup, Each-append, true≢false)
 
     -- or leaves what is younger
-    pub leaving : (g : Hardware) (stop : Option Stop) (e : Entry) (es : List Entry) → flushes s ≡ false → Goes v now now now now now (now + 1) Anything (earlier ++ (c.steps ++ s ∷ [])) g → c.hardware.rob.entries ≡ e ∷ es → g.rob.entries ≡ es → g.front.entries ≡ c.hardware.front.entries →
+    pub leaving : {g : Hardware} (stop : Option Stop) (e : Entry) {es : List Entry} → flushes s ≡ false →
+        Goes v now now now now now (now + 1) Anything (earlier ++ (c.steps ++ s ∷ [])) g →
+        c.hardware.rob.entries ≡ e ∷ es → g.rob.entries ≡ es → g.front.entries ≡ c.hardware.front.entries →
         Steps v now earlier (suc k) (record { hardware = g; steps = c.steps ++ s ∷ []; stop = stop })
-    leaving g stop e es plain goes place here front = record {
+    leaving stop e {es} plain goes place here front = record {
       goes = goes;
       pairs = more_pairs;
       of_now = more_of_now;
       within = more_within;
-      entries = rw here (Each-weaker (λ x. NotBefore (earlier ++ c.steps) x.fetched) (λ x. NotBefore (earlier ++ (c.steps ++ s ∷ [])) x.fetched) (λ x h. not_before x.fetched plain h) es
+      entries = rw here (Each-weaker _ _ (λ x h. not_before x.fetched plain h) es
           (subst (Each (λ x. NotBefore (earlier ++ c.steps) x.fetched)) place p.steps.entries).1);
-      words = rw front (Each-weaker (λ x. NotBefore (earlier ++ c.steps) x.cycle) (λ x. NotBefore (earlier ++ (c.steps ++ s ∷ [])) x.cycle) (λ x h. not_before x.cycle plain h) c.hardware.front.entries p.steps.words);
+      words = rw front (Each-weaker _ _ (λ x h. not_before x.cycle plain h) _ p.steps.words);
     }
 
-  steps_up_to : (k n : ℕ) (c : Committing) → k ≤ n → Steps v now earlier k c → Steps v now earlier n c
-  steps_up_to k n c le h = record { goes = h.goes; pairs = h.pairs; of_now = h.of_now; within = omega (arith, h.within, le); entries = h.entries; words = h.words }
+  steps_up_to : {k : ℕ} (n : ℕ) {c : Committing} → k ≤ n → Steps v now earlier k c → Steps v now earlier n c
+  steps_up_to n le h = record { goes = h.goes; pairs = h.pairs; of_now = h.of_now; within = omega (arith, h.within, le); entries = h.entries; words = h.words }
 
   -- the same steps
-  standing : (k n : ℕ) (c d : Committing) → k ≤ n → d.steps ≡ c.steps → d.hardware.rob.entries ≡ c.hardware.rob.entries →
-      d.hardware.front.entries ≡ c.hardware.front.entries → Commits v now Anything (anything_is_kept v now) earlier is_stale d →
+  standing : {k : ℕ} (n : ℕ) {c d : Committing} → k ≤ n → d.steps ≡ c.steps → d.hardware.rob.entries ≡ c.hardware.rob.entries →
+      d.hardware.front.entries ≡ c.hardware.front.entries → Commits (anything_is_kept v now) earlier is_stale d →
       Steps v now earlier k c → Steps v now earlier n d
-  standing k n c d le same entries words goes h = record {
+  standing n le same entries words goes h = record {
     goes = goes;
     pairs = rw same (h.pairs);
     of_now = rw same (h.of_now);
@@ -105,55 +107,55 @@ module _ (v : Values) (now : ℕ) (earlier : List Step) (before : Each (λ s. st
 
   no_row_since : (s : Step) (steps : List Step) → ((a : Step) → IsFetchedSince a s) →
       Each (λ a. flushes a ≡ true → IsFetchedSince a s) steps
-  no_row_since s steps f = Each-all (λ a. flushes a ≡ true → IsFetchedSince a s) (λ a h. f a) steps
+  no_row_since s steps f = Each-all _ (λ a h. f a) steps
 
   row_since : (c : Committing) (e : Entry) (es : List Entry) (written : Option (ℕ × ℕ)) → c.hardware.rob.entries ≡ e ∷ es →
       Each (λ x. NotBefore (earlier ++ c.steps) x.fetched) c.hardware.rob.entries →
       Each (λ a. flushes a ≡ true → IsFetchedSince a (Retired (row_at e written c.hardware.cycle))) (earlier ++ c.steps)
   row_since c e es written place h = (subst (Each (λ x. NotBefore (earlier ++ c.steps) x.fetched)) place h).0
 
-  plain_row : (c : Committing) (e : Entry) (es : List Entry) (issue : Option Issue) (cycle : ℕ) (message : Message) →
+  plain_row : (c : Committing) (e : Entry) (es : List Entry) {issue : Option Issue} {cycle : ℕ} {message : Message} →
       c.hardware.rob.entries ≡ e ∷ es → is_serialising e.instruction ≡ false → e.stage ≡ Finished issue cycle message →
       message.fault ≡ None → Goes v now now now now now (now + 1) Anything (earlier ++ c.steps) c.hardware →
       is_serialising (instruction_of (unwrap_or e.word 0)) ≡ false
-  plain_row c e es issue cycle message place plain given holds goes = grind (arith, row_decodes, retiring_is_one, may_retire_finished)
+  plain_row c e es place plain given holds goes = grind (arith, row_decodes, retiring_is_one, may_retire_finished)
 
   turn_leads : (total k : ℕ) (c : Committing) (t : Turn Committing) → k < total → CommitTurn is_stale c t →
-      Commits v now Anything (anything_is_kept v now) earlier is_stale c → Going k c →
-      Leads (Commits v now Anything (anything_is_kept v now) earlier is_stale) (Commits v now Anything (anything_is_kept v now) earlier is_stale) t → Leads (Going (suc k)) (Steps v now earlier total) t
-  turn_leads total k c _ lt (stale_head e es at is) q p goes = standing k total c _ (omega (arith, lt)) refl refl refl goes p.steps
-  turn_leads total k c _ lt (fence_writes e es head is drained dirty) q p goes = standing k total c (written_back c) (omega (arith, lt)) refl refl refl goes p.steps
+      Commits (anything_is_kept v now) earlier is_stale c → Going k c →
+      Leads (Commits (anything_is_kept v now) earlier is_stale) (Commits (anything_is_kept v now) earlier is_stale) t → Leads (Going (suc k)) (Steps v now earlier total) t
+  turn_leads total k c _ lt (stale_head e es at is) q p goes = standing total (omega (arith, lt)) refl refl refl goes p.steps
+  turn_leads total k c _ lt (fence_writes e es head is drained dirty) q p goes = standing total (omega (arith, lt)) refl refl refl goes p.steps
   turn_leads total k c _ lt (fence_retires e es written next head is drained) q p goes =
-      steps_up_to (suc k) total _ lt (flushing k c (Retired (row_at e written c.hardware.cycle)) p q.basics.cycle refl (row_since c e es written head.place p.steps.entries) (executed e written next (written_back c)).hardware c.stop goes refl refl)
+      steps_up_to total lt (flushing (Retired (row_at e written c.hardware.cycle)) p q.basics.cycle refl (row_since c e es written head.place p.steps.entries) c.stop goes refl refl)
   turn_leads total k c _ lt (executes e es written next head serial) q p goes =
-      steps_up_to (suc k) total _ lt (flushing k c (Retired (row_at e written c.hardware.cycle)) p q.basics.cycle refl (row_since c e es written head.place p.steps.entries) (executed e written next c).hardware c.stop goes refl refl)
+      steps_up_to total lt (flushing (Retired (row_at e written c.hardware.cycle)) p q.basics.cycle refl (row_since c e es written head.place p.steps.entries) c.stop goes refl refl)
   turn_leads total k c _ lt (serial_faults e es cause value head serial) q p goes =
-      steps_up_to (suc k) total _ lt (flushing k c (Trap e.pc cause value c.hardware.cycle) p q.basics.cycle refl (no_row_since (Trap e.pc cause value c.hardware.cycle) (earlier ++ c.steps) (λ a. tt)) (with_fault e cause value c).hardware (with_fault e cause value c).stop goes refl refl)
+      steps_up_to total lt (flushing (Trap e.pc cause value c.hardware.cycle) p q.basics.cycle refl (no_row_since (Trap e.pc cause value c.hardware.cycle) (earlier ++ c.steps) (λ a. tt)) (with_fault e cause value c).stop goes refl refl)
   turn_leads total k c _ lt (traps e es issue cycle message fault head plain at is) q p goes =
-      steps_up_to (suc k) total _ lt (flushing k c (Trap e.pc fault.cause fault.value c.hardware.cycle) p q.basics.cycle refl (no_row_since (Trap e.pc fault.cause fault.value c.hardware.cycle) (earlier ++ c.steps) (λ a. tt)) (with_fault e fault.cause fault.value c).hardware (with_fault e fault.cause fault.value c).stop goes refl refl)
+      steps_up_to total lt (flushing (Trap e.pc fault.cause fault.value c.hardware.cycle) p q.basics.cycle refl (no_row_since (Trap e.pc fault.cause fault.value c.hardware.cycle) (earlier ++ c.steps) (λ a. tt)) (with_fault e fault.cause fault.value c).stop goes refl refl)
   turn_leads total k c _ lt (retires e es issue cycle message head plain at none) q p goes =
       let row : Step = Retired (row_at e (written_of e message) c.hardware.cycle) in
-      let calm = plain_row c e es issue cycle message head.place plain at none q in
+      let calm = plain_row c e es head.place plain at none q in
       record {
-        steps = leaving k c row p q.basics.cycle refl (row_since c e es (written_of e message) head.place p.steps.entries) (retired_with e message c).hardware c.stop e es calm goes head.place (head_retired_entries c.hardware.rob e es head.place) refl;
-        plain = Each-append Plain c.steps (row ∷ []) p.plain ((refl, calm), tt);
+        steps = leaving row p q.basics.cycle refl (row_since c e es (written_of e message) head.place p.steps.entries) c.stop e calm goes head.place (head_retired_entries c.hardware.rob e es head.place) refl;
+        plain = Each-append _ _ _ p.plain ((refl, calm), tt);
       }
   turn_leads total k c _ lt (retires_last e es issue cycle message head plain at none) q p goes =
-      steps_up_to (suc k) total _ lt (flushing k c (Retired (row_at e (written_of e message) c.hardware.cycle)) p q.basics.cycle refl (row_since c e es (written_of e message) head.place p.steps.entries) (retired_and_flushed e message c).hardware c.stop goes refl refl)
-  turn_leads total k c _ lt it q p goes = steps_up_to k total c (omega (arith, lt)) p.steps
+      steps_up_to total lt (flushing (Retired (row_at e (written_of e message) c.hardware.cycle)) p q.basics.cycle refl (row_since c e es (written_of e message) head.place p.steps.entries) c.stop goes refl refl)
+  turn_leads total k c _ lt it q p goes = steps_up_to total (omega (arith, lt)) p.steps
 
-  commit_leads_by : (total : ℕ) → 1 ≤ total → (o : Option ℕ) (h : Hardware) → h.values.commit_width ≡ total →
+  commit_leads_by : {total : ℕ} → 1 ≤ total → (o : Option ℕ) {h : Hardware} → h.values.commit_width ≡ total →
       Goes v now now now now now (now + 1) Anything (earlier ++ []) h → EveryPair InOrder (earlier ++ []) →
       Each (λ e. NotBefore (earlier ++ []) e.fetched) h.rob.entries →
       Each (λ f. NotBefore (earlier ++ []) f.cycle) h.front.entries →
-      Commits v now Anything (anything_is_kept v now) earlier is_stale (commit_unless is_stale o h) →
+      Commits (anything_is_kept v now) earlier is_stale (commit_unless is_stale o h) →
       Steps v now earlier total (commit_unless is_stale o h)
-  commit_leads_by total le (Some code) h width goes pairs entries words after = grind (arith, EveryPair-append, append-nil, Each-weaker)
-  commit_leads_by total le None h width goes pairs entries words after =
+  commit_leads_by le (Some code) width goes pairs entries words after = grind (arith, EveryPair-append, append-nil, Each-weaker)
+  commit_leads_by {total} le None {h} width goes pairs entries words after =
       let first : Committing = record { hardware = h; steps = []; stop = None } in
-      turns_within total (λ k c. Commits v now Anything (anything_is_kept v now) earlier is_stale c × Going k c) (Steps v now earlier total) (commit_turn is_stale)
-      (λ k c lt p. let goes_on = commit_turn_keeps v now Anything (anything_is_kept v now) earlier is_stale c (commit_turn is_stale c) (commit_turn_is is_stale c) p.0 in
-      leads_both (Commits v now Anything (anything_is_kept v now) earlier is_stale) (Going (suc k)) (Steps v now earlier total) (commit_turn is_stale c) goes_on (turn_leads total k c (commit_turn is_stale c) lt (commit_turn_is is_stale c) p.0 p.1 goes_on))
+      turns_within total (λ k c. Commits (anything_is_kept v now) earlier is_stale c × Going k c) (Steps v now earlier total) (commit_turn is_stale)
+      (λ k c lt p. let goes_on = commit_turn_keeps (anything_is_kept v now) earlier is_stale (commit_turn_is is_stale c) p.0 in
+      leads_both (Commits (anything_is_kept v now) earlier is_stale) (Going (suc k)) (Steps v now earlier total) (commit_turn is_stale c) goes_on (turn_leads total k c (commit_turn is_stale c) lt (commit_turn_is is_stale c) p.0 p.1 goes_on))
       (λ c p. p.1.steps) h.values.commit_width 0 first (omega (arith, width)) (goes, record { steps = record { goes = goes; pairs = pairs; of_now = tt; within = omega arith; entries = entries; words = words }; plain = tt })
 
 pub record StepsPast (v : Values) (steps : List Step) (h : Hardware) : Type 0 where
@@ -167,36 +169,36 @@ pub record StepsPast (v : Values) (steps : List Step) (h : Hardware) : Type 0 wh
 abbrev pub FetchedAnew : List Step → Mark → Type 0
 FetchedAnew steps m = m.retired ≡ None → NotBefore steps m.fetched
 
-some_is_none : {P : Type 0} (n : ℕ) → Some n ≡ None → P
-some_is_none n e = absurd (cc)
+some_is_none : {P : Type 0} {n : ℕ} → Some n ≡ None → P
+some_is_none e = absurd (cc)
 
-anew_goes_on : (steps : List Step) (v : Values) (now : ℕ) (xs : List Mark) (m n : Mark) → Advances v now xs m n →
+anew_goes_on : (steps : List Step) {v : Values} {now : ℕ} {xs : List Mark} {m n : Mark} → Advances v now xs m n →
     FetchedAnew steps m → FetchedAnew steps n
-anew_goes_on steps v now xs m n given h holds = grind (arith, some_is_none)
+anew_goes_on steps given h holds = grind (arith, some_is_none)
 
 anew_is_kept : (steps : List Step) (v : Values) (now : ℕ) → Kept v now (Each (FetchedAnew steps))
 anew_is_kept steps v now = record {
-  cut = λ xs ys h. Each-left (FetchedAnew steps) xs ys h;
-  set = λ xs ys m n a h. Each-set (FetchedAnew steps) xs ys m n (anew_goes_on steps v now xs m n a (Each-place (FetchedAnew steps) xs ys m h)) h;
+  cut = λ xs ys h. Each-left _ xs ys h;
+  set = λ xs ys m n a h. Each-set _ xs ys m n (anew_goes_on steps a (Each-place _ xs ys m h)) h;
 }
 
 rows_are_gone : (steps : List Step) (rows : List Row) → Each (FetchedAnew steps) (map mark_of_row rows)
-rows_are_gone steps rows = Each-images (FetchedAnew steps) mark_of_row (λ row none. some_is_none row.retired none) rows
+rows_are_gone steps rows = Each-images _ _ (λ row none. some_is_none none) rows
 
 module _ (v : Values) (legal : IsLegal v) (earlier : List Step) (old new : Hardware) (lines : Lines) (report : Report) (begins : Sound v earlier old) (past : StepsPast v earlier old) (is : IsCycle any_prediction lines old report new) where
   now : ℕ
   now = old.cycle
 
   passed : Passed v Anything earlier lines old report new
-  passed = cycle_passes v legal Anything earlier lines old new report (anything_is_kept v old.cycle) begins tt is
+  passed = cycle_passes legal lines new report (anything_is_kept v old.cycle) begins tt is
 
   committed : Steps v old.cycle earlier v.commit_width (committing lines old)
   committed =
       let g : Hardware = with_lines lines old in
-      let first = begin v legal Anything earlier lines old new report (anything_is_kept v old.cycle) begins tt in
-      commit_leads_by v old.cycle earlier past.before set.contains v.commit_width (omega (arith, legal.pipeline.commit_width)) (due g.csrs g.lines) g (ap (λ (w : Values). w.commit_width) begins.always.sizes.values) first
+      let first = begin legal lines new report (anything_is_kept v old.cycle) begins tt in
+      commit_leads_by v old.cycle earlier past.before set.contains (omega (arith, legal.pipeline.commit_width)) (due g.csrs g.lines) (ap (λ (w : Values). w.commit_width) begins.always.sizes.values) first
       (rw (append-nil earlier) (past.pairs)) (rw (append-nil earlier) (past.entries)) (rw (append-nil earlier) (past.words))
-      (commit_keeps v old.cycle Anything (anything_is_kept v old.cycle) earlier set.contains g first)
+      (commit_keeps (anything_is_kept v old.cycle) earlier set.contains first)
 
   here : earlier ++ report.steps ≡ earlier ++ (committing lines old).steps
   here = ap (λ l. earlier ++ l) passed.steps
@@ -206,21 +208,19 @@ module _ (v : Values) (legal : IsLegal v) (earlier : List Step) (old new : Hardw
       let h : Hardware = (committing lines old).hardware in
       let es = subst (λ l. Each (λ e. NotBefore l e.fetched) h.rob.entries) (sym here) committed.entries in
       let fs = subst (λ l. Each (λ f. NotBefore l f.cycle) h.front.entries) (sym here) committed.words in
-      Each-append (FetchedAnew (earlier ++ report.steps)) (map mark_of_row (rows_of (earlier ++ report.steps))) (map mark_of_entry h.rob.entries ++ map mark_of_fetched h.front.entries) (rows_are_gone (earlier ++ report.steps) (rows_of (earlier ++ report.steps)))
-      (Each-append (FetchedAnew (earlier ++ report.steps)) (map mark_of_entry h.rob.entries) (map mark_of_fetched h.front.entries)
-      (Each-map (FetchedAnew (earlier ++ report.steps)) mark_of_entry h.rob.entries (Each-weaker (λ e. NotBefore (earlier ++ report.steps) e.fetched) (λ e. FetchedAnew (earlier ++ report.steps) (mark_of_entry e)) (λ e w none. w) h.rob.entries es))
-      (Each-map (FetchedAnew (earlier ++ report.steps)) mark_of_fetched h.front.entries (Each-weaker (λ f. NotBefore (earlier ++ report.steps) f.cycle) (λ f. FetchedAnew (earlier ++ report.steps) (mark_of_fetched f)) (λ f w none. w) h.front.entries fs)))
+      Each-append _ _ _ (rows_are_gone (earlier ++ report.steps) (rows_of (earlier ++ report.steps)))
+      (Each-append _ _ _ (Each-map _ _ _ (Each-weaker _ _ (λ e w none. w) _ es))
+      (Each-map _ _ _ (Each-weaker _ _ (λ f w none. w) _ fs)))
 
   at_dispatch : Each (FetchedAnew (earlier ++ report.steps)) (marks_in (earlier ++ report.steps) (dispatching lines old).hardware)
   at_dispatch =
-      (execute_keeps v legal old.cycle (Each (FetchedAnew (earlier ++ report.steps))) (anew_is_kept (earlier ++ report.steps) v old.cycle) (earlier ++ report.steps) (committing lines old).hardware
-      (with_marks v old.cycle old.cycle old.cycle old.cycle old.cycle (old.cycle + 1) Anything (Each (FetchedAnew (earlier ++ report.steps))) (earlier ++ report.steps) (committing lines old).hardware at_commit passed.committed)).marks
+      (execute_keeps legal (anew_is_kept (earlier ++ report.steps) v old.cycle)
+      (with_marks (Each (FetchedAnew (earlier ++ report.steps))) at_commit passed.committed)).marks
 
   by_now : Each (λ s. stamp_of s < old.cycle + 1) (earlier ++ report.steps)
   by_now =
-      Each-append (λ s. stamp_of s < old.cycle + 1) earlier report.steps
-      (Each-weaker (λ s. stamp_of s < old.cycle) (λ s. stamp_of s < old.cycle + 1) (λ s lt. omega (arith, lt)) earlier past.before)
-      (Each-weaker (λ s. stamp_of s ≡ old.cycle) (λ s. stamp_of s < old.cycle + 1) (λ s e. omega (arith, e)) report.steps (subst (Each (λ s. stamp_of s ≡ old.cycle)) (sym passed.steps) committed.of_now))
+      Each-append _ earlier _ (Each-weaker _ _ (λ s lt. omega (arith, lt)) earlier past.before)
+      (Each-weaker _ _ (λ s e. omega (arith, e)) _ (subst (Each (λ s. stamp_of s ≡ old.cycle)) (sym passed.steps) committed.of_now))
 
   new_words_anew : Each (λ f. NotBefore (earlier ++ report.steps) f.cycle) passed.fetches.added
   new_words_anew = grind (arith, Each-weaker, by_now, passed)
@@ -231,18 +231,18 @@ module _ (v : Values) (legal : IsLegal v) (earlier : List Step) (old new : Hardw
 
   none_of_now : (c : ℕ) (b : Bool) → eqb old.cycle c ≡ b → count (λ s. stamp_of s == c) (earlier ++ report.steps) ≤ v.commit_width
   none_of_now c true e =
-      let none = count-none (λ s. stamp_of s == c) earlier (Each-weaker (λ s. stamp_of s < old.cycle) (λ s. (stamp_of s == c) ≡ false) (λ s lt. ne_eqb (stamp_of s) c (omega (arith, lt, eqb-true old.cycle c e))) earlier past.before) in
+      let none = count-none (λ s. stamp_of s == c) earlier (Each-weaker _ _ (λ s lt. ne_eqb (stamp_of s) c (omega (arith, lt, eqb-true old.cycle c e))) earlier past.before) in
       omega (arith, none, count-append (λ s. stamp_of s == c) earlier report.steps, count-length (λ s. stamp_of s == c) report.steps, ap (λ l. length l) passed.steps, committed.within)
   none_of_now c false e =
-      let none = count-none (λ s. stamp_of s == c) report.steps (Each-weaker (λ s. stamp_of s ≡ old.cycle) (λ s. (stamp_of s == c) ≡ false) (λ s at. rw at e) report.steps steps_of_cycle) in
+      let none = count-none (λ s. stamp_of s == c) _ (Each-weaker _ _ (λ s at. rw at e) _ steps_of_cycle) in
       omega (arith, none, count-append (λ s. stamp_of s == c) earlier report.steps, past.width c)
 
   pub steps_go_on : StepsPast v (earlier ++ report.steps) new
   steps_go_on =
       let d : Hardware = (dispatching lines old).hardware in
-      let behind = Each-right (FetchedAnew (earlier ++ report.steps)) (map mark_of_row (rows_of (earlier ++ report.steps))) (map mark_of_entry d.rob.entries ++ map mark_of_fetched d.front.entries) at_dispatch in
-      let es = Each-unmap (FetchedAnew (earlier ++ report.steps)) mark_of_entry d.rob.entries (Each-left (FetchedAnew (earlier ++ report.steps)) (map mark_of_entry d.rob.entries) (map mark_of_fetched d.front.entries) behind) in
-      let fs = Each-unmap (FetchedAnew (earlier ++ report.steps)) mark_of_fetched d.front.entries (Each-right (FetchedAnew (earlier ++ report.steps)) (map mark_of_entry d.rob.entries) (map mark_of_fetched d.front.entries) behind) in
+      let behind = Each-right _ _ _ at_dispatch in
+      let es = Each-unmap _ _ _ (Each-left _ _ _ behind) in
+      let fs = Each-unmap _ _ _ (Each-right _ _ _ behind) in
       record {
         before = subst (λ n. Each (λ s. stamp_of s < n) (earlier ++ report.steps)) (sym (ap (λ (h : Hardware). h.cycle) passed.others_stay)) by_now;
         pairs = subst (EveryPair InOrder) (sym here) committed.pairs;
@@ -252,7 +252,7 @@ module _ (v : Values) (legal : IsLegal v) (earlier : List Step) (old new : Hardw
       }
 
 -- in every history the steps are in order and within the width
-pub history_has_steps : (v : Values) {steps : List Step} {h : Hardware} → History v steps h → StepsPast v steps h
-history_has_steps v (began image start legal) = record { before = tt; pairs = tt; width = λ c. omega arith; entries = tt; words = tt }
-history_has_steps v (went_on {earlier} {old} {new} {lines} {report} before is) =
-    steps_go_on v (history_is_legal v before) earlier old new lines report (history_is_sound v before) (history_has_steps v before) is
+pub history_has_steps : {v : Values} {steps : List Step} {h : Hardware} → History v steps h → StepsPast v steps h
+history_has_steps (began image start legal) = record { before = tt; pairs = tt; width = λ c. omega arith; entries = tt; words = tt }
+history_has_steps {v} (went_on {earlier} {old} {new} {lines} {report} before is) =
+    steps_go_on v (history_is_legal before) earlier old new lines report (history_is_sound before) (history_has_steps before) is

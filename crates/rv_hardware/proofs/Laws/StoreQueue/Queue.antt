@@ -32,7 +32,7 @@ queued_length hit p [] [] h = refl
 queued_length hit p (row ∷ rows) (s ∷ ss) h = let rest = queued_length hit p rows ss h.1 in omega (arith, rest)
 queued_length hit p rows ss h = absurd h
 
-module _ (hit now : ℕ) (rows : List Row) (port : ℕ) (committed : List Store) (ok : QueueOk hit now rows port committed) where
+module _ {hit now : ℕ} {rows : List Row} {port : ℕ} {committed : List Store} (ok : QueueOk hit now rows port committed) where
   -- the port is busy for longer
   pub queue_later : (later : ℕ) → port ≤ later → QueueOk hit now rows later committed
   queue_later later le = record { gone = ok.gone; kept = ok.kept; split = ok.split; over = ok.over; by_now = ok.by_now; queued = queued_later hit port later ok.kept committed le ok.queued }
@@ -51,12 +51,13 @@ module _ (hit now : ℕ) (rows : List Row) (port : ℕ) (committed : List Store)
     kept = ok.kept ++ row ∷ [];
     split = filter-append is_store_row rows (row ∷ []) ∙ ap (λ b. filter is_store_row rows ++ cond b (row ∷ []) []) store ∙ ap (λ l. l ++ row ∷ []) ok.split ∙ append_assoc ok.gone ok.kept (row ∷ []);
     over = ok.over;
-    by_now = Each-append (λ r. r.retired ≤ now) ok.kept (row ∷ []) ok.by_now (le, tt);
+    by_now = Each-append _ _ _ ok.by_now (le, tt);
     queued = queued_push hit port ok.kept committed row s waits ok.queued;
   }
 
   -- a store that retires is the last row and the last in the queue
-  pub queue_retires : (row : Row) (seq : ℕ) (access : Option StoreAccess) → is_some access ≡ is_store_row row → row.retired ≤ now → QueueOk hit now (rows ++ row ∷ []) port (committed ++ committed_store seq access)
+  pub queue_retires : (row : Row) (seq : ℕ) (access : Option StoreAccess) → is_some access ≡ is_store_row row →
+      row.retired ≤ now → QueueOk hit now (rows ++ row ∷ []) port (committed ++ committed_store seq access)
   queue_retires row seq access tells le = grind (arith, append-nil, plain_retires, store_retires)
 
 -- a drain
@@ -68,27 +69,30 @@ module _ (hit now : ℕ) (rows : List Row) (port : ℕ) (idle : port ≤ now) wh
     gone = gone ++ row ∷ [];
     kept = kept;
     split = split ∙ sym (append_assoc gone (row ∷ []) kept);
-    over = Each-append (λ r. r.retired + hit ≤ now) gone (row ∷ []) over (let by = queued.0 begun in omega (arith, by, idle), tt);
+    over = Each-append _ gone _ over (let by = queued.0 begun in omega (arith, by, idle), tt);
     by_now = by_now.1;
     queued = queued.1;
   }
   leaves_by false s ss gone kept row begun split over by_now queued = record { gone = gone; kept = row ∷ kept; split = split; over = over; by_now = by_now; queued = queued }
 
-  leaves_from : (gone kept : List Row) (committed : List Store) → filter is_store_row rows ≡ gone ++ kept → Each (λ r. r.retired + hit ≤ now) gone → Each (λ r. r.retired ≤ now) kept → AreQueued hit port kept committed →
+  leaves_from : (gone kept : List Row) (committed : List Store) → filter is_store_row rows ≡ gone ++ kept →
+      Each (λ r. r.retired + hit ≤ now) gone → Each (λ r. r.retired ≤ now) kept → AreQueued hit port kept committed →
       QueueOk hit now rows port (without_drained committed)
   leaves_from gone [] [] split over by_now queued = record { gone = gone; kept = []; split = split; over = over; by_now = tt; queued = tt }
   leaves_from gone (row ∷ kept) (s ∷ ss) split over by_now queued = leaves_by (is_draining s) s ss gone kept row refl split over by_now queued
   leaves_from gone kept committed split over by_now queued = absurd queued
 
   -- a store whose access is over leaves
-  pub queue_leaves : (committed : List Store) → QueueOk hit now rows port committed → QueueOk hit now rows port (without_drained committed)
-  queue_leaves committed ok = leaves_from ok.gone ok.kept committed ok.split ok.over ok.by_now ok.queued
+  pub queue_leaves : {committed : List Store} → QueueOk hit now rows port committed → QueueOk hit now rows port (without_drained committed)
+  queue_leaves {committed} ok = leaves_from ok.gone ok.kept committed ok.split ok.over ok.by_now ok.queued
 
-  begins_from : (later : ℕ) → now + hit ≤ later → (kept : List Row) (committed : List Store) → Each (λ r. r.retired ≤ now) kept → AreQueued hit port kept committed → AreQueued hit later kept (with_oldest_draining committed)
+  begins_from : (later : ℕ) → now + hit ≤ later → (kept : List Row) (committed : List Store) →
+      Each (λ r. r.retired ≤ now) kept → AreQueued hit port kept committed →
+      AreQueued hit later kept (with_oldest_draining committed)
   begins_from later le [] [] by_now queued = tt
   begins_from later le (row ∷ kept) (s ∷ ss) by_now queued = (λ begun. omega (arith, by_now.0, le), queued_later hit port later kept ss (omega (arith, idle, le)) queued.1)
   begins_from later le kept committed by_now queued = absurd queued
 
   -- the oldest begins its access
-  pub queue_begins : (later : ℕ) → now + hit ≤ later → (committed : List Store) → QueueOk hit now rows port committed → QueueOk hit now rows later (with_oldest_draining committed)
-  queue_begins later le committed ok = grind (arith, begins_from)
+  pub queue_begins : (later : ℕ) → now + hit ≤ later → {committed : List Store} → QueueOk hit now rows port committed → QueueOk hit now rows later (with_oldest_draining committed)
+  queue_begins later le ok = grind (arith, begins_from)
