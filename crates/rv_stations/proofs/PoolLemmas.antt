@@ -15,9 +15,8 @@ use Rattle.rv_isa.specs.declared.instructions.Instr.TheVariants.{Fence}
 use Rattle.rv_stations.specs.declared.waiting.Operand.TheVariants.{Value}
 use Rattle.rv_isa.specs.Instruction.{is_load}
 use Rattle.rv_stations.specs.Column.{IsWaitMask}
-use Rattle.rv_stations.specs.Pool.{Pool}
 use Rattle.rv_stations.proofs.ColumnLemmas.{both_ready}
-use Rattle.rv_stations.specs.Waiting.{has_value, seq_of, is_asked, is_ready, loads, woken, woken_operand}
+use Rattle.rv_stations.specs.Waiting.{has_value, seq_of, is_ready, loads, woken, woken_operand}
 use Rattle.rv_stations.specs.PoolFields.{with_dispatched, both_operands, instruction_of, joined, some_waiting, in_places, in_all, pool, IsSoundPool}
 use Rattle.rv_stations.specs.declared.pool.StationPool.TheInside.{Inside}
 use Rattle.rv_stations.proofs.SearchLemmas.{take_at_get}
@@ -114,13 +113,6 @@ loads_told p sound at place f low is here =
     (slice_get-get_or p.first place (Value 0) (omega (arith, there, sound.first)))
     (slice_get-get_or p.second place (Value 0) (omega (arith, there, sound.second))))
 
-pub places_within : (p : Inside) → IsSoundPool p → (seen : Pool) → pool p ≡ seen → (at : ℕ) → at < length seen.waiting → at < length p.places.items
-places_within p sound seen is at within = omega (arith, rw (← is) at within, length-pool p sound, sound.within)
-
-pub ready_seen : (p : Inside) → IsSoundPool p → (seen : Pool) → pool p ≡ seen → (a b at place : ℕ) → IsWaitMask p.first a → IsWaitMask p.second b → at < length seen.waiting → slice_get p.places.items at ≡ Some place → option_map is_ready (slice_get seen.waiting at) ≡ Some (eqb (bit_and (bit_or a b / 2 ^ place) 1) 0)
-ready_seen p sound seen is a b at place of_first of_second within here =
-    rw (← is) (ready_told p sound a b at place of_first of_second (omega (arith, rw (← is) at within, length-pool p sound)) here)
-
 -- an instruction that is ready has both operands
 pub ready_parts : (p : Inside) → IsSoundPool p → (at place : ℕ) → at < p.count → slice_get p.places.items at ≡ Some place → option_map is_ready (slice_get (pool p).waiting at) ≡ Some true → (option_map has_value (slice_get p.first place) ≡ Some true) × (option_map has_value (slice_get p.second place) ≡ Some true)
 ready_parts p sound at place low is ready =
@@ -143,10 +135,6 @@ ready_parts p sound at place low is ready =
 pub is_ready-in_place : (ws : List Waiting) (i : ℕ) (w : Waiting) (ready : Bool) → slice_get ws i ≡ Some w → option_map is_ready (slice_get ws i) ≡ Some ready → is_ready w ≡ ready
 is_ready-in_place ws i w ready is told =
     let same : Some (is_ready w) ≡ Some ready = sym (ap (option_map is_ready) is) ∙ told in cc same
-
-pub is_asked-in_place : (ws : List Waiting) (i : ℕ) (w : Waiting) (loads_wait asked : Bool) → slice_get ws i ≡ Some w → option_map (is_asked loads_wait) (slice_get ws i) ≡ Some asked → is_asked loads_wait w ≡ asked
-is_asked-in_place ws i w loads_wait asked is told =
-    let same : Some (is_asked loads_wait w) ≡ Some asked = sym (ap (option_map (is_asked loads_wait)) is) ∙ told in cc same
 
 pub seq-in_place : (ws : List Waiting) (i : ℕ) (d : Waiting) (seq : ℕ) → option_map seq_of (slice_get ws i) ≡ Some seq → i < length ws → (get_or ws i d).seq ≡ seq
 seq-in_place ws i d seq told within =

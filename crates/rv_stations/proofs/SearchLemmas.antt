@@ -1,6 +1,7 @@
 -- A search for the oldest ready instruction that passes a test.
-use Rattle.std.proofs.Common.{◌≡◌, ℕ, zero, suc, ◌+◌, Bool, true, false, not, ◌&&◌, ◌≤◌, List, [], ◌∷◌, ◌++◌, take, drop, remove, slice_get, None, Some, inl, inr, refl, ap, sym, ◌∙◌, arith}
-use Rattle.std.proofs.lemmas.Bool.{and_parts, cases_Bool}
+use Rattle.std.proofs.Common.{◌≡◌, ℕ, zero, suc, ◌+◌, Bool, true, false, not, ◌&&◌, ◌<◌, ◌≤◌, length, List, [], ◌∷◌, ◌++◌, take, drop, remove, slice_get, None, Some, inl, inr, refl, ap, sym, ◌∙◌, arith}
+use Rattle.std.specs.Option.{option_map}
+use Rattle.std.proofs.lemmas.Bool.{and_parts, cases_Bool, cases_lt}
 use Rattle.std.proofs.lemmas.List.{append_assoc}
 use Rattle.std.proofs.lemmas.Option.{get_or_from_slice_get, slice_get_within}
 use Rattle.rv_isa.specs.Numbered.{IsInOrder}
@@ -108,3 +109,52 @@ LoadsFail-after test ws place w in_order is verdict = λ k other after there loa
     let later = get_or_from_slice_get ws k other some_waiting there in
     let rising = in_order place k some_waiting (omega (arith, after)) within in
     verdict.1 other (rw (here, later) at rising) load
+
+-- from a later place on too
+pub LoadsFail-from : (test : Waiting → Bool) (ws : List Waiting) (at to : ℕ) → at ≤ to → LoadsFail test ws at → LoadsFail test ws to
+LoadsFail-from test ws at to later fail = λ k w after is load. fail k w (omega (arith, later, after)) is load
+
+-- each of the instructions that are passed by is not ready, or fails
+passed_at : (test : Waiting → Bool) (n : ℕ) (ws : List Waiting) → ArePassedBy test n ws → (k : ℕ) (w : Waiting) → k < n → slice_get ws k ≡ Some w → (is_ready w && test w) ≡ false
+passed_at test zero ws passed k w low is = absurd (omega arith)
+passed_at test (suc n) [] passed k w low is = cc
+passed_at test (suc n) (v ∷ vs) passed zero w low is = elim (cases_Bool (is_ready v && test v)) [
+  | inl passes ↦ let found : Some v ≡ None = rw passes at passed in absurd (cc)
+  | inr fails ↦ let same : v ≡ w = cc in rw (← same) fails
+]
+passed_at test (suc n) (v ∷ vs) passed (suc k) w low is = elim (cases_Bool (is_ready v && test v)) [
+  | inl passes ↦ let found : Some v ≡ None = rw passes at passed in absurd (cc)
+  | inr fails ↦ passed_at test n vs (rw fails at passed) k w (omega (arith, low)) is
+]
+
+-- and where each is not, they are passed by
+passed_from : (test : Waiting → Bool) (n : ℕ) (ws : List Waiting) → ((k : ℕ) (w : Waiting) → k < n → slice_get ws k ≡ Some w → (is_ready w && test w) ≡ false) → ArePassedBy test n ws
+passed_from test zero ws fail = refl
+passed_from test (suc n) [] fail = refl
+passed_from test (suc n) (w ∷ ws) fail =
+    rw (fail 0 w (omega arith) refl) (passed_from test n ws (λ k v low is. fail (suc k) v (omega (arith, low)) is))
+
+-- what is not asked is passed by
+pub passed_unasked : (test : Waiting → Bool) (ws : List Waiting) (at to : ℕ) (loads_wait : Bool) → ((k : ℕ) → at ≤ k → k < to → option_map (is_asked loads_wait) (slice_get ws k) ≡ Some false) → (loads_wait ≡ true → LoadsFail test ws at) → ArePassedBy test at ws → ArePassedBy test to ws
+passed_unasked test ws at to loads_wait unasked fail passed = passed_from test to ws (λ k w low is. elim (cases_lt k at) [
+  | inl before ↦ passed_at test at ws passed k w before is
+  | inr after ↦
+      let told : Some (is_asked loads_wait w) ≡ Some false = sym (ap (option_map (is_asked loads_wait)) is) ∙ unasked k after low in
+      let asked : is_asked loads_wait w ≡ false = cc told in
+      is_passed_by test ws k loads_wait w (λ wait. LoadsFail-from test ws at k after (fail wait)) is asked
+])
+
+-- one more is passed by
+pub passed_next : (test : Waiting → Bool) (ws : List Waiting) (at : ℕ) (w : Waiting) → slice_get ws at ≡ Some w → (is_ready w && test w) ≡ false → ArePassedBy test at ws → ArePassedBy test (at + 1) ws
+passed_next test ws at w is fails passed = (Searching-pass test ws at w is fails (Searching-from test at ws passed)).passed
+
+-- where all are passed by, none is found
+pub passed_whole : (test : Waiting → Bool) (at : ℕ) (ws : List Waiting) → ArePassedBy test at ws → length ws ≤ at → (oldest_ready test ws ≡ None) × (without_oldest_ready test ws ≡ ws)
+passed_whole test at [] passed whole = (refl, refl)
+passed_whole test zero (w ∷ ws) passed whole = absurd (omega arith)
+passed_whole test (suc at) (w ∷ ws) passed whole = elim (cases_Bool (is_ready w && test w)) [
+  | inl passes ↦ let found : Some w ≡ None = rw passes at passed in absurd (cc)
+  | inr fails ↦
+      let rest = passed_whole test at ws (rw fails at passed) (omega arith) in
+      (rw fails rest.0, rw fails (ap (λ us. w ∷ us) rest.1))
+]

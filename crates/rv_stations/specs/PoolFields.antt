@@ -1,10 +1,12 @@
 -- The fields of the stations of a kind: what they stand for, and what is true of them.
-use Rattle.std.specs.Prelude.{◌≡◌, ℕ, ◌<◌, ◌≤◌, List, length, get_or, map, take, vec_len}
+use Rattle.std.specs.Prelude.{◌≡◌, ℕ, ◌<◌, ◌≤◌, List, length, get_or, map, take, vec_len, false, Some}
+use Rattle.std.specs.Int.{bit_at}
 use Rattle.std.specs.List.{All, AllPairs}
 use Rattle.std.specs.Simd.Lanes.{zip2}
 use Rattle.rv_isa.specs.declared.instructions.Instr.TheVariants.{Fence}
 use Rattle.rv_stations.specs.declared.{waiting.Operand.Operand, waiting.Waiting.Waiting, pool.Dispatched.Dispatched, pool.StationPool.TheInside.Inside}
 use Rattle.rv_stations.specs.declared.waiting.Operand.TheVariants.{Value}
+use Rattle.rv_isa.specs.Instruction.{is_load}
 use Rattle.rv_isa.specs.Numbered.{IsInOrder}
 use Rattle.rv_stations.specs.Waiting.{seq_of}
 use Rattle.rv_stations.specs.Pool.{Pool}
@@ -42,7 +44,16 @@ in_all p = joined p.seqs.items p.dispatched.items p.first p.second
 abbrev pub pool : Inside → Pool
 pool p = record { waiting = in_places (in_all p) (take p.count p.places.items); capacity = vec_len p.places }
 
--- the lists are of one length, each place is there and no two are the same, and the numbers rise
+-- what stands in a place that no instruction has had
+abbrev pub nothing : Dispatched
+nothing = record { pc = 0; instruction = Fence }
+
+-- the bit of the place is set if its instruction does not load
+abbrev pub IsMarkedOther : List Dispatched → ℕ → ℕ → Type 0
+IsMarkedOther dispatched mask place = is_load (Some (get_or dispatched place nothing).instruction) ≡ false → bit_at mask place ≡ 1
+
+-- the lists are of one length, each place is there and no two are the same, the numbers rise, and the bits of the
+-- places are set where an instruction waits
 pub record IsSoundPool (p : Inside) : Type 0 where
   pub within : p.count ≤ vec_len p.places
   pub few : vec_len p.seqs ≤ 64
@@ -52,3 +63,5 @@ pub record IsSoundPool (p : Inside) : Type 0 where
   pub there : All (λ place. place < vec_len p.seqs) p.places.items
   pub apart : AllPairs (λ a b. a ≡ b → ⊥) p.places.items
   pub in_order : IsInOrder seq_of (in_places (in_all p) (take p.count p.places.items))
+  pub held : All (λ place. bit_at p.held place ≡ 1) (take p.count p.places.items)
+  pub others : All (IsMarkedOther p.dispatched.items p.others) (take p.count p.places.items)

@@ -48,3 +48,20 @@ pub fn without(mask: u64, place: usize) -> u64
 {
     mask & !(1 << place)
 }
+
+/// One of two masks.
+#[inline(always)]
+pub fn one_of(is_first: bool, first: u64, second: u64) -> u64
+    ensures { result ≡ if is_first then first else second }
+{
+    if is_first { first } else { second }
+}
+
+/// A mask without the bits that are set in another one.
+#[inline(always)]
+pub fn unmarked(mask: u64, other: u64) -> u64
+    ensures kept { (place : ℕ) → place < 64 → bit_at other place ≡ 0 → bit_at result place ≡ bit_at mask place }
+    ensures cleared { (place : ℕ) → place < 64 → bit_at result place ≡ 1 → bit_at other place ≡ 0 }
+{
+    mask & !other
+}

@@ -1,12 +1,13 @@
-ghost use Rattle.std.specs.Prelude.{◌≡◌, ◌<◌, ◌≤◌, ◌↔◌, Bool, [], Some, length, take, nat_le, slice_get, IsTrue, IfOk, IfSome, option_and_then, true};
+ghost use Rattle.std.specs.Prelude.{ℕ, ◌≡◌, ◌<◌, ◌≤◌, ◌↔◌, Bool, [], Some, length, take, nat_le, slice_get, IsTrue, IfOk, IfSome, option_and_then, false, true};
 ghost use Rattle.rv_isa.specs.Description.{Within};
 ghost use Rattle.rv_isa.specs.Instruction.{is_load};
 ghost use Rattle.rv_isa.specs.Numbered.{AreBelow, IsInOrder, below};
-ghost use Rattle.rv_stations.specs.Waiting.{seq_of, ArePassedBy, IsOperand, is_asked, is_ready, loads, next_ready, ready_taken, oldest_ready};
+ghost use Rattle.rv_stations.specs.Waiting.{seq_of, ArePassedBy, IsOperand, is_asked, is_ready, next_ready, ready_taken, oldest_ready};
 ghost use Rattle.std.specs.Option.{option_map};
 
 use crate::column::OperandColumn;
-use crate::places::{first_places, move_back};
+use crate::marks::{marked, one_of, unmarked};
+use crate::places::{first_marked, first_places, move_back};
 use crate::waiting::{Taken, Verdict, Waiting};
 use rv_isa::{Instr, KindValues};
 use std::alloc::{AllocError, Global};
@@ -31,6 +32,10 @@ pub struct StationPool {
     dispatched: Vec<Dispatched>,
     first: OperandColumn,
     second: OperandColumn,
+    /// A bit for each place, set where an instruction waits. Where one was squashed it may stay set.
+    held: u64,
+    /// The same, but for the places of instructions that load.
+    others: u64,
 }
 
 impl Model for StationPool {
@@ -74,6 +79,8 @@ impl StationPool {
             dispatched: vec![in alloc; NOTHING; len]?,
             first: OperandColumn::new(alloc, len)?,
             second: OperandColumn::new(alloc, len)?,
+            held: 0,
+            others: 0,
         })
     }
 
@@ -124,6 +131,8 @@ impl StationPool {
         };
         self.first.put(place, waiting.first);
         self.second.put(place, waiting.second);
+        self.held = marked(self.held, place, true);
+        self.others = marked(self.others, place, !is_load(waiting.instruction));
         self.count += 1;
     }
 
@@ -144,35 +153,23 @@ impl StationPool {
         self.seqs[usize::from(self.places[at])]
     }
 
-    /// Whether an instruction has its operands, counted from the oldest.
+    /// The first instruction from one on that has its operands and may be the one that goes, counted from the oldest; as
+    /// many as wait, where there is none. Loads may not be the one where these wait.
     #[inline(always)]
-    fn is_ready_at(&self, at: usize) -> bool
-        requires { at < length self.now.waiting }
-        ensures { option_map is_ready (slice_get self.now.waiting at) ≡ Some result }
+    fn next_asked(&self, from: usize, loads_wait: bool) -> usize
+        ensures within { result ≤ length self.now.waiting }
+        ensures later { from ≤ length self.now.waiting → from ≤ result }
+        ensures ready { result < length self.now.waiting → option_map is_ready (slice_get self.now.waiting result) ≡ Some true }
+        ensures others { (at : ℕ) → from ≤ at → at < result → option_map (is_asked loads_wait) (slice_get self.now.waiting at) ≡ Some false }
     {
+        let asked = one_of(loads_wait, self.others, self.held);
         let waiting = self.first.waiting() | self.second.waiting();
-        let place = usize::from(self.places[at]);
-        (waiting >> place) & 1 == 0
-    }
-
-    /// Whether an instruction loads, counted from the oldest.
-    #[inline(always)]
-    fn is_load_at(&self, at: usize) -> bool
-        requires { at < length self.now.waiting }
-        ensures { option_map loads (slice_get self.now.waiting at) ≡ Some result }
-    {
-        let place = usize::from(self.places[at]);
-        let dispatched = self.dispatched[place];
-        is_load(dispatched.instruction)
-    }
-
-    /// Whether an instruction may be the one that goes, counted from the oldest.
-    #[inline(always)]
-    fn is_asked_at(&self, at: usize, loads_wait: bool) -> bool
-        requires { at < length self.now.waiting }
-        ensures { option_map (is_asked loads_wait) (slice_get self.now.waiting at) ≡ Some result }
-    {
-        self.is_ready_at(at) && !(loads_wait && self.is_load_at(at))
+        first_marked(
+            self.places.as_slice(),
+            from,
+            self.count,
+            unmarked(asked, waiting),
+        )
     }
 
     /// An instruction that has its operands, counted from the oldest.
@@ -214,15 +211,16 @@ impl StationPool {
             IfSome result (λ at. ArePassedBy test at self.now.waiting) }
         ensures in_order { IsInOrder seq_of self.now.waiting }
     {
+        let end = self.len();
         let mut loads_wait = false;
-        for at in passed..self.len() {
-            if self.is_asked_at(at, loads_wait) {
-                match filter(&self.ready_at(at)) {
-                    Verdict::Goes => return Some(at),
-                    Verdict::Waits => {}
-                    Verdict::LoadsWait => loads_wait = true,
-                }
+        let mut at = self.next_asked(passed, false);
+        while at < end {
+            match filter(&self.ready_at(at)) {
+                Verdict::Goes => return Some(at),
+                Verdict::Waits => {}
+                Verdict::LoadsWait => loads_wait = true,
             }
+            at = self.next_asked(at + 1, loads_wait);
         }
         None
     }
@@ -236,6 +234,9 @@ impl StationPool {
         ensures others { self.new ≡ without_place (Some at) self.old }
     {
         let taken = self.ready_at(at);
+        let place = usize::from(self.places[at]);
+        self.held = marked(self.held, place, false);
+        self.others = marked(self.others, place, false);
         move_back(&mut self.places, at, self.count);
         self.count -= 1;
         taken

@@ -28,4 +28,6 @@ invariant_of-result c =
       there = λ i d lt. omega (arith, place i d (omega (arith, long, lt)), long, lt, c.in_ok-vec.ensures.len);
       apart = λ i j d lt within same. omega (arith, place i d (omega (arith, long, lt, within)), place j d (omega (arith, long, within)), lt, same);
       in_order = λ i j d lt within. absurd (omega arith);
+      held = λ i d lt. absurd (omega arith);
+      others = λ i d lt. absurd (omega arith);
     }

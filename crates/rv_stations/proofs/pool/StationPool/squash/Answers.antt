@@ -1,11 +1,13 @@
 -- The places of the older instructions stand in front.
 use Rattle.std.proofs.Common.{◌≡◌, ◌≤◌, ◌∙◌, List, take, sym, ap, vec_len, arith}
+use Rattle.std.specs.Int.{bit_at}
 use Rattle.rv_isa.specs.Numbered.{below}
 use Rattle.rv_isa.proofs.Numbered.{IsInOrder-below}
 use Rattle.rv_stations.specs.declared.waiting.Waiting.{Waiting}
 use Rattle.rv_stations.specs.Waiting.{seq_of}
 use Rattle.rv_stations.specs.Pool.{Pool}
-use Rattle.rv_stations.specs.PoolFields.{in_all, in_places}
+use Rattle.rv_stations.specs.PoolFields.{in_all, in_places, IsMarkedOther}
+use Rattle.rv_stations.proofs.MarkLemmas.{marks-shorter}
 use Rattle.rv_stations.proofs.PoolLemmas.{length-pool, in_places-take}
 use Rattle.rv_stations.proofs.pool.StationPool.squash.Goals as goal
 
@@ -27,6 +29,8 @@ invariant_of-self c = record {
   there = c.self.invariant.there;
   apart = c.self.invariant.apart;
   in_order = rw (told c) (IsInOrder-below seq_of c.args.from _ c.self.invariant.in_order);
+  held = marks-shorter (λ k. bit_at c.self.inside.held k ≡ 1) c.count_below-self-inside.result c.self.inside.count c.self.inside.places.items (fewer c) c.self.invariant.held;
+  others = marks-shorter (IsMarkedOther c.self.inside.dispatched.items c.self.inside.others) c.count_below-self-inside.result c.self.inside.count c.self.inside.places.items (fewer c) c.self.invariant.others;
 }
 
 pub returns : goal.returns

@@ -1,33 +1,61 @@
 -- The place moves after those whose instructions wait.
-use Rattle.std.proofs.Common.{◌≡◌, ◌<◌, ◌-◌, ◌∙◌, ℕ, suc, List, get_or, length, take, remove, sym, ap, ap₂, vec_len, arith, length-take-le}
+use Rattle.std.proofs.Common.{◌≡◌, ◌<◌, ◌-◌, ◌∙◌, ℕ, suc, List, All, Some, refl, get_or, slice_get, length, take, remove, sym, ap, ap₂, vec_len, arith, length-take-le}
+use Rattle.std.specs.Int.{bit_at}
+use Rattle.std.proofs.lemmas.List.{get_or-take}
+use Rattle.std.proofs.lemmas.List.Elements.{All-take}
+use Rattle.std.proofs.lemmas.Option.{get_or_from_slice_get, slice_get_read}
 use Rattle.std.proofs.lemmas.List.Edits.{length-remove}
 use Rattle.std.proofs.lemmas.List.Quantifiers.{all_pairs_remove}
 use Rattle.rv_isa.proofs.Numbered.{IsInOrder-remove}
 use Rattle.rv_stations.specs.declared.waiting.Waiting.{Waiting}
 use Rattle.rv_stations.specs.Waiting.{seq_of}
 use Rattle.rv_stations.specs.Pool.{Pool}
-use Rattle.rv_stations.specs.PoolFields.{in_all, in_places}
+use Rattle.rv_stations.specs.PoolFields.{in_all, in_places, IsMarkedOther}
+use Rattle.rv_stations.proofs.MarkLemmas.{AreApart-take, marks-removed}
 use Rattle.rv_stations.proofs.PlaceLemmas.{All-insert, All-remove, All-others, AllPairs-insert, take-insert, take-remove}
-use Rattle.rv_stations.proofs.PoolLemmas.{length-pool, in_places-remove}
+use Rattle.rv_stations.proofs.PoolLemmas.{length-pool, in_places-remove, place_there}
 use Rattle.rv_stations.proofs.pool.StationPool.take.Goals as goal
 
-low : (c : goal.After-self-1) → c.args.at < c.self.inside.count
+low : (c : goal.After-self-3-1) → c.args.at < c.self.inside.count
 low c = omega (arith, rw (← c.self.view_is) at c.requires, length-pool c.self.inside c.self.invariant)
 
-within : (c : goal.After-self-1) → c.args.at < length c.self.inside.places.items
+within : (c : goal.After-self-3-1) → c.args.at < length c.self.inside.places.items
 within c = omega (arith, low c, c.self.invariant.within)
 
-told : (c : goal.After-self-1) → in_places (in_all c.self.inside) (take (c.self.inside.count - 1) c.move_back.new.places.items) ≡ remove (in_places (in_all c.self.inside) (take c.self.inside.count c.self.inside.places.items)) c.args.at
-told c =
+left : (c : goal.After-self-3-1) → take (c.self.inside.count - 1) c.move_back.new.places.items ≡ remove (take c.self.inside.count c.self.inside.places.items) c.args.at
+left c =
     let p = c.self.inside in
     let next : suc (p.count - 1) ≡ p.count = omega (arith, low c) in
     let rest = length-remove p.places.items c.args.at (within c) in
-    ap (λ ks. in_places (in_all p) (take (p.count - 1) ks)) c.move_back.ensures.items
-    ∙ ap (in_places (in_all p))
-    (take-insert (p.count - 1) (remove p.places.items c.args.at) _ (omega (arith, rest, c.self.invariant.within))
+    ap (take (p.count - 1)) c.move_back.ensures.items
+    ∙ take-insert (p.count - 1) (remove p.places.items c.args.at) _ (omega (arith, rest, c.self.invariant.within))
     ∙ take-remove c.args.at (p.count - 1) p.places.items (omega (arith, low c)) (within c)
-    ∙ ap (λ n. remove (take n p.places.items) c.args.at) next)
-    ∙ in_places-remove (in_all p) (take p.count p.places.items) c.args.at (omega (arith, low c, length-take-le p.count p.places.items (omega (arith, c.self.invariant.within))))
+    ∙ ap (λ n. remove (take n p.places.items) c.args.at) next
+
+in_front : (c : goal.After-self-3-1) → c.args.at < length (take c.self.inside.count c.self.inside.places.items)
+in_front c = omega (arith, low c, length-take-le c.self.inside.count c.self.inside.places.items (omega (arith, c.self.invariant.within)))
+
+-- what holds of the places in use holds of those that stay
+module _ (c : goal.After-self-3-1) (P Q : ℕ → Type 0) (step : (k : ℕ) → k < 64 → (k ≡ c.from-place.result → ⊥) → P k → Q k) where
+  stay : All P (take c.self.inside.count c.self.inside.places.items) → All Q (take (c.self.inside.count - 1) c.move_back.new.places.items)
+  stay marks =
+      let p = c.self.inside in
+      let few : All (λ k. k < 64) p.places.items = λ i d lt. omega (arith, c.self.invariant.there i d lt, c.self.invariant.few) in
+      let is : slice_get p.places.items c.args.at ≡ Some c.from-place.result =
+      slice_get_read p.places.items _ c.args.at c.index.result.now refl (within c) c.index.ensures ∙ ap Some (sym c.from-place.ensures) in
+      rw (left c)
+      (marks-removed P Q c.from-place.result step (take p.count p.places.items) c.args.at
+      (AreApart-take p.count p.places.items (omega (arith, c.self.invariant.within)) c.self.invariant.apart)
+      (All-take (λ k. k < 64) p.count p.places.items few)
+      (in_front c)
+      (get_or-take p.count p.places.items c.args.at 0 (low c) ∙ get_or_from_slice_get p.places.items c.args.at c.from-place.result 0 is)
+      marks)
+
+told : (c : goal.After-self-3-1) → in_places (in_all c.self.inside) (take (c.self.inside.count - 1) c.move_back.new.places.items) ≡ remove (in_places (in_all c.self.inside) (take c.self.inside.count c.self.inside.places.items)) c.args.at
+told c =
+    let p = c.self.inside in
+    ap (in_places (in_all p)) (left c)
+    ∙ in_places-remove (in_all p) (take p.count p.places.items) c.args.at (in_front c)
 
 flip : (a b : ℕ) → (a ≡ b → ⊥) → (b ≡ a → ⊥)
 flip a b apart same = apart (sym same)
@@ -52,9 +80,27 @@ invariant_of-self c =
           (all_pairs_remove (λ a b. a ≡ b → ⊥) p.places.items c.args.at (within c) c.self.invariant.apart)
           );
       in_order = rw (told c) (IsInOrder-remove seq_of c.args.at _ (omega (arith, low c, length-pool p c.self.invariant)) c.self.invariant.in_order);
+      held = stay c (λ k. bit_at p.held k ≡ 1) (λ k. bit_at c.marked-self-inside.result k ≡ 1) (λ k few other set. c.marked-self-inside.ensures.others k few other ∙ set) c.self.invariant.held;
+      others = stay c (IsMarkedOther p.dispatched.items p.others) (IsMarkedOther p.dispatched.items c.marked-self-inside-2.result) (λ k few other set no. c.marked-self-inside-2.ensures.others k few other ∙ set no) c.self.invariant.others;
     }
 
 pub returns-clause-others : goal.returns-clause-others
 returns-clause-others c =
     let pool : List Waiting → ℕ → Pool = λ ws n. record { waiting = ws; capacity = n } in
     rw (← c.self.view_is) (ap₂ pool (told c) c.move_back.ensures.len)
+
+pub marked-self-inside-requires : goal.marked-self-inside-requires
+marked-self-inside-requires c =
+    let p = c.self.inside in
+    let low : c.args.at < p.count = omega (arith, rw (← c.self.view_is) at c.requires, length-pool p c.self.invariant) in
+    let is : slice_get p.places.items c.args.at ≡ Some c.from-place.result =
+    slice_get_read p.places.items _ c.args.at c.index.result.now refl (omega (arith, low, c.self.invariant.within)) c.index.ensures ∙ ap Some (sym c.from-place.ensures) in
+    omega (arith, place_there p c.self.invariant c.args.at c.from-place.result is, c.self.invariant.few)
+
+pub marked-self-inside-requires-2 : goal.marked-self-inside-requires-2
+marked-self-inside-requires-2 c =
+    let p = c.self.inside in
+    let low : c.args.at < p.count = omega (arith, rw (← c.self.view_is) at c.requires, length-pool p c.self.invariant) in
+    let is : slice_get p.places.items c.args.at ≡ Some c.from-place.result =
+    slice_get_read p.places.items _ c.args.at c.index.result.now refl (omega (arith, low, c.self.invariant.within)) c.index.ensures ∙ ap Some (sym c.from-place.ensures) in
+    omega (arith, place_there p c.self.invariant c.args.at c.from-place.result is, c.self.invariant.few)

@@ -30,6 +30,8 @@ invariant_of-self c = record {
   there = c.self.invariant.there;
   apart = c.self.invariant.apart;
   in_order = rw (told c) (IsInOrder-map seq_of seq_of (woken c.args.seq c.args.value) (λ w. refl) _ c.self.invariant.in_order);
+  held = c.self.invariant.held;
+  others = c.self.invariant.others;
 }
 
 pub returns : goal.returns
