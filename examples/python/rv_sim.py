@@ -10,6 +10,7 @@
 The program is the one that the environment variable RV_SIM names, else `rv_sim` on the path, else the one of the repository that this
 file stands in. A description is a TOML text or a dictionary of keys; arrivals are a TOML text.
 """
+import errno
 import json
 import os
 import re
@@ -325,21 +326,29 @@ def read_step(kind, cells):
 
 
 def interruptible(main):
-    """The status of a script's main function; Ctrl-C and a reader that left end it with no traceback."""
+    """The status of a script's main function; Ctrl-C, a reader that left, and an input or output that fails end it with no traceback."""
     try:
+        if sys.stdout is None:
+            raise OSError(errno.EBADF, os.strerror(errno.EBADF))
         status = main()
         sys.stdout.flush()
         return status
     except KeyboardInterrupt:
         return 130
-    except BrokenPipeError:
-        # What is not yet written goes nowhere.
-        os.dup2(os.open(os.devnull, os.O_WRONLY), sys.stdout.fileno())
-        return 141
+    except OSError as fault:
+        if sys.stdout is not None:
+            # What is not yet written goes nowhere.
+            os.dup2(os.open(os.devnull, os.O_WRONLY), sys.stdout.fileno())
+        if isinstance(fault, BrokenPipeError):
+            return 141
+        print(f"{Path(sys.argv[0]).name}: {fault.filename or 'standard input or output'}: {fault.strerror}", file=sys.stderr)
+        return 4
 
 
 def read_job():
     """The job on a script's standard input."""
+    if sys.stdin is None:
+        raise OSError(errno.EBADF, os.strerror(errno.EBADF))
     return sys.stdin.buffer.read().decode(errors="surrogateescape")
 
 
