@@ -79,7 +79,7 @@ function showComparison({ output }) {
   });
   const bars = sheet(["", "", "cycles", "by"], rows, "Cycles of each machine");
   bars.classList.add("bars");
-  const cell = (text) => element("td", { className: isFigure(text) ? "figure" : "words", textContent: text });
+  const cell = (textContent, _, className) => element("td", { className, textContent });
   const note = (textContent) => element("p", { className: "note", textContent });
   byId("shown").append(bars, element("h3", { textContent: "All counts" }), tableOf(lines, cell));
   if (lines.length < 3) byId("shown").prepend(note(NO_MACHINES));
