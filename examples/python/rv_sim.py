@@ -38,8 +38,11 @@ class Failed(Exception):
 
 
 def register_number(name):
-    """The number of a register, by its name: x10 or a0."""
-    return ABI.index(name) if name in ABI else 8 if name == "fp" else int(name.removeprefix("x"))
+    """The number of a register, by its name: x10 or a0; a KeyError where no register has it."""
+    names = {f"x{number}": number for number in range(32)} | {each: number for number, each in enumerate(ABI)} | {"fp": 8}
+    if name not in names:
+        raise KeyError(f"no register has the name {name}")
+    return names[name]
 
 
 @dataclass
