@@ -10,6 +10,7 @@
 The program is the one that the environment variable RV_SIM names, else `rv_sim` on the path, else the one of the repository that this
 file stands in. A description is a TOML text or a dictionary of keys; arrivals are a TOML text.
 """
+import errno
 import json
 import os
 import re
@@ -37,8 +38,11 @@ class Failed(Exception):
 
 
 def register_number(name):
-    """The number of a register, by its name: x10 or a0."""
-    return ABI.index(name) if name in ABI else 8 if name == "fp" else int(name.removeprefix("x"))
+    """The number of a register, by its name: x10 or a0; a KeyError where no register has it."""
+    names = {f"x{number}": number for number in range(32)} | {each: number for number, each in enumerate(ABI)} | {"fp": 8}
+    if name not in names:
+        raise KeyError(f"no register has the name {name}")
+    return names[name]
 
 
 @dataclass
@@ -325,21 +329,29 @@ def read_step(kind, cells):
 
 
 def interruptible(main):
-    """The status of a script's main function; Ctrl-C and a reader that left end it with no traceback."""
+    """The status of a script's main function; Ctrl-C, a reader that left, and an input or output that fails end it with no traceback."""
     try:
+        if sys.stdout is None:
+            raise OSError(errno.EBADF, os.strerror(errno.EBADF))
         status = main()
         sys.stdout.flush()
         return status
     except KeyboardInterrupt:
         return 130
-    except BrokenPipeError:
-        # What is not yet written goes nowhere.
-        os.dup2(os.open(os.devnull, os.O_WRONLY), sys.stdout.fileno())
-        return 141
+    except OSError as fault:
+        if sys.stdout is not None:
+            # What is not yet written goes nowhere.
+            os.dup2(os.open(os.devnull, os.O_WRONLY), sys.stdout.fileno())
+        if isinstance(fault, BrokenPipeError):
+            return 141
+        print(f"{Path(sys.argv[0]).name}: {fault.filename or 'standard input or output'}: {fault.strerror}", file=sys.stderr)
+        return 4
 
 
 def read_job():
     """The job on a script's standard input."""
+    if sys.stdin is None:
+        raise OSError(errno.EBADF, os.strerror(errno.EBADF))
     return sys.stdin.buffer.read().decode(errors="surrogateescape")
 
 

@@ -3,8 +3,9 @@ const furtherText = () => editors.machines.text;
 const comparedInput = (job) => comparison(job, furtherText());
 
 function addMachines(texts) {
-  const before = furtherText();
-  editors.machines.text = before + (before.trim() === "" ? "" : ended(before) + "%%\n").slice(before.length) + texts.map(ended).join("%%\n");
+  const before = furtherIn(furtherText());
+  if (texts.length === 0) return;
+  editors.machines.text = (before === undefined ? "" : ended(before) + "%%\n") + texts.map(ended).join("%%\n");
   jobChanged();
 }
 
@@ -13,6 +14,21 @@ function addValues(key, values) {
   const description = editors.description.text.replace(/^# name:.*\n/, "");
   const texts = values.map((value) => "# name: " + key + " = " + value + "\n" + withKey(description, key, value));
   addMachines(texts.slice(0, 63));
+}
+
+// Values to begin with: a key's choices, or some around its default.
+function usualValues(row) {
+  if (row.choices) return row.choices;
+  const unit = row.multiple || 1, most = row.most === null ? Infinity : row.most;
+  const around = [0.25, 0.5, 1, 2, 4].map((times) => Math.min(most, Math.max(row.least, unit * Math.round((times * Number(row.default)) / unit))));
+  return [...new Set(around)].map((number) => (row.isHex ? "0x" + number.toString(16) : String(number)));
+}
+
+// The program counts the descriptions, of which the job's own is the first.
+function refusedMachine(errors) {
+  const number = Number((/description (\d+)/.exec(errors) || [])[1]), text = machinesOf(jobNow(), furtherText())[number - 1];
+  const name = (/^# name: *(.+)/.exec(text || "") || [])[1];
+  return number > 1 ? errors + ". That is machine " + (number - 1) + " of the text above" + (name ? ": " + name : "") : errors;
 }
 
 function makeComparison() {
@@ -25,14 +41,19 @@ function makeComparison() {
   };
   for (const row of KEYS) byId("sweep-key").add(new Option(row.key));
   byId("sweep-key").value = "rob";
-  const value = (text) => (/^\d+$/.test(text) ? Number(text) : /^(true|false)$/.test(text) ? text === "true" : text);
+  byId("sweep-key").onchange = () => { byId("sweep-values").value = usualValues(KEYS.find((row) => row.key === byId("sweep-key").value)).join(", "); };
+  const plain = (text) => text.replace(/^(["'])(.*)\1$/, "$2");
+  const value = (text) => (/^-?\d+(\.\d+)?$/.test(text) ? Number(text) : /^(true|false)$/.test(text) ? text === "true" : plain(text));
   const values = () => byId("sweep-values").value.split(/[\s,]+/).filter(Boolean).map(value);
   byId("sweep").onclick = () => addValues(byId("sweep-key").value, values());
   byId("sweep-values").onkeydown = (event) => { if (event.key === "Enter") byId("sweep").click(); };
   byId("no-machines").onclick = () => { editors.machines.text = ""; jobChanged(); };
 }
 
-const machinesOf = (job, machines) => [job.description, ...(machines.trim() === "" ? [] : machines.replace(/^%%\r?\n?$(?![^])/m, "").split(/^%%\r?\n/m))];
+function machinesOf(job, machines) {
+  const further = furtherIn(machines);
+  return [job.description, ...(further === undefined ? [] : further.split(/^%%\r?\n/m))];
+}
 
 // What a machine without a name has that not all of them have.
 function ownValues(all, at) {
@@ -58,7 +79,7 @@ function showComparison({ output }) {
   });
   const bars = sheet(["", "", "cycles", "by"], rows, "Cycles of each machine");
   bars.classList.add("bars");
-  const cell = (text) => element("td", { className: isFigure(text) ? "figure" : "words", textContent: text });
+  const cell = (textContent, _, className) => element("td", { className, textContent });
   const note = (textContent) => element("p", { className: "note", textContent });
   byId("shown").append(bars, element("h3", { textContent: "All counts" }), tableOf(lines, cell));
   if (lines.length < 3) byId("shown").prepend(note(NO_MACHINES));

@@ -1,6 +1,21 @@
 // Why a job is refused: the fault's line, and what `explain` says of it. Each fault has its part, its line and, where a caret stands, its column.
 const PLACE = /^line \d+ of the job, line (\d+) of its (description|arrivals|assembly)/;
 
+// In a file a line %% stands between the parts of a job. In a part's own box it would move what follows into another part, and the program
+// would name a line of that one: so the page refuses it where it stands.
+const BOXES = { description: "Machine", arrivals: "Arrivals of interrupts", assembly: "Program" };
+
+function separatorIn(job) {
+  for (const part of PARTS) {
+    const line = job[part].split("\n").findIndex((each) => /^%%\r?$/.test(each)) + 1;
+    if (line === 0) continue;
+    const errors = BOXES[part] + ", line " + line + ": a line %%";
+    const advice = "In a file it stands between the parts of a job; here each part has a box: " + Object.values(BOXES).join(", ") + ". Open takes a file with all of them.";
+    return { part, errors, text: errors + "\n" + advice, faults: [{ line, from: 0, to: 2 }] };
+  }
+  return undefined;
+}
+
 class Refusal {
   constructor(errors, explanation, job) {
     this.errors = errors.trim();

@@ -23,11 +23,15 @@ function cutComparison(text) {
   const all = text.split(/^%%\r?\n/m);
   if (all.length < 2) return { job: cut(text), machines: "" };
   const job = { description: all[0], arrivals: "", assembly: all[all.length - 1] };
-  return { job, machines: all.slice(1, -1).map(ended).join("%%\n") };
+  const further = all.slice(1, -1);
+  return { job, machines: further.map(ended).join("%%\n") + (further.at(-1) === "" ? "%%\n" : "") };
 }
 
+// Further machines as they stand, without a line %% after the last one: none, where nothing else stands there.
+const furtherIn = (text) => (text.trim() === "" ? undefined : text.replace(/^%%\r?\n?$(?![^])/m, ""));
+
 function comparison(job, machines) {
-  const further = machines.trim() === "" ? "" : ended(machines) + "%%\n";
+  const last = furtherIn(machines), further = last === undefined ? "" : ended(last) + "%%\n";
   return ended(job.description) + "%%\n" + further + job.assembly;
 }
 

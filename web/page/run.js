@@ -16,14 +16,22 @@ function showFault(refusal) {
 
 // Asks the program whether it takes the job; answers so.
 async function isTaken(job) {
+  const misplaced = separatorIn(job);
+  if (misplaced) return refuseJob(misplaced);
   const made = await checker.call(["explain", "--limit", "1"], joined(job), 10);
   if (made.stopped || !sameJob(job, jobNow())) return false;
   const why = trouble(made);
   if (why !== "") { showFault(undefined); say(why, true); return false; }
   const refusal = made.status === 1 ? new Refusal(textOf(made.errors), textOf(made.output), job) : undefined;
+  if (refusal) return refuseJob(refusal);
+  showFault(undefined);
+  return true;
+}
+
+function refuseJob(refusal) {
   showFault(refusal);
-  if (refusal) say("Refused: " + refusal.errors.replace(/^error: /, "") + ".", true);
-  return refusal === undefined;
+  say("Refused: " + refusal.errors.replace(/^error: /, "") + ".", true);
+  return false;
 }
 
 function setBusy(isBusy) {
@@ -117,7 +125,7 @@ async function showView(given) {
   if (mine !== turn || view !== currentView) return;
   clearShown();
   setBusy(false);
-  const why = trouble(made) || (made.status === 1 ? textOf(made.errors).trim() : "");
+  const why = trouble(made) || (made.status === 1 ? (view.refused || String)(textOf(made.errors).trim()) : "");
   if (why !== "") { byId("shown").append(element("p", { className: "note fault", textContent: why })); say(why, true); }
   if (why === "" || made.cut) await view.show(made);
   document.documentElement.dataset.shown = view.name;

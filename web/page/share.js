@@ -97,7 +97,9 @@ function readOptions(words) {
 // A file, chosen or dropped.
 async function openFile(file) {
   refuse("");
-  const isGreat = file.size > 4 * MOST_TEXT, text = isGreat ? "" : textOf(new Uint8Array(await file.arrayBuffer())).replace(/^\ufeff/, "");
+  const isGreat = file.size > 4 * MOST_TEXT, bytes = isGreat ? new ArrayBuffer(0) : await file.arrayBuffer().catch(() => undefined);
+  if (bytes === undefined) return refuse("The file " + file.name + " cannot be read. A folder is no file.");
+  const text = textOf(new Uint8Array(bytes)).replace(/^\ufeff/, "");
   const why = isGreat ? counted(file.size, "byte") + " (the page takes " + grouped(MOST_TEXT) + ")" : whyTooLong(text);
   if (why !== "") return refuse("The file " + file.name + " was refused: it has " + why + ".");
   exampleName = "";

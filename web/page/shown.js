@@ -60,12 +60,13 @@ function showReport({ output }) {
   if (end >= 0) byId("shown").append(element("h3", { textContent: "Memory" }), element("pre", { className: "state", textContent: text.slice(end) }));
 }
 
+// Columns that hold nothing but figures stand at the right, with their names.
 function tableOf(lines, cellOf) {
-  const first = (lines[1] || "").split("\t");
-  const kindOf = (at) => (isFigure(first[at] || "x") ? "figure" : "");
-  const nameOf = (name, at) => element("th", { scope: "col", className: kindOf(at), textContent: name.replace(/_/g, " ") });
+  const rows = lines.slice(1).map((line) => line.split("\t"));
+  const kinds = lines[0].split("\t").map((_, at) => (rows.every((cells) => isFigure(cells[at] || "")) ? "figure" : "words"));
+  const nameOf = (name, at) => element("th", { scope: "col", className: kinds[at], textContent: name.replace(/_/g, " ") });
   const head = element("tr", {}, ...lines[0].split("\t").map(nameOf));
-  const body = lines.slice(1).map((line) => element("tr", {}, ...line.split("\t").map(cellOf)));
+  const body = rows.map((cells) => element("tr", {}, ...cells.map((cell, at) => cellOf(cell, at, kinds[at]))));
   const table = element("table", { className: "sheet" }, element("thead", {}, head), element("tbody", {}, ...body));
   return element("div", { className: "scroll", tabIndex: 0, role: "region", "aria-label": "table" }, table);
 }
@@ -83,8 +84,8 @@ function showTable({ output }) {
   const { text, rest } = firstLines(output, MOST_ROWS), lines = text.trimEnd().split("\n");
   const names = lines[0].split("\t"), head = names.indexOf("head"), line = names.indexOf("line");
   const most = Math.max(1, ...lines.slice(1).map((row) => Number(row.split("\t")[head]) || 0));
-  const table = tableOf(lines, (cell, column) => {
-    const made = element("td", { className: isFigure(cell) ? "figure" : "words" });
+  const table = tableOf(lines, (cell, column, className) => {
+    const made = element("td", { className });
     made.append(column === line && cell !== "" ? lineButton(cell) : cell);
     const length = (4 * Number(cell)) / most;
     if (column === head) made.append(element("span", { className: "bar", style: "width: " + length + "rem; margin-right: " + (4 - length) + "rem" }));

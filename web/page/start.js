@@ -107,6 +107,11 @@ function stop() {
   say("Stopped; nothing of the run is left.");
 }
 
+// An editor draws the lines that are seen: on paper each part stands whole.
+function printParts() {
+  for (const part of PARTS) editors[part].root.after(element("pre", { className: "printed", textContent: editors[part].text }));
+}
+
 function listen() {
   byId("run").onclick = () => run();
   byId("stop").onclick = stop;
@@ -124,6 +129,8 @@ function listen() {
   byId("close").onclick = () => byId("about").close();
   for (const part of PARTS) byId("fault-" + part).onclick = () => { const [fault] = editors[part].faults.values(); if (fault) editors[part].goTo(fault.line, fault.from); };
   byId("arrivals").addEventListener("toggle", () => editors.arrivals.draw());
+  addEventListener("beforeprint", printParts);
+  addEventListener("afterprint", () => document.querySelectorAll("pre.printed").forEach((each) => each.remove()));
   addEventListener("hashchange", () => { if (location.hash !== addressed) readAddress(); });
   addEventListener("keydown", (event) => {
     if (event.ctrlKey && event.key === "Enter") { event.preventDefault(); shortcut("Enter"); }

@@ -16,7 +16,7 @@ const VIEWS = [
   { name: "steps", title: "Steps", command: "page", options: [FROM, cycles(10000, 200)], show: showPage, file: "run.html" },
   { name: "picture", title: "Picture", command: "picture", options: [FROM, cycles(1000, 60), RETIRED, TEXT], show: showPicture, file: "picture.svg" },
   { name: "change", title: "Before and after", command: "run", limit: true, show: showChange, file: "report.txt" },
-  { name: "compare", title: "Compare", command: "compare", limit: true, input: comparedInput, show: showComparison, file: "compare.tsv" },
+  { name: "compare", title: "Compare", command: "compare", limit: true, input: comparedInput, refused: refusedMachine, show: showComparison, file: "compare.tsv" },
   { name: "explain", title: "Explain", command: "explain", limit: true, show: showText, file: "explain.txt" },
   { name: "profile", title: "Profile", command: "profile", limit: true, show: showTable, file: "profile.tsv" },
   { name: "path", title: "Path", command: "path", limit: true, show: showText, file: "path.txt", note: CRITICAL, also: IN_PICTURE },
@@ -44,7 +44,7 @@ function wordsOf(view) {
   return view.limit ? [...words, "--limit", String(limit())] : words;
 }
 
-const whole = (text, least, most, otherwise) => (/^\d{1,9}$/.test(text) ? Math.max(least, Math.min(most, Number(text))) : otherwise);
+const whole = (text, least, most, otherwise) => (/^\d+$/.test(text) ? Math.max(least, Math.min(most, Number(text))) : otherwise);
 const limit = () => whole(byId("limit").value, 1, 1000000, 100000);
 
 const fileOf = (view) => (view.name === "picture" && chosen.text ? "picture.txt" : view.file);

@@ -5,7 +5,7 @@ pub(crate) const BEFORE: &[u8] = br#"<!DOCTYPE html>
 <html lang="en">
 <head>
 <meta charset="utf-8">
-<meta http-equiv="Content-Security-Policy" content="default-src 'none'; script-src 'sha256-EOpK6qKqWAQvjBEV8khtZQHY1wOPCC/S+7PLQXqohCQ='; style-src 'sha256-GPCyShncOqn8lQqPPv8BVc0LVw4uR+PINRuIegbju/I='; img-src data:; frame-src 'self' file:; base-uri 'none'; form-action 'none'">
+<meta http-equiv="Content-Security-Policy" content="default-src 'none'; script-src 'sha256-OZ/jRNEDezB9oF35a+2w1UBVnhBfVOAspBdSPpiCOv4='; style-src 'sha256-GPCyShncOqn8lQqPPv8BVc0LVw4uR+PINRuIegbju/I='; img-src data:; frame-src 'self' file:; base-uri 'none'; form-action 'none'">
 <meta name="viewport" content="width=device-width, initial-scale=1">
 <title>rv_sim: a run, cycle by cycle</title>
 <style>
@@ -2378,7 +2378,7 @@ function hear(event) {
 }
 
 // The page around the frames.
-const pair = { frames: [], shown: [], byRetired: false };
+const pair = { frames: [], shown: [], byRetired: false, missing: "" };
 
 function besideName() { return framed ? null : new URLSearchParams(location.hash.slice(1)).get("beside"); }
 
@@ -2388,21 +2388,40 @@ function frameOf(address, title) {
   return frame;
 }
 
+// The address of the page that was typed, and its name; what is no address is no page.
+function pageNamed(typed) {
+  try {
+    const { href, pathname } = new URL(typed.split("#")[0], location.href), name = pathname.split("/").pop();
+    return { href, name: /%(?![0-9a-f]{2})/i.test(name) ? name : decodeURIComponent(name) };
+  } catch {
+    pair.missing = typed;
+    return { href: "about:blank", name: typed };
+  }
+}
+
 function startPair(other) {
   const words = new URLSearchParams(location.hash.slice(1));
   words.delete("beside");
   words.set("side", "");
-  const own = location.href.split("#")[0] + "#" + words, that = new URL(other.split("#")[0], location.href);
+  const own = location.href.split("#")[0] + "#" + words, that = pageNamed(other);
   document.body.className = "pair";
   pair.frames = [frameOf(own, "this run"), frameOf(that.href + "#" + words, "the other run")];
+  // A page of a run has said where it stands by the time it is loaded.
+  pair.frames[1].addEventListener("load", () => setTimeout(() => { pair.missing = that.name; showNote(); }, 500));
   byId("sides").replaceChildren(...pair.frames);
   byId("pair").hidden = false;
-  document.title = runName() + " beside " + decodeURIComponent(that.pathname.split("/").pop());
+  document.title = runName() + " beside " + that.name;
   window.addEventListener("message", hearFrame);
   window.addEventListener("hashchange", () => location.reload());
   byId("pair-slider").addEventListener("input", (event) => pair.frames.forEach((frame) => frame.contentWindow.postMessage({ rv_sim: "go", cycle: Number(event.target.value) }, "*")));
   byId("pair-by").addEventListener("change", (event) => { pair.byRetired = event.target.checked; followLeader(0); });
   pair.frames[0].addEventListener("load", () => pair.frames[0].contentWindow.focus());
+}
+
+function showNote() {
+  const words = pair.shown.filter((each) => each !== undefined).map((each) => "cycle " + each.cycle + ", " + each.retired + " retired");
+  if (pair.missing && !pair.shown[1]) words.push(pair.missing + " is no page of a run; 1: this run alone");
+  byId("pair-note").textContent = words.join(" | ");
 }
 
 function followLeader(k) {
@@ -2423,7 +2442,7 @@ function hearFrame(event) {
   const both = pair.shown.filter((each) => each !== undefined), slider = byId("pair-slider");
   Object.assign(slider, { min: Math.min(...both.map((each) => each.first)) - 1, max: Math.max(...both.map((each) => each.last)) });
   slider.value = said.cycle;
-  byId("pair-note").textContent = both.map((each) => "cycle " + each.cycle + ", " + each.retired + " retired").join(" | ");
+  showNote();
   if (both.length === 2) pair.frames.forEach((frame, j) => frame.contentWindow.postMessage({ rv_sim: "differ", facts: pair.shown[1 - j].facts }, "*"));
 }
 
@@ -2489,6 +2508,12 @@ function go(place, asked) {
   tell(asked);
   clearTimeout(writing);
   writing = setTimeout(writeAddress, 200);
+}
+
+// Goes to a cycle that was typed: a fraction is cut off, and what is no number leaves the cursor where it is. The box has the cycle then.
+function goToCycle(text) {
+  if (text !== "") go(Math.trunc(Number(text)) - run.first + 1);
+  byId("cycle").value = run.cycleOf(view.place);
 }
 
 // The cursor's cycle, the followed instruction and what is shown stand in the page's address, so that a lecture can point to them.
@@ -2650,9 +2675,11 @@ function onSwitch(event) {
   writeAddress();
 }
 
-// Where the run ended before the window, there is nothing to step through.
+// Where the run ended before the window, there is nothing to step through, and the panels have nothing to show.
 function showNothing() {
   const { cycles, stop } = run.stop;
+  byId("tools").hidden = true;
+  document.querySelector("main").hidden = true;
   note("happened", "The run ended after " + counted(cycles, "cycle") + " (" + stop + "), before cycle " + run.first + ".");
 }
 
@@ -2661,7 +2688,7 @@ function listen() {
   document.addEventListener("click", onClick);
   byId("switches").addEventListener("change", onSwitch);
   byId("slider").addEventListener("input", (event) => go(Number(event.target.value) - run.first + 1));
-  byId("cycle").addEventListener("change", (event) => { if (event.target.value !== "") go(Number(event.target.value) - run.first + 1); });
+  byId("cycle").addEventListener("change", (event) => goToCycle(event.target.value));
   byId("address").addEventListener("change", (event) => goToTyped(event.target.value.trim()));
   for (const name of switches) byId(name).addEventListener("change", () => turn(name));
   byId("play").addEventListener("click", () => play(!playing));

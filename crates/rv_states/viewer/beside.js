@@ -47,7 +47,7 @@ function hear(event) {
 }
 
 // The page around the frames.
-const pair = { frames: [], shown: [], byRetired: false };
+const pair = { frames: [], shown: [], byRetired: false, missing: "" };
 
 function besideName() { return framed ? null : new URLSearchParams(location.hash.slice(1)).get("beside"); }
 
@@ -57,21 +57,40 @@ function frameOf(address, title) {
   return frame;
 }
 
+// The address of the page that was typed, and its name; what is no address is no page.
+function pageNamed(typed) {
+  try {
+    const { href, pathname } = new URL(typed.split("#")[0], location.href), name = pathname.split("/").pop();
+    return { href, name: /%(?![0-9a-f]{2})/i.test(name) ? name : decodeURIComponent(name) };
+  } catch {
+    pair.missing = typed;
+    return { href: "about:blank", name: typed };
+  }
+}
+
 function startPair(other) {
   const words = new URLSearchParams(location.hash.slice(1));
   words.delete("beside");
   words.set("side", "");
-  const own = location.href.split("#")[0] + "#" + words, that = new URL(other.split("#")[0], location.href);
+  const own = location.href.split("#")[0] + "#" + words, that = pageNamed(other);
   document.body.className = "pair";
   pair.frames = [frameOf(own, "this run"), frameOf(that.href + "#" + words, "the other run")];
+  // A page of a run has said where it stands by the time it is loaded.
+  pair.frames[1].addEventListener("load", () => setTimeout(() => { pair.missing = that.name; showNote(); }, 500));
   byId("sides").replaceChildren(...pair.frames);
   byId("pair").hidden = false;
-  document.title = runName() + " beside " + decodeURIComponent(that.pathname.split("/").pop());
+  document.title = runName() + " beside " + that.name;
   window.addEventListener("message", hearFrame);
   window.addEventListener("hashchange", () => location.reload());
   byId("pair-slider").addEventListener("input", (event) => pair.frames.forEach((frame) => frame.contentWindow.postMessage({ rv_sim: "go", cycle: Number(event.target.value) }, "*")));
   byId("pair-by").addEventListener("change", (event) => { pair.byRetired = event.target.checked; followLeader(0); });
   pair.frames[0].addEventListener("load", () => pair.frames[0].contentWindow.focus());
+}
+
+function showNote() {
+  const words = pair.shown.filter((each) => each !== undefined).map((each) => "cycle " + each.cycle + ", " + each.retired + " retired");
+  if (pair.missing && !pair.shown[1]) words.push(pair.missing + " is no page of a run; 1: this run alone");
+  byId("pair-note").textContent = words.join(" | ");
 }
 
 function followLeader(k) {
@@ -92,7 +111,7 @@ function hearFrame(event) {
   const both = pair.shown.filter((each) => each !== undefined), slider = byId("pair-slider");
   Object.assign(slider, { min: Math.min(...both.map((each) => each.first)) - 1, max: Math.max(...both.map((each) => each.last)) });
   slider.value = said.cycle;
-  byId("pair-note").textContent = both.map((each) => "cycle " + each.cycle + ", " + each.retired + " retired").join(" | ");
+  showNote();
   if (both.length === 2) pair.frames.forEach((frame, j) => frame.contentWindow.postMessage({ rv_sim: "differ", facts: pair.shown[1 - j].facts }, "*"));
 }
 

@@ -48,6 +48,12 @@ function go(place, asked) {
   writing = setTimeout(writeAddress, 200);
 }
 
+// Goes to a cycle that was typed: a fraction is cut off, and what is no number leaves the cursor where it is. The box has the cycle then.
+function goToCycle(text) {
+  if (text !== "") go(Math.trunc(Number(text)) - run.first + 1);
+  byId("cycle").value = run.cycleOf(view.place);
+}
+
 // The cursor's cycle, the followed instruction and what is shown stand in the page's address, so that a lecture can point to them.
 function writeAddress() {
   const words = new URLSearchParams(location.hash.slice(1));
@@ -207,9 +213,11 @@ function onSwitch(event) {
   writeAddress();
 }
 
-// Where the run ended before the window, there is nothing to step through.
+// Where the run ended before the window, there is nothing to step through, and the panels have nothing to show.
 function showNothing() {
   const { cycles, stop } = run.stop;
+  byId("tools").hidden = true;
+  document.querySelector("main").hidden = true;
   note("happened", "The run ended after " + counted(cycles, "cycle") + " (" + stop + "), before cycle " + run.first + ".");
 }
 
@@ -218,7 +226,7 @@ function listen() {
   document.addEventListener("click", onClick);
   byId("switches").addEventListener("change", onSwitch);
   byId("slider").addEventListener("input", (event) => go(Number(event.target.value) - run.first + 1));
-  byId("cycle").addEventListener("change", (event) => { if (event.target.value !== "") go(Number(event.target.value) - run.first + 1); });
+  byId("cycle").addEventListener("change", (event) => goToCycle(event.target.value));
   byId("address").addEventListener("change", (event) => goToTyped(event.target.value.trim()));
   for (const name of switches) byId(name).addEventListener("change", () => turn(name));
   byId("play").addEventListener("click", () => play(!playing));

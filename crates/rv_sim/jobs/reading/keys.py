@@ -76,6 +76,9 @@ class Keys:
         wanted = min(self.first + 7, self.last - 1)
         self.after("typed cycle", ["g", *str(wanted), "Enter"], wanted)
         self.after("key after a typed cycle", "ArrowRight", wanted + 1)
+        for text, known in ((f"{wanted}.5", wanted), (str(10 ** 6), self.last), ("-", self.last)):
+            self.after(f"typed cycle {text}", ["g", *text, "Enter"], known)
+            self.same(f"box of the cycle after {text}", self.browser.tell("document.getElementById('cycle').value"), str(known))
         pc = self.log[min(self.log)].pc
         later = sorted({each.stages["F"] for each in self.log.values() if each.pc == pc and self.first <= each.stages["F"] <= self.last})
         self.browser.tell(f"go({wanted} - run.first + 1)")

@@ -33,10 +33,23 @@ def open_beside(browser, name):
         time.sleep(0.05)
 
 
+def retired(run, at):
+    return sum(kind == "R" and when <= at for kind, when in run.steps)
+
+
+def note_beside(browser):
+    """What is said of two runs, when something is said of each, or what stands there after ten seconds."""
+    until = time.monotonic() + 10
+    while True:
+        # (there is none while the page is opened anew)
+        note = browser.tell("document.getElementById('pair-note')?.textContent") or ""
+        if "|" in note or time.monotonic() > until:
+            return note
+        time.sleep(0.05)
+
+
 def by_retired(facts, others, cycle):
     """The first cycle in which the other run has as many retired instructions as one has after a cycle."""
-    def retired(run, at):
-        return sum(kind == "R" and when <= at for kind, when in run.steps)
     wanted = retired(facts, cycle)
     return next(at for at in range(-1, others.lines.last + 1) if retired(others, at) >= wanted)
 
@@ -61,4 +74,8 @@ def compare_pair(browser, one, other):
         same("marks", marked_wrong(frames), [])
         same("panels", [each["panels"] for each in frames], [["Pipeline", "Reorder buffer", "Counts", "Registers"]] * 2)
     same("console", browser.console, [])
+    for name in ("none.html", "%zz.html", "http://["):
+        browser.open(f"{page.as_uri()}#cycle=20")
+        browser.press("2", *name, "Enter")
+        same(f"what is said of {name}", note_beside(browser), f"cycle 20, {retired(facts, 20)} retired | {name} is no page of a run; 1: this run alone")
     return wrong
