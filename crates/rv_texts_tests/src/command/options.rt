@@ -96,7 +96,7 @@ fn also_is_refused(rt: &impl Abort, alloc: Global, texts: &[&str]) -> Result<(),
 
 #[test]
 fn a_machine_is_tried_with_four_values_of_a_users_own_at_most(rt: HostRuntime) -> Result<(), Fail> {
-    const NO_VALUES: [&str; 16] = [
+    const NO_VALUES: [&str; 19] = [
         "rob",
         "rob=",
         "=64",
@@ -109,7 +109,10 @@ fn a_machine_is_tried_with_four_values_of_a_users_own_at_most(rt: HostRuntime) -
         "rob=257",
         "rob=true",
         "cache.line=48",
+        "ram_base=4096",
         "ram_size=8192",
+        "rom_bytes=4096",
+        "report.dump_address=4",
         "report.dump_words=1",
         "div.pipelined=yes",
         "predictor.kind=perceptron",

@@ -37,7 +37,7 @@ macro_rules! wrong_alone {
 
 #[test]
 fn a_wrong_value_of_a_users_own_is_told_what_its_key_takes(rt: HostRuntime) -> Result<(), Fail> {
-    const CASES: [(&[&str], &str); 16] = [
+    const CASES: [(&[&str], &str); 22] = [
         wrong_alone!("rob=9999", "rob is a number from 1 to 256"),
         wrong_alone!("rob=", "rob is a number from 1 to 256"),
         wrong_alone!(
@@ -66,6 +66,10 @@ fn a_wrong_value_of_a_users_own_is_told_what_its_key_takes(rt: HostRuntime) -> R
             "no key has this name; nearest: cache.hit, cache.miss"
         ),
         wrong_alone!(
+            "cache.lits=1",
+            "no key has this name; nearest: cache.sets, cache.line, cache.hit"
+        ),
+        wrong_alone!(
             "",
             "no key has this name; keys are those of a description, as rob, cache.line or predictor.kind"
         ),
@@ -74,6 +78,53 @@ fn a_wrong_value_of_a_users_own_is_told_what_its_key_takes(rt: HostRuntime) -> R
                 "rv_sim",
                 "sensitivity",
                 "--also=forward=2",
+                "--also=rob=1",
+                "--also=rob=2",
+            ],
+            wrong!("rob=2", "its key is set twice"),
+        ),
+        (
+            &["rv_sim", "sensitivity", "--also=rob=1", "--also=rob=2"],
+            wrong!("rob=2", "its key is set twice"),
+        ),
+        (
+            &[
+                "rv_sim",
+                "sensitivity",
+                "--also=rob=1",
+                "--also=forward=2",
+                "--also=rob=2",
+            ],
+            wrong!("rob=2", "its key is set twice"),
+        ),
+        (
+            &[
+                "rv_sim",
+                "sensitivity",
+                "--also=rob=1",
+                "--also=forward=2",
+                "--also=bus_width=2",
+                "--also=rob=2",
+            ],
+            wrong!("rob=2", "its key is set twice"),
+        ),
+        (
+            &[
+                "rv_sim",
+                "sensitivity",
+                "--also=forward=2",
+                "--also=rob=1",
+                "--also=bus_width=2",
+                "--also=rob=2",
+            ],
+            wrong!("rob=2", "its key is set twice"),
+        ),
+        (
+            &[
+                "rv_sim",
+                "sensitivity",
+                "--also=forward=2",
+                "--also=bus_width=2",
                 "--also=rob=1",
                 "--also=rob=2",
             ],
