@@ -23,7 +23,7 @@ use Rattle.rv_path.specs.Moving.{all_moved, all_new}
 use Rattle.rv_path.specs.Path.{interrupt_taken, known_by, known_in, ways_by}
 use Rattle.rv_path.specs.Setting.{Setting, last_left}
 use Rattle.rv_path.specs.Sought.{is_at, is_sought}
-use Rattle.rv_path.specs.Way.{broadcast_by, way_from}
+use Rattle.rv_path.specs.Way.{way_from}
 use Rattle.rv_path.specs.Within.{AreHoldsOf, AreKnown, AreWaysOf, IsBeforeOf, IsWayOf}
 use Rattle.rv_path.specs.declared.{before.DrainHold.DrainHold, before.Facts.Facts, before.Holder.Holder, before.Left.Left, before.PortHold.PortHold}
 use Rattle.rv_path.specs.declared.{event.Event.Event, leaving.Leaving.Leaving, point.Reason.Reason, way.Way.Way}
