@@ -132,7 +132,7 @@ module _ (s : Setting) (P : List Event → Event → Type 0) (kept : IsKept s.el
       let at : Point = record { stage = it.stage; number = j.row.number } in
       let event = made_of s it.stage j.row it.waited in
       let now = P (with_events (new_advanced s j.row (Some it)) all) in
-      let still = wait_still s.elapsed P kept all at (Some j.row.pc) it.waited has in
+      let still = wait_still s.elapsed P kept all s.refilled at (Some j.row.pc) it.waited has in
       let next = known_by_implies (P all) now still s leaving ws known in
       let way = ways_imply (P all) now still (j.way ∷ []) (is, tt) in
       record {
@@ -141,7 +141,7 @@ module _ (s : Setting) (P : List Event → Event → Type 0) (kept : IsKept s.el
         gone = next.gone;
         new = next.new;
         ways = set_have now ws place (with_stage it.stage event j.way) next.ways
-            (stage_has now it.stage event j.way (wait_has s.elapsed P kept all at (Some j.row.pc) it.waited has) way.0);
+            (stage_has now it.stage event j.way (wait_has s.elapsed P kept all s.refilled at (Some j.row.pc) it.waited has) way.0);
       }
 
   moved_by_K : (all : List Event) (ws : List Way) (place : ℕ) (o : Option Journey) → K all ws → OJ (P all) o

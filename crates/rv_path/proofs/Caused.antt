@@ -28,7 +28,6 @@ put cycles (other ∷ older) event new = (
 
 among_kept : (cycles : ℕ) → IsKept cycles IsAmong
 among_kept cycles = record {
-  refilled = λ all reason event is. is;
   newest = λ all event new. (put cycles all event new, inl (refl, refl));
   others = λ all event other new is. (put cycles all event new, inr is.1);
 }

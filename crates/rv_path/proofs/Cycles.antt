@@ -23,7 +23,7 @@ use Rattle.rv_path.specs.Moving.{all_moved, all_new}
 use Rattle.rv_path.specs.Path.{interrupt_taken, known_by, known_in, ways_by}
 use Rattle.rv_path.specs.Setting.{Setting, last_left}
 use Rattle.rv_path.specs.Sought.{is_at, is_sought}
-use Rattle.rv_path.specs.Way.{broadcast_by, way_from}
+use Rattle.rv_path.specs.Way.{way_from}
 use Rattle.rv_path.specs.Within.{AreHoldsOf, AreKnown, AreWaysOf, IsBeforeOf, IsWayOf}
 use Rattle.rv_path.specs.declared.{before.DrainHold.DrainHold, before.Facts.Facts, before.Holder.Holder, before.Left.Left, before.PortHold.PortHold}
 use Rattle.rv_path.specs.declared.{event.Event.Event, leaving.Leaving.Leaving, point.Reason.Reason, way.Way.Way}
@@ -97,8 +97,7 @@ drain_has Q true false drain hold other by same are = tt
 drain_has Q false begun drain hold other by same are = tt
 
 -- how the fetch goes on, where all that is known has something
-module _ (s : Setting) (P : Event → Type 0) (refilled : (reason : Reason) (event : Event) → P event → P (record event { refill = Some reason }))
-    (ws : List Way) (leaving : Leaving) (known : IsKnownBy P s leaving ws) where
+module _ (s : Setting) (P : Event → Type 0) (ws : List Way) (leaving : Leaving) (known : IsKnownBy P s leaving ws) where
   abbrev V : Wait → Type 0
   V waited = WaitsFor P waited
 
@@ -108,16 +107,16 @@ module _ (s : Setting) (P : Event → Type 0) (refilled : (reason : Reason) (eve
   anew_by_V : (why : Option Reason) (o : Option Event) → IfSome o P → O (anew_by why o)
   anew_by_V None o is = tt
   anew_by_V (Some why) None is = tt
-  anew_by_V (Some why) (Some event) is = refilled why event is
+  anew_by_V (Some why) (Some event) is = is
 
   mend_of_V : (entry : Option Entry) (o : Option Journey) → OJ P o → O (mend_of s entry o)
   mend_of_V entry None is = tt
   mend_of_V entry (Some journey) is =
-      if_with O (is_mended s journey.row entry) (refilled _ (broadcast_by journey.way) (broadcast_have P journey.way is)) tt
+      if_with O (is_mended s journey.row entry) (broadcast_have P journey.way is) tt
 
   after_redirection_V : (interrupted : Bool) (after : Hardware) (first : Passage) → AllOf P (interrupt_taken s interrupted)
       → O (after_redirection s ws interrupted leaving after first)
-  after_redirection_V true after first are = refilled _ (interrupt_event s) are.0
+  after_redirection_V true after first are = are.0
   after_redirection_V false after first are =
       or_with V (after_flush leaving) (after_mend s ws after) (anew_by_V leaving.refill leaving.last known.gone.last)
       (if_with O (mends_early s.values.recovery)
@@ -222,20 +221,20 @@ module _ (s : Setting) (P : List Event → Event → Type 0) (kept : IsKept s.el
   module _ (all : List Event) (ws : List Way) (leaving : Leaving) (interrupted : Bool) (after : Hardware) (known : IsKnownBy (P all) s leaving ws)
       (taken : AllOf (P all) (interrupt_taken s interrupted)) where
     fetched_waits : (first : Passage) → P all (fetch_wait s ws interrupted leaving after first).event
-    fetched_waits first = fetch_wait_V s (P all) (kept.refilled all) ws leaving known interrupted after first taken
+    fetched_waits first = fetch_wait_V s (P all) ws leaving known interrupted after first taken
 
     pub fetch_has : (o : Option Passage)
         → IfSome (fetched_by s ws interrupted leaving after o) (P (with_events (new_fetched s ws interrupted leaving after o) all))
     fetch_has None = tt
     fetch_has (Some first) =
-        wait_has s.elapsed P kept all (record { stage = stage.Fetch; number = first.number }) (Some first.pc)
+        wait_has s.elapsed P kept all s.refilled (record { stage = stage.Fetch; number = first.number }) (Some first.pc)
         (fetch_wait s ws interrupted leaving after first) (fetched_waits first)
 
     pub fetch_still : (o : Option Passage) (event : Event) → P all event
         → P (with_events (new_fetched s ws interrupted leaving after o) all) event
     fetch_still None event is = is
     fetch_still (Some first) event is =
-        wait_still s.elapsed P kept all (record { stage = stage.Fetch; number = first.number }) (Some first.pc)
+        wait_still s.elapsed P kept all s.refilled (record { stage = stage.Fetch; number = first.number }) (Some first.pc)
         (fetch_wait s ws interrupted leaving after first) (fetched_waits first) event is
 
   -- what is known after the cycle, by the list of all events then

@@ -60,10 +60,11 @@ module _ (s : Setting) (P : Event → Type 0) (holds : AreHoldsOf P s.holds) (be
   VR stage p waited = N (made_of s stage p waited)
 
   waits_V : (at : Point) (address : Option ℕ) (why : Cause) (event : Event) → P event → V at address (waits why event)
-  waits_V at address why event is = made_new P s.elapsed at address why event is
+  waits_V at address why event is = made_new P s.refilled s.elapsed at address why (waits why event) is
 
   waits_VR : (stage : Stage) (p : Passage) (why : Cause) (event : Event) → P event → VR stage p (waits why event)
-  waits_VR stage p why event is = made_new P s.elapsed (record { stage = stage; number = p.number }) (Some p.pc) why event is
+  waits_VR stage p why event is =
+      made_new P s.refilled s.elapsed (record { stage = stage; number = p.number }) (Some p.pc) why (waits why event) is
 
   leaves_after_V : (earlier : Option Event) (p : Passage) (w : Way) → IfSome earlier N → IsWayOf P w
       → VR stage.Commit p (leaves_after s earlier p w)

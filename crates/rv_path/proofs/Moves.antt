@@ -13,15 +13,15 @@ use Rattle.rv_path.specs.Sought.{is_at}
 use Rattle.rv_path.specs.declared.{cause.Cause.Cause, event.Event.Event, leaving.Leaving.Leaving, point.Point.Point, way.Way.Way}
 use Rattle.rv_path.specs.declared.point.Stage.TheVariants as stage
 
-new-by : (at : Point) (cycle : ℕ) (address : Option ℕ) (event : Event) (why : Option Cause)
-    → event_if (is_some why) (event_by at cycle address event why) ≡ new_by at cycle address event why
-new-by at cycle address event None = refl
-new-by at cycle address event (Some why) = refl
+new-by : (refilled : Bool) (at : Point) (cycle : ℕ) (address : Option ℕ) (waited : Wait) (why : Option Cause)
+    → event_if (is_some why) (event_by refilled at cycle address waited why) ≡ new_by refilled at cycle address waited why
+new-by refilled at cycle address waited None = refl
+new-by refilled at cycle address waited (Some why) = refl
 
 -- an event is new where it has a cause
-pub new_if : (at : Point) (cycle : ℕ) (address : Option ℕ) (waited : Wait)
-    → event_if (is_some waited.cause) (event_from at cycle address waited) ≡ new_from at cycle address waited
-new_if at cycle address waited = new-by at cycle address waited.event waited.cause
+pub new_if : (refilled : Bool) (at : Point) (cycle : ℕ) (address : Option ℕ) (waited : Wait)
+    → event_if (is_some waited.cause) (event_from refilled at cycle address waited) ≡ new_from refilled at cycle address waited
+new_if refilled at cycle address waited = new-by refilled at cycle address waited waited.cause
 
 none-by : (dispatched issued broadcast : Bool) (x y z : Move) → (dispatched || (issued || broadcast)) ≡ false
     → (if dispatched then Some x else (if issued then Some y else (if broadcast then Some z else None))) ≡ None

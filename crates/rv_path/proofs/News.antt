@@ -4,7 +4,7 @@ use Rattle.std.specs.Prelude.{Bool, true, false, if◌then◌else◌, IfSome}
 use Rattle.std.specs.Option.{option_to_list, unwrap_or}
 use Rattle.rv_path.specs.Causes.{IsSo}
 use Rattle.rv_path.specs.Claims.{cause_if, claim_of, is_so}
-use Rattle.rv_path.specs.Event.{Wait, ends_with, event_by, event_from, named_after, new_by, new_from, refilling, waits, with_events}
+use Rattle.rv_path.specs.Event.{Wait, ends_with, event_after, event_by, event_from, named_after, new_by, new_from, refill_of, with_events}
 use Rattle.rv_path.specs.declared.{cause.Cause.Cause, event.Event.Event, point.Point.Point, point.Reason.Reason}
 
 -- a new event comes after so many cycles, and waited for one of which something holds, as its cause says
@@ -18,7 +18,6 @@ pub record IsNew (P : Event → Type 0) (cycles : ℕ) (event : Event) : Type 0 
 -- Something holds of a new event by the list that it begins, where it held of the one that it waited for by the list before; and of all
 -- others still.
 pub record IsKept (cycles : ℕ) (P : List Event → Event → Type 0) : Type 0 where
-  pub refilled : (all : List Event) (reason : Reason) (event : Event) → P all event → P all (refilling reason event)
   pub newest : (all : List Event) (event : Event) → IsNew (P all) cycles event → P (event ∷ all) event
   pub others : (all : List Event) (event other : Event) → IsNew (P all) cycles event → P all other → P (event ∷ all) other
 
@@ -73,15 +72,16 @@ unfolding named_after
 named_so event at cycle reason = named_if (is_so (claim_of reason.cause) event.at event.cycle at cycle) reason.cause event.at event.cycle at cycle refl
 
 -- an event that was made by a wait is new
-pub made_new : (P : Event → Type 0) (cycles : ℕ) (at : Point) (address : Option ℕ) (why : Cause) (event : Event) → P event
-    → IsNew P cycles (event_from at cycles address (waits why event))
-made_new P cycles at address why event is = record {
-  of = event;
+pub made_new : (P : Event → Type 0) (refilled : Bool) (cycles : ℕ) (at : Point) (address : Option ℕ) (why : Cause) (waited : Wait)
+    → P waited.event → IsNew P cycles (event_after refilled at cycles address why waited)
+made_new P refilled cycles at address why waited is = record {
+  of = waited.event;
   has = is;
   cycle = refl;
   before = refl;
   so =
-      named_so event at cycles (unwrap_or (if ends_with at.stage then event.refill else None) (record { cause = why; address = address }));
+      named_so waited.event at cycles
+      (unwrap_or (if ends_with at.stage then refill_of waited else None) (record { cause = why; address = address }));
 }
 
 module _ (cycles : ℕ) (P : List Event → Event → Type 0) (kept : IsKept cycles P) where
@@ -109,21 +109,22 @@ module _ (cycles : ℕ) (P : List Event → Event → Type 0) (kept : IsKept cyc
       (known_still (e ∷ all) es rest e (kept.newest all e are.0), all_new_have (e ∷ all) es rest)
 
   -- of one that waited for a known one, or is that one again
-  by_have : (all : List Event) (at : Point) (address : Option ℕ) (event : Event) (why : Option Cause) → P all event
-      → P (with_events (new_by at cycles address event why) all) (event_by at cycles address event why)
-  by_have all at address event None is = is
-  by_have all at address event (Some why) is = kept.newest all _ (made_new (P all) cycles at address why event is)
+  by_have : (all : List Event) (refilled : Bool) (at : Point) (address : Option ℕ) (waited : Wait) (why : Option Cause) → P all waited.event
+      → P (with_events (new_by refilled at cycles address waited why) all) (event_by refilled at cycles address waited why)
+  by_have all refilled at address waited None is = is
+  by_have all refilled at address waited (Some why) is =
+      kept.newest all _ (made_new (P all) refilled cycles at address why waited is)
 
-  by_still : (all : List Event) (at : Point) (address : Option ℕ) (event : Event) (why : Option Cause) → P all event
-      → (other : Event) → P all other → P (with_events (new_by at cycles address event why) all) other
-  by_still all at address event None is other held = held
-  by_still all at address event (Some why) is other held =
-      kept.others all _ other (made_new (P all) cycles at address why event is) held
+  by_still : (all : List Event) (refilled : Bool) (at : Point) (address : Option ℕ) (waited : Wait) (why : Option Cause) → P all waited.event
+      → (other : Event) → P all other → P (with_events (new_by refilled at cycles address waited why) all) other
+  by_still all refilled at address waited None is other held = held
+  by_still all refilled at address waited (Some why) is other held =
+      kept.others all _ other (made_new (P all) refilled cycles at address why waited is) held
 
-  pub wait_has : (all : List Event) (at : Point) (address : Option ℕ) (waited : Wait) → P all waited.event
-      → P (with_events (new_from at cycles address waited) all) (event_from at cycles address waited)
-  wait_has all at address waited is = by_have all at address waited.event waited.cause is
+  pub wait_has : (all : List Event) (refilled : Bool) (at : Point) (address : Option ℕ) (waited : Wait) → P all waited.event
+      → P (with_events (new_from refilled at cycles address waited) all) (event_from refilled at cycles address waited)
+  wait_has all refilled at address waited is = by_have all refilled at address waited waited.cause is
 
-  pub wait_still : (all : List Event) (at : Point) (address : Option ℕ) (waited : Wait) → P all waited.event
-      → (other : Event) → P all other → P (with_events (new_from at cycles address waited) all) other
-  wait_still all at address waited is = by_still all at address waited.event waited.cause is
+  pub wait_still : (all : List Event) (refilled : Bool) (at : Point) (address : Option ℕ) (waited : Wait) → P all waited.event
+      → (other : Event) → P all other → P (with_events (new_from refilled at cycles address waited) all) other
+  wait_still all refilled at address waited is = by_still all refilled at address waited waited.cause is

@@ -31,7 +31,6 @@ before-leads root cycles all event new = subst (ComesTo root all) (sym new.befor
 
 pub leads_kept : (cycles : ℕ) (root : Option Point) → IsKept cycles (Leads root)
 leads_kept cycles root = record {
-  refilled = λ all reason event is. is;
   newest = λ all event new.
       come-found root all event (is_point event.at event.at) (is_point-same event.at) (before-leads root cycles all event new);
   others = λ all event other new is. come-push root all event (Some other.at) (before-leads root cycles all event new) is;

@@ -24,7 +24,6 @@ InTime cycles all event = AreInTime cycles all × IsWithin cycles event
 -- that is so with each new event
 in_time_kept : (cycles : ℕ) → IsKept cycles (InTime cycles)
 in_time_kept cycles = record {
-  refilled = λ all reason event is. is;
   newest = λ all event new. (put all event new, omega (arith, new.cycle));
   others = λ all event other new is. (put all event new, is.1);
 } where

@@ -16,7 +16,7 @@ use Rattle.rv_path.specs.Holding.{drain_kept, drain_of, holds_now, port_kept}
 use Rattle.rv_path.specs.Leaving.{is_interrupted, leaving_of}
 use Rattle.rv_path.specs.Moving.{all_moved}
 use Rattle.rv_path.specs.Path.{Known, before_next, known_in, known_of, made_in, still_in_flight, with_fetched}
-use Rattle.rv_path.specs.Setting.{Setting}
+use Rattle.rv_path.specs.Setting.{Setting, is_refilled}
 use Rattle.rv_path.specs.WaitingStores.{still_waiting}
 use Rattle.rv_view.specs.declared.shown_cycle.ShownCycle.{ShownCycle}
 use Rattle.rv_path.specs.declared.{before.Before.Before, before.UnitHold.UnitHold, event.Event.Event, path.Path.Path, point.Point.Point, seeing.Seen.Seen, way.Way.Way, window.Window.Window}
@@ -74,6 +74,7 @@ before_with number steps seen before = record {
   drain = option_or (drain_of seen.port) (drain_kept number before.drain);
   facts = seen.facts;
   waiting = still_waiting steps (is_some (drain_of seen.port)) before.waiting;
+  refilled = seen.refilled;
 }
 
 -- what a cycle brings, where the events of the instructions that were in flight before it stand so after it
@@ -102,6 +103,7 @@ setting_by cycle holds before = record {
   rows = cycle.rows.now;
   holds = holds;
   before = before;
+  refilled = is_refilled cycle.number cycle.rows.now before;
 }
 
 abbrev pub setting_shown : ShownCycle → Known → Setting

@@ -1,5 +1,5 @@
 -- The path that leads to each event of a run: what is known of it between two cycles, and what a cycle makes of that.
-use Rattle.std.specs.Prelude.{◌≡◌, ℕ, ◌-◌, ◌≤◌, Bool, if◌then◌else◌, List, [], ◌∷◌, ◌++◌, drop, length, replicate, Option, Some, None, is_some}
+use Rattle.std.specs.Prelude.{◌≡◌, ℕ, ◌-◌, ◌≤◌, Bool, true, if◌then◌else◌, List, [], ◌∷◌, ◌++◌, drop, length, replicate, Option, Some, None, is_some}
 use Rattle.std.specs.List.{fold}
 use Rattle.std.specs.Option.{option_or}
 use Rattle.rv_core.specs.Ties.{queue_of}
@@ -12,12 +12,12 @@ use Rattle.rv_passage.specs.Walk.{FollowedCycle, walk}
 use Rattle.rv_passage.specs.declared.passage.Passage.{Passage}
 use Rattle.rv_path.specs.Account.{Accounted, account_of}
 use Rattle.rv_path.specs.Before.{facts_of}
-use Rattle.rv_path.specs.Event.{event_after, nothing_yet, with_events}
+use Rattle.rv_path.specs.Event.{event_from, nothing_yet, refilled_after, waits, with_events}
 use Rattle.rv_path.specs.Fetching.{fetch_event, new_fetch}
 use Rattle.rv_path.specs.Holding.{drain_begun, drain_kept, holds_now, port_event, port_kept, port_taken}
 use Rattle.rv_path.specs.Leaving.{interrupt_event, is_interrupted, leaving_of, left_events, newly_left}
 use Rattle.rv_path.specs.Moving.{all_moved, all_new}
-use Rattle.rv_path.specs.Setting.{Setting, last_left}
+use Rattle.rv_path.specs.Setting.{Setting, is_refilled, last_left}
 use Rattle.rv_path.specs.WaitingStores.{still_waiting, with_queue}
 use Rattle.rv_path.specs.Walk.{path_to}
 use Rattle.rv_path.specs.Way.{way_from}
@@ -38,7 +38,7 @@ abbrev pub known_at : Hardware → Known
 known_at first = record {
   ways = replicate (length (table_at first).rows) (way_from nothing_yet);
   holds = [];
-  before = record { left = None; port = None; drain = None; facts = facts_of first; waiting = with_queue (queue_of first).stores [] };
+  before = record { left = None; port = None; drain = None; facts = facts_of first; waiting = with_queue (queue_of first).stores []; refilled = true };
   events = nothing_yet ∷ [];
 }
 
@@ -51,6 +51,7 @@ setting_in number elapsed rows after known = record {
   rows = rows;
   holds = known.holds;
   before = known.before;
+  refilled = is_refilled number rows known.before;
 }
 
 -- so many words that one event fetched, if some were
@@ -85,6 +86,7 @@ before_next s ways steps after leaving = record {
   drain = option_or (drain_begun s leaving (facts_of after)) (drain_kept s.number s.before.drain);
   facts = facts_of after;
   waiting = still_waiting steps (is_some (drain_begun s leaving (facts_of after))) s.before.waiting;
+  refilled = refilled_after s.refilled (fetch_event s ways (is_interrupted steps) leaving after);
 }
 
 -- an interrupt that was taken is an event, and so is the start of a drain or of a write-back of lines
@@ -131,7 +133,8 @@ known_of first cycles = fold known_after (known_at first) cycles
 
 -- the end of a run of so many cycles, which comes after the last event
 abbrev pub end_of : ℕ → Before → Event
-end_of cycles before = event_after (record { stage = stage.End; number = 0 }) cycles None cause.AfterLast (last_left before.left)
+end_of cycles before =
+    event_from true (record { stage = stage.End; number = 0 }) cycles None (waits cause.AfterLast (last_left before.left))
 
 -- the path to it
 abbrev pub path_of : ℕ → Known → List Event

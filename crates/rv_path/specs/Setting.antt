@@ -1,15 +1,19 @@
 -- What stands when a cycle begins, with what its instructions came to by its end; and what several events of it may have waited for.
-use Rattle.std.specs.Prelude.{ℕ, ◌+◌, ◌==◌, ◌&&◌, not, Bool, false, if◌then◌else◌, List, Option, Some, None}
+use Rattle.std.specs.Prelude.{ℕ, ◌+◌, ◌==◌, ◌&&◌, ◌||◌, not, Bool, false, if◌then◌else◌, List, Option, Some, None}
+use Rattle.std.specs.List.{list_any}
 use Rattle.std.specs.Option.{option_or}
 use Rattle.rv_isa.specs.declared.{values.Values.Values}
+use Rattle.rv_passage.specs.Result.{issued_in}
 use Rattle.rv_passage.specs.declared.passage.Passage.{Passage}
 use Rattle.rv_path.specs.Before.{is_same_holder, port_cause}
 use Rattle.rv_path.specs.Event.{Wait, event_from, new_from, nothing_yet, waits}
+use Rattle.rv_path.specs.Sought.{is_at, is_end}
 use Rattle.rv_path.specs.declared.{before.Before.Before, before.DrainHold.DrainHold, before.Holder.Holder, before.Left.Left, before.PortHold.PortHold, before.UnitHold.UnitHold, cause.Cause.Cause, event.Event.Event, point.Point.Point, point.Stage.Stage, scene.Scene.Scene}
 use Rattle.rv_path.specs.declared.cause.Cause.TheVariants as cause
 
 -- The number of the cycle, and how many there were before it; what the description says; the instructions as they stand at its end; who
--- holds units that are not pipelined; and all else that is known when the cycle begins. Their events stand beside it, as they come.
+-- holds units that are not pipelined; all else that is known when the cycle begins; and whether by its end an instruction was issued or left
+-- the hardware since fetch began anew. Their events stand beside it, as they come.
 pub record Setting : Type 0 where
   pub number : ℕ
   pub elapsed : ℕ
@@ -17,6 +21,7 @@ pub record Setting : Type 0 where
   pub rows : List Passage
   pub holds : List UnitHold
   pub before : Before
+  pub refilled : Bool
 
 -- that of a scene
 abbrev pub setting_of : Scene → Setting
@@ -27,11 +32,20 @@ setting_of scene = record {
   rows = scene.rows.now;
   holds = scene.holds.now;
   before = scene.before.now;
+  refilled = scene.refilled;
 }
+
+-- an instruction is issued in a cycle, or leaves the hardware
+abbrev pub ends_refill : ℕ → Passage → Bool
+ends_refill number p = is_at number (issued_in p) || is_end p.ending
+
+-- by the end of a cycle with these rows, one was or did since fetch began anew
+abbrev pub is_refilled : ℕ → List Passage → Before → Bool
+is_refilled number rows before = before.refilled || list_any (ends_refill number) rows
 
 -- the event of the cycle at a point, of an address, by what it waited for
 abbrev pub made : Setting → Point → Option ℕ → Wait → Event
-made s at address waited = event_from at s.elapsed address waited
+made s at address waited = event_from s.refilled at s.elapsed address waited
 
 -- that of an instruction
 abbrev pub made_of : Setting → Stage → Passage → Wait → Event
@@ -39,7 +53,7 @@ made_of s stage p waited = made s (record { stage = stage; number = p.number }) 
 
 -- the same where it is new
 abbrev pub new_of : Setting → Stage → Passage → Wait → List Event
-new_of s stage p waited = new_from (record { stage = stage; number = p.number }) s.elapsed (Some p.pc) waited
+new_of s stage p waited = new_from s.refilled (record { stage = stage; number = p.number }) s.elapsed (Some p.pc) waited
 
 -- the hold of the port, if it ended when the cycle began
 abbrev pub hold_ended : Setting → Option PortHold → Option PortHold

@@ -74,6 +74,8 @@ pub(crate) struct Before {
     pub(crate) drain: Option<DrainHold>,
     pub(crate) facts: Facts,
     pub(crate) waiting: WaitingStores,
+    /// Whether an instruction was issued or left the hardware since fetch began anew.
+    pub(crate) refilled: bool,
 }
 
 /// Whether a store has retired, and its access to the cache did not begin.

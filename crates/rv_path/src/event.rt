@@ -1,6 +1,6 @@
 ghost use Rattle.std.specs.Prelude.{◌≡◌, ◌+◌, ◌≤◌, ◌++◌, is_some, length, vec_capacity};
 ghost use Rattle.std.specs.Option.{option_to_list};
-ghost use Rattle.rv_path.specs.Event.{again, anew, ends_with, event_after, event_by, event_from, event_if, goes_on_through, named_after, refilling, waits};
+ghost use Rattle.rv_path.specs.Event.{again, anew, ends_with, event_after, event_from, event_if, goes_on_through, named_after, refill_of, refill_past, refilled_after, waits};
 
 use crate::cause::Cause;
 use crate::claim::Claim;
@@ -17,7 +17,7 @@ pub(crate) struct Event {
     pub(crate) before: Option<Point>,
     /// On whose account the cycles between the two are.
     pub(crate) reason: Reason,
-    /// Why the fetch began anew, from there to the first issue or commit.
+    /// Why the fetch began anew, while no instruction was issued and none left the hardware since.
     pub(crate) refill: Option<Reason>,
 }
 
@@ -34,11 +34,11 @@ pub(crate) struct Waited<'a> {
 }
 
 impl<'a> Model for Waited<'a> {
-    ghost use Rattle.rv_path.specs.Event.{Wait, refilling_by};
+    ghost use Rattle.rv_path.specs.Event.{Wait};
 
     ghost Value = { Wait };
 
-    ghost view = { λ waited. record { event = refilling_by waited.anew waited.event.now; cause = waited.cause } };
+    ghost view = { λ waited. record { event = waited.event.now; anew = waited.anew; cause = waited.cause } };
 }
 
 // A refill goes on with the fetch and the dispatch of words.
@@ -48,7 +48,7 @@ fn goes_on_through(stage: Stage) -> bool
     matches!(stage, Stage::Fetch | Stage::Dispatch)
 }
 
-// It ends with the first issue or commit, whose wait it still is.
+// A wait of an issue or a commit may be one, too.
 fn ends_with(stage: Stage) -> bool
     ensures { result ≡ ends_with stage }
 {
@@ -82,58 +82,6 @@ impl Event {
         let is = Claim::of(reason.cause).is_so(&self.at, self.cycle, &at, cycle);
         let cause = if is { reason.cause } else { Cause::Other };
         Reason { cause, ..reason }
-    }
-
-    // The one of a point after so many cycles, of an address, that waited last for this one.
-    fn then(&self, at: Point, cycle: u64, address: Option<u32>, cause: Cause) -> Event
-        ensures { result ≡ event_after at cycle address cause self.now }
-    {
-        let own = Reason { cause, address };
-        let reason = match self.refill {
-            Some(refill) if ends_with(at.stage) => refill,
-            _ => own,
-        };
-        let refill = if goes_on_through(at.stage) {
-            self.refill
-        } else {
-            None
-        };
-        Event {
-            at,
-            cycle,
-            before: Some(self.at),
-            reason: self.named(at, cycle, reason),
-            refill,
-        }
-    }
-
-    // The same, or this one again, after this one as one with which the fetch began anew, which is rare.
-    #[inline(never)]
-    fn by_anew(
-        &self,
-        anew: Reason,
-        at: Point,
-        cycle: u64,
-        address: Option<u32>,
-        cause: Option<Cause>,
-    ) -> Event
-        ensures { result ≡ event_by at cycle address (refilling anew self.now) cause }
-    {
-        let event = self.refilling(anew);
-        match cause {
-            Some(cause) => event.then(at, cycle, address, cause),
-            None => event,
-        }
-    }
-
-    /// The same, as one with which the fetch began anew.
-    pub(crate) fn refilling(self, reason: Reason) -> Event
-        ensures { result ≡ refilling reason self }
-    {
-        Event {
-            refill: Some(reason),
-            ..self
-        }
     }
 }
 
@@ -178,17 +126,70 @@ impl<'a> Waited<'a> {
         self.cause.is_some()
     }
 
-    /// The event at a point after so many cycles, of an address.
-    pub(crate) fn event(&self, at: Point, cycle: u64, address: Option<u32>) -> Event
-        ensures { result ≡ event_from at cycle address self.now }
+    // The refill in which it waited.
+    fn refill(&self) -> Option<Reason>
+        ensures { result ≡ refill_of self.now }
     {
-        if let Some(reason) = self.anew {
-            return self.event.by_anew(reason, at, cycle, address, self.cause);
+        match self.anew {
+            Some(reason) => Some(reason),
+            None => self.event.refill,
         }
+    }
+
+    // The one that goes on past it.
+    fn refill_past(&self, refilled: bool, stage: Stage) -> Option<Reason>
+        ensures { result ≡ refill_past refilled stage self.now }
+    {
+        if goes_on_through(stage) && (self.anew.is_some() || !refilled) {
+            self.refill()
+        } else {
+            None
+        }
+    }
+
+    // The event at a point after so many cycles, of an address, that waited for this cause.
+    fn then(
+        &self,
+        refilled: bool,
+        at: Point,
+        cycle: u64,
+        address: Option<u32>,
+        cause: Cause,
+    ) -> Event
+        ensures { result ≡ event_after refilled at cycle address cause self.now }
+    {
+        let own = Reason { cause, address };
+        let reason = match self.refill() {
+            Some(refill) if ends_with(at.stage) => refill,
+            _ => own,
+        };
+        Event {
+            at,
+            cycle,
+            before: Some(self.event.at),
+            reason: self.event.named(at, cycle, reason),
+            refill: self.refill_past(refilled, at.stage),
+        }
+    }
+
+    /// The same, or the one that it is again. By the end of the cycle an instruction was issued or left since fetch began anew, or none.
+    pub(crate) fn event(&self, refilled: bool, at: Point, cycle: u64, address: Option<u32>) -> Event
+        ensures { result ≡ event_from refilled at cycle address self.now }
+    {
         match self.cause {
-            Some(cause) => self.event.then(at, cycle, address, cause),
+            Some(cause) => self.then(refilled, at, cycle, address, cause),
             None => *self.event,
         }
+    }
+}
+
+/// Whether an instruction was issued or left since fetch began anew, after a cycle in which words were fetched by an event, if some were.
+pub(crate) fn refilled_after(refilled: bool, fetch: &Option<Event>) -> bool
+    ensures { result ≡ refilled_after refilled fetch.now }
+{
+    match fetch {
+        Some(fetch) => refilled && fetch.refill.is_none(),
+        None => refilled,
     }
 }
 

@@ -94,6 +94,7 @@ impl Path {
                 drain: None,
                 facts,
                 waiting: WaitingStores::of(pipeline.store_queue()),
+                refilled: true,
             },
             seen: Seen::nothing(facts),
             window,
@@ -246,6 +247,7 @@ impl Path {
         self.before.facts = self.seen.facts;
         let drains = begins_drain(&self.seen.port);
         self.before.waiting.follow(steps, drains);
+        self.before.refilled = self.seen.refilled;
     }
 
     // How many at the front are forgotten with those that left the hardware, if the others may stay where they are.
@@ -333,5 +335,5 @@ fn end_of(cycles: u64, before: &Before) -> Event
         stage: Stage::End,
         number: 0,
     };
-    Waited::after(last_left(&before.left), Cause::AfterLast).event(at, cycles, None)
+    Waited::after(last_left(&before.left), Cause::AfterLast).event(true, at, cycles, None)
 }

@@ -1,11 +1,12 @@
 ghost use Rattle.std.specs.Prelude.{◌≡◌, option_copied};
-ghost use Rattle.rv_path.specs.Setting.{is_hold_of, last_left, since_left};
+ghost use Rattle.std.specs.List.{list_any};
+ghost use Rattle.rv_path.specs.Setting.{ends_refill, is_hold_of, is_refilled, last_left, since_left};
 
 use crate::before::{Before, Holder, Left, PortHold, UnitHold};
 use crate::cause::Cause;
 use crate::event::{BEGIN, Event, Waited};
 use crate::point::{Point, Stage};
-use crate::sought::is_just_before;
+use crate::sought::{is_at, is_end, is_just_before};
 use rv_isa::Values;
 use rv_passage::Passage;
 
@@ -22,6 +23,27 @@ pub(crate) struct Scene<'a> {
     /// Who holds units that are not pipelined.
     pub(crate) holds: &'a [UnitHold],
     pub(crate) before: &'a Before,
+    /// Whether by its end an instruction was issued or left the hardware since fetch began anew.
+    pub(crate) refilled: bool,
+}
+
+// Whether one of some instructions is issued in a cycle, or leaves the hardware.
+fn ends_refill(number: u64, rows: &[Passage]) -> bool
+    ensures { result ≡ list_any (ends_refill number) rows.now }
+{
+    match rows {
+        [] => false,
+        [row, rest @ ..] => {
+            is_at(number, row.issued()) || is_end(row.ending) || ends_refill(number, rest)
+        }
+    }
+}
+
+/// Whether by the end of a cycle one was issued or left since fetch began anew.
+pub(crate) fn is_refilled(number: u64, rows: &[Passage], before: &Before) -> bool
+    ensures { result ≡ is_refilled number rows.now before.now }
+{
+    before.refilled || ends_refill(number, rows)
 }
 
 // Whether a hold is that of an instruction.
@@ -41,7 +63,7 @@ impl<'a> Scene<'a> {
     pub(crate) fn made(&self, at: Point, address: Option<u32>, waited: &Waited<'_>) -> Event
         ensures { result ≡ made (setting_of self.now) at address waited.now }
     {
-        waited.event(at, self.elapsed, address)
+        waited.event(self.refilled, at, self.elapsed, address)
     }
 
     /// That of an instruction.
@@ -49,7 +71,12 @@ impl<'a> Scene<'a> {
         ensures { result ≡ made_of (setting_of self.now) stage row.now waited.now }
     {
         let number = row.number;
-        waited.event(Point { stage, number }, self.elapsed, Some(row.pc))
+        waited.event(
+            self.refilled,
+            Point { stage, number },
+            self.elapsed,
+            Some(row.pc),
+        )
     }
 
     /// The hold of the port, if it ended when the cycle began.

@@ -7,13 +7,13 @@ ghost use Rattle.rv_path.specs.Path.{before_next, interrupt_taken, made_in, new_
 ghost use Rattle.rv_path.specs.Setting.{made_of, new_of, setting_of};
 
 use crate::before::{Before, Facts, Left, PortHold, UnitHold};
-use crate::event::{Event, Waited, push_event, push_event_if};
+use crate::event::{Event, Waited, push_event, push_event_if, refilled_after};
 use crate::fetching::{fetch_wait, handler_wait};
 use crate::holding::{is_taken, port_event, taken_by};
 use crate::leaving::{Leaving, interrupt_event, is_interrupted, newly_left};
 use crate::moving::move_all;
 use crate::point::Stage;
-use crate::scene::Scene;
+use crate::scene::{Scene, is_refilled};
 use crate::way::Way;
 use rv_core::Pipeline;
 use rv_hardware::Step;
@@ -29,18 +29,21 @@ pub(crate) struct Seen {
     pub(crate) facts: Facts,
     /// The event by which words were fetched, if some were.
     pub(crate) fetch: Option<Event>,
+    /// Whether an instruction was issued or left since fetch began anew.
+    pub(crate) refilled: bool,
 }
 
 impl Seen {
     /// Nothing, where the hardware shows this.
     pub(crate) fn nothing(facts: Facts) -> Seen
-        ensures { result ≡ record { left = None; port = None; facts = facts; fetch = None } }
+        ensures { result ≡ record { left = None; port = None; facts = facts; fetch = None; refilled = true } }
     {
         Seen {
             left: None,
             port: None,
             facts,
             fetch: None,
+            refilled: true,
         }
     }
 }
@@ -233,6 +236,7 @@ fn notice(
         &mut seen.fetch,
         events,
     );
+    seen.refilled = refilled_after(scene.refilled, &seen.fetch);
 }
 
 // Adds the events of the cycle to those of the instructions that were in flight before it, appends all new ones, and sees what the cycle
@@ -268,6 +272,7 @@ fn scene_of<'a>(cycle: &ShownCycle<'a>, holds: &'a [UnitHold], before: &'a Befor
         rows: cycle.rows,
         holds,
         before,
+        refilled: is_refilled(cycle.number, cycle.rows, before),
     }
 }
 

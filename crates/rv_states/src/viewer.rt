@@ -5,7 +5,7 @@ pub(crate) const BEFORE: &[u8] = br#"<!DOCTYPE html>
 <html lang="en">
 <head>
 <meta charset="utf-8">
-<meta http-equiv="Content-Security-Policy" content="default-src 'none'; script-src 'sha256-OZ/jRNEDezB9oF35a+2w1UBVnhBfVOAspBdSPpiCOv4='; style-src 'sha256-GPCyShncOqn8lQqPPv8BVc0LVw4uR+PINRuIegbju/I='; img-src data:; frame-src 'self' file:; base-uri 'none'; form-action 'none'">
+<meta http-equiv="Content-Security-Policy" content="default-src 'none'; script-src 'sha256-T9uGUrVekvNG0iXBl47E/IVmAfA8c1pfDlgTqfFaZ+c='; style-src 'sha256-GPCyShncOqn8lQqPPv8BVc0LVw4uR+PINRuIegbju/I='; img-src data:; frame-src 'self' file:; base-uri 'none'; form-action 'none'">
 <meta name="viewport" content="width=device-width, initial-scale=1">
 <title>rv_sim: a run, cycle by cycle</title>
 <style>
@@ -1170,17 +1170,27 @@ class Account {
   // Why the fetch began anew before an event, where no instruction issued or left since.
   refillTo(event) {
     const passed = [];
-    let found = "";
-    for (let at = event; at.kind === "fetch" || at.kind === "dispatch";) {
+    let found = "", at = event;
+    while (at.kind === "fetch" || at.kind === "dispatch") {
       const wait = this.path.before(at);
       if (at.refill !== undefined) { found = at.refill; break; }
       passed.push(at);
-      if (!wait) break;
-      if (wait.cause.startsWith("refill")) { found = wait.cause; break; }
+      if (wait && wait.cause.startsWith("refill")) found = wait.cause;
+      if (!wait || found) break;
       at = wait.event;
     }
-    for (const each of passed) each.refill = found;
+    for (const each of passed.reverse()) {
+      if (found && this.goesOnBetween(at.at, each.at)) found = "";
+      each.refill = found;
+      at = each;
+    }
     return found;
+  }
+
+  // Whether an instruction issued or left in the cycles after one up to another.
+  goesOnBetween(from, to) {
+    for (let cycle = from + 1; cycle <= to; cycle += 1) if (this.path.here(cycle).phases.issue.length || this.path.left(cycle).length) return true;
+    return false;
   }
 
   // The cycles of the page from the first to the last, each with the step that it belongs to; after the last step there is none.

@@ -60,17 +60,27 @@ class Account {
   // Why the fetch began anew before an event, where no instruction issued or left since.
   refillTo(event) {
     const passed = [];
-    let found = "";
-    for (let at = event; at.kind === "fetch" || at.kind === "dispatch";) {
+    let found = "", at = event;
+    while (at.kind === "fetch" || at.kind === "dispatch") {
       const wait = this.path.before(at);
       if (at.refill !== undefined) { found = at.refill; break; }
       passed.push(at);
-      if (!wait) break;
-      if (wait.cause.startsWith("refill")) { found = wait.cause; break; }
+      if (wait && wait.cause.startsWith("refill")) found = wait.cause;
+      if (!wait || found) break;
       at = wait.event;
     }
-    for (const each of passed) each.refill = found;
+    for (const each of passed.reverse()) {
+      if (found && this.goesOnBetween(at.at, each.at)) found = "";
+      each.refill = found;
+      at = each;
+    }
     return found;
+  }
+
+  // Whether an instruction issued or left in the cycles after one up to another.
+  goesOnBetween(from, to) {
+    for (let cycle = from + 1; cycle <= to; cycle += 1) if (this.path.here(cycle).phases.issue.length || this.path.left(cycle).length) return true;
+    return false;
   }
 
   // The cycles of the page from the first to the last, each with the step that it belongs to; after the last step there is none.

@@ -105,7 +105,7 @@ class Known:
             found.append((event, *before, max(0, self.at(event) - self.at(before[0]))))
             event = before[0]
         found.reverse()
-        steps = [(*step[:2], cause) for step, (_, cause, _) in zip(found, rules.refilled(found))]
+        steps = [(*step[:2], cause) for step, (_, cause, _) in zip(found, self.path.refilled(found))]
         return [(event, before, cause, max(self.first, self.at(before)), self.at(event)) for event, before, cause in steps]
 
     def cause_of(self, event):

@@ -73,6 +73,6 @@ returns-clause-items c =
     let it = c.in-Some.row.now in
     let new =
     (λ i. event_if (c.is_new.ensures i) (c.made_of-event.ensures i))
-    ∙ new_if (record { stage = inside.stage; number = it.number }) s.elapsed (Some it.pc) inside.waited
+    ∙ new_if s.refilled (record { stage = inside.stage; number = it.number }) s.elapsed (Some it.pc) inside.waited
     ∙ (λ i. new_of s (view i).stage it (view i).waited) ∙ sym here in
     c.push_event_if.ensures.items ∙ ap (λ (es : List Event). c.args.events.now.items ++ es) new
