@@ -13,11 +13,13 @@ use Rattle.rv_path.specs.Account.{Accounted}
 use Rattle.rv_source.specs.Listing.{Listed}
 use Rattle.rv_explain.specs.Explanation.{IsExplanation, IsTold, explanation}
 use Rattle.rv_sentences.specs.Head.{accounts_of, itself}
+use Rattle.rv_sentences.specs.Stay.{awaited_of}
 use Rattle.rv_sentences.specs.Work.{word_in}
 use Rattle.rv_explain.specs.declared.{figures.Figures.Figures, tale.Tale.Tale}
 use Rattle.rv_sentences.specs.declared.work.Class.TheVariants.{Branch, Mispredicted}
 use Rattle.rv_sentences.proofs.AccountsGrow.{length-accounts}
 use Rattle.rv_sentences.proofs.CountSums.{counted_within}
+use Rattle.rv_sentences.proofs.StaysGrow.{length-awaited}
 use Rattle.rv_passage.proofs.EndedRun.{length-reports_of}
 
 pub explained : (arrivals : List Arrival) (limit : ℕ) (figures : Figures) (values : Values) (path : Option Accounted) (listing : Listed) (old new : GuidedHardware) (stop : Stop) (progress : Progress) (fetched : ℕ) (tale : Tale)
@@ -37,6 +39,13 @@ pub heads_counted : (arrivals : List Arrival) (limit : ℕ) (values : Values) (o
 heads_counted arrivals limit values old new stop progress fetched tale told =
     let heads = counted_within itself values (accounts_of old.hardware told.moments) in
     omega (arith, heads, length-accounts old.hardware told.moments, ap (λ (t : Tale). sum t.heads.words) told.kept, ap (λ (p : Progress). p.cycles) told.counted, length-reports_of told.moments)
+
+-- in no more cycles a word was awaited
+pub awaited_counted : (arrivals : List Arrival) (limit : ℕ) (values : Values) (old new : GuidedHardware) (stop : Stop) (progress : Progress) (fetched : ℕ) (tale : Tale)
+    → IsTold arrivals limit values old new stop progress fetched tale → sum tale.awaited.words ≤ progress.cycles
+awaited_counted arrivals limit values old new stop progress fetched tale told =
+    let awaited = counted_within itself values (awaited_of old.hardware told.moments) in
+    omega (arith, awaited, length-awaited old.hardware told.moments, ap (λ (t : Tale). sum t.awaited.words) told.kept, ap (λ (p : Progress). p.cycles) told.counted, length-reports_of told.moments)
 
 -- no more branches and jumps retired, and were mispredicted, than words were fetched
 pub branches_counted : (arrivals : List Arrival) (limit : ℕ) (values : Values) (old new : GuidedHardware) (stop : Stop) (progress : Progress) (fetched : ℕ) (tale : Tale)

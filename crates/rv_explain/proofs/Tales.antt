@@ -1,6 +1,6 @@
 -- What is kept of a run, with one cycle more.
 use Rattle.std.proofs.Common.{◌≡◌, ◌∙◌, ℕ, ◌+◌, ◌*◌, ◌^◌, ◌≤◌, ◌==◌, List, [], ◌∷◌, ◌++◌, length, count_by, filter, Option, Some, None, cond, Bool, true, false, refl, sym, ap, arith, append-nil}
-use Rattle.std.specs.Prelude.{is_some, sum}
+use Rattle.std.specs.Prelude.{is_some}
 use Rattle.std.specs.List.{cons_option, filter_map}
 use Rattle.std.specs.Option.{option_to_list}
 use Rattle.std.proofs.lemmas.List.Elements.{filter_map-append}
@@ -31,7 +31,7 @@ use Rattle.rv_sentences.specs.LastStore.{last_store_to, stores_in, stores_of}
 use Rattle.rv_sentences.specs.Load.{retired_load_cost}
 use Rattle.rv_explain.specs.Tale.{HasRoom, tale_after, tale_of}
 use Rattle.rv_counts.specs.Places.{all_places, places_in, places_of}
-use Rattle.rv_sentences.specs.Stay.{all_stays, awaited_word, no_stays, stays_of, with_stays}
+use Rattle.rv_sentences.specs.Stay.{all_stays, awaited_of, no_stays, stays_of, with_stays}
 use Rattle.rv_sentences.specs.WordCount.{count_at}
 use Rattle.rv_sentences.specs.WordNotes.{notes_of}
 use Rattle.rv_sentences.specs.Work.{is_mispredicted_branch, is_retired_branch, word_in}
@@ -48,7 +48,7 @@ use Rattle.rv_sentences.proofs.OutcomesGrow.{can_take, outcomes-left}
 use Rattle.rv_counts.proofs.PlacesGrow.{places_of-push}
 use Rattle.rv_sentences.proofs.AccountsGrow.{flusher-push, heads-push, idle-push, length-accounts}
 use Rattle.rv_sentences.proofs.RaisedGrows.{raised-push}
-use Rattle.rv_sentences.proofs.StaysGrow.{awaited-push, stays-push}
+use Rattle.rv_sentences.proofs.StaysGrow.{awaited-push, length-awaited, stays-push}
 use Rattle.rv_sentences.proofs.Works.{branch_words-left, loads-left, mispredicted_words-left, work-left}
 
 kept_after-push : (es : List Exception) (o : Option Exception) → kept_after o (kept_of es) ≡ kept_of (es ++ cons_option o [])
@@ -153,12 +153,11 @@ module _ (values : Values) where
   -- the steps of one more cycle can be counted
   pub has_room : (arrivals : List Arrival) (h : Hardware) (moments : List Moment) (left : List Passage) (more rows : ℕ) → length (steps_of (reports_of moments)) ≤ 8 * 2 ^ 40 → length moments ≤ 2 ^ 40
       → all_places (places_of h moments) ≤ 8 * 2 ^ 40 + 256 → length left ≤ 576 * 2 ^ 40 → more ≤ 8 → rows ≤ 576 → all_stays (with_stays (stays_of h moments) no_stays) ≤ 576 * 2 ^ 40
-      → sum (notes_of values (count_at awaited_word (stays_of h moments))).words ≤ 576 * 2 ^ 40
       → HasRoom (tale_of values arrivals h moments left) more rows
-  has_room arrivals h moments left more rows few within placed fewer little some few_stays few_awaited = record {
+  has_room arrivals h moments left more rows few within placed fewer little some few_stays = record {
     dispatches = omega (arith, dispatched_after-le (steps_of (reports_of moments)) none_dispatched, few, little);
     stays = omega (arith, few_stays, some);
-    awaited = omega (arith, few_awaited, some);
+    awaited = omega (arith, counted_within itself values (awaited_of h moments), length-awaited h moments, within);
     places = omega (arith, placed);
     retired = omega (arith, count_by-le-length is_retirement (steps_of (reports_of moments)), few, little);
     exceptions = kept_counted (exceptions_of moments) (omega (arith, length-filter_map exception_of_cycle moments, within));

@@ -5,7 +5,7 @@ use Rattle.rv_isa.specs.declared.lines.{Arrival.Arrival, Lines.Lines}
 use Rattle.rv_isa.specs.PerKind.{at_kind}
 use Rattle.rv_isa.specs.declared.operations.Kind.TheVariants.{Mem}
 use Rattle.rv_units.specs.Pool.{is_free}
-use Rattle.std.specs.Prelude.{sum, true}
+use Rattle.std.specs.Prelude.{true}
 use Rattle.rv_isa.specs.declared.values.Values.{Values}
 use Rattle.rv_arch.specs.declared.outcome.Stop.{Stop}
 use Rattle.rv_core.specs.Progress.{progress_of}
@@ -30,15 +30,14 @@ use Rattle.rv_sentences.specs.Drain.{begun, drain_in}
 use Rattle.rv_explain.specs.Explanation.{IsTold}
 use Rattle.rv_explain.specs.Tale.{HasRoom, IsTelling, tale_after, tale_of}
 use Rattle.rv_counts.specs.Places.{cycle_total, places_by, places_in}
-use Rattle.rv_sentences.specs.Stay.{all_stays, awaited_word}
+use Rattle.rv_sentences.specs.Stay.{all_stays}
 use Rattle.rv_counts.specs.declared.run_places.CyclePlaces.{CyclePlaces}
 use Rattle.rv_explain.specs.declared.tale.Tale.{Tale}
 use Rattle.rv_sentences.proofs.DrainBegins.{begun_in_cycle}
 use Rattle.rv_counts.proofs.LossReasons.{lost_for}
 use Rattle.rv_counts.proofs.PlacesGrow.{add_up-push, add_up_nothing, few_seen, places_counted, places_seen}
 use Rattle.rv_counts.proofs.PlacesOfCycle.{ArePlaced, placed}
-use Rattle.rv_sentences.proofs.CountSums.{counted_within}
-use Rattle.rv_sentences.proofs.StaysGrow.{few_more_awaited, few_more_stays, stays_add_up}
+use Rattle.rv_sentences.proofs.StaysGrow.{few_more_stays, stays_add_up}
 use Rattle.rv_explain.proofs.Tales.{has_room, tale-push}
 use Rattle.rv_view.specs.Viewing.{IsNextCycle}
 use Rattle.rv_view.specs.declared.shown_cycle.ShownCycle.{ShownCycle}
@@ -53,7 +52,6 @@ telling_nothing values arrivals h tale registers end in_flight untold registers_
       untold = untold;
       told = λ by is. is;
       few_stays = omega (arith, ap (λ (t : Tale). all_stays t.stays) untold);
-      few_awaited = omega (arith, ap (λ (t : Tale). sum t.awaited.words) untold, counted_within awaited_word values []);
       registers_are = registers_are;
       end_is = end_is;
       in_flight_is = in_flight_is;
@@ -93,8 +91,7 @@ module _ {seen : Watched} {cycle : ShownCycle} (next : IsNextCycle seen cycle) {
       (omega (arith, length-reports_of seen.moments, counted, shown.number, shown.counted))
       (omega (arith, places_counted seen.first.hardware seen.moments seen.now.hardware telling.places_add_up (omega (arith, ap (λ (v : Values). v.dispatch_width) placed_now.values, placed_now.wide)) telling.few_before, length-reports_of seen.moments, counted, shown.number, shown.counted))
       (omega (arith, telling.some_left, shown.number, shown.counted)) shown.few next.few
-      (omega (arith, telling.few_stays, ap (λ (t : Tale). all_stays t.stays) (telling.told telling.values telling.untold), shown.number, shown.counted))
-      (omega (arith, telling.few_awaited, ap (λ (t : Tale). sum t.awaited.words) (telling.told telling.values telling.untold), shown.number, shown.counted)))
+      (omega (arith, telling.few_stays, ap (λ (t : Tale). all_stays t.stays) (telling.told telling.values telling.untold), shown.number, shown.counted)))
 
   -- and are told
   pub telling_on : (drain : Option ℕ) (tale' : Tale) (registers' : List ℕ) (end' : Option ℕ) (in_flight' : ℕ) (places : CyclePlaces) (lines : Lines) → lines ≡ cycle.pipeline.now.lines → places ≡ places_now → drain ≡ begun cycle.number end end'
@@ -120,7 +117,6 @@ module _ {seen : Watched} {cycle : ShownCycle} (next : IsNextCycle seen cycle) {
             tale-push by moment rows left shown.passes next.rows_are ∙
             ap (tale_of by seen.arrivals seen.first.hardware (seen.moments ++ moment ∷ [])) (sym (left-push shown.passes moment next.rows_are));
         few_stays = omega (arith, ap (λ (t : Tale). all_stays t.stays) added, few_more_stays cycle.number free true rows tale.stays, telling.few_stays, next.few, one_more);
-        few_awaited = omega (arith, ap (λ (t : Tale). sum t.awaited.words) added, few_more_awaited cycle.number free true rows tale.awaited, telling.few_awaited, next.few, one_more);
         registers_are = registers_are;
         end_is = end_is;
         in_flight_is = in_flight_is;
@@ -164,5 +160,4 @@ module _ {arrivals : List Arrival} {old new : GuidedHardware} {moments : List Mo
         stays_add_up = stays_add_up old.hardware moments;
         few = few;
         few_stays = omega (arith, telling.few_stays, within);
-        few_awaited = omega (arith, telling.few_awaited, within);
       }

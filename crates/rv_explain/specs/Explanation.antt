@@ -1,5 +1,5 @@
 -- What a run came to, in sentences.
-use Rattle.std.specs.Prelude.{◌≡◌, ℕ, ◌+◌, ◌*◌, ◌^◌, ◌<◌, ◌≤◌, List, [], ◌++◌, codes, length, sum, Option, Some, None}
+use Rattle.std.specs.Prelude.{◌≡◌, ℕ, ◌+◌, ◌*◌, ◌^◌, ◌<◌, ◌≤◌, List, [], ◌++◌, codes, length, Option, Some, None}
 use Rattle.rv_isa.specs.declared.{lines.Arrival.Arrival, values.Values.Values}
 use Rattle.rv_isa.specs.declared.csrs.Csr.TheVariants.{Mie, Mstatus}
 use Rattle.rv_arch.specs.Csr.{value_of}
@@ -49,7 +49,6 @@ pub record IsTold (arrivals : List Arrival) (limit : ℕ) (values : Values) (old
   pub stays_add_up : StaysAddUp old.hardware moments
   pub few : progress.cycles * new.hardware.values.dispatch_width < 2 ^ 64
   pub few_stays : all_stays tale.stays < 2 ^ 64
-  pub few_awaited : sum tale.awaited.words < 2 ^ 64
 
 -- the cycles, and those to each instruction
 unfoldable pub cycle_text : Progress → ℕ → List ℕ
@@ -61,26 +60,27 @@ cycle_text progress retired =
 abbrev pub untaken_lines : Hardware → Tale → List ℕ
 untaken_lines h tale = all_untaken_text tale.raised tale.interrupts (value_of h.csrs h.lines Mstatus) (value_of h.csrs h.lines Mie)
 
--- what instructions in flight waited for most, and what became of the places for dispatch
-unfoldable pub lead_text : Hardware → Progress → Tale → List ℕ
-lead_text h progress tale =
-    greatest_waits_text tale.stays ++ places_text progress.cycles h.values.dispatch_width (length h.rob.entries) tale.places
+-- what instructions in flight waited for most, the line that was awaited most, and what became of the places for dispatch
+unfoldable pub lead_text : Listed → Hardware → Progress → Tale → List ℕ
+lead_text listing h progress tale =
+    greatest_waits_text tale.stays ++ (awaited_text listing progress.cycles tale.outcomes tale.awaited ++
+    places_text progress.cycles h.values.dispatch_width (length h.rob.entries) tale.places)
 
 -- where the cycles went
 unfoldable pub cost_text : Listed → Progress → ℕ → Tale → List ℕ
 cost_text listing progress fetched tale =
     cycle_text progress tale.retired ++ (dispatches_text progress.busy tale.dispatches.cycles ++
     (work_text fetched tale.work ++ (worst_text listing tale.branches tale.mispredicted ++ (stays_text tale.stays ++
-    (awaited_text listing tale.awaited ++ (load_text tale.loads ++ (drain_text tale.drains ++
-    hotspots_text listing progress.cycles tale.idle tale.heads tale.outcomes tale.stores)))))))
+    (load_text tale.loads ++ (drain_text tale.drains ++
+    hotspots_text listing progress.cycles tale.idle tale.heads tale.outcomes tale.stores))))))
 
--- how a run ended, its exceptions, interrupts and lines never taken, its greatest waits, what became of its places for dispatch, and where its cycles went, by
+-- how a run ended, its exceptions, interrupts and lines never taken, its greatest waits and the line that was awaited most, what became of its places for dispatch, and where its cycles went, by
 -- how many words were fetched among others
 unfoldable pub whole_text : Listed → Stop → Hardware → Progress → ℕ → Tale → List ℕ
 whole_text listing stop h progress fetched tale =
     ending_text listing stop h tale.last_stores ++ (first_passed_text listing tale.exceptions.all ++
     (exceptions_text listing tale.exceptions.all tale.exceptions.kinds ++ (interrupts_text listing tale.interrupts ++
-    (untaken_lines h tale ++ (lead_text h progress tale ++ cost_text listing progress fetched tale)))))
+    (untaken_lines h tale ++ (lead_text listing h progress tale ++ cost_text listing progress fetched tale)))))
 
 -- the sentences on a run, or on the crash that stands alone
 unfoldable pub told_text : Option Exception → Listed → Stop → Hardware → Progress → ℕ → Tale → List ℕ

@@ -29,7 +29,7 @@ use Rattle.rv_sentences.specs.LastStore.{last_store_to, stores_in, stores_of, wi
 use Rattle.rv_sentences.specs.Load.{loads_of}
 use Rattle.rv_sentences.specs.Outcome.{CanTake, outcomes_at, with_passages}
 use Rattle.rv_counts.specs.Places.{AddUp, all_places, places_of, with_cycle}
-use Rattle.rv_sentences.specs.Stay.{all_stays, awaited_word, no_stays, stays_among, stays_of, with_awaited, with_stays}
+use Rattle.rv_sentences.specs.Stay.{all_stays, awaited_of, no_stays, oldest_awaited, stays_among, stays_of, with_stays}
 use Rattle.rv_sentences.specs.Untaken.{raised_of, raised_with}
 use Rattle.rv_sentences.specs.WordCount.{count_at, with_all, with_one}
 use Rattle.rv_sentences.specs.WordNotes.{notes_of}
@@ -49,7 +49,7 @@ tale_of values arrivals h moments left = record {
   places = places_of h moments;
   dispatches = dispatched_after (steps_of (reports_of moments)) none_dispatched;
   stays = with_stays (stays_of h moments) no_stays;
-  awaited = notes_of values (count_at awaited_word (stays_of h moments));
+  awaited = notes_of values (count_at itself (awaited_of h moments));
   work = work_of left;
   costs = costs_of values;
   loads = loads_of (costs_of values) left;
@@ -80,7 +80,7 @@ tale_after number registers steps places drain lines after rows tale = record {
   places = with_cycle places tale.places;
   dispatches = dispatched_after steps tale.dispatches;
   stays = with_stays (stays_among number (is_free number (at_kind Mem after.units)) true rows) tale.stays;
-  awaited = with_awaited (stays_among number (is_free number (at_kind Mem after.units)) true rows) tale.awaited;
+  awaited = with_one (oldest_awaited (stays_among number (is_free number (at_kind Mem after.units)) true rows)) tale.awaited;
   work = both_work tale.work (work_of (filter has_left rows));
   costs = tale.costs;
   loads = both tale.loads (loads_of tale.costs rows);
@@ -104,7 +104,6 @@ pub record IsTelling (first tale : Tale) (registers : List ℕ) (end : Option �
   pub untold : first ≡ tale_of_run values seen.arrivals seen.first.hardware []
   pub told : (by : Values) → first ≡ tale_of_run by seen.arrivals seen.first.hardware [] → tale ≡ tale_of_run by seen.arrivals seen.first.hardware seen.moments
   pub few_stays : all_stays tale.stays ≤ 576 * seen.now.hardware.cycle
-  pub few_awaited : sum tale.awaited.words ≤ 576 * seen.now.hardware.cycle
   pub registers_are : registers ≡ seen.now.hardware.registers
   pub end_is : end ≡ drain_end seen.now.hardware
   pub in_flight_is : in_flight ≡ length seen.now.hardware.rob.entries
@@ -118,7 +117,7 @@ pub record HasRoom (tale : Tale) (more rows : ℕ) : Type 0 where
   pub places : all_places tale.places + 264 < 2 ^ 64
   pub dispatches : tale.dispatches.cycles + more < 2 ^ 64
   pub stays : all_stays tale.stays + rows < 2 ^ 64
-  pub awaited : sum tale.awaited.words + rows < 2 ^ 64
+  pub awaited : sum tale.awaited.words + 1 < 2 ^ 64
   pub exceptions : IsCountable tale.exceptions
   pub interrupts : AreCountable tale.interrupts
   pub left : tale.work.left + rows < 2 ^ 64

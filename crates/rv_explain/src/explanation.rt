@@ -78,26 +78,25 @@ fn write_untaken_lines<W: Write>(out: &mut Sink<'_, W>, pipeline: &Pipeline, tal
     write_untaken(out, &tale.raised, &tale.interrupts, mstatus, mie);
 }
 
-// What instructions in flight waited for most, and what became of the places for dispatch.
+// What instructions in flight waited for most, the line that was awaited most, and what became of the places for dispatch.
 fn write_lead<W: Write>(
     out: &mut Sink<'_, W>,
+    listing: &Listing,
     pipeline: &Pipeline,
     progress: &Progress,
-    tale: &Tale,
+    tale: &mut Tale,
 )
     requires places { progress.now.cycles * pipeline.now.values.dispatch_width < 2 ^ 64 }
-    requires stays { all_stays tale.now.stays < 2 ^ 64 }
-    ensures { Says W.contents out.old out.new (lead_text pipeline.now progress.now tale.now) }
+    requires stays { all_stays tale.old.stays < 2 ^ 64 }
+    requires awaited { sum tale.old.awaited.words ≤ progress.now.cycles }
+    ensures text { Says W.contents out.old out.new (lead_text listing.now pipeline.now progress.now tale.old) }
+    ensures kept { tale.new ≡ record tale.old { awaited = tale.new.awaited } }
 {
     write_greatest_waits(out, &tale.stays);
+    let cycles = progress.cycles;
+    write_awaited(out, listing, cycles, &tale.outcomes, &mut tale.awaited);
     let width = u64::from(pipeline.values().dispatch_width);
-    write_places(
-        out,
-        progress.cycles,
-        width,
-        in_flight(pipeline) as u64,
-        &tale.places,
-    );
+    write_places(out, cycles, width, in_flight(pipeline) as u64, &tale.places);
 }
 
 // Where the cycles went.
@@ -112,7 +111,6 @@ fn write_costs<W: Write>(
     requires branches { sum tale.old.branches.words < 2 ^ 64 }
     requires mispredicted { sum tale.old.mispredicted.words < 2 ^ 64 }
     requires stays { all_stays tale.old.stays < 2 ^ 64 }
-    requires awaited { sum tale.old.awaited.words < 2 ^ 64 }
     ensures { Says W.contents out.old out.new (cost_text listing.now progress.now fetched tale.old) }
 {
     write_cycles(out, progress, tale.retired);
@@ -120,7 +118,6 @@ fn write_costs<W: Write>(
     write_work(out, fetched, &tale.work);
     write_worst(out, listing, &mut tale.branches, &mut tale.mispredicted);
     write_stays(out, &tale.stays);
-    write_awaited(out, listing, &mut tale.awaited);
     write_loads(out, &tale.loads);
     write_drains(out, &tale.drains);
     write_hotspots(
@@ -148,7 +145,7 @@ fn write_whole<W: Write>(
     requires branches { sum tale.old.branches.words < 2 ^ 64 }
     requires mispredicted { sum tale.old.mispredicted.words < 2 ^ 64 }
     requires stays { all_stays tale.old.stays < 2 ^ 64 }
-    requires awaited { sum tale.old.awaited.words < 2 ^ 64 }
+    requires awaited { sum tale.old.awaited.words ≤ progress.now.cycles }
     requires places { progress.now.cycles * pipeline.now.values.dispatch_width < 2 ^ 64 }
     ensures { Says W.contents out.old out.new (whole_text listing.now stop pipeline.now progress.now fetched tale.old) }
 {
@@ -157,7 +154,7 @@ fn write_whole<W: Write>(
     write_exceptions(out, listing, &tale.exceptions);
     write_interrupts(out, listing, &tale.interrupts);
     write_untaken_lines(out, pipeline, tale);
-    write_lead(out, pipeline, progress, tale);
+    write_lead(out, listing, pipeline, progress, tale);
     write_costs(out, listing, progress, fetched, tale);
 }
 
@@ -188,7 +185,7 @@ fn write_sentences<W: Write>(
     requires branches { sum tale.old.branches.words < 2 ^ 64 }
     requires mispredicted { sum tale.old.mispredicted.words < 2 ^ 64 }
     requires stays { all_stays tale.old.stays < 2 ^ 64 }
-    requires awaited { sum tale.old.awaited.words < 2 ^ 64 }
+    requires awaited { sum tale.old.awaited.words ≤ progress.now.cycles }
     requires places { progress.now.cycles * pipeline.now.values.dispatch_width < 2 ^ 64 }
     ensures { Says W.contents out.old out.new (path_text listing.now (option_copied path.entry) ++ told_text crash listing.now stop pipeline.now progress.now fetched tale.old) }
 {
@@ -216,7 +213,7 @@ fn write_told<W: Write>(
     requires branches { sum tale.old.branches.words < 2 ^ 64 }
     requires mispredicted { sum tale.old.mispredicted.words < 2 ^ 64 }
     requires stays { all_stays tale.old.stays < 2 ^ 64 }
-    requires awaited { sum tale.old.awaited.words < 2 ^ 64 }
+    requires awaited { sum tale.old.awaited.words ≤ progress.now.cycles }
     requires places { progress.now.cycles * pipeline.now.values.dispatch_width < 2 ^ 64 }
     ensures { IsWritten result (W.contents writer.old) (W.contents writer.new) (explanation figures (option_copied path.entry) listing.now stop pipeline.now progress.now fetched tale.old) }
 {
@@ -232,11 +229,10 @@ fn write_told<W: Write>(
 /// exhaustion or so many cycles, and then writes what the run came to, in plain sentences: where a path is shown, its greatest
 /// causes with their lines; how it ended, where and why,
 /// and for a stale word the last store to it; its exceptions and interrupts, and the interrupt lines that are high and were
-/// never taken; what instructions in flight waited for most; what became of the places for dispatch; where the cycles went;
+/// never taken; what instructions in flight waited for most, and the line that was awaited most; what became of the places for dispatch; where the cycles went;
 /// how many dispatched only what did not retire; how many words were fetched and how many of them squashed; how many
 /// branches and jumps retired, and how many of them were mispredicted, with the three lines that most of those come from;
-/// why instructions stayed in flight, and the line whose results were awaited most; what its loads and the drains of its
-/// stores cost; and the five lines that most cycles left at the head of the reorder buffer, or that had flushed it, with their
+/// why instructions stayed in flight; what its loads and the drains of its stores cost; and the five lines that most cycles left at the head of the reorder buffer, or that had flushed it, with their
 /// loads and stores. Where the program crashed, its first exception and the interrupts alone are told, unless the figures are asked for.
 /// The description says where RAM lies, whose words are counted, and what loads and drains cost. The listing is that of the
 /// program, whose lines are shown.

@@ -69,7 +69,7 @@ length-accounts_from : (before : Option ℕ) (cycles : List FollowedCycle) → l
 length-accounts_from before [] = refl
 length-accounts_from before (cycle ∷ cycles) = ap suc (length-accounts_from (flusher_in cycle.after cycle.passages.rows before) cycles)
 
-length-walk_from : (standing : Standing) (moments : List Moment) → length (walk_from still_open standing moments) ≡ length moments
+pub length-walk_from : (standing : Standing) (moments : List Moment) → length (walk_from still_open standing moments) ≡ length moments
 length-walk_from standing [] = refl
 length-walk_from standing (moment ∷ moments) = ap suc (length-walk_from (standing_after still_open (next_cycle standing moment)) moments)
 

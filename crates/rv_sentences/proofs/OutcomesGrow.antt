@@ -13,7 +13,7 @@ use Rattle.rv_counts.proofs.Changes.{each-by}
 use Rattle.rv_counts.proofs.CountsMore.{count_by-cons}
 use Rattle.rv_counts.proofs.Rooms.{filter-le, one_more-within}
 use Rattle.rv_sentences.specs.Load.{retired_load_cost}
-use Rattle.rv_sentences.specs.Outcome.{CanCount, CanTake, IsWithin, is_in, is_write_back, outcomes_at, outcomes_of, outcomes_with, with_passages}
+use Rattle.rv_sentences.specs.Outcome.{CanCount, CanTake, IsWithin, is_forwarded, is_in, is_write_back, outcomes_at, outcomes_of, outcomes_with, with_passages}
 use Rattle.rv_sentences.specs.WordNotes.{Notes, changed, note_at, notes_of, with_change}
 use Rattle.rv_sentences.specs.declared.outcomes.Outcomes.{Outcomes}
 use Rattle.rv_sentences.proofs.WordTable.{change_one}
@@ -57,6 +57,7 @@ each-of P f all a (suc n) = (all a, each-of P f all (a + 1) n)
 within-more : (most more : ℕ) (o : Outcomes) → most ≤ more → IsWithin most o → IsWithin more o
 within-more most more o over is = record {
   hits = omega (arith, over, is.hits);
+  forwarded = omega (arith, over, is.forwarded);
   misses = omega (arith, over, is.misses);
   write_backs = omega (arith, over, is.write_backs);
 }
@@ -64,6 +65,7 @@ within-more most more o over is = record {
 within-with : (costs : LoadCosts) (p : Passage) (most : ℕ) (o : Outcomes) → IsWithin most o → IsWithin (most + 1) (outcomes_with costs p o)
 within-with costs p most o is = record {
   hits = omega (arith, is.hits, one_more-within (is_hit costs (retired_load_cost p)) o.hits);
+  forwarded = omega (arith, is.forwarded, one_more-within (is_forwarded costs (retired_load_cost p)) o.forwarded);
   misses = omega (arith, is.misses, one_more-within (is_miss costs (retired_load_cost p)) o.misses);
   write_backs = omega (arith, is.write_backs, one_more-within (is_write_back costs (retired_load_cost p)) o.write_backs);
 }
@@ -89,6 +91,7 @@ can_take_fewer notes fewer more under can = record { most = can.most; within = c
 counts_within : (costs : LoadCosts) (ps : List Passage) (more : ℕ) → length ps ≤ more → IsWithin more (outcomes_of costs ps)
 counts_within costs ps more few = record {
   hits = omega (arith, few, count_by-le-length (λ p. is_hit costs (retired_load_cost p)) ps);
+  forwarded = omega (arith, few, count_by-le-length (λ p. is_forwarded costs (retired_load_cost p)) ps);
   misses = omega (arith, few, count_by-le-length (λ p. is_miss costs (retired_load_cost p)) ps);
   write_backs = omega (arith, few, count_by-le-length (λ p. is_write_back costs (retired_load_cost p)) ps);
 }
@@ -105,9 +108,10 @@ can_take values costs left more few = record {
 outcomes-cons : (costs : LoadCosts) (p : Passage) (ps : List Passage) → outcomes_with costs p (outcomes_of costs ps) ≡ outcomes_of costs (p ∷ ps)
 outcomes-cons costs p ps =
     let hits = count_by-cons (λ q. is_hit costs (retired_load_cost q)) p ps in
+    let forwarded = count_by-cons (λ q. is_forwarded costs (retired_load_cost q)) p ps in
     let misses = count_by-cons (λ q. is_miss costs (retired_load_cost q)) p ps in
     let write_backs = count_by-cons (λ q. is_write_back costs (retired_load_cost q)) p ps in
-    λ i. record { hits = sym hits i; misses = sym misses i; write_backs = sym write_backs i }
+    λ i. record { hits = sym hits i; forwarded = sym forwarded i; misses = sym misses i; write_backs = sym write_backs i }
 
 outcomes-here : (costs : LoadCosts) (p : Passage) (ps : List Passage) → outcomes_with costs p (outcomes_at costs ps (word_of p.pc)) ≡ outcomes_at costs (p ∷ ps) (word_of p.pc)
 outcomes-here costs p ps =

@@ -1,7 +1,7 @@
 -- Why instructions stay in flight, as more cycles come.
-use Rattle.std.proofs.Common.{◌≡◌, ◌∙◌, ℕ, suc, ◌+◌, ◌≤◌, ◌&&◌, Bool, true, false, List, [], ◌∷◌, ◌++◌, length, count_by, cond, not, Option, Some, None, is_some, refl, ap, sym, arith, append-nil}
-use Rattle.std.specs.Prelude.{sum}
+use Rattle.std.proofs.Common.{◌≡◌, ◌∙◌, ℕ, suc, ◌+◌, ◌≤◌, ◌&&◌, Bool, true, false, List, [], ◌∷◌, ◌++◌, length, count_by, cond, map, not, Option, Some, None, is_some, refl, ap, sym, arith, append-nil}
 use Rattle.std.specs.List.{flat_map}
+use Rattle.std.proofs.lemmas.List.{length-map, map-append}
 use Rattle.std.proofs.lemmas.List.Concat.{flat_map-append, flat_map-cons}
 use Rattle.std.proofs.lemmas.List.Sums.{sum_by-append, sum_by-cons}
 use Rattle.rv_isa.specs.declared.lines.Arrival.{Arrival}
@@ -13,16 +13,17 @@ use Rattle.rv_hardware.specs.Guided.{GuidedHardware}
 use Rattle.rv_hardware.specs.History.{History, Moment}
 use Rattle.rv_hardware.specs.Hardware.{Hardware}
 use Rattle.rv_passage.specs.Table.{still_open}
-use Rattle.rv_passage.specs.Walk.{FollowedCycle, walk}
+use Rattle.rv_passage.specs.Walk.{FollowedCycle, standing_at, walk}
 use Rattle.rv_passage.specs.declared.passage.Passage.{Passage}
 use Rattle.rv_passage.proofs.Walk.{last_cycle, walk-push}
-use Rattle.rv_sentences.specs.Stay.{StaysAddUp, all_stays, awaited_word, dispatched_stay, lacks_address, no_stays, is_staying, stay_in, stays_among, stays_in, stays_of, staying_in, with_awaited, with_reason, with_stay, with_stays}
-use Rattle.rv_sentences.specs.WordCount.{count_at, is_word, with_one}
-use Rattle.rv_sentences.specs.WordNotes.{Notes, notes_of}
+use Rattle.rv_sentences.specs.Stay.{StaysAddUp, all_stays, awaited_in, awaited_of, dispatched_stay, lacks_address, no_stays, is_staying, oldest_awaited, stay_in, stays_among, stays_in, stays_of, staying_in, with_reason, with_stay, with_stays}
+use Rattle.rv_sentences.specs.Head.{itself}
+use Rattle.rv_sentences.specs.WordCount.{count_at, with_one}
+use Rattle.rv_sentences.specs.WordNotes.{notes_of}
 use Rattle.rv_sentences.specs.declared.{stay.Stay.Stay, stays.Stays.Stays}
 use Rattle.rv_sentences.specs.declared.stay.Stay.TheVariants as stay
-use Rattle.rv_sentences.proofs.CountSums.{sum_with_one}
-use Rattle.rv_sentences.proofs.CountsGrow.{with_one_at}
+use Rattle.rv_sentences.proofs.AccountsGrow.{length-walk_from}
+use Rattle.rv_sentences.proofs.CountsGrow.{with_last_at}
 
 -- ---- one reason is counted once
 more_reasons : (s : Stay) (t : Stays) → all_stays (with_reason s t) ≡ all_stays t + 1
@@ -51,9 +52,6 @@ one_more_stay o t = omega (arith, counted_once o t, one_at_most (is_some o))
 pub stay_counted : (o : Option Stay) (old new : Stays) → new ≡ with_stay o old → all_stays new ≤ all_stays old + 1
 stay_counted o old new is = omega (arith, ap (λ (s : Stays). all_stays s) is, one_more_stay o old)
 
-pub await_counted : (o : Option ℕ) (old new : Notes ℕ) → new ≡ with_one o old → sum new.words ≤ sum old.words + 1
-await_counted o old new is = omega (arith, ap (λ (notes : Notes ℕ). sum notes.words) is, sum_with_one o old)
-
 all_counted : (os : List (Option Stay)) (t : Stays) → all_stays (with_stays os t) ≡ all_stays t + count_by (λ (o : Option Stay). is_some o) os
 all_counted [] t = omega arith
 all_counted (o ∷ os) t = omega (arith, all_counted os (with_stay o t), counted_once o t, sum_by-cons (λ (p : Option Stay). cond (is_some p) 1 0) o os)
@@ -62,19 +60,6 @@ all_counted (o ∷ os) t = omega (arith, all_counted os (with_stay o t), counted
 with_stays-append : (some more : List (Option Stay)) (t : Stays) → with_stays (some ++ more) t ≡ with_stays more (with_stays some t)
 with_stays-append [] more t = refl
 with_stays-append (o ∷ some) more t = with_stays-append some more (with_stay o t)
-
-awaited_at : (values : Values) (os more : List (Option Stay)) → with_awaited more (notes_of values (count_at awaited_word os)) ≡ notes_of values (count_at awaited_word (os ++ more))
-awaited_at values os [] = ap (λ all. notes_of values (count_at awaited_word all)) (sym (append-nil os))
-awaited_at values os (o ∷ more) =
-    ap (with_awaited more) (with_one_at values (awaited_word o) (count_at awaited_word os) (count_at awaited_word (os ++ o ∷ []))
-    (λ w. sum_by-append (λ (p : Option Stay). cond (is_word w (awaited_word p)) 1 0) os (o ∷ []) ∙ ap (λ n. count_at awaited_word os w + n) (none_after (cond (is_word w (awaited_word o)) 1 0))))
-    ∙ awaited_at values (os ++ o ∷ []) more ∙ ap (λ all. notes_of values (count_at awaited_word all)) (append_one os o more) where
-      none_after : (n : ℕ) → 0 + n ≡ n
-      none_after n = omega arith
-
-      append_one : (os : List (Option Stay)) (o : Option Stay) (more : List (Option Stay)) → (os ++ o ∷ []) ++ more ≡ os ++ o ∷ more
-      append_one [] o more = refl
-      append_one (p ∷ os) o more = ap (λ all. p ∷ all) (append_one os o more)
 
 -- one more cycle, with these passages at its end
 module _ {arrivals : List Arrival} {old now : GuidedHardware} {moments : List Moment} (moment : Moment) (passes : History arrivals old moments now)
@@ -93,10 +78,20 @@ module _ {arrivals : List Arrival} {old now : GuidedHardware} {moments : List Mo
   stays-push =
       sym (ap (λ os. with_stays os no_stays) stays_of-push ∙ with_stays-append (stays_of old.hardware moments) more_stays no_stays)
 
-  pub awaited-push : (values : Values) → with_awaited more_stays (notes_of values (count_at awaited_word (stays_of old.hardware moments)))
-      ≡ notes_of values (count_at awaited_word (stays_of old.hardware (moments ++ moment ∷ [])))
+  awaited_of-push : awaited_of old.hardware (moments ++ moment ∷ []) ≡ awaited_of old.hardware moments ++ oldest_awaited more_stays ∷ []
+  awaited_of-push =
+      ap (map awaited_in) (walk-push still_open passes moment)
+      ∙ map-append awaited_in (walk still_open old.hardware moments) (last_cycle still_open passes moment ∷ [])
+      ∙ ap (λ ps. awaited_of old.hardware moments ++ oldest_awaited (stays_among now.hardware.cycle (is_free now.hardware.cycle (at_kind Mem moment.after.units)) true ps) ∷ []) (sym rows_are)
+
+  pub awaited-push : (values : Values) → with_one (oldest_awaited more_stays) (notes_of values (count_at itself (awaited_of old.hardware moments)))
+      ≡ notes_of values (count_at itself (awaited_of old.hardware (moments ++ moment ∷ [])))
   awaited-push values =
-      awaited_at values (stays_of old.hardware moments) more_stays ∙ ap (λ os. notes_of values (count_at awaited_word os)) (sym stays_of-push)
+      with_last_at values itself (awaited_of old.hardware moments) (oldest_awaited more_stays) ∙ ap (λ all. notes_of values (count_at itself all)) (sym awaited_of-push)
+
+-- each cycle has one at most
+pub length-awaited : (h : Hardware) (moments : List Moment) → length (awaited_of h moments) ≡ length moments
+length-awaited h moments = length-map (walk still_open h moments) awaited_in ∙ length-walk_from (standing_at h) moments
 
 -- ---- there are no more of them than rows
 length-stays_among : (cycle : ℕ) (has_unit has_addresses : Bool) (ps : List Passage) → length (stays_among cycle has_unit has_addresses ps) ≡ length ps
@@ -107,18 +102,9 @@ few_stays : (os : List (Option Stay)) (t : Stays) → all_stays (with_stays os t
 few_stays [] t = omega arith
 few_stays (o ∷ os) t = omega (arith, few_stays os (with_stay o t), one_more_stay o t)
 
-few_awaited : (os : List (Option Stay)) (notes : Notes ℕ) → sum (with_awaited os notes).words ≤ sum notes.words + length os
-few_awaited [] notes = omega arith
-few_awaited (o ∷ os) notes = omega (arith, few_awaited os (with_one (awaited_word o) notes), sum_with_one (awaited_word o) notes)
-
-module _ (cycle : ℕ) (has_unit has_addresses : Bool) (rows : List Passage) where
-  pub few_more_stays : (t : Stays) → all_stays (with_stays (stays_among cycle has_unit has_addresses rows) t) ≤ all_stays t + length rows
-  few_more_stays t =
-      omega (arith, few_stays (stays_among cycle has_unit has_addresses rows) t, length-stays_among cycle has_unit has_addresses rows)
-
-  pub few_more_awaited : (notes : Notes ℕ) → sum (with_awaited (stays_among cycle has_unit has_addresses rows) notes).words ≤ sum notes.words + length rows
-  few_more_awaited notes =
-      omega (arith, few_awaited (stays_among cycle has_unit has_addresses rows) notes, length-stays_among cycle has_unit has_addresses rows)
+pub few_more_stays : (cycle : ℕ) (has_unit has_addresses : Bool) (rows : List Passage) (t : Stays) → all_stays (with_stays (stays_among cycle has_unit has_addresses rows) t) ≤ all_stays t + length rows
+few_more_stays cycle has_unit has_addresses rows t =
+    omega (arith, few_stays (stays_among cycle has_unit has_addresses rows) t, length-stays_among cycle has_unit has_addresses rows)
 
 -- ---- each instruction stays in each cycle for one reason
 one_reason : (staying : Bool) (s : Stay) → is_some (cond staying (Some s) None) ≡ staying

@@ -96,6 +96,7 @@ with_drained costs drained counts = record {
 abbrev pub stores_at : StoreCounts → ℕ → Outcomes
 stores_at counts word = record {
   hits = count_in counts.hits word;
+  forwarded = 0;
   misses = count_in counts.misses word;
   write_backs = count_in counts.write_backs word;
 }

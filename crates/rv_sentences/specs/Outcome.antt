@@ -1,5 +1,5 @@
 -- The loads that retired, word by word.
-use Rattle.std.specs.Prelude.{ℕ, ◌+◌, ◌^◌, ◌≤◌, ◌<◌, ◌==◌, Bool, false, List, [], ◌∷◌, count_by, filter, Option, Some, None}
+use Rattle.std.specs.Prelude.{ℕ, ◌+◌, ◌^◌, ◌≤◌, ◌<◌, ◌==◌, ◌&&◌, Bool, false, not, List, [], ◌∷◌, count_by, filter, Option, Some, None}
 use Rattle.rv_cache.specs.WriteBack.{Each}
 use Rattle.rv_memory.specs.Memory.{word_of}
 use Rattle.rv_passage.specs.declared.passage.Passage.{Passage}
@@ -15,10 +15,16 @@ abbrev pub is_write_back : LoadCosts → Option ℕ → Bool
 is_write_back costs None = false
 is_write_back costs (Some cost) = is_slow costs cost
 
+-- a load at the cost of forwarding, where that is another than that of a hit
+abbrev pub is_forwarded : LoadCosts → Option ℕ → Bool
+is_forwarded costs None = false
+is_forwarded costs (Some cost) = (cost == costs.forward) && not (cost == costs.hit)
+
 -- of some instructions
 abbrev pub outcomes_of : LoadCosts → List Passage → Outcomes
 outcomes_of costs passages = record {
   hits = count_by (λ p. is_hit costs (retired_load_cost p)) passages;
+  forwarded = count_by (λ p. is_forwarded costs (retired_load_cost p)) passages;
   misses = count_by (λ p. is_miss costs (retired_load_cost p)) passages;
   write_backs = count_by (λ p. is_write_back costs (retired_load_cost p)) passages;
 }
@@ -33,12 +39,13 @@ outcomes_at costs passages word = outcomes_of costs (filter (is_in word) passage
 
 -- of no instruction
 abbrev pub nothing_came : Outcomes
-nothing_came = record { hits = 0; misses = 0; write_backs = 0 }
+nothing_came = record { hits = 0; forwarded = 0; misses = 0; write_backs = 0 }
 
 -- with one more
 abbrev pub outcomes_with : LoadCosts → Passage → Outcomes → Outcomes
 outcomes_with costs p outcomes = record {
   hits = one_more (is_hit costs (retired_load_cost p)) outcomes.hits;
+  forwarded = one_more (is_forwarded costs (retired_load_cost p)) outcomes.forwarded;
   misses = one_more (is_miss costs (retired_load_cost p)) outcomes.misses;
   write_backs = one_more (is_write_back costs (retired_load_cost p)) outcomes.write_backs;
 }
@@ -51,6 +58,7 @@ with_passages costs (p ∷ ps) notes = with_change (outcomes_with costs p) (with
 -- none of the counts is above a bound
 pub record IsWithin (most : ℕ) (outcomes : Outcomes) : Type 0 where
   pub hits : outcomes.hits ≤ most
+  pub forwarded : outcomes.forwarded ≤ most
   pub misses : outcomes.misses ≤ most
   pub write_backs : outcomes.write_backs ≤ most
 

@@ -3,7 +3,7 @@
 -- kind, for a load the port of the cache; then its execution, the common data bus, and its retirement. By its stamps and the units alone:
 -- as nothing waits that has what it needs, an instruction that has its operands and was not issued waits for a unit, and a load that has a
 -- unit besides, and the addresses, waits for the port.
-use Rattle.std.specs.Prelude.{◌≡◌, ℕ, ◌+◌, ◌&&◌, nat_lt, Bool, true, false, not, if◌then◌else◌, List, [], ◌∷◌, count_by, Option, Some, None, is_some}
+use Rattle.std.specs.Prelude.{◌≡◌, ℕ, ◌+◌, ◌&&◌, nat_lt, Bool, true, false, not, if◌then◌else◌, List, [], ◌∷◌, count_by, map, Option, Some, None, is_some}
 use Rattle.std.specs.List.{flat_map}
 use Rattle.std.specs.Option.{option_or}
 use Rattle.rv_isa.specs.Instruction.{is_load, is_store, kind_of_word}
@@ -19,8 +19,6 @@ use Rattle.rv_passage.specs.Result.{waits_for_bus}
 use Rattle.rv_passage.specs.Table.{still_open}
 use Rattle.rv_passage.specs.Walk.{FollowedCycle, walk}
 use Rattle.rv_passage.specs.declared.{passage.Passage.Passage, producers.Producer.Producer, producers.Producers.Producers}
-use Rattle.rv_sentences.specs.WordCount.{with_one}
-use Rattle.rv_sentences.specs.WordNotes.{Notes}
 use Rattle.rv_sentences.specs.declared.{stay.Stay.Stay, stays.Stays.Stays}
 use Rattle.rv_sentences.specs.declared.stay.Stay.TheVariants as stay
 
@@ -138,10 +136,18 @@ abbrev pub awaited_word : Option Stay → Option ℕ
 awaited_word (Some (stay.Operand pc)) = Some (word_of pc)
 awaited_word _ = None
 
--- how often each word is awaited, with several cycles more
-abbrev pub with_awaited : List (Option Stay) → Notes ℕ → Notes ℕ
-with_awaited [] notes = notes
-with_awaited (o ∷ os) notes = with_awaited os (with_one (awaited_word o) notes)
+-- the word that the oldest of those awaits that wait for an operand, if one does: its producer is older, and so waits for none itself
+abbrev pub oldest_awaited : List (Option Stay) → Option ℕ
+oldest_awaited [] = None
+oldest_awaited (o ∷ os) = option_or (awaited_word o) (oldest_awaited os)
+
+-- that of a cycle
+abbrev pub awaited_in : FollowedCycle → Option ℕ
+awaited_in cycle = oldest_awaited (stays_in cycle)
+
+-- that of each cycle of a run
+abbrev pub awaited_of : Hardware → List Moment → List (Option ℕ)
+awaited_of h moments = map awaited_in (walk still_open h moments)
 
 -- how many cycles there are
 abbrev pub all_stays : Stays → ℕ

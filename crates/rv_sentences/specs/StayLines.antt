@@ -1,13 +1,15 @@
 -- The lines on why instructions stayed in flight.
-use Rattle.std.specs.Prelude.{ℕ, ◌/◌, ◌%◌, ◌==◌, if◌then◌else◌, List, [], ◌∷◌, ◌++◌, codes, decimal, get_or, slice_set}
+use Rattle.std.specs.Prelude.{ℕ, ◌/◌, ◌%◌, ◌==◌, if◌then◌else◌, List, [], ◌∷◌, ◌++◌, codes, decimal, get_or, slice_set, Option, Some, None}
 use Rattle.std.specs.List.{flat_map}
+use Rattle.rv_memory.specs.Memory.{word_of}
 use Rattle.rv_source.specs.Listing.{Listed}
+use Rattle.rv_sentences.specs.OutcomeText.{has_any, outcomes_text}
 use Rattle.rv_sentences.specs.Place.{place_text}
 use Rattle.rv_sentences.specs.Spot.{first_greatest, greatest_lines}
 use Rattle.rv_sentences.specs.Stack.{part_line, parts_of}
 use Rattle.rv_sentences.specs.Stay.{all_stays}
-use Rattle.rv_sentences.specs.WordNotes.{Notes}
-use Rattle.rv_sentences.specs.declared.{spot.Greatest.Greatest, spot.Spot.Spot, stays.Stays.Stays}
+use Rattle.rv_sentences.specs.WordNotes.{Notes, note_at}
+use Rattle.rv_sentences.specs.declared.{outcomes.Outcomes.Outcomes, spot.Greatest.Greatest, spot.Spot.Spot, stays.Stays.Stays}
 
 -- a part of all, in brackets, by its tenths of a percent
 unfoldable pub share_text : ℕ → List ℕ
@@ -75,10 +77,17 @@ some_parts_text all s = if all == 0 then [] else parts_text all s
 abbrev pub stays_text : Stays → List ℕ
 stays_text s = some_parts_text (all_stays s) s
 
--- the line whose results were awaited most, and for how many cycles
-unfoldable pub awaited_line : Listed → Spot → List ℕ
-awaited_line listing spot = codes "Awaited most, for " ++ (decimal spot.count ++ (codes " cycles: " ++ place_text listing spot.address))
+-- the loads in a word that retired, in brackets
+unfoldable pub awaited_loads : Option Outcomes → List ℕ
+awaited_loads None = []
+awaited_loads (Some outcomes) = if has_any outcomes then outcomes_text (codes " (its loads") outcomes ++ codes ")" else []
 
--- that line, if any operand was awaited
-unfoldable pub awaited_text : Listed → Notes ℕ → List ℕ
-awaited_text listing awaited = flat_map (awaited_line listing) (greatest_lines listing 1 awaited)
+-- a line whose result was awaited: in how many of all cycles, its loads, and where it is
+unfoldable pub awaited_line : Listed → ℕ → Notes Outcomes → Spot → List ℕ
+awaited_line listing all outcomes spot =
+    codes "Awaited most, for " ++ (decimal spot.count ++ (codes " of " ++ (decimal all ++ (codes " cycles" ++
+    (awaited_loads (note_at outcomes (word_of spot.address)) ++ (codes ": " ++ place_text listing spot.address))))))
+
+-- the line whose result was awaited most, if any operand was awaited, by the word that the oldest one awaited in each of so many cycles
+unfoldable pub awaited_text : Listed → ℕ → Notes Outcomes → Notes ℕ → List ℕ
+awaited_text listing all outcomes awaited = flat_map (awaited_line listing all outcomes) (greatest_lines listing 1 awaited)

@@ -1,9 +1,10 @@
-ghost use Rattle.std.specs.Prelude.{◌≡◌, ◌≤◌, sum};
+ghost use Rattle.std.specs.Prelude.{◌≤◌, sum};
 ghost use Rattle.std.specs.List.{flat_map};
-ghost use Rattle.rv_sentences.specs.Hotspot.{counts_text, counts_there, empty_text, has_any, hotspot_text, hotspots_text, idle_text, loads_there, stores_there};
+ghost use Rattle.rv_sentences.specs.Hotspot.{empty_text, hotspot_text, hotspots_text, idle_text, loads_there, outcomes_line, stores_there};
 ghost use Rattle.rv_text.specs.Said.{Says};
 
 use crate::greatest_lines::greatest_lines;
+use crate::outcome_text::{has_any, write_outcomes};
 use crate::outcomes::Outcomes;
 use crate::place::write_place;
 use crate::spot::Spot;
@@ -14,30 +15,13 @@ use rv_source::Listing;
 use rv_text::Sink;
 use std::io::Write;
 
-fn has_any(outcomes: &Outcomes) -> bool
-    ensures { result ≡ has_any outcomes.now }
-{
-    !(outcomes.hits == 0 && outcomes.misses == 0)
-}
-
-fn write_counts<W: Write>(out: &mut Sink<'_, W>, name: &[u8], outcomes: &Outcomes)
-    ensures { Says W.contents out.old out.new (counts_text name.now outcomes.now) }
-{
-    out.put(name);
-    out.put_decimal(outcomes.hits);
-    out.put(b", misses ");
-    out.put_decimal(outcomes.misses);
-    out.put(b", write-backs ");
-    out.put_decimal(outcomes.write_backs);
-    out.put(b"\n");
-}
-
-#[tactic(auto, unfolding(crate::specs::Hotspot::counts_there))]
-fn write_counts_there<W: Write>(out: &mut Sink<'_, W>, name: &[u8], outcomes: &Outcomes)
-    ensures { Says W.contents out.old out.new (counts_there name.now outcomes.now) }
+#[tactic(auto, using(rv_text::proofs::Saying::saying), unfolding(crate::specs::Hotspot::outcomes_line))]
+fn write_outcomes_line<W: Write>(out: &mut Sink<'_, W>, name: &[u8], outcomes: &Outcomes)
+    ensures { Says W.contents out.old out.new (outcomes_line name.now outcomes.now) }
 {
     if has_any(outcomes) {
-        write_counts(out, name, outcomes);
+        write_outcomes(out, name, outcomes);
+        out.put(b"\n");
     }
 }
 
@@ -47,7 +31,7 @@ fn write_loads_there<W: Write>(out: &mut Sink<'_, W>, outcomes: Option<Outcomes>
     ensures { Says W.contents out.old out.new (loads_there outcomes) }
 {
     if let Some(outcomes) = outcomes {
-        write_counts_there(out, b"       its loads: hits ", &outcomes);
+        write_outcomes_line(out, b"       its loads", &outcomes);
     }
 }
 
@@ -56,7 +40,7 @@ fn write_loads_there<W: Write>(out: &mut Sink<'_, W>, outcomes: Option<Outcomes>
 fn write_stores_there<W: Write>(out: &mut Sink<'_, W>, outcomes: &Outcomes)
     ensures { Says W.contents out.old out.new (stores_there outcomes.now) }
 {
-    write_counts_there(out, b"       its stores: hits ", outcomes);
+    write_outcomes_line(out, b"       its stores", outcomes);
 }
 
 #[tactic(auto, using(rv_text::proofs::Saying::saying), unfolding(crate::specs::Hotspot::hotspot_text))]

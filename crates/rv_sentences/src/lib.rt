@@ -20,6 +20,7 @@ mod kind_lines;
 mod kinds;
 mod lines;
 mod loads;
+mod outcome_text;
 mod outcomes;
 mod place;
 mod place_lines;

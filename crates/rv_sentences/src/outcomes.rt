@@ -3,7 +3,7 @@ ghost use Rattle.rv_counts.specs.Counts.{one_more};
 ghost use Rattle.rv_counts.specs.Load.{is_miss};
 ghost use Rattle.rv_counts.specs.Passing.{has_left};
 ghost use Rattle.rv_sentences.specs.Load.{retired_load_cost};
-ghost use Rattle.rv_sentences.specs.Outcome.{CanCount, CanTake, is_write_back, outcomes_with, with_passages};
+ghost use Rattle.rv_sentences.specs.Outcome.{CanCount, CanTake, is_forwarded, is_write_back, outcomes_with, with_passages};
 ghost use Rattle.rv_sentences.specs.WordNotes.{note_at, with_change};
 
 use crate::loads::{is_quick, retired_load_cost};
@@ -16,6 +16,8 @@ use rv_passage::Passage;
 pub struct Outcomes {
     /// At the cost of a hit or of forwarding.
     pub hits: u64,
+    /// Those of the hits at the cost of forwarding, where that is another than that of a hit.
+    pub forwarded: u64,
     /// All others.
     pub misses: u64,
     /// Those of the misses that cost more than a miss alone.
@@ -28,6 +30,16 @@ fn one_more(is: bool, count: u64) -> u64
     ensures { result ≡ one_more is count }
 {
     if is { count + 1 } else { count }
+}
+
+// Whether a load retired at the cost of forwarding, where that is another than that of a hit.
+fn is_forwarded(costs: &LoadCosts, passage: &Passage) -> bool
+    ensures { result ≡ is_forwarded costs.now (retired_load_cost passage.now) }
+{
+    match retired_load_cost(passage) {
+        Some(cost) => cost == costs.forward && cost != costs.hit,
+        None => false,
+    }
 }
 
 // Whether a load retired at any other cost than that of a hit or of forwarding.
@@ -54,6 +66,7 @@ impl Outcomes {
     /// Of no instruction.
     pub const NONE: Outcomes = Outcomes {
         hits: 0,
+        forwarded: 0,
         misses: 0,
         write_backs: 0,
     };
@@ -65,6 +78,7 @@ impl Outcomes {
     {
         Outcomes {
             hits: one_more(is_quick(costs, passage), self.hits),
+            forwarded: one_more(is_forwarded(costs, passage), self.forwarded),
             misses: one_more(is_miss(costs, passage), self.misses),
             write_backs: one_more(is_write_back(costs, passage), self.write_backs),
         }

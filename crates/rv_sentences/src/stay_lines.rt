@@ -1,10 +1,12 @@
-ghost use Rattle.std.specs.Prelude.{◌≡◌, ◌<◌, ◌^◌, [], get_or, map, sum};
+ghost use Rattle.std.specs.Prelude.{◌≡◌, ◌≤◌, ◌<◌, ◌^◌, [], get_or, map, sum};
 ghost use Rattle.std.specs.List.{flat_map};
 ghost use Rattle.rv_sentences.specs.Stay.{all_stays};
-ghost use Rattle.rv_sentences.specs.StayLines.{awaited_line, awaited_text, greatest_waits_text, parts_text, second_wait_text, share_text, some_parts_text, stays_text, two_waits_text, wait_counts, wait_names, wait_text, waits_text};
+ghost use Rattle.rv_sentences.specs.StayLines.{awaited_line, awaited_loads, awaited_text, greatest_waits_text, parts_text, second_wait_text, share_text, some_parts_text, stays_text, two_waits_text, wait_counts, wait_names, wait_text, waits_text};
 ghost use Rattle.rv_text.specs.Said.{Says};
 
 use crate::greatest_lines::greatest_lines;
+use crate::outcome_text::{has_any, write_outcomes};
+use crate::outcomes::Outcomes;
 use crate::place::write_place;
 use crate::spot::{Greatest, Spot};
 use crate::stack::{Share, parts_of, write_shares};
@@ -203,35 +205,66 @@ pub fn write_stays<W: Write>(out: &mut Sink<'_, W>, stays: &Stays)
     write_some_parts(out, stays.all(), stays);
 }
 
-fn write_awaited_line<W: Write>(out: &mut Sink<'_, W>, listing: &Listing, spot: &Spot)
-    ensures { Says W.contents out.old out.new (awaited_line listing.now spot.now) }
+// Writes the loads in a word, in brackets.
+#[tactic(auto, using(rv_text::proofs::Saying::saying), unfolding(crate::specs::StayLines::awaited_loads))]
+fn write_awaited_loads<W: Write>(out: &mut Sink<'_, W>, outcomes: Option<Outcomes>)
+    ensures { Says W.contents out.old out.new (awaited_loads outcomes) }
+{
+    if let Some(outcomes) = outcomes {
+        if has_any(&outcomes) {
+            write_outcomes(out, b" (its loads", &outcomes);
+            out.put(b")");
+        }
+    }
+}
+
+fn write_awaited_line<W: Write>(
+    out: &mut Sink<'_, W>,
+    listing: &Listing,
+    all: u64,
+    outcomes: &WordNotes<Outcomes>,
+    spot: &Spot,
+)
+    ensures { Says W.contents out.old out.new (awaited_line listing.now all outcomes.now spot.now) }
 {
     out.put(b"Awaited most, for ");
     out.put_decimal(spot.count);
-    out.put(b" cycles: ");
+    out.put(b" of ");
+    out.put_decimal(all);
+    out.put(b" cycles");
+    write_awaited_loads(out, outcomes.at(spot.address / 4));
+    out.put(b": ");
     write_place(out, listing, spot.address);
 }
 
 #[tactic(auto, using(rv_text::proofs::Saying::saying))]
-fn write_each<W: Write>(out: &mut Sink<'_, W>, listing: &Listing, spots: &[Spot])
-    ensures { Says W.contents out.old out.new (flat_map (awaited_line listing.now) spots.now) }
+fn write_each<W: Write>(
+    out: &mut Sink<'_, W>,
+    listing: &Listing,
+    all: u64,
+    outcomes: &WordNotes<Outcomes>,
+    spots: &[Spot],
+)
+    ensures { Says W.contents out.old out.new (flat_map (awaited_line listing.now all outcomes.now) spots.now) }
 {
     for spot in spots {
-        write_awaited_line(out, listing, spot);
+        write_awaited_line(out, listing, all, outcomes, spot);
     }
 }
 
-/// Writes the line of the program whose results were awaited most, if any were, by the cycles that each word was awaited. Leaves no
-/// count of that line.
+/// Writes the line of the program whose result was awaited most, if any was, with its loads, by how often each word was the one that
+/// the oldest instruction in wait for an operand awaited: once at most in each of so many cycles. Leaves no count of that line.
 #[tactic(auto, unfolding(crate::specs::StayLines::awaited_text))]
 pub fn write_awaited<W: Write>(
     out: &mut Sink<'_, W>,
     listing: &Listing,
+    all: u64,
+    outcomes: &WordNotes<Outcomes>,
     awaited: &mut WordNotes<u64>,
 )
-    requires room { sum awaited.old.words < 2 ^ 64 }
-    ensures { Says W.contents out.old out.new (awaited_text listing.now awaited.old) }
+    requires awaited { sum awaited.old.words ≤ all }
+    ensures { Says W.contents out.old out.new (awaited_text listing.now all outcomes.now awaited.old) }
 {
     let spots = greatest_lines(awaited, listing, 1);
-    write_each(out, listing, spots.as_slice());
+    write_each(out, listing, all, outcomes, spots.as_slice());
 }

@@ -1,5 +1,6 @@
 ghost use Rattle.std.specs.Prelude.{◌≡◌, ◌+◌, ◌-◌, ◌<◌, ◌^◌, drop, length, sum, take};
-ghost use Rattle.rv_sentences.specs.Stay.{all_stays, awaited_word, have_addresses, stay_in, stays_among, with_awaited, with_reason, with_stay, with_stays};
+ghost use Rattle.std.specs.Option.{option_or};
+ghost use Rattle.rv_sentences.specs.Stay.{all_stays, awaited_word, have_addresses, oldest_awaited, stay_in, stays_among, with_reason, with_stay, with_stays};
 ghost use Rattle.rv_sentences.specs.WordCount.{with_one};
 
 use crate::stay::{Stay, awaited_word, stay_in};
@@ -86,10 +87,10 @@ impl Stays {
     }
 }
 
-// Adds why an instruction stays in flight in a cycle, if it does, after the older ones.
+// Adds why an instruction stays in flight in a cycle, if it does, after the older ones. What it awaits is the oldest wait, if none was before.
 fn add_stay(
     stays: &mut Stays,
-    awaited: &mut WordNotes<u64>,
+    oldest: &mut Option<u32>,
     cycle: u64,
     has_unit: bool,
     has_addresses: bool,
@@ -97,19 +98,18 @@ fn add_stay(
     row: &Passage,
 )
     requires room { all_stays stays.old + 1 < 2 ^ 64 }
-    requires words { sum awaited.old.words + 1 < 2 ^ 64 }
     ensures stays { stays.new ≡ with_stay (stay_in cycle has_unit (have_addresses cycle has_addresses older.now) row.now) stays.old }
-    ensures awaited { awaited.new ≡ with_one (awaited_word (stay_in cycle has_unit (have_addresses cycle has_addresses older.now) row.now)) awaited.old }
+    ensures oldest { oldest.new ≡ option_or oldest.old (awaited_word (stay_in cycle has_unit (have_addresses cycle has_addresses older.now) row.now)) }
 {
     let stay = stay_in(cycle, has_unit, has_addresses, older, row);
     stays.add(stay);
-    count_one(awaited, awaited_word(stay));
+    *oldest = oldest.or(awaited_word(stay));
 }
 
-// Adds why those from a place on stay.
+// Adds why those from a place on stay, and notes the word that the oldest of all awaits that wait for an operand.
 fn add_stays_from(
     stays: &mut Stays,
-    awaited: &mut WordNotes<u64>,
+    oldest: &mut Option<u32>,
     cycle: u64,
     has_unit: bool,
     has_addresses: bool,
@@ -117,15 +117,14 @@ fn add_stays_from(
     place: usize,
 )
     requires room { all_stays stays.old + (length rows.now - place) < 2 ^ 64 }
-    requires words { sum awaited.old.words + (length rows.now - place) < 2 ^ 64 }
     ensures stays { stays.new ≡ with_stays (stays_among cycle has_unit (have_addresses cycle has_addresses (take place rows.now)) (drop place rows.now)) stays.old }
-    ensures awaited { awaited.new ≡ with_awaited (stays_among cycle has_unit (have_addresses cycle has_addresses (take place rows.now)) (drop place rows.now)) awaited.old }
+    ensures oldest { oldest.new ≡ option_or oldest.old (oldest_awaited (stays_among cycle has_unit (have_addresses cycle has_addresses (take place rows.now)) (drop place rows.now))) }
 {
     if place < rows.len() {
         let row = &rows[place];
         add_stay(
             stays,
-            awaited,
+            oldest,
             cycle,
             has_unit,
             has_addresses,
@@ -134,7 +133,7 @@ fn add_stays_from(
         );
         add_stays_from(
             stays,
-            awaited,
+            oldest,
             cycle,
             has_unit,
             has_addresses,
@@ -144,8 +143,9 @@ fn add_stays_from(
     }
 }
 
-/// Adds why some instructions stay in flight in a cycle, in order of fetch, and counts those that wait for an operand at the word of the
-/// instruction that gives it: whether a unit of loads and stores is free in the cycle, and all stores before them have their addresses.
+/// Adds why some instructions stay in flight in a cycle, in order of fetch, and counts the cycle at the word that the oldest of them
+/// awaits that wait for an operand, if one does: whether a unit of loads and stores is free in the cycle, and all stores before them
+/// have their addresses.
 pub fn add_stays(
     stays: &mut Stays,
     awaited: &mut WordNotes<u64>,
@@ -155,9 +155,11 @@ pub fn add_stays(
     rows: &[Passage],
 )
     requires room { all_stays stays.old + length rows.now < 2 ^ 64 }
-    requires words { sum awaited.old.words + length rows.now < 2 ^ 64 }
+    requires words { sum awaited.old.words + 1 < 2 ^ 64 }
     ensures stays { stays.new ≡ with_stays (stays_among cycle has_unit has_addresses rows.now) stays.old }
-    ensures awaited { awaited.new ≡ with_awaited (stays_among cycle has_unit has_addresses rows.now) awaited.old }
+    ensures awaited { awaited.new ≡ with_one (oldest_awaited (stays_among cycle has_unit has_addresses rows.now)) awaited.old }
 {
-    add_stays_from(stays, awaited, cycle, has_unit, has_addresses, rows, 0);
+    let mut oldest = None;
+    add_stays_from(stays, &mut oldest, cycle, has_unit, has_addresses, rows, 0);
+    count_one(awaited, oldest);
 }

@@ -75,6 +75,7 @@ impl StoreCounts {
     {
         Outcomes {
             hits: count_in(&self.hits, word),
+            forwarded: 0,
             misses: count_in(&self.misses, word),
             write_backs: count_in(&self.write_backs, word),
         }

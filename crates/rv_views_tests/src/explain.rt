@@ -168,7 +168,8 @@ const SECOND_IS_LATER: [u8; 16] = [
 #[test]
 fn of_two_operands_the_first_that_is_missing_is_awaited(rt: HostRuntime) {
     let output = told(&rt, rt.alloc(), 0x8000_0000, &SECOND_IS_LATER);
-    let awaited = b"Awaited most, for 17 cycles: 80000004, which no line of the program fills";
+    let awaited =
+        b"Awaited most, for 17 of 24 cycles: 80000004, which no line of the program fills";
     assert!(&rt; has_part(output.as_slice(), awaited));
 }
 

@@ -98,7 +98,19 @@ const PORT: &str = "ram_base = 0\nrob = 2\n%%\nlw x5,0(x0)\nlw x6,64(x0)\nebreak
 // A CSR instruction, which uses no unit, waits for the division in front of it, from cycle 2 to 18.
 const HEAD: &str = "rob = 2\n%%\ndiv x5,x0,x0\ncsrrs x6,mip,x0\nebreak";
 
-const IN_FLIGHT: [Told; 8] = [
+// The first sum waits for the division from cycle 2 to 18, and the two others for that sum, from 3 to 20. Up to cycle 18 the oldest that waits
+// waits for the division.
+const CHAIN: &str = "%%\ndiv x5,x0,x0\naddi x6,x5,0\naddi x7,x6,0\naddi x8,x6,0\nebreak";
+
+// The load is issued in cycle 2, misses, and is broadcast in 13: so long the sum waits.
+const MISSED: &str = "ram_base = 0\n%%\nlw x5,0(x0)\naddi x6,x5,0\nebreak";
+
+// The store has its address in cycle 3. The load is issued in 4, takes what is stored out of the queue, and is broadcast in 9; from 3 on the
+// sum waits for it.
+const FORWARDED: &str =
+    "ram_base = 0\nforward = 5\n%%\nsw x0,1024(x0)\nlw x5,1024(x0)\naddi x6,x5,1\nebreak";
+
+const IN_FLIGHT: [Told; 11] = [
     Told {
         program: OPERAND,
         line: "waiting for operands                 17   45.9%  #######################",
@@ -109,7 +121,19 @@ const IN_FLIGHT: [Told; 8] = [
     },
     Told {
         program: OPERAND,
-        line: "Awaited most, for 17 cycles: 80000000, line 1: div x5,x0,x0",
+        line: "Awaited most, for 17 of 22 cycles: 80000000, line 1: div x5,x0,x0",
+    },
+    Told {
+        program: CHAIN,
+        line: "Awaited most, for 17 of 25 cycles: 80000000, line 1: div x5,x0,x0",
+    },
+    Told {
+        program: MISSED,
+        line: "Awaited most, for 12 of 17 cycles (its loads: hits 0, misses 1, write-backs 0): 00000000, line 1: lw x5,0(x0)",
+    },
+    Told {
+        program: FORWARDED,
+        line: "Awaited most, for 7 of 13 cycles (its loads: hits 1, of them forwarded 1, misses 0, write-backs 0): 00000004, line 2: lw x5,1024(x0)",
     },
     Told {
         program: ADDRESS,

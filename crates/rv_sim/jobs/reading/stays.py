@@ -15,19 +15,20 @@ class Impossible(Exception):
 
 
 def stays_in(lines):
-    """How many cycles instructions stayed in flight for each reason, and how often the result of each pc was awaited."""
+    """How many cycles instructions stayed in flight for each reason, and in how many the oldest in wait for an operand awaited that of each pc."""
     machine = lines[0]["machine"]
     stays, awaited, before = Counter(), Counter(), next(line["state"] for line in lines if "start" in line)
     for line in lines:
         if "cycle" in line:
-            older = {entry["sequence"]: entry for entry in before["reorder_buffer"]}
+            older, oldest = {entry["sequence"]: entry for entry in before["reorder_buffer"]}, None
             for entry in line["state"]["reorder_buffer"]:
                 if entry["dispatched"] < line["cycle"]:
                     reason, pc = reason_of(machine, line["cycle"], older, before, line["state"], entry)
                     stays[reason] += 1
-                    awaited[pc] += pc is not None
+                    oldest = pc if oldest is None else oldest
+            if oldest is not None:
+                awaited[oldest] += 1
             before = line["state"]
-    del awaited[None]
     return stays, awaited
 
 
@@ -67,5 +68,6 @@ def compare_stays(lines, text, share, same):
     same("cycles in flight", re.findall(r"^Where the (\d+) cycles of instructions in flight went:$", text, re.M), [str(every)] if every else [])
     printed = re.findall(r"^(waiting for [a-z' ]*[a-z]|in execution) +(\d+) +(\d+\.\d)%  (#*)$", text, re.M)
     same("stays", printed, [(LINES[name], *share(stays[name], every)) for name in ORDER if stays[name]])
-    printed = re.findall(r"^Awaited most, for (\d+) cycles: ([0-9a-f]{8})(?:, line (\d+))?", text, re.M)
+    loads = r"(?: \(its loads: hits (\d+)(?:, of them forwarded (\d+))?, misses (\d+), write-backs (\d+)\))?"
+    printed = re.findall(rf"^Awaited most, for (\d+) of (\d+) cycles{loads}: ([0-9a-f]{{8}})(?:, line (\d+))?", text, re.M)
     return awaited, printed

@@ -1,5 +1,5 @@
 use Rattle.std.proofs.Common.{arith}
-use Rattle.rv_explain.proofs.Explained.{branches_counted, explained, heads_counted, mispredicted_counted}
+use Rattle.rv_explain.proofs.Explained.{awaited_counted, branches_counted, explained, heads_counted, mispredicted_counted}
 use Rattle.rv_explain.proofs.OneExplanation.{one_explanation}
 use Rattle.rv_explain.proofs.explanation.write_explanation.Goals as goal
 
@@ -15,7 +15,7 @@ write_told-written-requires g c =
       mispredicted = omega (arith, mispredicted_counted _ c.args.limit c.args.description.now _ _ told.stop told.progress told.fetched told.tale c.run_told-told.ensures);
       places = c.run_told-told.ensures.few;
       stays = c.run_told-told.ensures.few_stays;
-      awaited = c.run_told-told.ensures.few_awaited;
+      awaited = awaited_counted _ c.args.limit c.args.description.now _ _ told.stop told.progress told.fetched told.tale c.run_told-told.ensures;
     }
 
 pub returns-in-Ok-written-clause-written : goal.returns-in-Ok-written-clause-written

@@ -5,9 +5,9 @@ use Rattle.rv_sentences.specs.PlaceLines.{places_text}
 use Rattle.rv_explain.specs.Explanation.{lead_text}
 use Rattle.rv_explain.proofs.explanation.write_lead.Goals as goal
 
-pub returns : goal.returns
+pub returns-clause-text : goal.returns-clause-text
 unfolding lead_text
-returns g c =
+returns-clause-text g c =
     let width = c.from-width.ensures ∙ ap (λ (v : Values). v.dispatch_width) c.values.ensures in
-    says_both c.write_greatest_waits.ensures
-    (says_same (λ i. places_text c.args.progress.now.cycles (width i) (c.in_flight.ensures.counted i) c.args.tale.now.places) c.write_places.ensures)
+    says_both c.write_greatest_waits.ensures (says_both c.write_awaited.ensures
+    (says_same (λ i. places_text c.args.progress.now.cycles (width i) (c.in_flight.ensures.counted i) c.args.tale.now.places) c.write_places.ensures))

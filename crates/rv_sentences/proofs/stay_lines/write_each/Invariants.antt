@@ -6,4 +6,4 @@ use Rattle.rv_sentences.proofs.stay_lines.write_each.Given as goal
 
 -- the lines so far are written
 abbrev pub invariant-loop-spot : goal.invariant-loop-spot
-invariant-loop-spot g l = Says g.W.Write.contents l.initial.out l.out (flat_map (awaited_line l.listing) (take l.spot-index l.spots))
+invariant-loop-spot g l = Says g.W.Write.contents l.initial.out l.out (flat_map (awaited_line l.listing l.all l.outcomes) (take l.spot-index l.spots))

@@ -12,7 +12,7 @@ use Rattle.rv_sentences.specs.WordCount.{with_one}
 use Rattle.rv_counts.proofs.InFlight.{left_same}
 use Rattle.rv_sentences.specs.Access.{both}
 use Rattle.rv_sentences.specs.Outcome.{with_passages}
-use Rattle.rv_sentences.specs.Stay.{stays_among, with_awaited, with_stays}
+use Rattle.rv_sentences.specs.Stay.{oldest_awaited, stays_among, with_stays}
 use Rattle.rv_sentences.specs.Work.{both_work, word_in, work_of}
 use Rattle.rv_sentences.specs.declared.work.Class.TheVariants.{Branch, Mispredicted}
 use Rattle.rv_sentences.proofs.OutcomesGrow.{can_take_fewer}
@@ -43,7 +43,7 @@ returns c =
       places = c.add.ensures i;
       dispatches = c.add-2.ensures i;
       stays = (c.add_stays.ensures.stays ∙ ap (λ free. with_stays (stays_among c.args.cycle free true rows) before.stays) free) i;
-      awaited = (c.add_stays.ensures.awaited ∙ ap (λ free. with_awaited (stays_among c.args.cycle free true rows) before.awaited) free) i;
+      awaited = (c.add_stays.ensures.awaited ∙ ap (λ free. with_one (oldest_awaited (stays_among c.args.cycle free true rows)) before.awaited) free) i;
       work = (c.add-3.ensures ∙ ap (λ l. both_work before.work (work_of l)) left) i;
       costs = before.costs;
       loads = (c.add_loads.ensures ∙ ap (both before.loads) (loads_same before.costs rows kept up)) i;
