@@ -1,12 +1,17 @@
 -- Rows after those that are dropped, and those that are still in flight among them.
-use Rattle.std.proofs.Common.{◌≡◌, ◌∙◌, ℕ, suc, ◌+◌, ◌-◌, ◌≤◌, nat_lt, true, false, List, [], ◌∷◌, ◌++◌, length, filter, take, drop, None, Some, refl, ap, sym, arith, inl, inr, length-drop}
+use Rattle.std.proofs.Common.{◌≡◌, ◌∙◌, ℕ, suc, ◌+◌, ◌-◌, ◌≤◌, nat_lt, true, false, List, [], ◌∷◌, ◌++◌, length, filter, map, take, drop, None, Some, refl, ap, sym, arith, inl, inr, length-drop}
 use Rattle.std.specs.List.{list_all, position, position_or_len}
 use Rattle.std.proofs.Math.Seq.{drop-append_seam, paste}
 use Rattle.std.proofs.lemmas.Bool.{cases_Bool, ltb-false}
 use Rattle.std.proofs.lemmas.List.{take_all}
 use Rattle.std.proofs.lemmas.List.Edits.{take-paste}
 use Rattle.std.proofs.lemmas.Option.{none-some}
-use Rattle.rv_passage.specs.Passage.{is_in_flight}
+use Rattle.rv_front.specs.FetchBuffer.{FetchBuffer}
+use Rattle.rv_front.specs.declared.fetched.Fetched.{Fetched}
+use Rattle.rv_rob.specs.ReorderBuffer.{ReorderBuffer}
+use Rattle.rv_rob.specs.declared.entry.Entry.{Entry}
+use Rattle.rv_passage.specs.Passage.{in_buffers, is_in_flight, of_entry, of_fetched}
+use Rattle.rv_passage.specs.Table.{with_oldest}
 use Rattle.rv_passage.specs.declared.passage.Passage.{Passage}
 
 -- what comes after so many
@@ -52,3 +57,45 @@ open-all (p ∷ ps) all = elim (cases_Bool (is_in_flight p)) [
   | inl flies ↦ let rest : list_all is_in_flight ps ≡ true = rw flies at all in rw flies (ap (λ l. p ∷ l) (open-all ps rest))
   | inr ended ↦ let none : false ≡ true = rw ended at all in cc
 ]
+
+open-few : (rows : List Passage) → length (filter is_in_flight rows) ≤ length rows
+open-few [] = omega arith
+open-few (p ∷ ps) = elim (cases_Bool (is_in_flight p)) [
+  | inl flies ↦ rw flies (omega (arith, open-few ps))
+  | inr ended ↦ rw ended (omega (arith, open-few ps))
+]
+
+-- where as many are in flight as there are, all are
+pub all-open : (rows : List Passage) → length rows ≤ length (filter is_in_flight rows) → list_all is_in_flight rows ≡ true
+all-open [] as_many = refl
+all-open (p ∷ ps) as_many = elim (cases_Bool (is_in_flight p)) [
+  | inl flies ↦
+      let rest : suc (length ps) ≤ suc (length (filter is_in_flight ps)) = rw flies at as_many in
+      rw flies (all-open ps (omega (arith, rest)))
+  | inr ended ↦
+      let more : suc (length ps) ≤ length (filter is_in_flight ps) = rw ended at as_many in
+      absurd (omega (arith, more, open-few ps))
+]
+
+-- where the oldest in flight changes, one at most leaves the hardware
+pub open-with_oldest : (change : Passage → Passage) (rows : List Passage) →
+    length (filter is_in_flight rows) ≤ length (filter is_in_flight (with_oldest change rows)) + 1
+open-with_oldest change [] = omega arith
+open-with_oldest change (p ∷ ps) = elim (cases_Bool (is_in_flight p)) [
+  | inl flies ↦ elim (cases_Bool (is_in_flight (change p))) [
+    | inl still ↦ rw (flies, still) (omega arith)
+    | inr ended ↦ rw (flies, ended) (omega arith)
+  ]
+  | inr ended ↦ rw ended (rw ended (open-with_oldest change ps))
+]
+
+-- all that is in the buffers is in flight
+pub buffers-open : (rob : ReorderBuffer) (front : FetchBuffer) → list_all is_in_flight (in_buffers rob front) ≡ true
+buffers-open rob front = entries-open rob.entries where
+  words-open : (words : List Fetched) → list_all is_in_flight (map of_fetched words) ≡ true
+  words-open [] = refl
+  words-open (w ∷ ws) = words-open ws
+
+  entries-open : (entries : List Entry) → list_all is_in_flight (map of_entry entries ++ map of_fetched front.entries) ≡ true
+  entries-open [] = words-open front.entries
+  entries-open (e ∷ es) = entries-open es

@@ -1,5 +1,6 @@
 -- How rows move on through a cycle, one by one.
 use Rattle.std.proofs.Common.{◌≡◌, ◌+◌, ◌≤◌, nat_lt, true, false, ℕ, List, [], ◌∷◌, ◌++◌, length, filter, None, refl, arith, inl, inr}
+use Rattle.std.specs.List.{list_all}
 use Rattle.std.proofs.lemmas.Bool.{cases_Bool}
 use Rattle.rv_passage.specs.Passage.{is_in_flight, squashed_in}
 use Rattle.rv_passage.specs.Producers.{standing_at}
@@ -53,4 +54,25 @@ open-moves (squashed flies none more) = open-moves more
 open-moves (stands {n = n} older flies before more) = elim (cases_Bool (is_in_flight n)) [
   | inl still ↦ rw still (omega (arith, open-moves more))
   | inr ended ↦ rw ended (omega (arith, open-moves more))
+]
+
+-- and as many, where all that it holds is in flight
+pub all-open-moves : {cycle number : ℕ} {ps now rows : List Passage} → MovesOn cycle number ps now rows → list_all is_in_flight now ≡ true →
+    length now ≤ length (filter is_in_flight rows)
+all-open-moves {number = number} (fetched {now}) all = open-numbered number now all where
+  open-numbered : (number : ℕ) (ps : List Passage) → list_all is_in_flight ps ≡ true → length ps ≤ length (filter is_in_flight (numbered_from number ps))
+  open-numbered number [] all = omega arith
+  open-numbered number (p ∷ ps) all = elim (cases_Bool (is_in_flight p)) [
+    | inl flies ↦
+        let rest : list_all is_in_flight ps ≡ true = rw flies at all in
+        rw flies (omega (arith, open-numbered (number + 1) ps rest))
+    | inr ended ↦ let none : false ≡ true = rw ended at all in cc
+  ]
+all-open-moves (stays ended more) all = rw ended (all-open-moves more all)
+all-open-moves (squashed flies none more) all = all-open-moves more all
+all-open-moves (stands {n = n} older {now = now} flies before more) all = elim (cases_Bool (is_in_flight n)) [
+  | inl still ↦
+      let rest : list_all is_in_flight now ≡ true = rw still at all in
+      rw still (omega (arith, all-open-moves more rest))
+  | inr ended ↦ let none : false ≡ true = rw ended at all in cc
 ]

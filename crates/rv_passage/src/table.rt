@@ -1,4 +1,5 @@
 ghost use Rattle.std.specs.Prelude.{◌≡◌, ◌+◌, ◌≤◌, ◌<◌, ◌^◌, [], ◌∷◌, Some, drop, filter, length, slice_get, take, vec_capacity, IfOk};
+ghost use Rattle.std.specs.List.{list_all};
 ghost use Rattle.rv_hardware.specs.Lessons.{first_pc};
 ghost use Rattle.rv_passage.specs.Passage.{in_buffers, is_in_flight, trapped_by};
 ghost use Rattle.rv_passage.specs.declared.passage.Passage.{Passage};
@@ -34,7 +35,10 @@ pub struct Table {
     // How many instructions were fetched, and how many retired.
     fetched: u64,
     retired: u64,
+    // At least so many of the rows are in flight: all that are, from the end of a cycle on.
+    in_flight: usize,
     ghost within: { dropped ≤ length rows.items },
+    ghost known: { in_flight ≤ length (filter is_in_flight (drop dropped rows.items)) },
 }
 
 impl Table {
@@ -68,6 +72,7 @@ impl Table {
             interrupts: Vec::with_capacity(alloc, 8)?,
             fetched: 0,
             retired: 0,
+            in_flight: 0,
         })
     }
 
@@ -129,6 +134,7 @@ impl Table {
         self.take_steps(steps, pc);
         let fetched = self.move_rows_on(cycle, rob, front);
         self.append_fetched(fetched, rob, front);
+        self.in_flight = count_in_flight(rob, front);
     }
 
     /// Notes of a cycle that had these steps, and led to these buffers and to a pc, by their numbers which instructions are in flight
@@ -162,6 +168,7 @@ impl Table {
         ensures capacity { vec_capacity self.new.rows ≡ vec_capacity self.old.rows }
         ensures interrupts { self.new.interrupts ≡ self.old.interrupts }
     {
+        self.in_flight = 0;
         self.rows.truncate(self.dropped + count);
     }
 
@@ -186,6 +193,7 @@ impl Table {
         ensures interrupts { self.new.interrupts ≡ self.old.interrupts }
     {
         let len = self.rows.len();
+        self.in_flight = 0;
         self.rows.copy_within(self.dropped..len, 0);
         self.rows.truncate(len - self.dropped);
         self.dropped = 0;
@@ -215,6 +223,7 @@ impl Table {
         ensures capacity { vec_capacity self.new.rows ≡ vec_capacity self.old.rows }
         ensures interrupts { self.new.interrupts ≡ self.old.interrupts }
     {
+        self.in_flight = 0;
         move_kept_on(self.rows.as_mut_slice(), self.dropped, cycle, rob, front)
     }
 
@@ -229,6 +238,7 @@ impl Table {
         let order = self.retired;
         retire_kept(self.rows.as_mut_slice(), self.dropped, row, order, next);
         self.retired += 1;
+        self.in_flight = self.in_flight.saturating_sub(1);
     }
 
     // The oldest instruction in flight, if one is, traps.
@@ -239,6 +249,7 @@ impl Table {
         ensures others { (self.new.interrupts ≡ self.old.interrupts) × (self.new.fetched ≡ self.old.fetched) × (self.new.retired ≡ self.old.retired) }
     {
         trap_kept(self.rows.as_mut_slice(), self.dropped, cause, cycle);
+        self.in_flight = self.in_flight.saturating_sub(1);
     }
 
     // Ends the oldest instruction in flight by a step, after which the program goes on at `next`, or notes an interrupt.
@@ -282,6 +293,7 @@ impl Table {
         ensures capacity { vec_capacity self.new.rows ≡ vec_capacity self.old.rows }
         ensures interrupts { self.new.interrupts ≡ self.old.interrupts }
     {
+        self.in_flight = 0;
         put_last(&mut self.rows, present_at(rob, front, place, self.fetched));
         self.fetched += 1;
     }
@@ -291,6 +303,7 @@ impl Table {
         ensures { passages_of self.new ≡ without_squashed (passages_of self.old) }
     {
         self.move_to_front();
+        self.in_flight = 0;
         self.rows.retain(|row| row.is_unsquashed());
     }
 
@@ -303,15 +316,32 @@ impl Table {
         self.dropped += count_first_ended(self.rows());
     }
 
+    // Whether all are in flight. Where as many were counted as there are, none is looked at.
+    fn all_are_in_flight(&self) -> bool
+        ensures { result ≡ list_all is_in_flight (passages_of self.now).rows }
+    {
+        self.rows().len() == self.in_flight || are_in_flight(self.rows())
+    }
+
+    // Forgets all instructions that left the hardware, and moves the others to the front.
+    fn move_open_to_front(&mut self)
+        ensures rows { (passages_of self.new).rows ≡ filter is_in_flight (passages_of self.old).rows }
+        ensures capacity { vec_capacity self.new.rows ≡ vec_capacity self.old.rows }
+        ensures others { (self.new.interrupts ≡ self.old.interrupts) × (self.new.fetched ≡ self.old.fetched) × (self.new.retired ≡ self.old.retired) }
+    {
+        self.move_to_front();
+        self.in_flight = 0;
+        self.rows.retain(|row| row.is_in_flight());
+    }
+
     // Forgets all instructions that left the hardware, and moves the others where one of those lies after one of these.
     fn drop_other_ended(&mut self)
         ensures rows { (passages_of self.new).rows ≡ filter is_in_flight (passages_of self.old).rows }
         ensures capacity { vec_capacity self.new.rows ≡ vec_capacity self.old.rows }
         ensures others { (self.new.interrupts ≡ self.old.interrupts) × (self.new.fetched ≡ self.old.fetched) × (self.new.retired ≡ self.old.retired) }
     {
-        if !are_in_flight(self.rows()) {
-            self.move_to_front();
-            self.rows.retain(|row| row.is_in_flight());
+        if !self.all_are_in_flight() {
+            self.move_open_to_front();
         }
     }
 

@@ -1,4 +1,4 @@
-use Rattle.std.proofs.Common.{◌∙◌, [], drop, filter, ap, arith, length-drop, sym}
+use Rattle.std.proofs.Common.{◌∙◌, [], drop, filter, length, ap, arith, length-drop, sym}
 use Rattle.std.specs.List.{position_or_len}
 use Rattle.std.proofs.Math.Seq.{drop-drop}
 use Rattle.rv_passage.specs.Passage.{is_in_flight}
@@ -17,7 +17,13 @@ invariant_of-self c =
     let all = c.args.self.now in
     let kept = drop all.dropped all.rows.items in
     let first = c.count_first_ended.ensures ∙ ap (position_or_len is_in_flight) c.rows.ensures in
-    record { within = omega (arith, first, first-within kept, length-drop all.dropped all.rows.items, all.within) }
+    let rows =
+    ap (filter is_in_flight) (sym (drop-drop c.count_first_ended.result all.dropped all.rows.items))
+    ∙ ap (λ n. filter is_in_flight (drop n kept)) first ∙ open-after_first kept in
+    record {
+      within = omega (arith, first, first-within kept, length-drop all.dropped all.rows.items, all.within);
+      known = omega (arith, ap length rows, all.known);
+    }
 
 pub returns-clause-opened : goal.returns-clause-opened
 returns-clause-opened c =
