@@ -6,7 +6,7 @@ use Rattle.std.specs.Option.{option_map}
 use Rattle.std.proofs.lemmas.Bool.{cases_Bool, eqb-true, eq-eqb}
 use Rattle.std.proofs.lemmas.List.{get_or-take}
 use Rattle.std.proofs.lemmas.List.Elements.{All-cons, All-head, All-more, All-nil, All-tail}
-use Rattle.std.proofs.lemmas.Nat.Bits.{shr_and_one}
+use Rattle.std.proofs.lemmas.Nat.Bits.{bit_at_and, shr_and_one}
 use Rattle.std.proofs.lemmas.Option.{get_or_from_slice_get, slice_get_within, slice_get-get_or}
 use Rattle.rv_isa.specs.Instruction.{is_load}
 use Rattle.rv_stations.specs.declared.waiting.Waiting.{Waiting}
@@ -92,7 +92,7 @@ module _ (p : Inside) (sound : IsSoundPool p) (at : ℕ) (low : at < p.count) wh
       let told : Some (loads w) ≡ Some (is_load (Some (get_or p.dispatched.items place nothing).instruction)) = sym (ap (option_map loads) here) ∙ loads_told p sound at place (get_or p.dispatched.items place nothing) low place_in_use known in
       cc told
 
-  unasked_by : (loads_wait : Bool) → bit_at (cond loads_wait p.others p.held) place ≡ 0 → is_asked loads_wait w ≡ false
+  unasked_by : (loads_wait : Bool) → bit_at (cond loads_wait (bit_and p.held p.others) p.held) place ≡ 0 → is_asked loads_wait w ≡ false
   unasked_by false unset = let set : bit_at p.held place ≡ 1 = rw same at (sound.held at 0 in_front) in absurd (omega (arith, set, unset))
   unasked_by true unset = elim (cases_Bool (loads w)) [
     | inl load ↦ elim (cases_Bool (is_ready w)) [
@@ -102,7 +102,8 @@ module _ (p : Inside) (sound : IsSoundPool p) (at : ℕ) (low : at < p.count) wh
     | inr other ↦
         let marked : IsMarkedOther p.dispatched.items p.others place = rw same at (sound.others at 0 in_front) in
         let set : bit_at p.others place ≡ 1 = marked (sym loads_here ∙ other) in
-        absurd (omega (arith, set, unset))
+        let set_held : bit_at p.held place ≡ 1 = rw same at (sound.held at 0 in_front) in
+        absurd (omega (arith, bit_at_and p.held p.others place, set, set_held, unset))
   ]
 
   module _ (a b mask : ℕ) (of_first : IsWaitMask p.first a) (of_second : IsWaitMask p.second b) where
@@ -110,7 +111,7 @@ module _ (p : Inside) (sound : IsSoundPool p) (at : ℕ) (low : at < p.count) wh
     told = is_ready-in_place (pool p).waiting at w _ here (ready_told p sound a b at place of_first of_second low place_in_use)
 
     -- an instruction whose bit is not set is not asked
-    pub unasked : (loads_wait : Bool) → ((k : ℕ) → k < 64 → bit_at (bit_or a b) k ≡ 0 → bit_at mask k ≡ bit_at (cond loads_wait p.others p.held) k) → bit_at mask place ≡ 0 → option_map (is_asked loads_wait) (slice_get (pool p).waiting at) ≡ Some false
+    pub unasked : (loads_wait : Bool) → ((k : ℕ) → k < 64 → bit_at (bit_or a b) k ≡ 0 → bit_at mask k ≡ bit_at (cond loads_wait (bit_and p.held p.others) p.held) k) → bit_at mask place ≡ 0 → option_map (is_asked loads_wait) (slice_get (pool p).waiting at) ≡ Some false
     unasked loads_wait kept none = ap (option_map (is_asked loads_wait)) here ∙ ap Some (elim (cases_Bool (is_ready w)) [
       | inl ready ↦
           let idle : bit_at (bit_or a b) place ≡ 0 = sym (shr_and_one (bit_or a b) place) ∙ eqb-true _ _ (sym told ∙ ready) in

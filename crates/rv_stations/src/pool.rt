@@ -34,7 +34,7 @@ pub struct StationPool {
     second: OperandColumn,
     /// A bit for each place, set where an instruction waits. Where one was squashed it may stay set.
     held: u64,
-    /// The same, but for the places of instructions that load.
+    /// Of the places of instructions that wait, a bit for each, set where the instruction does not load.
     others: u64,
 }
 
@@ -162,7 +162,7 @@ impl StationPool {
         ensures ready { result < length self.now.waiting → option_map is_ready (slice_get self.now.waiting result) ≡ Some true }
         ensures others { (at : ℕ) → from ≤ at → at < result → option_map (is_asked loads_wait) (slice_get self.now.waiting at) ≡ Some false }
     {
-        let asked = one_of(loads_wait, self.others, self.held);
+        let asked = one_of(loads_wait, self.held & self.others, self.held);
         let waiting = self.first.waiting() | self.second.waiting();
         first_marked(
             self.places.as_slice(),
@@ -236,7 +236,6 @@ impl StationPool {
         let taken = self.ready_at(at);
         let place = usize::from(self.places[at]);
         self.held = marked(self.held, place, false);
-        self.others = marked(self.others, place, false);
         move_back(&mut self.places, at, self.count);
         self.count -= 1;
         taken

@@ -16,13 +16,13 @@ use Rattle.rv_stations.proofs.PlaceLemmas.{All-insert, All-remove, All-others, A
 use Rattle.rv_stations.proofs.PoolLemmas.{length-pool, in_places-remove, place_there}
 use Rattle.rv_stations.proofs.pool.StationPool.take.Goals as goal
 
-low : (c : goal.After-self-3-1) → c.args.at < c.self.inside.count
+low : (c : goal.After-self-2-1) → c.args.at < c.self.inside.count
 low c = omega (arith, rw (← c.self.view_is) at c.requires, length-pool c.self.inside c.self.invariant)
 
-within : (c : goal.After-self-3-1) → c.args.at < length c.self.inside.places.items
+within : (c : goal.After-self-2-1) → c.args.at < length c.self.inside.places.items
 within c = omega (arith, low c, c.self.invariant.within)
 
-left : (c : goal.After-self-3-1) → take (c.self.inside.count - 1) c.move_back.new.places.items ≡ remove (take c.self.inside.count c.self.inside.places.items) c.args.at
+left : (c : goal.After-self-2-1) → take (c.self.inside.count - 1) c.move_back.new.places.items ≡ remove (take c.self.inside.count c.self.inside.places.items) c.args.at
 left c =
     let p = c.self.inside in
     let next : suc (p.count - 1) ≡ p.count = omega (arith, low c) in
@@ -32,11 +32,11 @@ left c =
     ∙ take-remove c.args.at (p.count - 1) p.places.items (omega (arith, low c)) (within c)
     ∙ ap (λ n. remove (take n p.places.items) c.args.at) next
 
-in_front : (c : goal.After-self-3-1) → c.args.at < length (take c.self.inside.count c.self.inside.places.items)
+in_front : (c : goal.After-self-2-1) → c.args.at < length (take c.self.inside.count c.self.inside.places.items)
 in_front c = omega (arith, low c, length-take-le c.self.inside.count c.self.inside.places.items (omega (arith, c.self.invariant.within)))
 
 -- what holds of the places in use holds of those that stay
-module _ (c : goal.After-self-3-1) (P Q : ℕ → Type 0) (step : (k : ℕ) → k < 64 → (k ≡ c.from-place.result → ⊥) → P k → Q k) where
+module _ (c : goal.After-self-2-1) (P Q : ℕ → Type 0) (step : (k : ℕ) → k < 64 → (k ≡ c.from-place.result → ⊥) → P k → Q k) where
   stay : All P (take c.self.inside.count c.self.inside.places.items) → All Q (take (c.self.inside.count - 1) c.move_back.new.places.items)
   stay marks =
       let p = c.self.inside in
@@ -51,7 +51,7 @@ module _ (c : goal.After-self-3-1) (P Q : ℕ → Type 0) (step : (k : ℕ) → 
       (get_or-take p.count p.places.items c.args.at 0 (low c) ∙ get_or_from_slice_get p.places.items c.args.at c.from-place.result 0 is)
       marks)
 
-told : (c : goal.After-self-3-1) → in_places (in_all c.self.inside) (take (c.self.inside.count - 1) c.move_back.new.places.items) ≡ remove (in_places (in_all c.self.inside) (take c.self.inside.count c.self.inside.places.items)) c.args.at
+told : (c : goal.After-self-2-1) → in_places (in_all c.self.inside) (take (c.self.inside.count - 1) c.move_back.new.places.items) ≡ remove (in_places (in_all c.self.inside) (take c.self.inside.count c.self.inside.places.items)) c.args.at
 told c =
     let p = c.self.inside in
     ap (in_places (in_all p)) (left c)
@@ -81,7 +81,7 @@ invariant_of-self c =
           );
       in_order = rw (told c) (IsInOrder-remove seq_of c.args.at _ (omega (arith, low c, length-pool p c.self.invariant)) c.self.invariant.in_order);
       held = stay c (λ k. bit_at p.held k ≡ 1) (λ k. bit_at c.marked-self-inside.result k ≡ 1) (λ k few other set. c.marked-self-inside.ensures.others k few other ∙ set) c.self.invariant.held;
-      others = stay c (IsMarkedOther p.dispatched.items p.others) (IsMarkedOther p.dispatched.items c.marked-self-inside-2.result) (λ k few other set no. c.marked-self-inside-2.ensures.others k few other ∙ set no) c.self.invariant.others;
+      others = stay c (IsMarkedOther p.dispatched.items p.others) (IsMarkedOther p.dispatched.items p.others) (λ k few other set. set) c.self.invariant.others;
     }
 
 pub returns-clause-others : goal.returns-clause-others
@@ -91,14 +91,6 @@ returns-clause-others c =
 
 pub marked-self-inside-requires : goal.marked-self-inside-requires
 marked-self-inside-requires c =
-    let p = c.self.inside in
-    let low : c.args.at < p.count = omega (arith, rw (← c.self.view_is) at c.requires, length-pool p c.self.invariant) in
-    let is : slice_get p.places.items c.args.at ≡ Some c.from-place.result =
-    slice_get_read p.places.items _ c.args.at c.index.result.now refl (omega (arith, low, c.self.invariant.within)) c.index.ensures ∙ ap Some (sym c.from-place.ensures) in
-    omega (arith, place_there p c.self.invariant c.args.at c.from-place.result is, c.self.invariant.few)
-
-pub marked-self-inside-requires-2 : goal.marked-self-inside-requires-2
-marked-self-inside-requires-2 c =
     let p = c.self.inside in
     let low : c.args.at < p.count = omega (arith, rw (← c.self.view_is) at c.requires, length-pool p c.self.invariant) in
     let is : slice_get p.places.items c.args.at ≡ Some c.from-place.result =
