@@ -7,6 +7,7 @@ use Rattle.rv_isa.specs.declared.values.Values.{Values}
 use Rattle.rv_cache.specs.WriteBack.{Each}
 use Rattle.rv_memory.specs.Memory.{word_of}
 use Rattle.rv_passage.specs.declared.passage.Passage.{Passage}
+use Rattle.rv_counts.specs.Counts.{one_more}
 use Rattle.rv_counts.specs.Load.{is_hit, is_miss}
 use Rattle.rv_counts.specs.declared.loads.LoadCosts.{LoadCosts}
 use Rattle.rv_counts.proofs.Changes.{each-by}
@@ -102,6 +103,32 @@ can_take values costs left more few = record {
   within = each-of (IsWithin (length left)) (outcomes_at costs left) (λ w. counts_within costs (filter (is_in w) left) (length left) (filter-le (is_in w) left)) (word_of values.ram_base) (word_of values.ram_size);
   countable = few;
 }
+
+-- ---- what is no load that retired changes nothing
+
+or_this : {X : Type 0} → X → Option X → X
+or_this x None = x
+or_this x (Some y) = y
+
+set_got : {X : Type 0} (xs : List X) (i : ℕ) (x : X) → slice_get xs i ≡ Some x → slice_set xs i x ≡ xs
+unfolding or_this
+set_got [] i x is = refl
+set_got (y ∷ xs) zero x is = ap (λ o. or_this y o ∷ xs) (sym is)
+set_got (y ∷ xs) (suc i) x is = ap (λ l. y ∷ l) (set_got xs i x is)
+
+changed_same : {X : Type 0} (change : X → X) (notes : Notes X) (word : ℕ) (below : Bool) → nat_lt word notes.first ≡ below → (got : Option X) → slice_get notes.words (word - notes.first) ≡ got
+    → ((x : X) → change x ≡ x) → with_change change notes word ≡ notes
+changed_same change notes word true is got got_is same = rw is refl
+changed_same change notes word false is None got_is same = rw (is, got_is) refl
+changed_same change notes word false is (Some x) got_is same =
+    rw (is, got_is, is) (λ i. record notes { words = (ap (slice_set notes.words (word - notes.first)) (same x) ∙ set_got notes.words (word - notes.first) x got_is) i })
+
+pub no_load : (costs : LoadCosts) (p : Passage) (notes : Notes Outcomes) (word : ℕ) (cost : Option ℕ) → cost ≡ retired_load_cost p → cost ≡ None → notes ≡ with_change (outcomes_with costs p) notes word
+no_load costs p notes word cost cost_is is =
+    let none : retired_load_cost p ≡ None = sym cost_is ∙ is in
+    let same : (o : Outcomes) → outcomes_with costs p o ≡ o =
+    λ o. ap (λ (cost : Option ℕ). record { hits = one_more (is_hit costs cost) o.hits; forwarded = one_more (is_forwarded costs cost) o.forwarded; misses = one_more (is_miss costs cost) o.misses; write_backs = one_more (is_write_back costs cost) o.write_backs }) none in
+    sym (changed_same (outcomes_with costs p) notes word (nat_lt word notes.first) refl (slice_get notes.words (word - notes.first)) refl same)
 
 -- ---- what is kept is what became of the instructions
 

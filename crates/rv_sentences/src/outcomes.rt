@@ -85,13 +85,24 @@ impl Outcomes {
     }
 }
 
-// Counts an instruction in a word.
-fn count_in(words: &mut WordNotes<Outcomes>, costs: &LoadCosts, word: u32, passage: &Passage)
+// Counts a load in a word.
+fn count_load(words: &mut WordNotes<Outcomes>, costs: &LoadCosts, word: u32, passage: &Passage)
     requires room { IfSome (note_at words.old word) CanCount }
     ensures { words.new ≡ with_change (outcomes_with costs.now passage.now) words.old word }
 {
     if let Some(outcomes) = words.at(word) {
         words.set(word, outcomes.with(costs, passage));
+    }
+}
+
+// Counts an instruction in a word. What is no load that retired changes nothing.
+fn count_in(words: &mut WordNotes<Outcomes>, costs: &LoadCosts, word: u32, passage: &Passage)
+    requires room { IfSome (note_at words.old word) CanCount }
+    ensures { words.new ≡ with_change (outcomes_with costs.now passage.now) words.old word }
+{
+    match retired_load_cost(passage) {
+        Some(_) => count_load(words, costs, word, passage),
+        None => {}
     }
 }
 
