@@ -27,7 +27,7 @@ filter-flies (p ∷ ps) all =
     let flies : is_in_flight p ≡ true = all 0 p (omega arith) in
     rw flies (ap (λ l. p ∷ l) (filter-flies ps (All-tail Flies p ps all)))
 
-open-again : (ps : List Passage) → filter is_in_flight (filter is_in_flight ps) ≡ filter is_in_flight ps
+pub open-again : (ps : List Passage) → filter is_in_flight (filter is_in_flight ps) ≡ filter is_in_flight ps
 open-again ps = filter-flies (filter is_in_flight ps) (filter_passes is_in_flight ps)
 
 -- all that is in the buffers is in flight

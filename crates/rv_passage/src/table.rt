@@ -115,6 +115,7 @@ impl Table {
     {
         self.clear_space();
         self.follow_in_space(cycle, steps, rob, front, pc);
+        self.in_flight = count_in_flight(rob, front);
     }
 
     // The same where there is room after the rows for a cycle.
@@ -134,12 +135,29 @@ impl Table {
         self.take_steps(steps, pc);
         let fetched = self.move_rows_on(cycle, rob, front);
         self.append_fetched(fetched, rob, front);
-        self.in_flight = count_in_flight(rob, front);
     }
 
     /// Notes of a cycle that had these steps, and led to these buffers and to a pc, by their numbers which instructions are in flight
     /// at its end; what else it says of those may be what an earlier cycle left. Forgets the others. Asks for no memory.
     pub fn follow_numbers(&mut self, cycle: u64, steps: &[Step], rob: &Rob, front: &Front, pc: u32)
+        requires short { AreShort rob.now front.now }
+        requires room { HasRoom self.old }
+        requires countable { CanCount (passages_of self.old) }
+        requires few { length steps.now ≤ 8 }
+        ensures followed { numbers_of (passages_of self.new) ≡ numbers_of (still_open (after_steps cycle steps.now rob.now front.now pc (passages_of self.old))) }
+        ensures rows { vec_capacity self.new.rows ≡ vec_capacity self.old.rows }
+        ensures interrupts { vec_capacity self.new.interrupts ≡ vec_capacity self.old.interrupts }
+        ensures fetched { self.new.fetched ≤ self.old.fetched + 288 }
+        ensures retired { self.new.retired ≤ self.old.retired + 8 }
+        ensures open { length (passages_of self.new).rows ≤ 288 }
+        ensures quiet { length (passages_of self.new).interrupts ≡ 0 }
+    {
+        self.renew_numbers(cycle, steps, rob, front, pc);
+        self.in_flight = count_in_flight(rob, front);
+    }
+
+    // The same, where those in flight are not counted.
+    fn renew_numbers(&mut self, cycle: u64, steps: &[Step], rob: &Rob, front: &Front, pc: u32)
         requires short { AreShort rob.now front.now }
         requires room { HasRoom self.old }
         requires countable { CanCount (passages_of self.old) }

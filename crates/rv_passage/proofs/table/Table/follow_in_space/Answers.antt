@@ -1,9 +1,8 @@
 use Rattle.std.proofs.Common.{◌∙◌, [], ℕ, Vec, Global, drop, filter, length, vec_capacity, ap, arith, length-drop}
 use Rattle.rv_passage.specs.Passage.{in_buffers, is_in_flight}
 use Rattle.rv_passage.specs.Table.{Passages, at_the_end, passages_of, with_fetched, with_steps}
-use Rattle.rv_passage.proofs.Dropped.{buffers-open}
 use Rattle.rv_passage.proofs.Moving.{ended-with, steps-within}
-use Rattle.rv_passage.proofs.MovesOn.{all-open-moves, moves_on, open-moves}
+use Rattle.rv_passage.proofs.MovesOn.{moves_on, open-moves}
 use Rattle.rv_passage.proofs.table.Table.follow_in_space.Goals as goal
 
 pub append_fetched-requires-clause-room : goal.append_fetched-requires-clause-room
@@ -15,20 +14,6 @@ append_fetched-requires-clause-countable c =
     let taken = ap (λ (t : Passages). t.fetched) c.take_steps.ensures.taken in
     let moved = ap (λ (t : Passages). t.fetched) c.move_rows_on-fetched.ensures.others in
     omega (arith, within.fetched, taken, moved)
-
-pub invariant_of-self-clause-known : goal.invariant_of-self-clause-known
-invariant_of-self-clause-known c =
-    let now = in_buffers c.args.rob.now c.args.front.now in
-    let middle = with_steps c.args.steps.now c.args.pc (passages_of c.args.self.now) in
-    let moved = c.move_rows_on-fetched in
-    let rows = (passages_of moved.new.self).rows in
-    let whole =
-    c.append_fetched.ensures.appended ∙ ap (with_fetched (drop moved.result now)) moved.ensures.others
-    ∙ ended-with c.args.cycle now (passages_of c.take_steps.new.self) rows moved.result moved.ensures.rows moved.ensures.kept
-    ∙ ap (at_the_end c.args.cycle now) c.take_steps.ensures.taken in
-    let opened = ap (λ (t : Passages). length (filter is_in_flight t.rows)) whole in
-    let many = all-open-moves (moves_on c.args.cycle middle.fetched [] middle.rows now) (buffers-open c.args.rob.now c.args.front.now) in
-    omega (arith, opened, many, c.count_in_flight-self.ensures.count)
 
 pub returns : goal.returns
 returns c =
