@@ -38,13 +38,13 @@ mark_of from number event = record { number = number event.at.number; column = e
 abbrev pub marks_of : ℕ → (ℕ → ℕ) → List Event → List Mark
 marks_of from number path = map (mark_of from number) (filter (is_marked from) path)
 
--- those of the path of a run, the newest event first, in the window behind so many cycles
+-- those of the path of a run, the newest event first, in the window after so many cycles
 abbrev pub marks_of_run : ℕ → Hardware → List Moment → List Mark
 marks_of_run from first moments =
     marks_of from (number_in (passages_after still_open first (take from moments)))
     (path_of (length moments) (known_of first (walk still_open first moments)))
 
--- marks are those of the path of a run that ended, in the window of so many cycles behind others
+-- marks are those of the path of a run that ended, in the window of so many cycles after others
 pub record IsMarked (arrivals : List Arrival) (from cycles : ℕ) (old new : GuidedHardware) (marks : List Mark) : Type 0 where
   pub moments : List Moment
   pub stop : Stop

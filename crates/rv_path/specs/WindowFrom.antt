@@ -11,7 +11,7 @@ use Rattle.rv_path.specs.Path.{known_of}
 use Rattle.rv_path.specs.Window.{kept_events}
 use Rattle.rv_path.specs.declared.{event.Event.Event, marking.Marker.Marker, numbering.Numbering.Numbering, window.Window.Window}
 
--- no event of some is marked in the window behind so many cycles
+-- no event of some is marked in the window after so many cycles
 abbrev pub AreUnmarked : ℕ → List Event → Type 0
 AreUnmarked from [] = Unit {0}
 AreUnmarked from (event ∷ events) = (is_marked from event ≡ false) × AreUnmarked from events

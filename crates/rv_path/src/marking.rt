@@ -15,7 +15,7 @@ use std::alloc::{AllocError, Global};
 use std::io;
 use std::io::Write;
 
-/// The view that follows the path, keeps all events of the window behind so many cycles, and says nothing.
+/// The view that follows the path, keeps all events of the window after so many cycles, and says nothing.
 #[derive(Drop)]
 pub(crate) struct Marker {
     path: Path,
@@ -51,7 +51,7 @@ impl View for Marker {
     }
 }
 
-// So many cycles behind others, or more than a run has.
+// So many cycles after others, or more than a run has.
 fn limit_of(from: u64, cycles: u64) -> u64
     ensures exact { from + cycles < 2 ^ 64 → result ≡ from + cycles }
     ensures beyond { 2 ^ 64 ≤ from + cycles → result ≡ 2 ^ 64 - 1 }
@@ -59,7 +59,7 @@ fn limit_of(from: u64, cycles: u64) -> u64
     from.saturating_add(cycles)
 }
 
-/// Runs a pipeline that a predictor guides up to so many cycles behind others, and answers the marks of its path in the former, the newest
+/// Runs a pipeline that a predictor guides up to so many cycles after others, and answers the marks of its path in the former, the newest
 /// first. The only error is out of memory, which may come in the middle of the run.
 pub(crate) fn run_marked(
     alloc: Global,

@@ -18,7 +18,7 @@ fn is_of_instruction(stage: Stage) -> bool
     )
 }
 
-// Whether an event is marked in the window behind so many cycles.
+// Whether an event is marked in the window after so many cycles.
 fn is_marked(from: u64, event: &Event) -> bool
     ensures { result ≡ is_marked from event.now }
 {
@@ -47,7 +47,7 @@ fn push_mark(from: u64, numbering: &Numbering, event: &Event, marks: &mut Vec<Ma
     }
 }
 
-/// The marks of a path in the window behind so many cycles. The only error is out of memory.
+/// The marks of a path in the window after so many cycles. The only error is out of memory.
 #[tactic(auto, using(crate::proofs::Unmarked::marks_append))]
 pub(crate) fn marks_of(
     alloc: Global,
