@@ -1,7 +1,7 @@
 -- Where a caret stands below a line.
-use Rattle.std.specs.Prelude.{ℕ, zero, suc, ◌+◌, ◌-◌, ◌==◌, List, [], ◌∷◌, ◌++◌, length, replicate, Bool, true, false, codes, if◌then◌else◌, Option, Some, None, is_some, option_and_then, option_map}
+use Rattle.std.specs.Prelude.{ℕ, zero, suc, ◌+◌, ◌-◌, ◌==◌, List, [], ◌∷◌, ◌++◌, length, replicate, codes, if◌then◌else◌, Option, Some, None, is_some, option_map}
 use Rattle.std.specs.Option.{option_map_or}
-use Rattle.rv_asm.specs.Token.{Lexeme, Token, first_lexeme, tokens_of}
+use Rattle.rv_asm.specs.Token.{Lexeme, Token, first_lexeme}
 use Rattle.rv_asm.specs.declared.fault.AsmFault.{AsmFault}
 use Rattle.rv_asm.specs.declared.fault.AsmFault.TheVariants.{BadToken}
 use Rattle.rv_refusal.specs.Culprit.{culprit_on}
@@ -24,24 +24,15 @@ distance (byte ∷ bytes) zero before =
 abbrev pub token_place : List ℕ → ℕ → ℕ
 token_place line before = distance line 0 before
 
--- the fault is one of bytes that are no token
-abbrev pub is_of_token : AsmFault → Bool
-is_of_token BadToken = true
-is_of_token _ = false
-
--- how many bytes of a line with these tokens stand before the one at fault
-abbrev pub culprit_place : AsmFault → List ℕ → List Token → Option ℕ
-culprit_place fault line tokens = option_map (λ from. token_place line (length tokens - length from)) (culprit_on fault tokens)
-
--- how many bytes of a line stand before the token at fault
-unfoldable pub fault_place : AsmFault → List ℕ → Option ℕ
-fault_place fault line =
-    if is_of_token fault then Some (token_place line (length line)) else option_and_then (culprit_place fault line) (tokens_of line)
+-- how many bytes of a line with these tokens stand before the one at fault, or before the first bytes that are no token
+unfoldable pub fault_place : AsmFault → List ℕ → List Token → Option ℕ
+fault_place BadToken line tokens = Some (token_place line (length line))
+fault_place fault line tokens = option_map (λ from. token_place line (length tokens - length from)) (culprit_on fault tokens)
 
 -- a caret below a byte of a line that is shown
 unfoldable pub caret_below : ℕ → List ℕ
 caret_below place = codes "    " ++ (replicate place 32 ++ codes "^\n")
 
 -- the line with the caret below the token at fault, where there is one
-abbrev pub caret_line : AsmFault → List ℕ → List ℕ
-caret_line fault line = option_map_or caret_below (fault_place fault line) []
+abbrev pub caret_line : AsmFault → List ℕ → List Token → List ℕ
+caret_line fault line tokens = option_map_or caret_below (fault_place fault line tokens) []

@@ -1,12 +1,14 @@
 -- What was expected at a fault of assembly.
 use Rattle.std.specs.Prelude.{ℕ, List, [], ◌++◌, codes}
 use Rattle.std.specs.Option.{option_map_or}
+use Rattle.rv_asm.specs.Layout.{body_of}
 use Rattle.rv_asm.specs.Mnemonic.{form_named}
+use Rattle.rv_asm.specs.Token.{Token}
 use Rattle.rv_asm.specs.declared.{fault.AsmFault.AsmFault, operation.Form.Form}
 use Rattle.rv_asm.specs.declared.fault.AsmFault.TheVariants as fault
 use Rattle.rv_refusal.specs.Operands.{shape_lines}
 use Rattle.rv_refusal.specs.Range.{range_line}
-use Rattle.rv_refusal.specs.Statement.{name_on}
+use Rattle.rv_refusal.specs.Statement.{first_name}
 
 -- what was expected of a statement with a name, whose form is known: operands, or values in a range
 unfoldable pub form_lines : AsmFault → List ℕ → Form → List ℕ
@@ -29,6 +31,6 @@ general_line fault.UnknownSymbol = codes "expected: a symbol that a label or .eq
 general_line fault.Misaligned = codes "expected: an instruction or _start at a multiple of 4, and a target an even distance away\n"
 general_line _ = []
 
--- what was expected at a fault of a line
-unfoldable pub expected : AsmFault → List ℕ → List ℕ
-expected fault line = general_line fault ++ option_map_or (statement_lines fault) (name_on line) []
+-- what was expected at a fault of a line with these tokens
+unfoldable pub expected : AsmFault → List Token → List ℕ
+expected fault tokens = general_line fault ++ option_map_or (statement_lines fault) (first_name (body_of tokens)) []

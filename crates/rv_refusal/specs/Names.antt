@@ -1,19 +1,19 @@
 -- The names that are known, and those that are not.
-use Rattle.std.specs.Prelude.{ℕ, ◌==◌, List, [], ◌∷◌, ◌++◌, map, Bool, true, false, not, ◌&&◌, if◌then◌else◌, Option, None, codes, option_and_then}
+use Rattle.std.specs.Prelude.{ℕ, ◌==◌, List, [], ◌∷◌, ◌++◌, map, Bool, true, false, if◌then◌else◌, Option, None, codes, option_and_then}
 use Rattle.std.specs.{List.flat_map, List.slice_split, Option.option_map_or, Str.bytes_eq}
 use Rattle.rv_isa.specs.Csr as csr
 use Rattle.rv_isa.specs.Csr.{row_of}
 use Rattle.rv_asm.specs.Layout.{body_of, labels_of}
 use Rattle.rv_asm.specs.Mnemonic.{form_named, instructions, others, pseudo_instructions}
 use Rattle.rv_asm.specs.Names.{register_names}
-use Rattle.rv_asm.specs.Token.{Token, tokens_of}
+use Rattle.rv_asm.specs.Token.{Token}
 use Rattle.rv_asm.specs.Token as token
 use Rattle.rv_asm.specs.declared.{fault.AsmFault.AsmFault, operation.Form.Form}
 use Rattle.rv_asm.specs.declared.fault.AsmFault.TheVariants as fault
 use Rattle.rv_asm.specs.declared.operation.Form.TheVariants.{Instruction}
 use Rattle.rv_asm.specs.declared.operation.Operation.TheVariants.{Csr, CsrImmediate}
-use Rattle.rv_refusal.specs.Culprit.{is_of_shape, operand_of_fault}
-use Rattle.rv_refusal.specs.Statement.{first_name}
+use Rattle.rv_refusal.specs.Culprit.{operand_of_fault}
+use Rattle.rv_refusal.specs.Statement.{first_name, tokens_on}
 
 -- the mnemonics and directives
 abbrev pub mnemonics : List (List ℕ)
@@ -38,7 +38,7 @@ symbols_on tokens = labels_of tokens ++ constant_of (body_of tokens)
 
 -- the symbols that the lines of a text define
 unfoldable pub symbols_of : List ℕ → List (List ℕ)
-symbols_of text = flat_map (λ line. option_map_or symbols_on (tokens_of line) []) (slice_split (λ byte. byte == 10) text)
+symbols_of text = flat_map (λ line. symbols_on (tokens_on line)) (slice_split (λ byte. byte == 10) text)
 
 -- the names that may stand where a fault of an assembly is reported
 unfoldable pub known_names : AsmFault → List ℕ → List (List ℕ)
@@ -58,14 +58,8 @@ has_csr _ = false
 abbrev pub names_csr : List Token → Bool
 names_csr body = option_map_or has_csr (option_and_then form_named (first_name body)) false
 
--- the fault is one of a statement's name
-abbrev pub is_of_mnemonic : AsmFault → Bool
-is_of_mnemonic fault.UnknownMnemonic = true
-is_of_mnemonic _ = false
-
 -- the name at fault in a statement: its own, or an operand's; of operands of the wrong shape that of a CSR alone may be unknown
 unfoldable pub unknown_name : AsmFault → List Token → Option (List ℕ)
-unknown_name fault body =
-    if is_of_mnemonic fault then first_name body
-    else (if is_of_shape fault && not (names_csr body) then None
-    else option_and_then first_name (operand_of_fault fault body))
+unknown_name fault.UnknownMnemonic body = first_name body
+unknown_name fault.BadOperands body = if names_csr body then option_and_then first_name (operand_of_fault fault.BadOperands body) else None
+unknown_name fault body = option_and_then first_name (operand_of_fault fault body)

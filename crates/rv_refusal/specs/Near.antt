@@ -1,9 +1,9 @@
 -- The known names that are near an unknown one.
-use Rattle.std.specs.Prelude.{ℕ, List, [], ◌∷◌, ◌++◌, Bool, true, false, codes, map, take, option_and_then, if◌then◌else◌}
+use Rattle.std.specs.Prelude.{ℕ, List, [], ◌∷◌, ◌++◌, codes, map, take, if◌then◌else◌}
 use Rattle.std.specs.{List.filter, List.flat_map, List.list_any, Option.option_map_or, Str.bytes_eq}
 use Rattle.std.specs.Char.{to_ascii_lowercase}
 use Rattle.rv_asm.specs.Layout.{body_of}
-use Rattle.rv_asm.specs.Token.{tokens_of}
+use Rattle.rv_asm.specs.Token.{Token}
 use Rattle.rv_asm.specs.declared.fault.AsmFault.{AsmFault}
 use Rattle.rv_asm.specs.declared.fault.AsmFault.TheVariants.{UnknownSymbol}
 use Rattle.rv_describe.specs.Near.{is_near}
@@ -33,16 +33,12 @@ hint_line name known =
     then codes "names are written in small letters: " ++ (in_small_letters name ++ codes "\n")
     else names_line (nearest name known)
 
--- the name is a symbol's, which may have capital letters
-abbrev pub is_of_symbol : AsmFault → Bool
-is_of_symbol UnknownSymbol = true
-is_of_symbol _ = false
+-- the line on an unknown name of assembly; that of a symbol may have capital letters
+unfoldable pub known_line : AsmFault → List ℕ → List (List ℕ) → List ℕ
+known_line UnknownSymbol name known = names_line (nearest name known)
+known_line _ name known = hint_line name known
 
--- the line on an unknown name of assembly
-abbrev pub known_line : AsmFault → List ℕ → List (List ℕ) → List ℕ
-known_line fault name known = if is_of_symbol fault then names_line (nearest name known) else hint_line name known
-
--- that on the unknown name of a line at fault, where its fault is one of a name
-unfoldable pub nearest_line : AsmFault → List ℕ → List ℕ → List ℕ
-nearest_line fault line assembly =
-    option_map_or (λ name. known_line fault name (known_names fault assembly)) (option_and_then (λ tokens. unknown_name fault (body_of tokens)) (tokens_of line)) []
+-- that on the unknown name of a line at fault with these tokens, where its fault is one of a name
+unfoldable pub nearest_line : AsmFault → List Token → List ℕ → List ℕ
+nearest_line fault tokens assembly =
+    option_map_or (λ name. known_line fault name (known_names fault assembly)) (unknown_name fault (body_of tokens)) []

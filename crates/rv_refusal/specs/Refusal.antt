@@ -1,6 +1,7 @@
 -- Why a job is refused, for its reader.
 use Rattle.std.specs.Prelude.{ℕ, List, [], ◌++◌, codes}
-use Rattle.rv_asm.specs.declared.fault.{AsmError.AsmError, AsmFault.AsmFault}
+use Rattle.rv_asm.specs.Token.{Token}
+use Rattle.rv_asm.specs.declared.fault.AsmError.{AsmError}
 use Rattle.rv_job.specs.Parts.{parts_of}
 use Rattle.rv_job.specs.declared.errors.SimError.{SimError}
 use Rattle.rv_job.specs.declared.errors.SimError.TheVariants.{TooLong, Description, Arrivals, Assembly, ImageDoesNotFit}
@@ -13,19 +14,21 @@ use Rattle.rv_refusal.specs.Lines.{line_at, lines_before}
 use Rattle.rv_refusal.specs.Near.{nearest_line}
 use Rattle.rv_refusal.specs.Place.{place_line, shown_line}
 use Rattle.rv_refusal.specs.Separator.{separator_question}
+use Rattle.rv_refusal.specs.Statement.{tokens_on}
 use Rattle.rv_refusal.specs.Unfit.{unfit_lines}
 
--- a fault of a line with a caret below it, what was expected there, and whether a separator is missing
-unfoldable pub line_text : ℕ → ℕ → AsmFault → List ℕ → List ℕ
-line_text before number fault line =
-    place_line before number fault
-    ++ (shown_line line ++ (caret_line fault line ++ (expected fault line ++ separator_question before fault line)))
+-- a fault of a line of these tokens with a caret below it, what was expected there, and whether a separator is missing
+unfoldable pub line_text : ℕ → AsmError → List ℕ → List Token → List ℕ
+line_text before error line tokens =
+    place_line before error.line error.fault
+    ++ (shown_line line ++ (caret_line error.fault line tokens ++ (expected error.fault tokens ++ separator_question before error.fault line)))
 
 -- the fault of an assembly that so many lines of the job stand before, the known names that are near, and the lines after it at fault
 unfoldable pub assembly_text : ℕ → List ℕ → AsmError → List ℕ
 assembly_text before assembly error =
     let line = line_at error.line assembly in
-    line_text before error.line error.fault line ++ (nearest_line error.fault line assembly ++ further_lines before error.line assembly)
+    let tokens = tokens_on line in
+    line_text before error line tokens ++ (nearest_line error.fault tokens assembly ++ further_lines before error.line assembly)
 
 -- why a job is refused
 unfoldable pub refusal_text : List ℕ → SimError → List ℕ

@@ -1,17 +1,19 @@
 -- Whether the line between a description and an assembly may be missing.
-use Rattle.std.specs.Prelude.{ℕ, ◌==◌, List, [], Bool, ◌&&◌, ◌||◌, codes, get_or, length, if◌then◌else◌}
+use Rattle.std.specs.Prelude.{ℕ, ◌==◌, List, [], Bool, false, ◌&&◌, ◌||◌, codes, get_or, length, if◌then◌else◌}
 use Rattle.rv_asm.specs.declared.fault.AsmFault.{AsmFault}
-use Rattle.rv_refusal.specs.Caret.{is_of_token, token_place}
+use Rattle.rv_asm.specs.declared.fault.AsmFault.TheVariants.{BadToken}
+use Rattle.rv_refusal.specs.Caret.{token_place}
 
 -- the byte at which a line ceases to be tokens; 0 where it does not
 abbrev pub byte_at_fault : List ℕ → ℕ
 byte_at_fault line = get_or line (token_place line (length line)) 0
 
 -- a line at fault reads as one of a description, by an equals sign or a bracket, or as a separator, by a per cent sign
-abbrev pub reads_described : AsmFault → List ℕ → Bool
-reads_described fault line =
+unfoldable pub reads_described : AsmFault → List ℕ → Bool
+reads_described BadToken line =
     let byte = byte_at_fault line in
-    is_of_token fault && (byte == 61 || (byte == 91 || byte == 37))
+    byte == 61 || (byte == 91 || byte == 37)
+reads_described _ line = false
 
 -- what is asked of such a line of a job whose assembly begins on its first line
 unfoldable pub separator_question : ℕ → AsmFault → List ℕ → List ℕ

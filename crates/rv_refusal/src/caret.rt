@@ -1,13 +1,13 @@
-ghost use Rattle.std.specs.Prelude.{◌≡◌, ◌+◌, ◌<◌, ◌≤◌, ◌++◌, None, OnOk, IfOk, IfSome, drop, length, replicate};
+ghost use Rattle.std.specs.Prelude.{◌≡◌, ◌+◌, ◌<◌, ◌≤◌, ◌++◌, None, OnOk, IfSome, drop, length, replicate};
 ghost use Rattle.rv_asm.specs.Read.{tokens_in};
 ghost use Rattle.rv_refusal.specs.Place.{shown_line};
-ghost use Rattle.rv_refusal.specs.Caret.{caret_below, caret_line, culprit_place, distance, fault_place, is_of_token, token_place};
+ghost use Rattle.rv_refusal.specs.Caret.{caret_below, caret_line, distance, fault_place, token_place};
 
 use crate::culprit::culprit_on;
 use crate::place::add_line;
 use crate::text::add_text;
-use rv_asm::{AsmFault, Token, first_lexeme, tokenize};
-use std::alloc::{AllocError, Global};
+use rv_asm::{AsmFault, Token, first_lexeme};
+use std::alloc::AllocError;
 
 // How many bytes are passed over at the front of a line, and how many tokens are then still to be passed over; none where the end is
 // reached.
@@ -47,34 +47,17 @@ pub(crate) fn token_place(line: &[u8], before: usize) -> usize
     line.len()
 }
 
-pub(crate) fn is_of_token(fault: AsmFault) -> bool
-    ensures { result ≡ is_of_token fault }
+// How many bytes of a line with these tokens stand before the one at fault, or before the first bytes that are no token.
+#[tactic(auto, unfolding(crate::specs::Caret::fault_place))]
+fn fault_place(fault: AsmFault, line: &[u8], tokens: &[Token<'_>]) -> Option<usize>
+    ensures { result ≡ fault_place fault line.now (tokens_in tokens.now) }
 {
-    matches!(fault, AsmFault::BadToken)
-}
-
-// How many bytes of a line with these tokens stand before the one at fault.
-fn culprit_place(fault: AsmFault, line: &[u8], tokens: &[Token<'_>]) -> Option<usize>
-    ensures { result ≡ culprit_place fault line.now (tokens_in tokens.now) }
-{
+    if let AsmFault::BadToken = fault {
+        return Some(token_place(line, line.len()));
+    }
     let from = culprit_on(fault, tokens)?;
     let before = tokens.len().saturating_sub(from.len());
     Some(token_place(line, before))
-}
-
-// How many bytes of a line stand before the token at fault.
-#[tactic(auto, unfolding(crate::specs::Caret::fault_place))]
-fn fault_place(alloc: Global, fault: AsmFault, line: &[u8]) -> Result<Option<usize>, AllocError>
-    ensures { IfOk result (λ place. place ≡ fault_place fault line.now) }
-{
-    if is_of_token(fault) {
-        return Ok(Some(token_place(line, line.len())));
-    }
-    match tokenize(alloc, line) {
-        Ok(tokens) => Ok(culprit_place(fault, line, tokens.as_slice())),
-        Err(AsmFault::Memory) => Err(AllocError),
-        Err(_) => Ok(None),
-    }
 }
 
 // Appends so many blanks.
@@ -111,14 +94,14 @@ pub(crate) fn add_marked_line(
 
 /// Appends the line with the caret below the token at fault, where there is one.
 pub(crate) fn add_caret_line(
-    alloc: Global,
     out: &mut Vec<u8>,
     fault: AsmFault,
     line: &[u8],
+    tokens: &[Token<'_>],
 ) -> Result<(), AllocError>
-    ensures { OnOk result (out.new.items ≡ out.old.items ++ caret_line fault line.now) }
+    ensures { OnOk result (out.new.items ≡ out.old.items ++ caret_line fault line.now (tokens_in tokens.now)) }
 {
-    match fault_place(alloc, fault, line)? {
+    match fault_place(fault, line, tokens) {
         Some(place) => add_caret_below(out, place),
         None => Ok(()),
     }

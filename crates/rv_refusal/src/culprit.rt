@@ -1,15 +1,16 @@
-ghost use Rattle.std.specs.Prelude.{◌≡◌, false, option_map};
-ghost use Rattle.std.specs.List.{find, list_all};
-ghost use Rattle.std.specs.Option.{option_map_or};
+ghost use Rattle.std.specs.Prelude.{◌≡◌, option_map};
+ghost use Rattle.std.specs.List.{list_all};
 ghost use Rattle.rv_asm.specs.Layout.{body_of};
 ghost use Rattle.rv_asm.specs.Meaning.{fits_width};
 ghost use Rattle.rv_asm.specs.Read.{operand_of, tokens_in};
 ghost use Rattle.rv_asm.specs.Statement.{is_implied};
-ghost use Rattle.rv_refusal.specs.Culprit.{culprit_among, culprit_of, culprit_on, definition_on, defines, fixed_places, has_unknown_register, holds_register, holds_value, is_culprit, is_misfit, is_of_operands, is_past_csrs, is_too_wide, is_wrong_value, marked, may_be_out_of_range, only, operand_at, operand_of_fault, operands_left, operands_on, unless_empty};
+ghost use Rattle.rv_refusal.specs.Culprit.{culprit_among, culprit_of, culprit_on, definition_on, defines, fixed_places, has_unknown_register, holds_register, holds_value, is_culprit, is_last, is_misfit, is_of_operands, is_past_csrs, is_too_wide, is_wrong_value, marked, may_be_out_of_range, operand_of_fault, operands_left, operands_on, unless_empty, wrong_value};
 
-use crate::operand_tokens::{after_operand, from_register, operand_at, operand_count, operands_on};
+use crate::operand_tokens::{after_operand, from_register, operand_at, operands_on};
 use crate::statement::after_labels;
-use rv_asm::{AsmFault, Expression, Form, Operand, Place, Token, form_named, register_named};
+use rv_asm::{
+    AsmFault, Expression, Form, Operand, Place, Token, form_named, piece_count, register_named,
+};
 use rv_isa::Width;
 
 fn holds_value(place: Place) -> bool
@@ -32,7 +33,7 @@ fn holds_register(place: Place) -> bool
 
 // Whether a name is written in the place of a register that is none.
 fn has_unknown_register(written: Option<Operand<'_>>) -> bool
-    ensures { result ≡ option_map_or has_unknown_register (option_map operand_of written.entry) false }
+    ensures { result ≡ has_unknown_register (option_map operand_of written.entry) }
 {
     match written {
         Some(Operand::Value(Expression::Symbol(name)) | Operand::Indirect(_, name)) => {
@@ -42,12 +43,12 @@ fn has_unknown_register(written: Option<Operand<'_>>) -> bool
     }
 }
 
-// Whether an operand is a number that no CSR has.
-fn is_past_csrs(operand: Operand<'_>) -> bool
-    ensures { result ≡ is_past_csrs (operand_of operand.entry) }
+// Whether a number is written that no CSR has.
+fn is_past_csrs(written: Option<Operand<'_>>) -> bool
+    ensures { result ≡ is_past_csrs (option_map operand_of written.entry) }
 {
-    match operand {
-        Operand::Value(Expression::Number(number)) => number < 0 || number > 4095,
+    match written {
+        Some(Operand::Value(Expression::Number(number))) => number < 0 || number > 4095,
         _ => false,
     }
 }
@@ -62,15 +63,12 @@ fn is_misfit(place: Place, written: Option<Operand<'_>>) -> bool
     }
 }
 
-// Whether the value that is written at a place is the one that may be out of range.
+// Whether what is written at a place is the value that may be out of range.
 fn may_be_out_of_range(place: Place, written: Option<Operand<'_>>) -> bool
-    ensures { result ≡ option_map_or (may_be_out_of_range place) (option_map operand_of written.entry) false }
+    ensures { result ≡ may_be_out_of_range place (option_map operand_of written.entry) }
 {
-    let Some(operand) = written else {
-        return false;
-    };
     match place {
-        Place::Csr => is_past_csrs(operand),
+        Place::Csr => is_past_csrs(written),
         _ => holds_value(place),
     }
 }
@@ -95,32 +93,41 @@ fn are_implied(places: &[Place]) -> bool
     places.iter().all(|place| place.is_implied())
 }
 
-// The operand for which a fault is reported, of operands at these places after a last one.
+// Whether an operand is the last one, and no place after its own needs another.
+fn is_last(places: &[Place], operands: Option<&[Token<'_>]>) -> bool
+    ensures { result ≡ is_last places.now (operands_left operands.entry) }
+{
+    match operands {
+        Some(_) => false,
+        None => are_implied(places),
+    }
+}
+
+// The operand for which a fault is reported, of operands at these places.
 fn culprit_among<'t, 'a>(
     fault: AsmFault,
     places: &[Place],
-    last: Option<&'t [Token<'a>]>,
     operands: Option<&'t [Token<'a>]>,
 ) -> Option<&'t [Token<'a>]>
-    ensures { option_map (λ from. tokens_in from.now) result ≡ culprit_among fault places.now
-        (option_map (λ from. tokens_in from.now) last.entry) (operands_left operands.entry) }
+    ensures { option_map (λ from. tokens_in from.now) result ≡ culprit_among fault places.now (operands_left operands.entry) }
 {
     let Some(operand) = operands else {
-        if are_implied(places) {
-            return last;
-        }
         return None;
     };
     let [place, later @ ..] = places else {
         return Some(operand);
     };
     if place.is_implied() {
-        return culprit_among(fault, later, last, operands);
+        return culprit_among(fault, later, operands);
     }
+    let others = after_operand(operand);
     if is_culprit(fault, *place, operand_at(operand)) {
         return Some(operand);
     }
-    culprit_among(fault, later, Some(operand), after_operand(operand))
+    if is_last(later, others) {
+        return Some(operand);
+    }
+    culprit_among(fault, later, others)
 }
 
 fn fits_width(width: Width, number: i64) -> bool
@@ -135,7 +142,7 @@ fn fits_width(width: Width, number: i64) -> bool
 
 // Whether a number is written that data of a width cannot hold.
 fn is_too_wide(width: Width, written: Option<Operand<'_>>) -> bool
-    ensures { result ≡ option_map_or (is_too_wide width) (option_map operand_of written.entry) false }
+    ensures { result ≡ is_too_wide width (option_map operand_of written.entry) }
 {
     match written {
         Some(Operand::Value(Expression::Number(number))) => !fits_width(width, number),
@@ -155,15 +162,17 @@ fn is_wrong_value(fault: AsmFault, width: Width, written: Option<Operand<'_>>) -
     }
 }
 
-// The first operand of data of a width for which a fault is reported.
+// The operand of data of a width for which a fault is reported: the only one, or the first wrong one of several.
 fn wrong_value<'t, 'a>(
     fault: AsmFault,
     width: Width,
     operands: Option<&'t [Token<'a>]>,
 ) -> Option<&'t [Token<'a>]>
-    ensures { option_map (λ from. tokens_in from.now) result
-        ≡ find (λ from. is_wrong_value fault width (operand_at from)) (operands_left operands.entry) }
+    ensures { option_map (λ from. tokens_in from.now) result ≡ wrong_value fault width (operands_left operands.entry) }
 {
+    if after_operand(operands?).is_none() {
+        return operands;
+    }
     let mut rest = operands;
     while let Some(operand) = rest {
         if is_wrong_value(fault, width, operand_at(operand)) {
@@ -172,16 +181,6 @@ fn wrong_value<'t, 'a>(
         rest = after_operand(operand);
     }
     None
-}
-
-// The only one of some operands.
-fn only<'t, 'a>(operands: Option<&'t [Token<'a>]>) -> Option<&'t [Token<'a>]>
-    ensures { option_map (λ from. tokens_in from.now) result ≡ only (operands_left operands.entry) }
-{
-    match operands {
-        Some(operand) if after_operand(operand).is_none() => Some(operand),
-        _ => None,
-    }
 }
 
 // The places of so many operands of a form that has the same ones in each statement.
@@ -204,29 +203,24 @@ fn fixed_places(form: Form, count: usize) -> &'static [Place]
     }
 }
 
-// The operand of a form for which a fault is reported, from its first token on.
+// The operand of a form for which a fault is reported, of those that tokens spell.
 #[tactic(auto, unfolding(crate::specs::Culprit::culprit_of))]
 fn culprit_of<'t, 'a>(
     fault: AsmFault,
     form: Form,
-    operands: Option<&'t [Token<'a>]>,
+    tokens: &'t [Token<'a>],
 ) -> Option<&'t [Token<'a>]>
-    ensures { option_map (λ from. tokens_in from.now) result ≡ culprit_of fault form (operands_left operands.entry) }
+    ensures { option_map (λ from. tokens_in from.now) result ≡ culprit_of fault form (tokens_in tokens.entry.now) }
 {
+    let operands = operands_on(tokens);
     match form {
         Form::Instruction(_, first, second, third) => {
-            culprit_among(fault, &[first, second, third], None, operands)
+            culprit_among(fault, &[first, second, third], operands)
         }
-        Form::Values(width) => match wrong_value(fault, width, operands) {
-            Some(operand) => Some(operand),
-            None => only(operands),
-        },
-        Form::Bytes(_, place) => culprit_among(fault, &[place], None, operands),
+        Form::Values(width) => wrong_value(fault, width, operands),
+        Form::Bytes(_, place) => culprit_among(fault, &[place], operands),
         Form::Nothing | Form::Jal | Form::Jalr | Form::Choice(_) | Form::Global | Form::Constant =>
-            {
-                let places = fixed_places(form, operand_count(operands));
-                culprit_among(fault, places, None, operands)
-            }
+            { culprit_among(fault, fixed_places(form, piece_count(tokens)), operands) }
     }
 }
 
@@ -243,6 +237,7 @@ fn is_of_operands(fault: AsmFault) -> bool
 }
 
 // The tokens of an operand from the one at fault on.
+#[tactic(auto, unfolding(crate::specs::Culprit::marked))]
 fn marked<'t, 'a>(fault: AsmFault, tokens: &'t [Token<'a>]) -> &'t [Token<'a>]
     ensures { tokens_in result.now ≡ marked fault (tokens_in tokens.entry.now) }
 {
@@ -267,7 +262,7 @@ pub(crate) fn operand_of_fault<'t, 'a>(
         return None;
     }
     let form = form_named(name)?;
-    let operand = culprit_of(fault, form, operands_on(rest))?;
+    let operand = culprit_of(fault, form, rest)?;
     Some(marked(fault, operand))
 }
 

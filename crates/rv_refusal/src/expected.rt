@@ -1,12 +1,13 @@
 ghost use Rattle.std.specs.Prelude.{◌≡◌, ◌++◌, OnOk};
+ghost use Rattle.rv_asm.specs.Read.{tokens_in};
 ghost use Rattle.rv_refusal.specs.Expected.{expected, form_lines, general_line, statement_lines};
 
 use crate::operands::add_shapes;
 use crate::ranges::add_range_line;
-use crate::statement::name_on;
+use crate::statement::{after_labels, first_name};
 use crate::text::add_text;
-use rv_asm::{AsmFault, Form, form_named};
-use std::alloc::{AllocError, Global};
+use rv_asm::{AsmFault, Form, Token, form_named};
+use std::alloc::AllocError;
 
 // Appends what was expected of a statement with a name and a form.
 #[tactic(auto, unfolding(crate::specs::Expected::form_lines))]
@@ -60,18 +61,17 @@ fn general_line(fault: AsmFault) -> &'static [u8]
     }
 }
 
-/// Appends what was expected at a fault of a line.
+/// Appends what was expected at a fault of a line with these tokens.
 #[tactic(auto, unfolding(crate::specs::Expected::expected))]
 pub(crate) fn add_expected(
-    alloc: Global,
     out: &mut Vec<u8>,
     fault: AsmFault,
-    line: &[u8],
+    tokens: &[Token<'_>],
 ) -> Result<(), AllocError>
-    ensures { OnOk result (out.new.items ≡ out.old.items ++ expected fault line.now) }
+    ensures { OnOk result (out.new.items ≡ out.old.items ++ expected fault (tokens_in tokens.now)) }
 {
     add_text(out, general_line(fault))?;
-    match name_on(alloc, line)? {
+    match first_name(after_labels(tokens)) {
         Some(name) => add_statement_lines(out, fault, name),
         None => Ok(()),
     }

@@ -1,7 +1,7 @@
 ghost use Rattle.std.specs.Prelude.{◌≡◌, ◌++◌, OnOk};
 ghost use Rattle.rv_refusal.specs.Separator.{byte_at_fault, reads_described, separator_question};
 
-use crate::caret::{is_of_token, token_place};
+use crate::caret::token_place;
 use crate::text::add_text;
 use rv_asm::AsmFault;
 use std::alloc::AllocError;
@@ -17,11 +17,15 @@ fn byte_at_fault(line: &[u8]) -> u8
 }
 
 // Whether a line at fault reads as one of a description or as a separator.
+#[tactic(auto, unfolding(crate::specs::Separator::reads_described))]
 fn reads_described(fault: AsmFault, line: &[u8]) -> bool
     ensures { result ≡ reads_described fault line.now }
 {
-    let byte = byte_at_fault(line);
-    is_of_token(fault) && (byte == b'=' || (byte == b'[' || byte == b'%'))
+    if let AsmFault::BadToken = fault {
+        let byte = byte_at_fault(line);
+        return byte == b'=' || (byte == b'[' || byte == b'%');
+    }
+    false
 }
 
 /// Appends what is asked of such a line of a job whose assembly begins on its first line.

@@ -1,7 +1,7 @@
 ghost use Rattle.std.specs.Prelude.{◌≡◌, IfOk, option_copied};
 ghost use Rattle.rv_asm.specs.Layout.{body_of};
 ghost use Rattle.rv_asm.specs.Read.{tokens_in};
-ghost use Rattle.rv_refusal.specs.Statement.{first_name, name_on};
+ghost use Rattle.rv_refusal.specs.Statement.{first_name, tokens_on};
 
 use rv_asm::{AsmFault, Token, tokenize};
 use std::alloc::{AllocError, Global};
@@ -23,13 +23,13 @@ pub(crate) fn first_name<'a>(tokens: &[Token<'a>]) -> Option<&'a [u8]>
     }
 }
 
-/// The name that the statement of a line begins with, after the line's labels, if it begins with one.
-pub(crate) fn name_on(alloc: Global, line: &[u8]) -> Result<Option<&[u8]>, AllocError>
-    ensures { IfOk result (λ name. option_copied name ≡ name_on line.entry.now) }
+/// The tokens of a line; none of one that has bytes that are no token.
+pub(crate) fn tokens_on(alloc: Global, line: &[u8]) -> Result<Vec<Token<'_>>, AllocError>
+    ensures { IfOk result (λ tokens. tokens_in tokens.items ≡ tokens_on line.entry.now) }
 {
     match tokenize(alloc, line) {
-        Ok(tokens) => Ok(first_name(after_labels(tokens.as_slice()))),
+        Ok(tokens) => Ok(tokens),
         Err(AsmFault::Memory) => Err(AllocError),
-        Err(_) => Ok(None),
+        Err(_) => Ok(Vec::new(alloc)),
     }
 }

@@ -1,13 +1,12 @@
-ghost use Rattle.std.specs.Prelude.{◌≡◌, ◌++◌, [], OnOk, map, option_copied};
-ghost use Rattle.std.specs.Option.{option_map_or, option_to_list};
+ghost use Rattle.std.specs.Prelude.{◌≡◌, ◌++◌, OnOk, map, option_copied};
+ghost use Rattle.std.specs.Option.{option_to_list};
 ghost use Rattle.rv_asm.specs.Layout.{labels_of};
 ghost use Rattle.rv_asm.specs.Read.{tokens_in};
-ghost use Rattle.rv_asm.specs.Token.{tokens_of};
 ghost use Rattle.rv_refusal.specs.Names.{constant_of, symbols_of, symbols_on};
 
 use crate::names::add_name;
-use crate::statement::{after_labels, first_name};
-use rv_asm::{AsmFault, Token, first_line, tokenize};
+use crate::statement::{after_labels, first_name, tokens_on};
+use rv_asm::{Token, first_line};
 use std::alloc::{AllocError, Global};
 
 // The symbol right after `.equ`.
@@ -36,7 +35,7 @@ fn add_labels<'a>(symbols: &mut Vec<&'a [u8]>, tokens: &[Token<'a>]) -> Result<(
 }
 
 // Adds the symbols that tokens of a line define.
-fn add_symbols_in<'a>(symbols: &mut Vec<&'a [u8]>, tokens: &[Token<'a>]) -> Result<(), AllocError>
+fn add_symbols_on<'a>(symbols: &mut Vec<&'a [u8]>, tokens: &[Token<'a>]) -> Result<(), AllocError>
     ensures { OnOk result (map (λ name. name.now) symbols.new.items
         ≡ map (λ name. name.now) symbols.old.items ++ symbols_on (tokens_in tokens.now)) }
 {
@@ -44,22 +43,6 @@ fn add_symbols_in<'a>(symbols: &mut Vec<&'a [u8]>, tokens: &[Token<'a>]) -> Resu
     match constant_of(after_labels(tokens)) {
         Some(symbol) => add_name(symbols, symbol),
         None => Ok(()),
-    }
-}
-
-// Adds the symbols that a line defines; a line that has no tokens defines none.
-fn add_symbols_on<'a>(
-    alloc: Global,
-    symbols: &mut Vec<&'a [u8]>,
-    line: &'a [u8],
-) -> Result<(), AllocError>
-    ensures { OnOk result (map (λ name. name.now) symbols.new.items
-        ≡ map (λ name. name.now) symbols.old.items ++ option_map_or symbols_on (tokens_of line.entry.now) []) }
-{
-    match tokenize(alloc, line) {
-        Ok(tokens) => add_symbols_in(symbols, tokens.as_slice()),
-        Err(AsmFault::Memory) => Err(AllocError),
-        Err(_) => Ok(()),
     }
 }
 
@@ -76,7 +59,7 @@ pub(crate) fn add_symbols<'a>(
     let mut rest = Some(text);
     while let Some(unread) = rest {
         let (line, behind) = first_line(unread);
-        add_symbols_on(alloc, symbols, line)?;
+        add_symbols_on(symbols, tokens_on(alloc, line)?.as_slice())?;
         rest = behind;
     }
     Ok(())

@@ -1,17 +1,14 @@
-ghost use Rattle.std.specs.Prelude.{◌≡◌, ◌++◌, IfOk, OnOk, map, option_and_then, option_copied};
-ghost use Rattle.rv_asm.specs.Layout.{body_of};
+ghost use Rattle.std.specs.Prelude.{◌≡◌, ◌++◌, OnOk, map, option_copied};
 ghost use Rattle.rv_asm.specs.Read.{tokens_in};
-ghost use Rattle.rv_asm.specs.Token.{tokens_of};
 ghost use Rattle.rv_refusal.specs.Names.{known_names, names_csr, unknown_name};
-ghost use Rattle.rv_refusal.specs.Near.{is_of_symbol, known_line, nearest_line};
-ghost use Rattle.rv_refusal.specs.Statement.{first_name};
+ghost use Rattle.rv_refusal.specs.Near.{known_line, nearest_line};
 
 use crate::culprit::operand_of_fault;
 use crate::names::{add_mnemonics, csrs, registers};
 use crate::near::{add_hint, add_nearest};
 use crate::statement::{after_labels, first_name};
 use crate::symbols::add_symbols;
-use rv_asm::{AsmFault, Form, Operation, Token, form_named, tokenize};
+use rv_asm::{AsmFault, Form, Operation, Token, form_named};
 use std::alloc::{AllocError, Global};
 
 // Whether a statement has a CSR among its operands.
@@ -39,18 +36,6 @@ fn unknown_name<'a>(fault: AsmFault, body: &[Token<'a>]) -> Option<&'a [u8]>
     }
 }
 
-// The name at fault on a line.
-fn unknown_on(alloc: Global, fault: AsmFault, line: &[u8]) -> Result<Option<&[u8]>, AllocError>
-    ensures { IfOk result (λ name. option_copied name
-        ≡ option_and_then (λ tokens. unknown_name fault (body_of tokens)) (tokens_of line.entry.now)) }
-{
-    match tokenize(alloc, line) {
-        Ok(tokens) => Ok(unknown_name(fault, after_labels(tokens.as_slice()))),
-        Err(AsmFault::Memory) => Err(AllocError),
-        Err(_) => Ok(None),
-    }
-}
-
 // Adds the names that may stand where a fault of an assembly is reported.
 #[tactic(auto, unfolding(crate::specs::Names::known_names))]
 fn add_known_names<'a>(
@@ -71,13 +56,8 @@ fn add_known_names<'a>(
     }
 }
 
-fn is_of_symbol(fault: AsmFault) -> bool
-    ensures { result ≡ is_of_symbol fault }
-{
-    matches!(fault, AsmFault::UnknownSymbol)
-}
-
 // Appends the line on an unknown name by those that may stand where a fault of an assembly is reported.
+#[tactic(auto, unfolding(crate::specs::Near::known_line))]
 fn add_known(
     alloc: Global,
     out: &mut Vec<u8>,
@@ -89,25 +69,24 @@ fn add_known(
 {
     let mut known = Vec::new(alloc);
     add_known_names(alloc, &mut known, fault, assembly)?;
-    if is_of_symbol(fault) {
-        add_nearest(alloc, out, name, known.as_slice())
-    } else {
-        add_hint(alloc, out, name, known.as_slice())
+    match fault {
+        AsmFault::UnknownSymbol => add_nearest(alloc, out, name, known.as_slice()),
+        _ => add_hint(alloc, out, name, known.as_slice()),
     }
 }
 
-/// Appends the line on the unknown name of a line at fault, where its fault is one of a name.
+/// Appends the line on the unknown name of a line at fault with these tokens, where its fault is one of a name.
 #[tactic(auto, unfolding(crate::specs::Near::nearest_line))]
 pub(crate) fn add_nearest_line(
     alloc: Global,
     out: &mut Vec<u8>,
     fault: AsmFault,
-    line: &[u8],
+    tokens: &[Token<'_>],
     assembly: &[u8],
 ) -> Result<(), AllocError>
-    ensures { OnOk result (out.new.items ≡ out.old.items ++ nearest_line fault line.now assembly.now) }
+    ensures { OnOk result (out.new.items ≡ out.old.items ++ nearest_line fault (tokens_in tokens.now) assembly.now) }
 {
-    match unknown_on(alloc, fault, line)? {
+    match unknown_name(fault, after_labels(tokens)) {
         Some(name) => add_known(alloc, out, fault, name, assembly),
         None => Ok(()),
     }

@@ -3,14 +3,6 @@ use Rattle.std.proofs.lemmas.Grind.{common_steps}
 use Rattle.rv_refusal.specs.Culprit.{culprit_of}
 use Rattle.rv_refusal.proofs.culprit.culprit_of.Goals as goal
 
-pub returns-in-Some : goal.returns-in-Some
-unfolding culprit_of
-returns-in-Some c = grind (arith, common_steps)
-
-pub returns-in-None : goal.returns-in-None
-unfolding culprit_of
-returns-in-None c = grind (arith, common_steps)
-
 pub returns-in-Bytes : goal.returns-in-Bytes
 unfolding culprit_of
 returns-in-Bytes c = grind (arith, common_steps)
