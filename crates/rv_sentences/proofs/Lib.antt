@@ -22,3 +22,4 @@ pub mod StaysGrow
 pub mod AccountsGrow
 pub mod RaisedGrows
 mod Addresses
+mod UpToYoungestLeft
