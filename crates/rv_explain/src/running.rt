@@ -70,7 +70,8 @@ impl View for Teller {
             cycle.pipeline,
             cycle.rows,
         );
-        let registers = observed.regs;
+        let after = cycle.pipeline.observe();
+        let registers = after.regs;
         self.registers = registers;
         self.drain_end = drain_end;
         self.in_flight = in_flight(cycle.pipeline);

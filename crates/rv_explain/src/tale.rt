@@ -1,20 +1,20 @@
-ghost use Rattle.std.specs.Prelude.{◌≡◌, ◌≤◌, List, [], length, IfOk};
+ghost use Rattle.std.specs.Prelude.{◌≡◌, ◌≤◌, List, [], length, take, IfOk};
 ghost use Rattle.rv_hardware.specs.Hardware.{Hardware};
 ghost use Rattle.rv_isa.specs.declared.lines.Arrival.{Arrival};
 ghost use Rattle.rv_explain.specs.Tale.{HasRoom, tale_after, tale_of};
 ghost use Rattle.rv_counts.specs.Places.{cycle_total};
 
 use crate::head::{account_of, flusher_in};
-use crate::traps::exception_in;
+use crate::traps::note_traps;
 use rv_core::Pipeline;
 use rv_counts::{CyclePlaces, LoadCosts, Places, count_retired};
 use rv_hardware::Step;
 use rv_isa::{Description, Kind, Lines};
-use rv_passage::{Passage, up_to_youngest_left};
+use rv_passage::Passage;
 use rv_sentences::{
-    Accesses, Class, Dispatches, Exceptions, Interrupts, Outcomes, Raised, Stays, StoreCounts,
-    WaitingStores, WordNotes, Work, add_drain, add_loads, add_stays, count_left, count_one,
-    count_words, idle_with, interruption_in, note_stores,
+    Accesses, Dispatches, Exceptions, Interrupts, Outcomes, Raised, Stays, StoreCounts,
+    WaitingStores, WordNotes, Work, add_drain, add_left, add_stays, count_one, idle_with,
+    note_stores,
 };
 use std::alloc::{AllocError, Global};
 
@@ -55,6 +55,15 @@ pub(crate) struct Tale {
     pub(crate) waiting: WaitingStores,
     /// The drains of the stores in each word.
     pub(crate) stores: StoreCounts,
+}
+
+// The first of some passages, so many.
+fn up_to(rows: &[Passage], end: usize) -> &[Passage]
+    requires within { end ≤ length rows.now }
+    ensures first { result.now ≡ take end rows.now }
+    ensures few { length result.now ≤ length rows.now }
+{
+    &rows[..end]
 }
 
 impl Tale {
@@ -105,7 +114,7 @@ impl Tale {
         ensures { self.new ≡ tale_after cycle registers.old steps.now places.now drain lines pipeline.now rows.now self.old }
     {
         let has_unit = pipeline.units().free(Kind::Mem, cycle);
-        add_stays(
+        let end = add_stays(
             &mut self.stays,
             &mut self.awaited,
             cycle,
@@ -117,22 +126,25 @@ impl Tale {
         count_one(&mut self.heads, account);
         self.idle = idle_with(self.idle, account);
         self.flusher = flusher_in(pipeline, rows, self.flusher);
-        // Those in flight after them add nothing.
-        let rows = up_to_youngest_left(rows);
         self.retired += count_retired(steps) as u64;
-        self.exceptions.note(exception_in(steps, pipeline));
-        self.interrupts.note(interruption_in(steps));
+        note_traps(&mut self.exceptions, &mut self.interrupts, steps, pipeline);
         self.raised.follow(cycle, lines);
         self.places.add(places);
         self.dispatches.add(steps);
-        self.work.add(rows);
-        add_loads(&mut self.loads, &self.costs, rows);
+        // Those in flight after them add nothing.
+        let left = up_to(rows, end);
+        add_left(
+            &mut self.work,
+            &mut self.loads,
+            &mut self.branches,
+            &mut self.mispredicted,
+            &mut self.outcomes,
+            &self.costs,
+            left,
+        );
         add_drain(&mut self.drains, self.costs.hit, drain);
         note_stores(&mut self.last_stores, &mut self.waiting, registers, steps);
         let drained = self.waiting.drain(drain);
         self.stores.add(&self.costs, drained);
-        count_words(&mut self.branches, rows, Class::Branch);
-        count_words(&mut self.mispredicted, rows, Class::Mispredicted);
-        count_left(&mut self.outcomes, &self.costs, rows);
     }
 }

@@ -2,12 +2,14 @@ ghost use Rattle.std.specs.Prelude.{◌≡◌, None, true};
 ghost use Rattle.std.specs.List.{list_all};
 ghost use Rattle.rv_hardware.specs.Step.{is_retirement};
 ghost use Rattle.rv_sentences.specs.Exception.{exception_of, exception_in};
+ghost use Rattle.rv_sentences.specs.Interrupt.{AreCountable, interruption_in, interrupts_after};
+ghost use Rattle.rv_sentences.specs.Kinds.{IsCountable, kept_after};
 
 use crate::ending::csr;
 use rv_core::Pipeline;
 use rv_hardware::Step;
 use rv_isa::{Cause, Csr};
-use rv_sentences::Exception;
+use rv_sentences::{Exception, Exceptions, Interrupts, interruption_in};
 
 // A trap of the core's last cycle, where it is no breakpoint.
 fn exception_of(step: &Step, pipeline: &Pipeline) -> Option<Exception>
@@ -36,10 +38,11 @@ fn exception_of(step: &Step, pipeline: &Pipeline) -> Option<Exception>
     }
 }
 
-// Whether nothing but retirements is among the steps: then no trap is. Most cycles end with that.
+// Whether nothing but retirements is among the steps: then neither a trap nor an interrupt is. Most cycles end with that.
 fn are_retirements(steps: &[Step], pipeline: &Pipeline) -> bool
     ensures exact { result ≡ list_all is_retirement steps.now }
-    ensures none { result ≡ true → exception_in pipeline.now steps.now ≡ None }
+    ensures no_exception { result ≡ true → exception_in pipeline.now steps.now ≡ None }
+    ensures no_interrupt { result ≡ true → interruption_in steps.now ≡ None }
 {
     match steps {
         [] => true,
@@ -58,13 +61,20 @@ fn first_exception(steps: &[Step], pipeline: &Pipeline) -> Option<Exception>
     }
 }
 
-/// The first trap among the steps of the core's last cycle that is no breakpoint.
-pub(crate) fn exception_in(steps: &[Step], pipeline: &Pipeline) -> Option<Exception>
-    ensures { result ≡ exception_in pipeline.now steps.now }
+/// Keeps the first trap among the steps of the core's last cycle that is no breakpoint, and the first interrupt, if there are any.
+pub(crate) fn note_traps(
+    exceptions: &mut Exceptions,
+    interrupts: &mut Interrupts,
+    steps: &[Step],
+    pipeline: &Pipeline,
+)
+    requires exceptions { IsCountable exceptions.old }
+    requires interrupts { AreCountable interrupts.old }
+    ensures exceptions { exceptions.new ≡ kept_after (exception_in pipeline.now steps.now) exceptions.old }
+    ensures interrupts { interrupts.new ≡ interrupts_after (interruption_in steps.now) interrupts.old }
 {
-    if are_retirements(steps, pipeline) {
-        None
-    } else {
-        first_exception(steps, pipeline)
+    if !are_retirements(steps, pipeline) {
+        exceptions.note(first_exception(steps, pipeline));
+        interrupts.note(interruption_in(steps));
     }
 }

@@ -8,6 +8,7 @@ pub mod LastStores
 pub mod InterruptsGrow
 mod Joined
 mod LargestFirst
+mod LeftGrows
 pub mod KindsGrow
 mod Options
 mod SeriesGrows
@@ -21,3 +22,4 @@ pub mod StaysGrow
 pub mod AccountsGrow
 pub mod RaisedGrows
 mod Addresses
+mod UpToYoungestLeft

@@ -79,6 +79,20 @@ within-passages costs (p ∷ ps) most notes each =
     (λ o is. within-more (most + length ps + 1) (most + length (p ∷ ps)) (outcomes_with costs p o) (omega arith) (within-with costs p (most + length ps) o is))
     (with_passages costs ps notes) (word_of p.pc) before
 
+-- one more can be counted
+pub can_count : (notes : Notes Outcomes) (word more : ℕ) → 1 ≤ more → CanTake notes more → IfSome (note_at notes word) CanCount
+can_count notes word more some can =
+    each-note CanCount notes word (each-by notes.words (λ o is. within-more can.most (2 ^ 62) o (omega (arith, some, can.countable)) is) can.within)
+
+-- and so many fewer after it
+pub can_take_others : (costs : LoadCosts) (p : Passage) (old new : Notes Outcomes) (word fewer more : ℕ) → new ≡ with_change (outcomes_with costs p) old word → fewer + 1 ≤ more → CanTake old more → CanTake new fewer
+can_take_others costs p old new word fewer more new_is under can = record {
+  most = can.most + 1;
+  within = subst (λ (notes : Notes Outcomes). Each (IsWithin (can.most + 1)) notes.words) (sym new_is)
+      (each-change (IsWithin can.most) (IsWithin (can.most + 1)) (outcomes_with costs p) (λ o is. within-more can.most (can.most + 1) o (omega arith) is) (λ o is. within-with costs p can.most o is) old word can.within);
+  countable = omega (arith, under, can.countable);
+}
+
 -- one more can be counted, after some
 pub can_take_one : (costs : LoadCosts) (ps : List Passage) (old new : Notes Outcomes) (word more : ℕ) → new ≡ with_passages costs ps old → length ps + 1 ≤ more → CanTake old more → IfSome (note_at new word) CanCount
 can_take_one costs ps old new word more new_is fewer can =
@@ -129,6 +143,12 @@ no_load costs p notes word cost cost_is is =
     let same : (o : Outcomes) → outcomes_with costs p o ≡ o =
     λ o. ap (λ (cost : Option ℕ). record { hits = one_more (is_hit costs cost) o.hits; forwarded = one_more (is_forwarded costs cost) o.forwarded; misses = one_more (is_miss costs cost) o.misses; write_backs = one_more (is_write_back costs cost) o.write_backs }) none in
     sym (changed_same (outcomes_with costs p) notes word (nat_lt word notes.first) refl (slice_get notes.words (word - notes.first)) refl same)
+
+-- the last of some instructions comes first
+pub passages-last : (costs : LoadCosts) (ps : List Passage) (p : Passage) (notes : Notes Outcomes) → with_passages costs (ps ++ p ∷ []) notes ≡ with_passages costs ps (with_change (outcomes_with costs p) notes (word_of p.pc))
+passages-last costs [] p notes = refl
+passages-last costs (q ∷ ps) p notes =
+    ap (λ (before : Notes Outcomes). with_change (outcomes_with costs q) before (word_of q.pc)) (passages-last costs ps p notes)
 
 -- ---- what is kept is what became of the instructions
 

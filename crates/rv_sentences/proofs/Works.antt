@@ -28,8 +28,11 @@ unsquashed_by ending.InFlight is = refl
 unsquashed_by (ending.Trapped cycle cause) is = refl
 unsquashed_by (ending.Retired order cycle written next) is = refl
 
-unretired : (p : Passage) → has_left p ≡ false → is_retirement p.ending ≡ false
+pub unretired : (p : Passage) → has_left p ≡ false → is_retirement p.ending ≡ false
 unretired p is = unretired_by p.ending is
+
+pub unsquashed : (p : Passage) → has_left p ≡ false → is_squash p.ending ≡ false
+unsquashed p is = unsquashed_by p.ending is
 
 -- where a test is of what left the hardware alone, what is in flight can be counted with it
 module _ (test : Passage → Bool) (none : (p : Passage) → has_left p ≡ false → test p ≡ false) where
@@ -47,7 +50,7 @@ module _ (test : Passage → Bool) (none : (p : Passage) → has_left p ≡ fals
   count-left (p ∷ ps) = by_left p ps (has_left p) refl (count-left ps)
 
 pub squashed_left : (ps : List Passage) → count_by (λ (p : Passage). is_squash p.ending) (filter has_left ps) ≡ count_by (λ (p : Passage). is_squash p.ending) ps
-squashed_left ps = count-left (λ p. is_squash p.ending) (λ p is. unsquashed_by p.ending is) ps
+squashed_left ps = count-left (λ p. is_squash p.ending) unsquashed ps
 
 pub branches_left : (ps : List Passage) → count_by is_retired_branch (filter has_left ps) ≡ count_by is_retired_branch ps
 branches_left ps = count-left is_retired_branch (λ p is. rw (unretired p is) refl) ps

@@ -1,6 +1,7 @@
 -- The loads of a run by what they cost.
 use Rattle.std.specs.Prelude.{ℕ, if◌then◌else◌, List, codes, Option, None, count_by, is_some}
 use Rattle.rv_passage.specs.declared.passage.Passage.{Passage}
+use Rattle.rv_counts.specs.Counts.{one_more}
 use Rattle.rv_counts.specs.Load.{is_hit, load_cost}
 use Rattle.rv_counts.specs.Passing.{is_retirement}
 use Rattle.rv_counts.specs.declared.loads.LoadCosts.{LoadCosts}
@@ -16,6 +17,13 @@ abbrev pub loads_of : LoadCosts → List Passage → Accesses
 loads_of costs passages = record {
   all = count_by (λ p. is_some (retired_load_cost p)) passages;
   quick = count_by (λ p. is_hit costs (retired_load_cost p)) passages;
+}
+
+-- with one instruction more
+abbrev pub loads_with : LoadCosts → Passage → Accesses → Accesses
+loads_with costs p loads = record {
+  all = one_more (is_some (retired_load_cost p)) loads.all;
+  quick = one_more (is_hit costs (retired_load_cost p)) loads.quick;
 }
 
 -- the line on the loads of a run

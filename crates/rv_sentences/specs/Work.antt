@@ -5,6 +5,7 @@ use Rattle.rv_memory.specs.Memory.{word_of}
 use Rattle.rv_passage.specs.Passage.{is_squash}
 use Rattle.rv_passage.specs.Prediction.{is_mispredicted}
 use Rattle.rv_passage.specs.declared.passage.Passage.{Passage}
+use Rattle.rv_counts.specs.Counts.{one_more}
 use Rattle.rv_counts.specs.Passing.{has_left, is_retirement}
 use Rattle.rv_sentences.specs.Load.{retired_load_cost}
 use Rattle.rv_sentences.specs.Stack.{parts_of}
@@ -47,6 +48,15 @@ both_work some others = record {
   squashed = some.squashed + others.squashed;
   branches = some.branches + others.branches;
   mispredicted = some.mispredicted + others.mispredicted;
+}
+
+-- with one instruction more, if it left the hardware
+abbrev pub work_with : Passage → Work → Work
+work_with p work = record {
+  left = one_more (is_of Left p) work.left;
+  squashed = one_more (is_of Squashed p) work.squashed;
+  branches = one_more (is_of Branch p) work.branches;
+  mispredicted = one_more (is_of Mispredicted p) work.mispredicted;
 }
 
 -- a number of tenths of a percent, in brackets at the end of a line

@@ -1,7 +1,7 @@
 ghost use Rattle.std.specs.Prelude.{◌≡◌, ◌+◌, ◌<◌, ◌^◌, count_by, length};
 ghost use Rattle.rv_counts.specs.Load.{is_hit};
 ghost use Rattle.rv_sentences.specs.Access.{both};
-ghost use Rattle.rv_sentences.specs.Load.{load_text, loads_of, retired_load_cost};
+ghost use Rattle.rv_sentences.specs.Load.{load_text, loads_of, loads_with, retired_load_cost};
 ghost use Rattle.rv_text.specs.Said.{Says};
 
 use crate::accesses::{Accesses, write_accesses};
@@ -42,6 +42,21 @@ fn count_quick(costs: &LoadCosts, rows: &[Passage]) -> usize
         }
     }
     quick
+}
+
+/// Counts an instruction, if it is a load that retired.
+pub(crate) fn add_load(loads: &mut Accesses, costs: &LoadCosts, row: &Passage)
+    requires all { loads.old.all + 1 < 2 ^ 64 }
+    requires quick { loads.old.quick + 1 < 2 ^ 64 }
+    ensures { loads.new ≡ loads_with costs.now row.now loads.old }
+{
+    let Some(cost) = retired_load_cost(row) else {
+        return;
+    };
+    loads.all += 1;
+    if costs.is_quick(cost) {
+        loads.quick += 1;
+    }
 }
 
 /// Counts the loads that retired among more instructions.

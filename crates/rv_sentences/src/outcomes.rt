@@ -24,8 +24,8 @@ pub struct Outcomes {
     pub write_backs: u64,
 }
 
-// One more, where something is so.
-fn one_more(is: bool, count: u64) -> u64
+/// One more, where something is so.
+pub(crate) fn one_more(is: bool, count: u64) -> u64
     requires { count + 1 < 2 ^ 64 }
     ensures { result ≡ one_more is count }
 {
@@ -95,8 +95,13 @@ fn count_load(words: &mut WordNotes<Outcomes>, costs: &LoadCosts, word: u32, pas
     }
 }
 
-// Counts an instruction in a word. What is no load that retired changes nothing.
-fn count_in(words: &mut WordNotes<Outcomes>, costs: &LoadCosts, word: u32, passage: &Passage)
+/// Counts an instruction in a word. What is no load that retired changes nothing.
+pub(crate) fn count_in(
+    words: &mut WordNotes<Outcomes>,
+    costs: &LoadCosts,
+    word: u32,
+    passage: &Passage,
+)
     requires room { IfSome (note_at words.old word) CanCount }
     ensures { words.new ≡ with_change (outcomes_with costs.now passage.now) words.old word }
 {

@@ -1,4 +1,6 @@
-ghost use Rattle.std.specs.Prelude.{◌≡◌, ◌+◌, ◌-◌, ◌<◌, ◌^◌, drop, length, sum, take};
+ghost use Rattle.std.specs.Prelude.{◌≡◌, ◌+◌, ◌-◌, ◌<◌, ◌≤◌, ◌^◌, if◌then◌else◌, drop, length, sum, take};
+ghost use Rattle.rv_passage.specs.Left.{IsUpToYoungestLeft};
+ghost use Rattle.rv_passage.specs.Passage.{is_in_flight};
 ghost use Rattle.std.specs.Option.{option_or};
 ghost use Rattle.rv_sentences.specs.Stay.{all_stays, awaited_word, have_addresses, oldest_awaited, stay_in, stays_among, with_reason, with_stay, with_stays};
 ghost use Rattle.rv_sentences.specs.WordCount.{with_one};
@@ -87,6 +89,20 @@ impl Stays {
     }
 }
 
+// Notes what is awaited, if something is, as the oldest wait, if none was before.
+fn note_awaited(oldest: &mut Option<u32>, word: Option<u32>)
+    ensures { oldest.new ≡ option_or oldest.old word }
+{
+    match word {
+        Some(_) => {
+            if oldest.is_none() {
+                *oldest = word;
+            }
+        }
+        None => {}
+    }
+}
+
 // Adds why an instruction stays in flight in a cycle, if it does, after the older ones. What it awaits is the oldest wait, if none was before.
 fn add_stay(
     stays: &mut Stays,
@@ -103,10 +119,19 @@ fn add_stay(
 {
     let stay = stay_in(cycle, has_unit, has_addresses, older, row);
     stays.add(stay);
-    *oldest = oldest.or(awaited_word(stay));
+    note_awaited(oldest, awaited_word(stay));
 }
 
-// Adds why those from a place on stay, and notes the word that the oldest of all awaits that wait for an operand.
+// Up to where those go, of which the youngest is the last one that left, with one more, at a place.
+fn end_with(end: usize, place: usize, row: &Passage) -> usize
+    requires { place + 1 < 2 ^ 64 }
+    ensures { result ≡ (if is_in_flight row.now then end else place + 1) }
+{
+    if row.is_in_flight() { end } else { place + 1 }
+}
+
+// Adds why those from a place on stay, and notes the word that the oldest of all awaits that wait for an operand. Answers how many
+// rows there are up to the youngest that left, which is known of those before the place.
 fn add_stays_from(
     stays: &mut Stays,
     oldest: &mut Option<u32>,
@@ -115,10 +140,15 @@ fn add_stays_from(
     has_addresses: bool,
     rows: &[Passage],
     place: usize,
-)
+    end: usize,
+) -> usize
     requires room { all_stays stays.old + (length rows.now - place) < 2 ^ 64 }
+    requires end { IsUpToYoungestLeft (take place rows.now) (take end rows.now) }
+    requires within { end ≤ length rows.now }
     ensures stays { stays.new ≡ with_stays (stays_among cycle has_unit (have_addresses cycle has_addresses (take place rows.now)) (drop place rows.now)) stays.old }
     ensures oldest { oldest.new ≡ option_or oldest.old (oldest_awaited (stays_among cycle has_unit (have_addresses cycle has_addresses (take place rows.now)) (drop place rows.now))) }
+    ensures left { IsUpToYoungestLeft rows.now (take result rows.now) }
+    ensures few { result ≤ length rows.now }
 {
     if place < rows.len() {
         let row = &rows[place];
@@ -139,13 +169,16 @@ fn add_stays_from(
             has_addresses,
             rows,
             place + 1,
-        );
+            end_with(end, place, row),
+        )
+    } else {
+        end
     }
 }
 
 /// Adds why some instructions stay in flight in a cycle, in order of fetch, and counts the cycle at the word that the oldest of them
 /// awaits that wait for an operand, if one does: whether a unit of loads and stores is free in the cycle, and all stores before them
-/// have their addresses.
+/// have their addresses. Answers how many of them there are up to the youngest that left the hardware.
 pub fn add_stays(
     stays: &mut Stays,
     awaited: &mut WordNotes<u64>,
@@ -153,13 +186,25 @@ pub fn add_stays(
     has_unit: bool,
     has_addresses: bool,
     rows: &[Passage],
-)
+) -> usize
     requires room { all_stays stays.old + length rows.now < 2 ^ 64 }
     requires words { sum awaited.old.words + 1 < 2 ^ 64 }
     ensures stays { stays.new ≡ with_stays (stays_among cycle has_unit has_addresses rows.now) stays.old }
     ensures awaited { awaited.new ≡ with_one (oldest_awaited (stays_among cycle has_unit has_addresses rows.now)) awaited.old }
+    ensures left { IsUpToYoungestLeft rows.now (take result rows.now) }
+    ensures few { result ≤ length rows.now }
 {
     let mut oldest = None;
-    add_stays_from(stays, &mut oldest, cycle, has_unit, has_addresses, rows, 0);
+    let end = add_stays_from(
+        stays,
+        &mut oldest,
+        cycle,
+        has_unit,
+        has_addresses,
+        rows,
+        0,
+        0,
+    );
     count_one(awaited, oldest);
+    end
 }

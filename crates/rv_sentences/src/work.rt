@@ -1,11 +1,12 @@
 ghost use Rattle.std.specs.Prelude.{◌≡◌, ◌+◌, ◌<◌, ◌^◌, count_by, filter, length, sum};
 ghost use Rattle.rv_counts.specs.Passing.{has_left};
-ghost use Rattle.rv_sentences.specs.Work.{both_work, branches_text, is_mispredicted_branch, is_of, is_retired_branch, part_text, word_in, work_of, work_text};
+ghost use Rattle.rv_sentences.specs.Work.{both_work, branches_text, is_mispredicted_branch, is_of, is_retired_branch, part_text, word_in, work_of, work_text, work_with};
 ghost use Rattle.rv_sentences.specs.WordCount.{with_all};
 ghost use Rattle.rv_isa.specs.Instruction.{is_branch_or_jump};
 ghost use Rattle.rv_text.specs.Said.{Says};
 
 use crate::loads::retired_load_cost;
+use crate::outcomes::one_more;
 use crate::stack::parts_of;
 use crate::word_notes::{WordNotes, count_one};
 use itoa::Buffer;
@@ -88,8 +89,8 @@ pub fn count(rows: &[Passage], class: Class) -> usize
     found
 }
 
-// The word of RAM that a fetched word is, if it is of a class.
-fn word_in(class: Class, passage: &Passage) -> Option<u32>
+/// The word of RAM that a fetched word is, if it is of a class.
+pub(crate) fn word_in(class: Class, passage: &Passage) -> Option<u32>
     ensures { result ≡ word_in class passage.now }
 {
     if is_of(class, passage) {
@@ -119,6 +120,20 @@ impl Work {
         branches: 0,
         mispredicted: 0,
     };
+
+    // Adds an instruction, if it left the hardware.
+    pub(crate) fn add_row(&mut self, row: &Passage)
+        requires left { self.old.left + 1 < 2 ^ 64 }
+        requires squashed { self.old.squashed + 1 < 2 ^ 64 }
+        requires branches { self.old.branches + 1 < 2 ^ 64 }
+        requires mispredicted { self.old.mispredicted + 1 < 2 ^ 64 }
+        ensures { self.new ≡ work_with row.now self.old }
+    {
+        self.left = one_more(!row.is_in_flight(), self.left);
+        self.squashed = one_more(was_squashed(row), self.squashed);
+        self.branches = one_more(is_retired_branch(row), self.branches);
+        self.mispredicted = one_more(is_mispredicted_branch(row), self.mispredicted);
+    }
 
     /// Adds those of some passages that left the hardware.
     pub fn add(&mut self, rows: &[Passage])

@@ -1,4 +1,4 @@
-use Rattle.std.proofs.Common.{◌∙◌, ◌+◌, ap, true}
+use Rattle.std.proofs.Common.{◌∙◌, ◌+◌, ap, subst, sym, true}
 use Rattle.rv_isa.specs.PerKind.{at_kind}
 use Rattle.rv_isa.specs.declared.per_kind.PerKind.{PerKind}
 use Rattle.rv_isa.specs.declared.operations.Kind.TheVariants.{Mem}
@@ -6,55 +6,52 @@ use Rattle.rv_units.specs.Pool.{Pool, is_free}
 use Rattle.rv_counts.specs.Counts.{one_more}
 use Rattle.rv_sentences.specs.Drained.{oldest_drained, still_waiting, with_drained}
 use Rattle.rv_sentences.specs.Head.{is_idle}
-use Rattle.rv_sentences.specs.Interrupt.{interrupts_after}
-use Rattle.rv_sentences.specs.Kinds.{kept_after}
 use Rattle.rv_sentences.specs.WordCount.{with_one}
+use Rattle.rv_sentences.specs.Stay.{oldest_awaited, stays_among, with_stays}
+use Rattle.rv_passage.specs.Left.{IsUpToYoungestLeft}
 use Rattle.rv_counts.proofs.InFlight.{left_same}
 use Rattle.rv_sentences.specs.Access.{both}
 use Rattle.rv_sentences.specs.Outcome.{with_passages}
-use Rattle.rv_sentences.specs.Stay.{oldest_awaited, stays_among, with_stays}
 use Rattle.rv_sentences.specs.Work.{both_work, word_in, work_of}
 use Rattle.rv_sentences.specs.declared.work.Class.TheVariants.{Branch, Mispredicted}
 use Rattle.rv_sentences.proofs.OutcomesGrow.{can_take_fewer}
 use Rattle.rv_explain.proofs.InFlight.{loads_same, no_branch, no_mispredicted, noted_same}
 use Rattle.rv_explain.proofs.tale.Tale.add.Goals as goal
 
-pub count_left-requires : goal.count_left-requires
-count_left-requires c =
-    record { room = can_take_fewer c.args.self.now.outcomes _ _ c.up_to_youngest_left-rows.ensures.few c.requires.room.outcomes }
+pub add_left-requires-clause-outcomes : goal.add_left-requires-clause-outcomes
+add_left-requires-clause-outcomes c =
+    can_take_fewer c.args.self.now.outcomes _ _ c.up_to-left.ensures.few c.requires.room.outcomes
 
 pub returns : goal.returns
 returns c =
     let before = c.args.self.now in
-    let exceptions = c.note.ensures ∙ ap (λ exception. kept_after exception before.exceptions) c.exception_in.ensures in
-    let interrupts = c.note-2.ensures ∙ ap (λ interruption. interrupts_after interruption before.interrupts) c.interruption_in.ensures in
     let rows = c.args.rows.now in
-    let kept = c.up_to_youngest_left-rows.result.now in
-    let up = c.up_to_youngest_left-rows.ensures.kept in
+    let kept = c.up_to-left.result.now in
+    let up = subst (IsUpToYoungestLeft rows) (sym c.up_to-left.ensures.first) c.add_stays-end.ensures.left in
     let left = left_same rows kept up in
     let free = c.free-has_unit.ensures ∙ ap (λ (units : PerKind Pool). is_free c.args.cycle (at_kind Mem units)) c.units.ensures in
     let drained = c.drain-drained.ensures.drained ∙ ap (oldest_drained c.args.drain) c.note_stores.ensures.waiting in
     let heads = c.count_one.ensures ∙ ap (λ word. with_one word before.heads) c.account_of-account.ensures in
     λ i. record {
       retired = before.retired + c.count_retired.ensures i;
-      exceptions = exceptions i;
-      interrupts = interrupts i;
+      exceptions = c.note_traps.ensures.exceptions i;
+      interrupts = c.note_traps.ensures.interrupts i;
       raised = c.follow.ensures i;
       places = c.add.ensures i;
       dispatches = c.add-2.ensures i;
-      stays = (c.add_stays.ensures.stays ∙ ap (λ free. with_stays (stays_among c.args.cycle free true rows) before.stays) free) i;
-      awaited = (c.add_stays.ensures.awaited ∙ ap (λ free. with_one (oldest_awaited (stays_among c.args.cycle free true rows)) before.awaited) free) i;
-      work = (c.add-3.ensures ∙ ap (λ l. both_work before.work (work_of l)) left) i;
+      stays = (c.add_stays-end.ensures.stays ∙ ap (λ free. with_stays (stays_among c.args.cycle free true rows) before.stays) free) i;
+      awaited = (c.add_stays-end.ensures.awaited ∙ ap (λ free. with_one (oldest_awaited (stays_among c.args.cycle free true rows)) before.awaited) free) i;
+      work = (c.add_left.ensures.work ∙ ap (λ l. both_work before.work (work_of l)) left) i;
       costs = before.costs;
-      loads = (c.add_loads.ensures ∙ ap (both before.loads) (loads_same before.costs rows kept up)) i;
+      loads = (c.add_left.ensures.loads ∙ ap (both before.loads) (loads_same before.costs rows kept up)) i;
       drains = c.add_drain.ensures i;
       last_stores = c.note_stores.ensures.last i;
       heads = heads i;
       idle = (c.idle_with-self.ensures ∙ ap (λ account. one_more (is_idle account) before.idle) c.account_of-account.ensures) i;
       flusher = c.flusher_in-self.ensures i;
-      branches = (c.count_words.ensures ∙ noted_same (word_in Branch) no_branch rows kept before.branches up) i;
-      mispredicted = (c.count_words-2.ensures ∙ noted_same (word_in Mispredicted) no_mispredicted rows kept before.mispredicted up) i;
-      outcomes = (c.count_left.ensures ∙ ap (λ l. with_passages before.costs l before.outcomes) left) i;
+      branches = (c.add_left.ensures.branches ∙ noted_same (word_in Branch) no_branch rows kept before.branches up) i;
+      mispredicted = (c.add_left.ensures.mispredicted ∙ noted_same (word_in Mispredicted) no_mispredicted rows kept before.mispredicted up) i;
+      outcomes = (c.add_left.ensures.outcomes ∙ ap (λ l. with_passages before.costs l before.outcomes) left) i;
       waiting = (c.drain-drained.ensures.waiting ∙ ap (still_waiting c.args.drain) c.note_stores.ensures.waiting) i;
-      stores = (c.add-4.ensures ∙ ap (λ one. with_drained before.costs one before.stores) drained) i;
+      stores = (c.add-3.ensures ∙ ap (λ one. with_drained before.costs one before.stores) drained) i;
     }
