@@ -56,7 +56,8 @@ place_within cause.UntilInterrupt = omega arith
 place_within cause.Other = omega arith
 
 -- so many more at a place
-pub sum-set : (counts : List ℕ) (place more : ℕ) → place < length counts → sum (slice_set counts place (slice_index_or counts place 0 + more)) ≡ sum counts + more
+pub sum-set : (counts : List ℕ) (place more : ℕ) → place < length counts
+    → sum (slice_set counts place (slice_index_or counts place 0 + more)) ≡ sum counts + more
 sum-set counts place more within = omega (arith, sum_by-set (λ n. n) counts place (slice_index_or counts place 0 + more) 0 within)
 
 -- so many cycles more of a cause

@@ -49,7 +49,8 @@ module _ (events : List Event) (place : ℕ) (some : 0 < place) (within : place 
       ∙ reverse-append (event ∷ []) (drop (place - 1 + 1) events)
       ∙ ap (λ n. reverse (drop n events) ++ event ∷ []) (sym same)
 
-  pub meet-covers : (points left : List Point) (wanted : Option Point) → left ≡ passed event points → IsAmong (beyond (reverse (drop place events)) wanted) points
+  pub meet-covers : (points left : List Point) (wanted : Option Point) → left ≡ passed event points
+      → IsAmong (beyond (reverse (drop place events)) wanted) points
       → IsAmong (beyond (reverse (drop (place - 1) events)) wanted) left
   meet-covers points left wanted left_is among =
       let past_it : beyond (reverse (drop (place - 1) events)) wanted ≡ beyond (event ∷ []) (beyond (reverse (drop place events)) wanted) =

@@ -34,7 +34,8 @@ use Rattle.rv_path.specs.declared.sought.Sought.TheVariants as sought
 use Rattle.rv_path.proofs.Advances.{IsKnownBy, WaitsFor, known_by_implies, moved_up_to_K}
 use Rattle.rv_path.proofs.EventLists.{J, OJ, append_have, first_have, get_have, holds_append, holds_filter, if_with, in_flight_have, last_have}
 use Rattle.rv_path.proofs.EventLists.{before_implies, holds_imply, one_before_have, or_with, replicate_have, unwrap_with, ways_imply}
-use Rattle.rv_path.proofs.Leavings.{AreLeavingOf, drain_new, interrupt_new, leaving_implies, leaving_new, left_events_are, left_events_have, lines_new}
+use Rattle.rv_path.proofs.Leavings.{AreLeavingOf, drain_new, interrupt_new, leaving_implies, leaving_new, left_events_are, left_events_have}
+use Rattle.rv_path.proofs.Leavings.{lines_new}
 use Rattle.rv_path.proofs.News.{AllOf, IsKept, IsNew, all_back, all_both, all_front, all_imply, all_new_have, known_still, new_implies}
 use Rattle.rv_path.proofs.News.{wait_has, wait_still, with_both}
 use Rattle.rv_path.proofs.Waits.{broadcast_have, dispatched_have, issued_have, since_left_V}

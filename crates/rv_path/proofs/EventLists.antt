@@ -9,7 +9,8 @@ use Rattle.rv_path.specs.Path.{Known, still_in_flight, way_if}
 use Rattle.rv_path.specs.Setting.{last_left}
 use Rattle.rv_path.specs.Sought.{is_sought}
 use Rattle.rv_path.specs.Within.{AreHoldsOf, AreKnown, AreWaysOf, IsBeforeOf, IsWayOf}
-use Rattle.rv_path.specs.declared.{before.Before.Before, before.DrainHold.DrainHold, before.PortHold.PortHold, before.UnitHold.UnitHold, event.Event.Event, sought.Sought.Sought, way.Way.Way}
+use Rattle.rv_path.specs.declared.{before.Before.Before, before.DrainHold.DrainHold, before.PortHold.PortHold, before.UnitHold.UnitHold}
+use Rattle.rv_path.specs.declared.{event.Event.Event, sought.Sought.Sought, way.Way.Way}
 
 -- of the events of an instruction that is found, if one is
 abbrev pub J : (Event → Type 0) → Journey → Type 0

@@ -1,6 +1,7 @@
 -- Where the instructions that left are older than the others, the events of the others are what comes after so many.
-use Rattle.std.proofs.Common.{◌≡◌, ◌∙◌, ℕ, suc, ◌+◌, ◌≤◌, true, false, List, [], ◌∷◌, ◌++◌, length, drop, Option, None, Some, refl, ap, sym, arith, inl, inr}
-use Rattle.std.specs.Prelude.{Bool, if◌then◌else◌}
+use Rattle.std.proofs.Common.{◌≡◌, ◌∙◌, ℕ, suc, ◌+◌, ◌≤◌, true, false, List, [], ◌∷◌, ◌++◌, length, drop, Option, None, Some, refl, ap, sym}
+use Rattle.std.proofs.Common.{arith, inl, inr}
+use Rattle.std.specs.Prelude.{Bool, if◌then◌else◌, IfSome}
 use Rattle.std.specs.List.{list_all}
 use Rattle.std.specs.Option.{unwrap_or}
 use Rattle.std.proofs.Math.Seq.{drop-append_seam}
@@ -9,14 +10,14 @@ use Rattle.std.proofs.lemmas.Option.{none-some}
 use Rattle.rv_passage.specs.Passage.{is_in_flight}
 use Rattle.rv_passage.specs.declared.passage.Passage.{Passage}
 use Rattle.rv_path.specs.Keeping.{forgotten_in, one_more}
-use Rattle.rv_path.specs.Path.{still_in_flight}
+use Rattle.rv_path.specs.Path.{AreForgotten, still_in_flight}
 use Rattle.rv_path.specs.declared.way.Way.{Way}
 
 -- what comes after so many
 pub drop-joined : {X : Type 0} (n : ℕ) (front back : List X) → length front ≡ n → drop n (front ++ back) ≡ back
 drop-joined n front back is = ap (λ k. drop k (front ++ back)) (sym is) ∙ drop-append_seam front back
 
-same-count : (count other : ℕ) → Some count ≡ Some other → count ≡ other
+pub same-count : (count other : ℕ) → Some count ≡ Some other → count ≡ other
 same-count count other is = ap (λ (o : Option ℕ). unwrap_or o 0) is
 
 -- where all are in flight, none is left out
@@ -79,3 +80,10 @@ forgotten-few (p ∷ ps) count is = elim (cases_Bool (is_in_flight p)) [
       let more : one_more (forgotten_in ps) ≡ Some count = rw ended at is in
       omega (arith, few-more (length ps) count (forgotten_in ps) (λ n it. forgotten-few ps n it) more)
 ]
+
+-- the events of those that left go, where there is one of each
+pub are_forgotten : (rows : List Passage) (ways : List Way) (ended : Option ℕ) → ended ≡ forgotten_in rows → length ways ≡ length rows
+    → IfSome ended (AreForgotten rows ways)
+are_forgotten rows ways None is long = tt
+are_forgotten rows ways (Some count) is long =
+    record { few = omega (arith, long, forgotten-few rows count (sym is)); others = forgotten rows ways count (sym is) long }

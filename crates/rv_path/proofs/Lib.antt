@@ -1,3 +1,4 @@
+mod AllLeft
 mod Accounts
 mod Advances
 mod Backwards

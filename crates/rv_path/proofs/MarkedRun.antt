@@ -1,5 +1,6 @@
 -- The marks of a run's path: what a marker has of the cycles so far, and that what is left of the path at the end has all that are marked.
-use Rattle.std.proofs.Common.{◌≡◌, ◌⊎◌, ◌∙◌, ℕ, ◌+◌, ◌-◌, ◌^◌, ◌<◌, ◌≤◌, List, [], ◌∷◌, Option, Some, sym, ap, subst, arith, length, length-append, take, inl, inr}
+use Rattle.std.proofs.Common.{◌≡◌, ◌⊎◌, ◌∙◌, ℕ, ◌+◌, ◌-◌, ◌^◌, ◌<◌, ◌≤◌, List, [], ◌∷◌, Option, Some, sym, ap, subst, arith, length}
+use Rattle.std.proofs.Common.{length-append, take, inl, inr}
 use Rattle.std.proofs.lemmas.Bool.{cases_order}
 use Rattle.std.proofs.lemmas.List.{take_all}
 use Rattle.rv_isa.specs.declared.lines.Arrival.{Arrival}
@@ -45,7 +46,8 @@ le_or_lt a b = by_order (cases_order a b) where
   by_order (inr (inr more)) = inr more
 
 -- no cycle yet
-pub marking_nothing : (first : GuidedHardware) (arrivals : List Arrival) (marker : Marker) (rows : List Passage) → rows ≡ (table_at first.hardware).rows → length rows ≤ 576
+pub marking_nothing : (first : GuidedHardware) (arrivals : List Arrival) (marker : Marker) (rows : List Passage)
+    → rows ≡ (table_at first.hardware).rows → length rows ≤ 576
     → IsKnown marker.path (known_of first.hardware []) → marker.cycles ≡ 0
     → marker.numbering.numbers.items ≡ row_numbers rows → marker.numbering.fetched ≡ length rows
     → IsMarking marker (watched arrivals first [] first)
@@ -131,7 +133,8 @@ module _ {seen : Watched} {cycle : ShownCycle} (next : IsNextCycle seen cycle) (
     more : length (with_shown seen next.shown).moments ≡ length seen.moments + 1
     more = length-append seen.moments (record { report = next.shown.report; after = cycle.pipeline.now } ∷ [])
 
-    by_cycles : (new.cycles ≤ old.from) ⊎ (old.from < new.cycles) → IsNumbering new.numbering (begun_at old.from) × (new.numbering.fetched ≤ old.numbering.fetched + 576)
+    by_cycles : (new.cycles ≤ old.from) ⊎ (old.from < new.cycles)
+        → IsNumbering new.numbering (begun_at old.from) × (new.numbering.fetched ≤ old.numbering.fetched + 576)
     by_cycles (inl before) = (
       numbering_on next old.from old.numbering new.numbering (omega (arith, before, now)) (later before) is.numbering,
       omega (arith, (later before).fetched_are, next.few),
@@ -142,7 +145,8 @@ module _ {seen : Watched} {cycle : ShownCycle} (next : IsNextCycle seen cycle) (
     )
 
 -- a run that would go on up to a limit that no run comes to
-ended-sooner : (limit other cycles : ℕ) (reports : List Report) (new : Hardware) (reason : Stop) → length reports ≤ cycles → cycles < limit → cycles < other
+ended-sooner : (limit other cycles : ℕ) (reports : List Report) (new : Hardware) (reason : Stop) → length reports ≤ cycles → cycles < limit
+    → cycles < other
     → IsStop limit reports new reason → IsStop other reports new reason
 ended-sooner limit other cycles reports new stop.Limit few below above stops = absurd (omega (arith, few, below, stops.1))
 ended-sooner limit other cycles reports new stop.Breakpoint few below above stops = (stops.0, omega (arith, few, above))

@@ -10,7 +10,7 @@ use Rattle.rv_path.specs.Moving.{Move, advance_of, advanced, advances, advances_
 use Rattle.rv_path.specs.Moving.{moved_at, moved_by, new_advanced, new_at, new_at_one}
 use Rattle.rv_path.specs.Setting.{Setting}
 use Rattle.rv_path.specs.Sought.{is_at}
-use Rattle.rv_path.specs.declared.{cause.Cause.Cause, event.Event.Event, leaving.Leaving.Leaving, point.Point.Point, way.Way.Way}
+use Rattle.rv_path.specs.declared.{cause.Cause.Cause, leaving.Leaving.Leaving, point.Point.Point, way.Way.Way}
 use Rattle.rv_path.specs.declared.point.Stage.TheVariants as stage
 
 new-by : (refilled : Bool) (at : Point) (cycle : ℕ) (address : Option ℕ) (waited : Wait) (why : Option Cause)

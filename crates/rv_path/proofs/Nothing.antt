@@ -19,12 +19,14 @@ last_of_nothing sought [] ways none = refl
 last_of_nothing sought (p ∷ ps) [] none = refl
 last_of_nothing sought (p ∷ ps) (w ∷ ws) none = absurd (omega (arith, none))
 
-pub with_rows_nothing : (s : Setting) (rows : List Passage) (ways : List Way) (leaving : Leaving) → length ways < 1 → with_rows s rows ways leaving ≡ leaving
+pub with_rows_nothing : (s : Setting) (rows : List Passage) (ways : List Way) (leaving : Leaving) → length ways < 1
+    → with_rows s rows ways leaving ≡ leaving
 with_rows_nothing s [] ways leaving none = refl
 with_rows_nothing s (p ∷ ps) [] leaving none = refl
 with_rows_nothing s (p ∷ ps) (w ∷ ws) leaving none = absurd (omega (arith, none))
 
-pub new_holds_nothing : (number : ℕ) (values : Values) (rows : List Passage) (ways : List Way) → length ways < 1 → new_holds number values rows ways ≡ []
+pub new_holds_nothing : (number : ℕ) (values : Values) (rows : List Passage) (ways : List Way) → length ways < 1
+    → new_holds number values rows ways ≡ []
 new_holds_nothing number values [] ways none = refl
 new_holds_nothing number values (p ∷ ps) [] none = refl
 new_holds_nothing number values (p ∷ ps) (w ∷ ws) none = absurd (omega (arith, none))

@@ -1,5 +1,6 @@
 -- The numbering of a window: one more cycle before it, or in it.
-use Rattle.std.proofs.Common.{◌≡◌, ◌∙◌, ℕ, suc, ◌+◌, ◌-◌, ◌<◌, ◌≤◌, Bool, true, false, List, [], ◌∷◌, ◌++◌, refl, sym, ap, subst, arith, length, length-append, take}
+use Rattle.std.proofs.Common.{◌≡◌, ◌∙◌, ℕ, suc, ◌+◌, ◌-◌, ◌<◌, ◌≤◌, Bool, true, false, List, [], ◌∷◌, ◌++◌, refl, sym, ap, subst, arith}
+use Rattle.std.proofs.Common.{length, length-append, take}
 use Rattle.std.specs.Prelude.{if◌then◌else◌}
 use Rattle.std.proofs.lemmas.List.{length-map, take-append-le, take_all}
 use Rattle.rv_core.specs.Watching.{Watched}
@@ -60,7 +61,8 @@ module _ {seen : Watched} {cycle : ShownCycle} (next : IsNextCycle seen cycle) (
   kept = passages_after still_open seen.first.hardware seen.moments
 
   -- in the window it stays
-  pub numbering_kept : from < length seen.moments + 1 → new ≡ old → IsNumbering old (begun seen.moments) → IsNumbering new (begun (seen.moments ++ moment ∷ []))
+  pub numbering_kept : from < length seen.moments + 1 → new ≡ old → IsNumbering old (begun seen.moments)
+      → IsNumbering new (begun (seen.moments ++ moment ∷ []))
   numbering_kept begins same is =
       let front : take from (seen.moments ++ moment ∷ []) ≡ take from seen.moments = take-append-le from seen.moments (moment ∷ []) (omega (arith, begins)) in
       subst (λ (n : Numbering). IsNumbering n (begun (seen.moments ++ moment ∷ []))) (sym same)

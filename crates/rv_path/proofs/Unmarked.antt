@@ -56,7 +56,8 @@ none-marked from (event ∷ events) are =
     ap (λ b. if b then event ∷ filter (is_marked from) events else filter (is_marked from) events) are.0 ∙ none-marked from events are.1
 
 -- the marks of some events more
-pub marks_append : (from : ℕ) (number : ℕ → ℕ) (xs ys : List Event) → marks_of from number (xs ++ ys) ≡ marks_of from number xs ++ marks_of from number ys
+pub marks_append : (from : ℕ) (number : ℕ → ℕ) (xs ys : List Event)
+    → marks_of from number (xs ++ ys) ≡ marks_of from number xs ++ marks_of from number ys
 marks_append from number xs ys =
     ap (map (mark_of from number)) (filter-append (is_marked from) xs ys)
     ∙ map-append (mark_of from number) (filter (is_marked from) xs) (filter (is_marked from) ys)
@@ -84,7 +85,8 @@ has_all_of from window all is unmarked = record {
 }
 
 -- one with the same events, and one with some more
-pub has_all_same : (from : ℕ) (old new : Window) (all : List Event) → new.events.items ≡ old.events.items → HasAllMarked from old all → HasAllMarked from new all
+pub has_all_same : (from : ℕ) (old new : Window) (all : List Event) → new.events.items ≡ old.events.items → HasAllMarked from old all
+    → HasAllMarked from new all
 has_all_same from old new all same has = record {
   older = has.older;
   all_are = has.all_are ∙ ap (λ (es : List Event). reverse es ++ has.older) (sym same);

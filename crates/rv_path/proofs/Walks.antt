@@ -8,7 +8,8 @@ pub beyond-append : (xs ys : List Event) (wanted : Option Point) → beyond (xs 
 beyond-append [] ys wanted = refl
 beyond-append (x ∷ xs) ys wanted = beyond-append xs ys (past x wanted)
 
-path_to-by : (here : Bool) (x : Event) (xs ys : List Event) (wanted : Option Point) → path_to (xs ++ ys) x.before ≡ path_to xs x.before ++ path_to ys (beyond xs x.before)
+path_to-by : (here : Bool) (x : Event) (xs ys : List Event) (wanted : Option Point)
+    → path_to (xs ++ ys) x.before ≡ path_to xs x.before ++ path_to ys (beyond xs x.before)
     → path_to (xs ++ ys) wanted ≡ path_to xs wanted ++ path_to ys (beyond xs wanted)
     → (if here then x ∷ path_to (xs ++ ys) x.before else path_to (xs ++ ys) wanted)
     ≡ (if here then x ∷ path_to xs x.before else path_to xs wanted) ++ path_to ys (beyond xs (if here then x.before else wanted))
@@ -33,7 +34,8 @@ pub in_time-later : (n m : ℕ) (events : List Event) → n ≤ m → AreInTime 
 in_time-later n m [] more within = tt
 in_time-later n m (event ∷ older) more within = (omega (arith, more, within.0), within.1)
 
-in_time-by : (here : Bool) (cycles : ℕ) (event : Event) (found past_it : List Event) → event.cycle ≤ cycles → AreInTime event.cycle found → AreInTime cycles past_it
+in_time-by : (here : Bool) (cycles : ℕ) (event : Event) (found past_it : List Event) → event.cycle ≤ cycles → AreInTime event.cycle found
+    → AreInTime cycles past_it
     → AreInTime cycles (if here then event ∷ found else past_it)
 in_time-by true cycles event found past_it here within later = (here, within)
 in_time-by false cycles event found past_it here within later = later

@@ -26,14 +26,16 @@ within-later old new more (w ∷ ws) within = (later old new more w within.0, wi
 
 -- cases of where a change is made
 module _ (address : ℕ) (change : WordCycles → WordCycles) (P : List WordCycles → Type 0) (w : WordCycles) (ws : List WordCycles) where
-  by_order : (low : Bool) → (w.address == address) ≡ false → nat_lt address w.address ≡ low → (address < w.address → P (change (no_cycles address) ∷ w ∷ ws))
+  by_order : (low : Bool) → (w.address == address) ≡ false → nat_lt address w.address ≡ low
+      → (address < w.address → P (change (no_cycles address) ∷ w ∷ ws))
       → (w.address < address → P (w ∷ with_change address change ws)) → P (with_change address change (w ∷ ws))
   by_order true other is new later = rw (other, is) (new (ltb-true address w.address is))
   by_order false other is new later =
       let not_above = ltb-false address w.address is in
       rw (other, is) (later (below_other w.address address not_above (eqb-false w.address address other)))
 
-  by_test : (same : Bool) → (w.address == address) ≡ same → (w.address ≡ address → P (change w ∷ ws)) → (address < w.address → P (change (no_cycles address) ∷ w ∷ ws))
+  by_test : (same : Bool) → (w.address == address) ≡ same → (w.address ≡ address → P (change w ∷ ws))
+      → (address < w.address → P (change (no_cycles address) ∷ w ∷ ws))
       → (w.address < address → P (w ∷ with_change address change ws)) → P (with_change address change (w ∷ ws))
   by_test true is here new later = rw is (here (eqb-true w.address address is))
   by_test false is here new later = by_order (nat_lt address w.address) is refl new later
@@ -52,7 +54,8 @@ module _ (address : ℕ) (change : WordCycles → WordCycles) where
   none cycles = record { all = refl; adds_up = refl; within = omega arith }
 
   -- all are within more cycles, where the changed one is
-  pub within-change : (old new : ℕ) → old ≤ new → ((w : WordCycles) → IsWithin old w → IsWithin new (change w)) → (words : List WordCycles) → AreWithin old words
+  pub within-change : (old new : ℕ) → old ≤ new → ((w : WordCycles) → IsWithin old w → IsWithin new (change w)) → (words : List WordCycles)
+      → AreWithin old words
       → AreWithin new (with_change address change words)
   within-change old new more then [] within = (then (no_cycles address) (none old), tt)
   within-change old new more then (w ∷ ws) within =
@@ -89,5 +92,6 @@ pub in_order-made : (address : ℕ) (change : WordCycles → WordCycles) (keeps 
 in_order-made address change keeps old new order made = subst IsInOrder (sym made) (in_order-change address change keeps old order)
 
 -- nothing changes
-pub within-begun : (address cycles : ℕ) (old new : List WordCycles) → new ≡ with_change address (λ w. w) old → AreWithin cycles old → AreWithin cycles new
+pub within-begun : (address cycles : ℕ) (old new : List WordCycles) → new ≡ with_change address (λ w. w) old → AreWithin cycles old
+    → AreWithin cycles new
 within-begun address cycles old new made within = subst (AreWithin cycles) (sym made) (within-change address (λ w. w) cycles cycles (omega arith) (λ w is. is) old within)

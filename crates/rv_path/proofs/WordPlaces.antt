@@ -1,5 +1,6 @@
 -- The place of an address among words in order, and the change there.
-use Rattle.std.proofs.Common.{◌≡◌, ◌∙◌, ℕ, zero, suc, ◌<◌, ◌≤◌, nat_lt, List, [], ◌∷◌, length, get_or, set, refl, ap, sym, arith, eq-eqb, ne_eqb, inl, inr}
+use Rattle.std.proofs.Common.{◌≡◌, ◌∙◌, ℕ, zero, suc, ◌<◌, ◌≤◌, nat_lt, List, [], ◌∷◌, length, get_or, set, refl, ap, sym, arith, eq-eqb}
+use Rattle.std.proofs.Common.{ne_eqb, inl, inr}
 use Rattle.std.specs.Prelude.{insert}
 use Rattle.std.proofs.lemmas.List.{set-get_or}
 use Rattle.std.proofs.lemmas.Bool.{cases_Bool, le-ltb, lt-ltb, ltb-true, ltb-false}
@@ -9,7 +10,8 @@ use Rattle.rv_path.specs.Words.{AreAbove, IsInOrder, IsPlaceFor, IsPlaceOf}
 use Rattle.rv_path.specs.declared.word_cycles.WordCycles.{WordCycles}
 
 -- all have what each has
-pub within-at : (cycles : ℕ) (words : List WordCycles) (i : ℕ) (d : WordCycles) → AreWithin cycles words → i < length words → IsWithin cycles (get_or words i d)
+pub within-at : (cycles : ℕ) (words : List WordCycles) (i : ℕ) (d : WordCycles) → AreWithin cycles words → i < length words
+    → IsWithin cycles (get_or words i d)
 within-at cycles [] i d within here = absurd (omega arith)
 within-at cycles (w ∷ ws) zero d within here = within.0
 within-at cycles (w ∷ ws) (suc i) d within here = within-at cycles ws i d within.1 (omega arith)
@@ -20,7 +22,8 @@ above-at low (w ∷ ws) zero d above here = above.0
 above-at low (w ∷ ws) (suc i) d above here = above-at low ws i d above.1 (omega arith)
 
 -- a later place has no lower address
-pub in_order-le : (words : List WordCycles) (i j : ℕ) (d e : WordCycles) → IsInOrder words → i ≤ j → j < length words → (get_or words i d).address ≤ (get_or words j e).address
+pub in_order-le : (words : List WordCycles) (i j : ℕ) (d e : WordCycles) → IsInOrder words → i ≤ j → j < length words
+    → (get_or words i d).address ≤ (get_or words j e).address
 in_order-le [] i j d e order along within = absurd (omega arith)
 in_order-le (w ∷ ws) zero zero d e order along within = omega arith
 in_order-le (w ∷ ws) zero (suc j) d e order along within = let above = above-at w.address ws j e order.0 (omega arith) in omega (arith, above)
@@ -28,7 +31,8 @@ in_order-le (w ∷ ws) (suc i) zero d e order along within = absurd (omega arith
 in_order-le (w ∷ ws) (suc i) (suc j) d e order along within = in_order-le ws i j d e order.1 (omega arith) (omega arith)
 
 -- and a higher one, where it is another place
-pub in_order-lt : (words : List WordCycles) (i j : ℕ) (d e : WordCycles) → IsInOrder words → i < j → j < length words → (get_or words i d).address < (get_or words j e).address
+pub in_order-lt : (words : List WordCycles) (i j : ℕ) (d e : WordCycles) → IsInOrder words → i < j → j < length words
+    → (get_or words i d).address < (get_or words j e).address
 in_order-lt [] i j d e order along within = absurd (omega arith)
 in_order-lt (w ∷ ws) zero zero d e order along within = absurd (omega arith)
 in_order-lt (w ∷ ws) zero (suc j) d e order along within = above-at w.address ws j e order.0 (omega arith)
@@ -53,7 +57,8 @@ module _ (address : ℕ) (change : WordCycles → WordCycles) where
   higher w ws above = rw (ne_eqb w.address address (λ is. omega (arith, is, above)), lt-ltb address w.address above) refl
 
   -- the word at a place is that of the address
-  pub change-there : (words : List WordCycles) (i : ℕ) (d : WordCycles) → i < length words → ((k : ℕ) (w : WordCycles) → k < i → (get_or words k w).address < address) → (get_or words i d).address ≡ address
+  pub change-there : (words : List WordCycles) (i : ℕ) (d : WordCycles) → i < length words
+      → ((k : ℕ) (w : WordCycles) → k < i → (get_or words k w).address < address) → (get_or words i d).address ≡ address
       → with_change address change words ≡ set words i (change (get_or words i d))
   change-there [] i d within before is = absurd (omega arith)
   change-there (w ∷ ws) zero d within before is = here w ws is
@@ -62,7 +67,8 @@ module _ (address : ℕ) (change : WordCycles → WordCycles) where
 
   -- there is none of the address, and it belongs at a place
   pub change-new : (words : List WordCycles) (i : ℕ) → i ≤ length words → ((k : ℕ) (w : WordCycles) → k < i → (get_or words k w).address < address)
-      → ((k : ℕ) (w : WordCycles) → i ≤ k → k < length words → address < (get_or words k w).address) → with_change address change words ≡ insert words i (change (no_cycles address))
+      → ((k : ℕ) (w : WordCycles) → i ≤ k → k < length words → address < (get_or words k w).address)
+      → with_change address change words ≡ insert words i (change (no_cycles address))
   change-new [] zero within before after = refl
   change-new [] (suc i) within before after = absurd (omega arith)
   change-new (w ∷ ws) zero within before after = higher w ws (after 0 w (omega arith) (omega arith))
@@ -72,7 +78,8 @@ module _ (address : ℕ) (change : WordCycles → WordCycles) where
 
 module _ (address : ℕ) where
   -- the word of the address is found at its place
-  pub found-there : (words : List WordCycles) (i : ℕ) (d : WordCycles) → i < length words → ((k : ℕ) (w : WordCycles) → k < i → (get_or words k w).address < address)
+  pub found-there : (words : List WordCycles) (i : ℕ) (d : WordCycles) → i < length words
+      → ((k : ℕ) (w : WordCycles) → k < i → (get_or words k w).address < address)
       → (get_or words i d).address ≡ address → cycles_at address words ≡ (get_or words i d).cycles
   found-there [] i d within before is = absurd (omega arith)
   found-there (w ∷ ws) zero d within before is = rw (eq-eqb w.address address is) refl
@@ -80,7 +87,8 @@ module _ (address : ℕ) where
       rw (ne_eqb w.address address (λ same. let low = before 0 w (omega arith) in omega (arith, same, low))) (found-there ws i d (omega arith) (λ k v low. before (suc k) v (omega arith)) is)
 
   -- and none where all are of other addresses
-  pub found-none : (words : List WordCycles) → ((k : ℕ) (w : WordCycles) → k < length words → (get_or words k w).address ≡ address → ⊥) → cycles_at address words ≡ 0
+  pub found-none : (words : List WordCycles) → ((k : ℕ) (w : WordCycles) → k < length words → (get_or words k w).address ≡ address → ⊥)
+      → cycles_at address words ≡ 0
   found-none [] others = refl
   found-none (w ∷ ws) others = rw (ne_eqb w.address address (others 0 w (omega arith))) (found-none ws (λ k v within. others (suc k) v (omega arith)))
 
@@ -110,7 +118,8 @@ module _ (address : ℕ) (words : List WordCycles) (place : ℕ) where
   ]))
 
   -- a change at the place of an address
-  pub change-at : IsPlaceOf address place words → (change : WordCycles → WordCycles) (w : WordCycles) → with_change address change words ≡ set words place (change (get_or words place w))
+  pub change-at : IsPlaceOf address place words → (change : WordCycles → WordCycles) (w : WordCycles)
+      → with_change address change words ≡ set words place (change (get_or words place w))
   change-at is change w = change-there address change words place w is.within is.before (is.there w)
 
   pub begun-there : IsPlaceOf address place words → words ≡ with_change address (λ w. w) words
@@ -127,6 +136,7 @@ module _ (address : ℕ) (words : List WordCycles) (place : ℕ) where
       ∙ sym (set-insert words place (no_cycles address) (change (no_cycles address)) is.within)
       ∙ ap (λ v. set (insert words place (no_cycles address)) place (change v)) (sym (insert-at words place (no_cycles address) w is.within))
 
-  pub change-made : IsPlaceFor address place words → (made : List WordCycles) → made ≡ insert words place (no_cycles address) → (change : WordCycles → WordCycles) (w : WordCycles)
+  pub change-made : IsPlaceFor address place words → (made : List WordCycles) → made ≡ insert words place (no_cycles address)
+      → (change : WordCycles → WordCycles) (w : WordCycles)
       → with_change address change words ≡ set made place (change (get_or made place w))
   change-made is made made_is change w = change-begun is change w ∙ ap (λ ws. set ws place (change (get_or ws place w))) (sym made_is)

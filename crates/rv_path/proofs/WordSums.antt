@@ -20,7 +20,8 @@ module _ (address : ℕ) (why : Cause) (more : ℕ) where
       (λ below. omega (arith, words-cons w ws, words-cons w (with_change address (with_more why more) ws), words-change ws))
 
 -- all together, with so many more
-words-with : (address : Option ℕ) (why : Cause) (more : ℕ) (words : List WordCycles) → words_cycles (with_word address why more words) ≤ words_cycles words + more
+words-with : (address : Option ℕ) (why : Cause) (more : ℕ) (words : List WordCycles)
+    → words_cycles (with_word address why more words) ≤ words_cycles words + more
 words-with None why more words = omega arith
 words-with (Some address) why more words = omega (arith, words-change address why more words)
 

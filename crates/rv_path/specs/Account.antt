@@ -1,5 +1,6 @@
 -- How many cycles of a path each cause has, and each word of the program.
-use Rattle.std.specs.Prelude.{◌≡◌, ℕ, ◌+◌, ◌-◌, ◌^◌, ◌<◌, ◌≤◌, ◌==◌, nat_lt, if◌then◌else◌, List, [], ◌∷◌, length, replicate, slice_set, sum, Option, Some, None}
+use Rattle.std.specs.Prelude.{◌≡◌, ℕ, ◌+◌, ◌-◌, ◌^◌, ◌<◌, ◌≤◌, ◌==◌, nat_lt, if◌then◌else◌, List, [], ◌∷◌, length, replicate, slice_set}
+use Rattle.std.specs.Prelude.{sum, Option, Some, None}
 use Rattle.std.proofs.Props.{props}
 use Rattle.std.specs.Coded.{×_prop, Unit-prop}
 use Rattle.std.specs.List.{slice_index_or, sum_by}

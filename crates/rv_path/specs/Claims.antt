@@ -3,7 +3,8 @@
 use Rattle.std.specs.Prelude.{ℕ, ◌+◌, ◌==◌, ◌&&◌, ◌||◌, not, nat_lt, Bool, true, if◌then◌else◌, List, [], ◌∷◌}
 use Rattle.std.specs.List.{list_any}
 use Rattle.rv_path.specs.Point.{stage_place}
-use Rattle.rv_path.specs.declared.{cause.Cause.Cause, claim.Claim.Claim, claim.Stages.Stages, claim.When.When, claim.Whose.Whose, point.Point.Point, point.Stage.Stage}
+use Rattle.rv_path.specs.declared.{cause.Cause.Cause, claim.Claim.Claim, claim.Stages.Stages, claim.When.When, claim.Whose.Whose}
+use Rattle.rv_path.specs.declared.{point.Point.Point, point.Stage.Stage}
 use Rattle.rv_path.specs.declared.cause.Cause.TheVariants as cause
 use Rattle.rv_path.specs.declared.claim.Stages.TheVariants as stages
 use Rattle.rv_path.specs.declared.claim.When.TheVariants as when

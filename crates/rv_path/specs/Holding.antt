@@ -10,7 +10,8 @@ use Rattle.rv_path.specs.Leaving.{lines_event}
 use Rattle.rv_path.specs.Lookup.{Journey, first_of}
 use Rattle.rv_path.specs.Setting.{Setting, after_port, last_left, made}
 use Rattle.rv_path.specs.WaitingStores.{oldest}
-use Rattle.rv_path.specs.declared.{before.DrainHold.DrainHold, before.Facts.Facts, before.Holder.Holder, before.PortHold.PortHold, before.UnitHold.UnitHold, event.Event.Event, leaving.Leaving.Leaving, way.Way.Way}
+use Rattle.rv_path.specs.declared.{before.DrainHold.DrainHold, before.Facts.Facts, before.Holder.Holder, before.PortHold.PortHold}
+use Rattle.rv_path.specs.declared.{before.UnitHold.UnitHold, event.Event.Event, leaving.Leaving.Leaving, way.Way.Way}
 use Rattle.rv_path.specs.Way.{issued_by}
 use Rattle.rv_path.specs.declared.before.Holder.TheVariants as holder
 use Rattle.rv_path.specs.declared.cause.Cause.TheVariants as cause

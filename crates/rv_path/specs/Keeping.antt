@@ -19,7 +19,8 @@ use Rattle.rv_path.specs.Path.{Known, before_next, known_in, known_of, made_in, 
 use Rattle.rv_path.specs.Setting.{Setting, is_refilled}
 use Rattle.rv_path.specs.WaitingStores.{still_waiting}
 use Rattle.rv_view.specs.declared.shown_cycle.ShownCycle.{ShownCycle}
-use Rattle.rv_path.specs.declared.{before.Before.Before, before.UnitHold.UnitHold, event.Event.Event, path.Path.Path, point.Point.Point, seeing.Seen.Seen, way.Way.Way, window.Window.Window}
+use Rattle.rv_path.specs.declared.{before.Before.Before, before.UnitHold.UnitHold, event.Event.Event, path.Path.Path, point.Point.Point}
+use Rattle.rv_path.specs.declared.{seeing.Seen.Seen, way.Way.Way, window.Window.Window}
 
 -- the events of the instructions in flight
 abbrev pub ways_of : Path → List Way

@@ -1,5 +1,5 @@
 -- The instructions that leave the hardware in a cycle, and the lines that the oldest one writes back.
-use Rattle.std.specs.Prelude.{ℕ, ◌==◌, ◌&&◌, not, Bool, true, false, if◌then◌else◌, List, [], ◌∷◌, ◌++◌, count_by, Option, Some, None}
+use Rattle.std.specs.Prelude.{◌≡◌, ℕ, ◌==◌, ◌&&◌, not, Bool, true, false, if◌then◌else◌, List, [], ◌∷◌, ◌++◌, count_by, Option, Some, None}
 use Rattle.std.specs.Option.{option_or, option_to_list, unwrap_or}
 use Rattle.std.specs.List.{list_any}
 use Rattle.rv_hardware.specs.Step.{is_interrupt}
@@ -13,7 +13,8 @@ use Rattle.rv_path.specs.Event.{Wait, again, waits}
 use Rattle.rv_path.specs.Setting.{Setting, after_stores, is_hold_of, left_before, made, made_of, port_ended, since_left}
 use Rattle.rv_path.specs.Sought.{is_end, is_just_before, is_sought}
 use Rattle.rv_path.specs.Way.{broadcast_by, dispatched_by}
-use Rattle.rv_path.specs.declared.{before.Left.Left, before.PortHold.PortHold, cause.Cause.Cause, event.Event.Event, point.Reason.Reason, leaving.Leaving.Leaving, way.Way.Way}
+use Rattle.rv_path.specs.declared.{before.Left.Left, before.PortHold.PortHold, cause.Cause.Cause, event.Event.Event, point.Reason.Reason}
+use Rattle.rv_path.specs.declared.{leaving.Leaving.Leaving, way.Way.Way}
 use Rattle.rv_path.specs.declared.before.Holder.TheVariants as holder
 use Rattle.rv_path.specs.declared.cause.Cause.TheVariants as cause
 use Rattle.rv_path.specs.declared.point.Stage.TheVariants as stage
@@ -118,6 +119,11 @@ with_rows s (p ∷ ps) (w ∷ ws) leaving = with_rows s ps ws (with_row s p w le
 -- all that leave in the cycle
 abbrev pub leaving_of : Setting → List Way → Leaving
 leaving_of s ways = with_rows s s.rows ways none_left
+
+-- some of the instructions of a cycle, among which are all that left the hardware in it
+pub record HasAllThatLeft (rows some : List Passage) : Type 0 where
+  pub leaving : (s : Setting) (ways : List Way) (leaving : Leaving) → with_rows s some ways leaving ≡ with_rows s rows ways leaving
+  pub count : count_by (is_sought sought.Ended) some ≡ count_by (is_sought sought.Ended) rows
 
 -- an interrupt came so long after the last step
 abbrev pub interrupt_event : Setting → Event

@@ -8,7 +8,9 @@ use Rattle.rv_passage.specs.declared.passage.Passage.{Passage}
 use Rattle.rv_path.specs.Before.{is_same_holder, port_cause}
 use Rattle.rv_path.specs.Event.{Wait, event_from, new_from, nothing_yet, waits}
 use Rattle.rv_path.specs.Sought.{is_at, is_end}
-use Rattle.rv_path.specs.declared.{before.Before.Before, before.DrainHold.DrainHold, before.Holder.Holder, before.Left.Left, before.PortHold.PortHold, before.UnitHold.UnitHold, cause.Cause.Cause, event.Event.Event, point.Point.Point, point.Stage.Stage, scene.Scene.Scene}
+use Rattle.rv_path.specs.declared.{before.Before.Before, before.DrainHold.DrainHold, before.Holder.Holder, before.Left.Left}
+use Rattle.rv_path.specs.declared.{before.PortHold.PortHold, before.UnitHold.UnitHold, cause.Cause.Cause, event.Event.Event}
+use Rattle.rv_path.specs.declared.{point.Point.Point, point.Stage.Stage, scene.Scene.Scene}
 use Rattle.rv_path.specs.declared.cause.Cause.TheVariants as cause
 
 -- The number of the cycle, and how many there were before it; what the description says; the instructions as they stand at its end; who

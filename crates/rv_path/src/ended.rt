@@ -1,10 +1,10 @@
-ghost use Rattle.std.specs.Prelude.{◌≡◌, ◌+◌, ◌<◌, ◌≤◌, [], ◌∷◌, List, ◌++◌, length, option_copied, vec_capacity, IfSome};
+ghost use Rattle.std.specs.Prelude.{◌≡◌, ◌+◌, ◌<◌, ◌≤◌, [], ◌∷◌, ◌++◌, length, option_copied, take, vec_capacity, IfSome};
 ghost use Rattle.std.specs.Option.{option_to_list};
 ghost use Rattle.std.specs.List.{list_all};
 ghost use Rattle.rv_passage.specs.Passage.{is_in_flight};
 ghost use Rattle.rv_path.specs.Keeping.{forgotten_in};
-ghost use Rattle.rv_path.specs.declared.way.Way.{Way};
-ghost use Rattle.rv_path.specs.Path.{AreForgotten, still_in_flight, way_if, ways_by};
+ghost use Rattle.rv_path.specs.Leaving.{HasAllThatLeft};
+ghost use Rattle.rv_path.specs.Path.{still_in_flight, way_if, ways_by};
 ghost use Rattle.rv_path.specs.Way.{way_from};
 
 use crate::event::Event;
@@ -80,8 +80,8 @@ fn are_in_flight(rows: &[Passage]) -> bool
     rows.iter().all(|row| row.is_in_flight())
 }
 
-// How many left the hardware, if all of those are older than all that did not.
-fn count_in_order(rows: &[Passage]) -> Option<usize>
+/// How many left the hardware, if all of those are older than all that did not.
+pub(crate) fn count_in_order(rows: &[Passage]) -> Option<usize>
     ensures count { result ≡ forgotten_in rows.now }
     ensures within { IfSome result (λ count. count ≤ length rows.now) }
 {
@@ -97,12 +97,22 @@ fn count_in_order(rows: &[Passage]) -> Option<usize>
     }
 }
 
-/// How many left the hardware, if all of those are older than all that did not.
-pub(crate) fn count_ended(rows: &[Passage]) -> Option<usize>
-    ensures { IfSome result (λ count. (ways : List Way) → length ways ≡ length rows.now → AreForgotten rows.now ways count) }
+// The first so many.
+fn first_so_many(count: usize, rows: &[Passage]) -> &[Passage]
+    requires within { count ≤ length rows.now }
+    ensures { result.now ≡ take count rows.now }
 {
-    match count_in_order(rows) {
-        Some(count) => Some(count),
-        None => None,
+    &rows[..count]
+}
+
+/// Some of the instructions of a cycle, among which are all that left the hardware in it: the first so many, or all.
+pub(crate) fn with_all_left(rows: &[Passage], ended: Option<usize>) -> &[Passage]
+    requires ended { ended ≡ forgotten_in rows.now }
+    requires within { IfSome ended (λ count. count ≤ length rows.now) }
+    ensures { HasAllThatLeft rows.now result.now }
+{
+    match ended {
+        Some(count) => first_so_many(count, rows),
+        None => rows,
     }
 }

@@ -28,17 +28,31 @@ pub(crate) static BEGIN: Event = Event::BEGIN;
 #[derive(Drop)]
 pub(crate) struct Waited<'a> {
     event: &'a Event,
-    // Why the fetch began anew with it, if it did.
-    anew: Option<Reason>,
     cause: Option<Cause>,
 }
 
 impl<'a> Model for Waited<'a> {
+    ghost use Rattle.std.specs.Prelude.{None};
     ghost use Rattle.rv_path.specs.Event.{Wait};
 
     ghost Value = { Wait };
 
-    ghost view = { λ waited. record { event = waited.event.now; anew = waited.anew; cause = waited.cause } };
+    ghost view = { λ waited. record { event = waited.event.now; anew = None; cause = waited.cause } };
+}
+
+/// An event with which fetch began anew, and why.
+#[derive(Drop)]
+pub(crate) struct Anew<'a> {
+    pub(crate) event: &'a Event,
+    pub(crate) reason: Reason,
+}
+
+impl<'a> Model for Anew<'a> {
+    ghost use Rattle.rv_path.specs.Event.{Wait, anew};
+
+    ghost Value = { Wait };
+
+    ghost view = { λ waited. anew waited.reason waited.event.now };
 }
 
 // A refill goes on with the fetch and the dispatch of words.
@@ -76,7 +90,7 @@ impl Event {
 
     // A reason to wait for this one, of one at a point after so many cycles: its cause is named where it is so of the two.
     #[tactic(auto, unfolding(crate::specs::Event::named_after))]
-    fn named(&self, at: Point, cycle: u64, reason: Reason) -> Reason
+    pub(crate) fn named(&self, at: Point, cycle: u64, reason: Reason) -> Reason
         ensures { result ≡ named_after self.now at cycle reason }
     {
         let is = Claim::of(reason.cause).is_so(&self.at, self.cycle, &at, cycle);
@@ -92,7 +106,6 @@ impl<'a> Waited<'a> {
     {
         Waited {
             event,
-            anew: None,
             cause: Some(cause),
         }
     }
@@ -101,22 +114,7 @@ impl<'a> Waited<'a> {
     pub(crate) fn again(event: &'a Event) -> Waited<'a>
         ensures { result ≡ again event.now }
     {
-        Waited {
-            event,
-            anew: None,
-            cause: None,
-        }
-    }
-
-    /// Fetch began anew with another one.
-    pub(crate) fn anew(reason: Reason, event: &'a Event) -> Waited<'a>
-        ensures { result ≡ anew reason event.now }
-    {
-        Waited {
-            event,
-            anew: Some(reason),
-            cause: Some(reason.cause),
-        }
+        Waited { event, cause: None }
     }
 
     /// Whether it is new.
@@ -130,24 +128,23 @@ impl<'a> Waited<'a> {
     fn refill(&self) -> Option<Reason>
         ensures { result ≡ refill_of self.now }
     {
-        match self.anew {
-            Some(reason) => Some(reason),
-            None => self.event.refill,
-        }
+        self.event.refill
     }
 
     // The one that goes on past it.
     fn refill_past(&self, refilled: bool, stage: Stage) -> Option<Reason>
         ensures { result ≡ refill_past refilled stage self.now }
     {
-        if goes_on_through(stage) && (self.anew.is_some() || !refilled) {
-            self.refill()
+        let refill = self.event.refill;
+        if goes_on_through(stage) && !refilled {
+            refill
         } else {
             None
         }
     }
 
     // The event at a point after so many cycles, of an address, that waited for this cause.
+    #[inline(never)]
     fn then(
         &self,
         refilled: bool,
@@ -173,6 +170,7 @@ impl<'a> Waited<'a> {
     }
 
     /// The same, or the one that it is again. By the end of the cycle an instruction was issued or left since fetch began anew, or none.
+    #[inline(always)]
     pub(crate) fn event(&self, refilled: bool, at: Point, cycle: u64, address: Option<u32>) -> Event
         ensures { result ≡ event_from refilled at cycle address self.now }
     {
@@ -180,6 +178,15 @@ impl<'a> Waited<'a> {
             Some(cause) => self.then(refilled, at, cycle, address, cause),
             None => *self.event,
         }
+    }
+}
+
+impl<'a> Anew<'a> {
+    /// Fetch began anew with an event.
+    pub(crate) fn new(reason: Reason, event: &'a Event) -> Anew<'a>
+        ensures { result ≡ anew reason event.now }
+    {
+        Anew { event, reason }
     }
 }
 
@@ -194,6 +201,7 @@ pub(crate) fn refilled_after(refilled: bool, fetch: &Option<Event>) -> bool
 }
 
 /// Appends an event, if there is one.
+#[inline(always)]
 pub(crate) fn push_event(event: &Option<Event>, events: &mut Vec<Event>)
     requires room { length events.old.items + 1 ≤ vec_capacity events.old }
     ensures items { events.new.items ≡ events.old.items ++ option_to_list event.now }
@@ -206,6 +214,7 @@ pub(crate) fn push_event(event: &Option<Event>, events: &mut Vec<Event>)
 }
 
 /// Appends an event, where something is so.
+#[inline(always)]
 pub(crate) fn push_event_if(is: bool, event: &Event, events: &mut Vec<Event>)
     requires room { length events.old.items + 1 ≤ vec_capacity events.old }
     ensures items { events.new.items ≡ events.old.items ++ event_if is event.now }

@@ -1,24 +1,24 @@
 ghost use Rattle.std.specs.Prelude.{◌≡◌, false, option_copied};
 ghost use Rattle.rv_path.specs.Fetching.{after_flush, after_mend, after_redirection, after_room, after_word};
-ghost use Rattle.rv_path.specs.Fetching.{fetch_wait, goes_on, handler_wait, is_jump, is_mended};
+ghost use Rattle.rv_path.specs.Fetching.{goes_on, handler_wait, is_jump, is_mended};
 ghost use Rattle.rv_path.specs.Setting.{setting_of};
 
 use crate::cause::Cause;
-use crate::event::{Event, Waited};
+use crate::event::{Anew, Event, Waited};
 use crate::leaving::{Leaving, differ, mends_early};
 use crate::point::Reason;
 use crate::scene::{Scene, since_left};
-use crate::sought::{Sought, are_as_many, comes_after, is_at, last_of, one_before};
+use crate::sought::{Sought, are_as_many, comes_after, is_at, last_of};
 use crate::way::{Found, Way};
 use rv_core::Pipeline;
 use rv_passage::Passage;
 use rv_rob::Entry;
 
-fn after_flush(leaving: &Leaving) -> Option<Waited<'_>>
+fn after_flush(leaving: &Leaving) -> Option<Anew<'_>>
     ensures { result ≡ after_flush leaving.now }
 {
     match (leaving.refill, &leaving.last) {
-        (Some(reason), Some(event)) => Some(Waited::anew(reason, event)),
+        (Some(reason), Some(event)) => Some(Anew::new(reason, event)),
         _ => None,
     }
 }
@@ -34,7 +34,7 @@ fn is_mended(scene: &Scene<'_>, row: &Passage, entry: Option<&Entry>) -> bool
     }
 }
 
-fn after_mend<'a>(scene: &'a Scene<'_>, ways: &'a [Way], pipeline: &Pipeline) -> Option<Waited<'a>>
+fn after_mend<'a>(scene: &'a Scene<'_>, ways: &'a [Way], pipeline: &Pipeline) -> Option<Anew<'a>>
     ensures { result ≡ after_mend (setting_of scene.now) ways.now pipeline.now }
 {
     if !mends_early(scene) {
@@ -46,20 +46,20 @@ fn after_mend<'a>(scene: &'a Scene<'_>, ways: &'a [Way], pipeline: &Pipeline) ->
                 cause: Cause::RefillPrediction,
                 address: Some(found.row().pc),
             };
-            Some(Waited::anew(reason, found.way().broadcast()))
+            Some(Anew::new(reason, found.way().broadcast()))
         }
         _ => None,
     }
 }
 
-// Fetch began anew where an instruction left, or was broadcast.
-fn after_redirection<'a>(
+/// Fetch began anew where an instruction left, or was broadcast, if no interrupt was taken.
+pub(crate) fn after_redirection<'a>(
     scene: &'a Scene<'_>,
     ways: &'a [Way],
     leaving: &'a Leaving,
     pipeline: &Pipeline,
     first: &Passage,
-) -> Option<Waited<'a>>
+) -> Option<Anew<'a>>
     ensures { result ≡ after_redirection (setting_of scene.now) ways.now false leaving.now pipeline.now first.now }
 {
     match after_flush(leaving) {
@@ -108,8 +108,12 @@ fn after_room<'a>(scene: &'a Scene<'_>, ways: &'a [Way]) -> Option<Waited<'a>>
     }
 }
 
-// The fetch goes on after the last word.
-fn goes_on<'a>(scene: &'a Scene<'_>, ways: &'a [Way], last: Option<Found<'a>>) -> Waited<'a>
+/// What words waited for that are fetched where the fetch goes on after the last word.
+pub(crate) fn goes_on<'a>(
+    scene: &'a Scene<'_>,
+    ways: &'a [Way],
+    last: Option<Found<'a>>,
+) -> Waited<'a>
     ensures { result ≡ goes_on (setting_of scene.now) ways.now last.entry }
 {
     let Some(last) = last else {
@@ -124,29 +128,13 @@ fn goes_on<'a>(scene: &'a Scene<'_>, ways: &'a [Way], last: Option<Found<'a>>) -
     }
 }
 
-/// What words waited for that are fetched in the cycle, after the instructions with these events, where no interrupt was taken.
-pub(crate) fn fetch_wait<'a>(
-    scene: &'a Scene<'_>,
-    ways: &'a [Way],
-    leaving: &'a Leaving,
-    pipeline: &Pipeline,
-    first: &Passage,
-) -> Waited<'a>
-    ensures { result ≡ fetch_wait (setting_of scene.now) ways.now false leaving.now pipeline.now first.now }
-{
-    match after_redirection(scene, ways, leaving, pipeline, first) {
-        Some(waited) => waited,
-        None => goes_on(scene, ways, one_before(ways.len(), scene.rows, ways)),
-    }
-}
-
-/// The same where one was taken, by its event.
-pub(crate) fn handler_wait<'a>(interrupt: &'a Event, first: &Passage) -> Waited<'a>
+/// Fetch began anew with the event of an interrupt.
+pub(crate) fn handler_wait<'a>(interrupt: &'a Event, first: &Passage) -> Anew<'a>
     ensures { result ≡ handler_wait interrupt.now first.now }
 {
     let reason = Reason {
         cause: Cause::RefillInterrupt,
         address: Some(first.pc),
     };
-    Waited::anew(reason, interrupt)
+    Anew::new(reason, interrupt)
 }

@@ -1,5 +1,5 @@
 ghost use Rattle.std.specs.Prelude.{◌≡◌};
-ghost use Rattle.rv_path.specs.Leaving.{cause_of_flush, flushes_late, interrupt_event, is_interrupted};
+ghost use Rattle.rv_path.specs.Leaving.{HasAllThatLeft, cause_of_flush, flushes_late, interrupt_event, is_interrupted};
 ghost use Rattle.rv_path.specs.Leaving.{is_retired_store, leaving_event, leaving_wait, lines_event};
 ghost use Rattle.rv_path.specs.Leaving.{lines_wait, newly_left, with_event, with_left, with_row, with_rows};
 ghost use Rattle.rv_path.specs.Leaving.{after_own_lines, after_left, first_to_leave, flush_by, known_in, leaves_after, left_by};
@@ -280,8 +280,14 @@ fn left_by(scene: &Scene<'_>, count: usize, event: Option<Event>) -> Option<Left
     }
 }
 
-/// What leaves in the cycle.
-pub(crate) fn newly_left(scene: &Scene<'_>, interrupted: bool, leaving: &Leaving) -> Option<Left>
+/// What leaves in the cycle, in which all that leave are among some.
+pub(crate) fn newly_left(
+    scene: &Scene<'_>,
+    interrupted: bool,
+    leaving: &Leaving,
+    left: &[Passage],
+) -> Option<Left>
+    requires left { HasAllThatLeft (setting_of scene.now).rows left.now }
     ensures { result ≡ newly_left (setting_of scene.now) interrupted leaving.now }
 {
     if interrupted {
@@ -290,7 +296,7 @@ pub(crate) fn newly_left(scene: &Scene<'_>, interrupted: bool, leaving: &Leaving
     if leaving.last.is_none() {
         return None;
     }
-    left_by(scene, count(Sought::Ended, scene.rows), leaving.last)
+    left_by(scene, count(Sought::Ended, left), leaving.last)
 }
 
 fn lines_wait<'a>(

@@ -6,7 +6,7 @@ ghost use Rattle.rv_path.specs.Way.{way_from};
 use crate::account::Account;
 use crate::before::{Before, Facts, UnitHold};
 use crate::cause::Cause;
-use crate::ended::{count_ended, push_fetched, push_in_flight};
+use crate::ended::{count_in_order, push_fetched, push_in_flight, with_all_left};
 use crate::event::{Event, Waited};
 use crate::holding::{begins_drain, drop_ended, push_holds, take_drain, take_port};
 use crate::live::gather;
@@ -52,7 +52,7 @@ pub(crate) struct Path {
 }
 
 impl Path {
-    ghost use Rattle.rv_path.specs.Keeping.{AreSameButBefore, AreSameButHolds, AreSameButLive, AreSameButWays, AreSameButWindow, HasRoom, HasRoomForWays, IsFollowed, ArePathsKept, live_of, before_with, holds_shown, known_brought, known_of_path, known_shown, made_shown, ways_of};
+    ghost use Rattle.rv_path.specs.Keeping.{AreSameButBefore, AreSameButHolds, AreSameButLive, AreSameButWays, AreSameButWindow, HasRoom, HasRoomForWays, IsFollowed, ArePathsKept, live_of, before_with, forgotten_in, holds_shown, known_brought, known_of_path, known_shown, made_shown, ways_of};
     ghost use Rattle.std.specs.Prelude.{List, ◌++◌};
     ghost use Rattle.std.specs.Prelude.{◌∷◌, OnOk, Some};
     ghost use Rattle.rv_path.specs.Account.{account_of};
@@ -181,8 +181,10 @@ impl Path {
         ensures known { (events : List Event) → known_of_path self.new (with_events (made_shown cycle.now (known_of_path self.old events)) events) ≡ known_shown cycle.now (known_of_path self.old events) }
         ensures made { IsFollowed (made_shown cycle.now (known_of_path self.old [])) self.old.window self.new.window }
     {
+        let ended = count_in_order(cycle.rows);
         see_shown(
             cycle,
+            with_all_left(cycle.rows, ended),
             self.holds.as_slice(),
             &self.before,
             self.dropped,
@@ -190,11 +192,12 @@ impl Path {
             &mut self.seen,
             &mut self.window.events,
         );
-        self.take(cycle);
+        self.take(cycle, ended);
     }
 
     // What was seen of a cycle is known after it.
-    fn take(&mut self, cycle: &ShownCycle<'_>)
+    fn take(&mut self, cycle: &ShownCycle<'_>, ended: Option<usize>)
+        requires ended { ended ≡ forgotten_in cycle.now.rows.now }
         requires room { HasRoomForWays self.old }
         requires few { length cycle.now.rows.now ≤ 576 }
         requires cycles { cycle.now.number < 2 ^ 40 }
@@ -204,7 +207,7 @@ impl Path {
         self.take_holds(cycle);
         self.take_fetched(cycle.rows);
         self.take_before(cycle.number, cycle.steps);
-        self.drop_ended(cycle.rows);
+        self.drop_ended(cycle.rows, ended);
     }
 
     // Who holds units after a cycle.
@@ -251,7 +254,8 @@ impl Path {
     }
 
     // How many at the front are forgotten with those that left the hardware, if the others may stay where they are.
-    fn forgotten(&self, rows: &[Passage]) -> Option<usize>
+    fn forgotten(&self, rows: &[Passage], ended: Option<usize>) -> Option<usize>
+        requires ended { ended ≡ forgotten_in rows.now }
         ensures { IfSome result (AreForgotten rows.now (ways_of self.now)) }
     {
         if self.ways.len() - self.dropped != rows.len() {
@@ -260,19 +264,17 @@ impl Path {
         if self.ways.capacity() - self.ways.len() < MOST_IN_CYCLE {
             return None;
         }
-        match count_ended(rows) {
-            Some(count) => Some(count),
-            None => None,
-        }
+        ended
     }
 
     // Forgets the events of the instructions that left the hardware.
-    fn drop_ended(&mut self, rows: &[Passage])
+    fn drop_ended(&mut self, rows: &[Passage], ended: Option<usize>)
+        requires ended { ended ≡ forgotten_in rows.now }
         requires room { length rows.now ≤ vec_capacity self.old.next }
         ensures ways { ways_of self.new ≡ still_in_flight rows.now (ways_of self.old) }
         ensures others { (self.new.holds ≡ self.old.holds) × (self.new.before ≡ self.old.before) × (self.new.window ≡ self.old.window) }
     {
-        match self.forgotten(rows) {
+        match self.forgotten(rows, ended) {
             Some(count) => self.dropped += count,
             None => self.move_to_next(rows),
         }

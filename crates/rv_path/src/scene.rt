@@ -4,7 +4,7 @@ ghost use Rattle.rv_path.specs.Setting.{ends_refill, is_hold_of, is_refilled, la
 
 use crate::before::{Before, Holder, Left, PortHold, UnitHold};
 use crate::cause::Cause;
-use crate::event::{BEGIN, Event, Waited};
+use crate::event::{Anew, BEGIN, Event, Waited};
 use crate::point::{Point, Stage};
 use crate::sought::{is_at, is_end, is_just_before};
 use rv_isa::Values;
@@ -57,7 +57,8 @@ fn is_hold_of(holder: Holder, number: u64, hold: Option<&PortHold>) -> bool
 }
 
 impl<'a> Scene<'a> {
-    ghost use Rattle.rv_path.specs.Setting.{after_drain_at, after_drain_before, after_leaving, after_port, after_stores, is_hold_of, left_before, made, made_of, port_ended, setting_of};
+    ghost use Rattle.std.specs.Prelude.{◌∷◌, []};
+    ghost use Rattle.rv_path.specs.Setting.{after_drain_at, after_drain_before, after_leaving, after_port, after_stores, is_hold_of, left_before, made, made_of, new_of, port_ended, setting_of};
 
     /// The event of the cycle at a point, of an address, by what it waited for.
     pub(crate) fn made(&self, at: Point, address: Option<u32>, waited: &Waited<'_>) -> Event
@@ -67,6 +68,7 @@ impl<'a> Scene<'a> {
     }
 
     /// That of an instruction.
+    #[inline(always)]
     pub(crate) fn made_of(&self, stage: Stage, row: &Passage, waited: &Waited<'_>) -> Event
         ensures { result ≡ made_of (setting_of self.now) stage row.now waited.now }
     {
@@ -77,6 +79,25 @@ impl<'a> Scene<'a> {
             self.elapsed,
             Some(row.pc),
         )
+    }
+
+    /// The fetch of the first word with which fetch began anew.
+    pub(crate) fn fetched_anew(&self, first: &Passage, waited: &Anew<'_>) -> Event
+        ensures is { result ≡ made_of (setting_of self.now) Stage.Fetch first.now waited.now }
+        ensures new { result ∷ [] ≡ new_of (setting_of self.now) Stage.Fetch first.now waited.now }
+    {
+        let at = Point {
+            stage: Stage::Fetch,
+            number: first.number,
+        };
+        let reason = waited.reason;
+        Event {
+            at,
+            cycle: self.elapsed,
+            before: Some(waited.event.at),
+            reason: waited.event.named(at, self.elapsed, reason),
+            refill: Some(reason),
+        }
     }
 
     /// The hold of the port, if it ended when the cycle began.

@@ -1,19 +1,20 @@
-ghost use Rattle.std.specs.Prelude.{◌≡◌, ◌+◌, ◌++◌, ◌≤◌, Some, None, drop, length, option_copied, slice_get, true, vec_capacity};
-ghost use Rattle.rv_path.specs.Fetching.{fetch_event, fetched_by, handled, new_fetched};
+ghost use Rattle.std.specs.Prelude.{◌≡◌, ◌+◌, ◌++◌, ◌≤◌, Some, None, drop, false, length, option_copied, slice_get, true, vec_capacity};
+ghost use Rattle.rv_path.specs.Fetching.{fetch_event, fetch_wait, fetched_by, handled, new_fetched};
 ghost use Rattle.rv_path.specs.Holding.{port_event, port_taken, taken_by};
 ghost use Rattle.rv_path.specs.Keeping.{IsSeen, before_with, setting_by};
-ghost use Rattle.rv_path.specs.Leaving.{is_interrupted, left_events};
+ghost use Rattle.rv_path.specs.Leaving.{HasAllThatLeft, is_interrupted, left_events};
 ghost use Rattle.rv_path.specs.Path.{before_next, interrupt_taken, made_in, new_beside};
 ghost use Rattle.rv_path.specs.Setting.{made_of, new_of, setting_of};
 
 use crate::before::{Before, Facts, Left, PortHold, UnitHold};
-use crate::event::{Event, Waited, push_event, push_event_if, refilled_after};
-use crate::fetching::{fetch_wait, handler_wait};
+use crate::event::{Anew, Event, Waited, push_event, push_event_if, refilled_after};
+use crate::fetching::{after_redirection, goes_on, handler_wait};
 use crate::holding::{is_taken, port_event, taken_by};
 use crate::leaving::{Leaving, interrupt_event, is_interrupted, newly_left};
 use crate::moving::move_all;
 use crate::point::Stage;
 use crate::scene::{Scene, is_refilled};
+use crate::sought::one_before;
 use crate::way::Way;
 use rv_core::Pipeline;
 use rv_hardware::Step;
@@ -144,6 +145,25 @@ fn see_first(
     *fetch = Some(event);
 }
 
+// The same where fetch began anew.
+#[inline(never)]
+fn see_anew(
+    scene: &Scene<'_>,
+    first: &Passage,
+    waited: &Anew<'_>,
+    fetch: &mut Option<Event>,
+    events: &mut Vec<Event>,
+)
+    requires room { length events.old.items + 1 ≤ vec_capacity events.old }
+    ensures fetch { fetch.new ≡ Some (made_of (setting_of scene.now) Stage.Fetch first.now waited.now) }
+    ensures items { events.new.items ≡ events.old.items ++ new_of (setting_of scene.now) Stage.Fetch first.now waited.now }
+    ensures capacity { vec_capacity events.old ≤ vec_capacity events.new }
+{
+    let event = scene.fetched_anew(first, waited);
+    events.push(event).unwrap();
+    *fetch = Some(event);
+}
+
 // The same where an interrupt was taken, which is rare.
 #[inline(never)]
 fn see_handler(
@@ -158,13 +178,37 @@ fn see_handler(
     ensures capacity { vec_capacity events.old ≤ vec_capacity events.new }
 {
     let interrupt = interrupt_event(scene);
-    see_first(
+    see_anew(
         scene,
         first,
         &handler_wait(&interrupt, first),
         fetch,
         events,
     );
+}
+
+// The same where none was taken.
+fn see_words(
+    scene: &Scene<'_>,
+    ways: &[Way],
+    leaving: &Leaving,
+    pipeline: &Pipeline,
+    first: &Passage,
+    fetch: &mut Option<Event>,
+    events: &mut Vec<Event>,
+)
+    requires room { length events.old.items + 1 ≤ vec_capacity events.old }
+    ensures fetch { fetch.new ≡ Some (made_of (setting_of scene.now) Stage.Fetch first.now (fetch_wait (setting_of scene.now) ways.now false leaving.now pipeline.now first.now)) }
+    ensures items { events.new.items ≡ events.old.items ++ new_of (setting_of scene.now) Stage.Fetch first.now (fetch_wait (setting_of scene.now) ways.now false leaving.now pipeline.now first.now) }
+    ensures capacity { vec_capacity events.old ≤ vec_capacity events.new }
+{
+    match after_redirection(scene, ways, leaving, pipeline, first) {
+        Some(waited) => see_anew(scene, first, &waited, fetch, events),
+        None => {
+            let waited = goes_on(scene, ways, one_before(ways.len(), scene.rows, ways));
+            see_first(scene, first, &waited, fetch, events);
+        }
+    }
 }
 
 // The event by which words were fetched, if some were, of which this was the first. Appends it, if it is new.
@@ -190,8 +234,7 @@ fn see_fetched(
     if interrupted {
         see_handler(scene, first, fetch, events);
     } else {
-        let waited = fetch_wait(scene, ways, leaving, pipeline, first);
-        see_first(scene, first, &waited, fetch, events);
+        see_words(scene, ways, leaving, pipeline, first, fetch, events);
     }
 }
 
@@ -209,11 +252,13 @@ fn notice(
     scene: &Scene<'_>,
     ways: &[Way],
     leaving: &Leaving,
+    left: &[Passage],
     steps: &[Step],
     pipeline: &Pipeline,
     seen: &mut Seen,
     events: &mut Vec<Event>,
 )
+    requires left { HasAllThatLeft (setting_of scene.now).rows left.now }
     requires room { length events.old.items + 3 ≤ vec_capacity events.old }
     ensures before { before_with scene.now.number steps.now seen.new scene.now.before.now ≡ before_next (setting_of scene.now) ways.now steps.now pipeline.now leaving.now }
     ensures fetch { seen.new.fetch ≡ fetch_event (setting_of scene.now) ways.now (is_interrupted steps.now) leaving.now pipeline.now }
@@ -222,7 +267,7 @@ fn notice(
 {
     let interrupted = is_interrupted(steps);
     seen.facts = Facts::of(pipeline);
-    seen.left = newly_left(scene, interrupted, leaving);
+    seen.left = newly_left(scene, interrupted, leaving, left);
     push_interrupt_if(interrupted, scene, events);
     see_port(scene, ways, leaving, &seen.facts, &mut seen.port, events);
     let first = first_fetched(scene, ways);
@@ -243,22 +288,24 @@ fn notice(
 // brings beside.
 fn see(
     scene: &Scene<'_>,
+    left: &[Passage],
     steps: &[Step],
     pipeline: &Pipeline,
     ways: &mut [Way],
     seen: &mut Seen,
     events: &mut Vec<Event>,
 )
+    requires left { HasAllThatLeft (setting_of scene.now).rows left.now }
     requires room { length events.old.items + length ways.old + 6 ≤ vec_capacity events.old }
     ensures seen { IsSeen (setting_of scene.now) steps.now pipeline.now ways.old ways.new seen.new }
     ensures items { events.new.items ≡ events.old.items ++ made_in (setting_of scene.now) ways.old steps.now pipeline.now }
     ensures capacity { vec_capacity events.old ≤ vec_capacity events.new }
 {
     let mut leaving = Leaving::NONE;
-    leaving.add_rows(scene, scene.rows, ways);
+    leaving.add_rows(scene, left, ways);
     push_left(&leaving, events);
     move_all(scene, &leaving, ways, events);
-    notice(scene, ways, &leaving, steps, pipeline, seen, events);
+    notice(scene, ways, &leaving, left, steps, pipeline, seen, events);
 }
 
 // What stands in a cycle that is shown.
@@ -276,9 +323,10 @@ fn scene_of<'a>(cycle: &ShownCycle<'a>, holds: &'a [UnitHold], before: &'a Befor
     }
 }
 
-/// The same of a cycle that is shown, of the ways after those that are dropped.
+/// The same of a cycle that is shown, in which all that leave are among some, of the ways after those that are dropped.
 pub(crate) fn see_shown(
     cycle: &ShownCycle<'_>,
+    left: &[Passage],
     holds: &[UnitHold],
     before: &Before,
     dropped: usize,
@@ -286,6 +334,7 @@ pub(crate) fn see_shown(
     seen: &mut Seen,
     events: &mut Vec<Event>,
 )
+    requires left { HasAllThatLeft cycle.now.rows.now left.now }
     requires few { dropped ≤ length ways.old }
     requires room { length events.old.items + length (drop dropped ways.old) + 6 ≤ vec_capacity events.old }
     ensures seen { IsSeen (setting_by cycle.now holds.now before.now) cycle.now.steps.now cycle.now.pipeline.now (drop dropped ways.old) (drop dropped ways.new) seen.new }
@@ -294,5 +343,13 @@ pub(crate) fn see_shown(
 {
     let scene = scene_of(cycle, holds, before);
     let (_, kept) = ways.split_at_mut(dropped);
-    see(&scene, cycle.steps, cycle.pipeline, kept, seen, events);
+    see(
+        &scene,
+        left,
+        cycle.steps,
+        cycle.pipeline,
+        kept,
+        seen,
+        events,
+    );
 }

@@ -1,6 +1,6 @@
 use Rattle.std.proofs.Common.{◌∙◌, ◌++◌, List, ap, append_assoc, arith}
 use Rattle.rv_path.specs.Fetching.{fetch_event}
-use Rattle.rv_path.specs.Leaving.{is_interrupted, left_events}
+use Rattle.rv_path.specs.Leaving.{is_interrupted, left_events, none_left}
 use Rattle.rv_path.specs.Moving.{all_moved, all_new}
 use Rattle.rv_path.specs.Path.{before_next, new_beside, new_events}
 use Rattle.rv_path.specs.Setting.{setting_of}
@@ -15,7 +15,7 @@ returns c =
     let old = c.args.ways.now in
     let events = c.args.events.now.items in
     let ways = c.move_all.new.ways in
-    let gone = c.add_rows.ensures in
+    let gone = c.add_rows.ensures ∙ c.requires.left.leaving s old none_left in
     let leaving = c.add_rows.new.self in
     let left = left_events leaving in
     let moves = all_new s leaving old in
