@@ -13,22 +13,21 @@ fn head_word(pipeline: &Pipeline) -> Option<u32>
     Some(head.pc / 4)
 }
 
-/// The word that the last cycle is on account of, by the passages at its end and by what had flushed the buffer before.
-pub(crate) fn account_of(pipeline: &Pipeline, rows: &[Passage], before: Option<u32>) -> Option<u32>
-    ensures { result ≡ account_of pipeline.now rows.now before }
+/// The word that the last cycle is on account of, and what had flushed the buffer if it is empty after it; by the passages at the cycle's
+/// end and by what had flushed the buffer before.
+pub(crate) fn accounts_of(
+    pipeline: &Pipeline,
+    rows: &[Passage],
+    before: Option<u32>,
+) -> (Option<u32>, Option<u32>)
+    ensures account { result.0 ≡ account_of pipeline.now rows.now before }
+    ensures flusher { result.1 ≡ flusher_in pipeline.now rows.now before }
 {
     match head_word(pipeline) {
-        Some(word) => Some(word),
-        None => flusher_after(rows, before),
-    }
-}
-
-/// What had flushed the buffer if it is empty after the last cycle.
-pub(crate) fn flusher_in(pipeline: &Pipeline, rows: &[Passage], before: Option<u32>) -> Option<u32>
-    ensures { result ≡ flusher_in pipeline.now rows.now before }
-{
-    match head_word(pipeline) {
-        Some(_) => None,
-        None => flusher_after(rows, before),
+        Some(word) => (Some(word), None),
+        None => {
+            let flusher = flusher_after(rows, before);
+            (flusher, flusher)
+        }
     }
 }

@@ -10,6 +10,7 @@ mod ending;
 mod explanation;
 mod figures;
 mod head;
+mod high_lines;
 mod running;
 mod tale;
 mod traps;

@@ -4,10 +4,11 @@ ghost use Rattle.rv_isa.specs.declared.lines.Arrival.{Arrival};
 ghost use Rattle.rv_explain.specs.Tale.{HasRoom, tale_after, tale_of};
 ghost use Rattle.rv_counts.specs.Places.{cycle_total};
 
-use crate::head::{account_of, flusher_in};
-use crate::traps::note_traps;
+use crate::head::accounts_of;
+use crate::high_lines::follow_lines;
+use crate::traps::note_steps;
 use rv_core::Pipeline;
-use rv_counts::{CyclePlaces, LoadCosts, Places, count_retired};
+use rv_counts::{CyclePlaces, LoadCosts, Places};
 use rv_hardware::Step;
 use rv_isa::{Description, Kind, Lines};
 use rv_passage::Passage;
@@ -122,13 +123,13 @@ impl Tale {
             true,
             rows,
         );
-        let account = account_of(pipeline, rows, self.flusher);
+        let (account, flusher) = accounts_of(pipeline, rows, self.flusher);
         count_one(&mut self.heads, account);
         self.idle = idle_with(self.idle, account);
-        self.flusher = flusher_in(pipeline, rows, self.flusher);
-        self.retired += count_retired(steps) as u64;
-        note_traps(&mut self.exceptions, &mut self.interrupts, steps, pipeline);
-        self.raised.follow(cycle, lines);
+        self.flusher = flusher;
+        let retired = note_steps(&mut self.exceptions, &mut self.interrupts, steps, pipeline);
+        self.retired += retired as u64;
+        follow_lines(&mut self.raised, cycle, lines);
         self.places.add(places);
         self.dispatches.add(steps);
         // Those in flight after them add nothing.

@@ -1,4 +1,4 @@
-ghost use Rattle.std.specs.Prelude.{◌≡◌, None, true};
+ghost use Rattle.std.specs.Prelude.{◌≡◌, None, count_by, length, true};
 ghost use Rattle.std.specs.List.{list_all};
 ghost use Rattle.rv_hardware.specs.Step.{is_retirement};
 ghost use Rattle.rv_sentences.specs.Exception.{exception_of, exception_in};
@@ -7,6 +7,7 @@ ghost use Rattle.rv_sentences.specs.Kinds.{IsCountable, kept_after};
 
 use crate::ending::csr;
 use rv_core::Pipeline;
+use rv_counts::count_retired;
 use rv_hardware::Step;
 use rv_isa::{Cause, Csr};
 use rv_sentences::{Exception, Exceptions, Interrupts, interruption_in};
@@ -41,6 +42,7 @@ fn exception_of(step: &Step, pipeline: &Pipeline) -> Option<Exception>
 // Whether nothing but retirements is among the steps: then neither a trap nor an interrupt is. Most cycles end with that.
 fn are_retirements(steps: &[Step], pipeline: &Pipeline) -> bool
     ensures exact { result ≡ list_all is_retirement steps.now }
+    ensures all { result ≡ true → count_by is_retirement steps.now ≡ length steps.now }
     ensures no_exception { result ≡ true → exception_in pipeline.now steps.now ≡ None }
     ensures no_interrupt { result ≡ true → interruption_in steps.now ≡ None }
 {
@@ -61,20 +63,24 @@ fn first_exception(steps: &[Step], pipeline: &Pipeline) -> Option<Exception>
     }
 }
 
-/// Keeps the first trap among the steps of the core's last cycle that is no breakpoint, and the first interrupt, if there are any.
-pub(crate) fn note_traps(
+/// Keeps the first trap among the steps of the core's last cycle that is no breakpoint, and the first interrupt, if there are any; and tells
+/// how many of the steps are retirements.
+pub(crate) fn note_steps(
     exceptions: &mut Exceptions,
     interrupts: &mut Interrupts,
     steps: &[Step],
     pipeline: &Pipeline,
-)
+) -> usize
     requires exceptions { IsCountable exceptions.old }
     requires interrupts { AreCountable interrupts.old }
     ensures exceptions { exceptions.new ≡ kept_after (exception_in pipeline.now steps.now) exceptions.old }
     ensures interrupts { interrupts.new ≡ interrupts_after (interruption_in steps.now) interrupts.old }
+    ensures retired { result ≡ count_by is_retirement steps.now }
 {
-    if !are_retirements(steps, pipeline) {
-        exceptions.note(first_exception(steps, pipeline));
-        interrupts.note(interruption_in(steps));
+    if are_retirements(steps, pipeline) {
+        return steps.len();
     }
+    exceptions.note(first_exception(steps, pipeline));
+    interrupts.note(interruption_in(steps));
+    count_retired(steps)
 }
