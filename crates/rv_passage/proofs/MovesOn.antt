@@ -76,3 +76,8 @@ all-open-moves (stands {n = n} older {now = now} flies before more) all = elim (
       rw still (omega (arith, all-open-moves more rest))
   | inr ended ↦ let none : false ≡ true = rw ended at all in cc
 ]
+
+-- so as many are in flight as it holds
+pub as_many-moves : {cycle number : ℕ} {ps now rows : List Passage} → MovesOn cycle number ps now rows → list_all is_in_flight now ≡ true →
+    length (filter is_in_flight rows) ≡ length now
+as_many-moves moves all = omega (arith, open-moves moves, all-open-moves moves all)

@@ -1,5 +1,5 @@
 ghost use Rattle.std.specs.Prelude.{◌≡◌, ◌+◌, ◌≤◌, ◌<◌, ◌^◌, [], ◌∷◌, Some, drop, filter, length, slice_get, take, vec_capacity, IfOk};
-ghost use Rattle.std.specs.List.{list_all};
+ghost use Rattle.std.specs.List.{list_all, position_or_len};
 ghost use Rattle.rv_hardware.specs.Lessons.{first_pc};
 ghost use Rattle.rv_passage.specs.Passage.{in_buffers, is_in_flight, trapped_by};
 ghost use Rattle.rv_passage.specs.declared.passage.Passage.{Passage};
@@ -112,6 +112,7 @@ impl Table {
         ensures fetched { self.new.fetched ≤ self.old.fetched + 288 }
         ensures retired { self.new.retired ≤ self.old.retired + 8 }
         ensures open { length (still_open (passages_of self.new)).rows ≤ 288 }
+        ensures counted { self.new.in_flight ≡ length (filter is_in_flight (passages_of self.new).rows) }
     {
         self.clear_space();
         self.follow_in_space(cycle, steps, rob, front, pc);
@@ -151,6 +152,7 @@ impl Table {
         ensures retired { self.new.retired ≤ self.old.retired + 8 }
         ensures open { length (passages_of self.new).rows ≤ 288 }
         ensures quiet { length (passages_of self.new).interrupts ≡ 0 }
+        ensures counted { self.new.in_flight ≡ length (filter is_in_flight (passages_of self.new).rows) }
     {
         self.renew_numbers(cycle, steps, rob, front, pc);
         self.in_flight = count_in_flight(rob, front);
@@ -249,6 +251,7 @@ impl Table {
     fn retire(&mut self, row: &Row, next: u32)
         requires { self.old.retired + 1 < 2 ^ 64 }
         ensures taken { passages_of self.new ≡ with_step (Step.Retired row.now) next (passages_of self.old) }
+        ensures counted { self.old.in_flight ≤ self.new.in_flight + 1 }
         ensures len { length self.new.rows.items ≡ length self.old.rows.items }
         ensures capacity { vec_capacity self.new.rows ≡ vec_capacity self.old.rows }
         ensures interrupts { self.new.interrupts ≡ self.old.interrupts }
@@ -262,6 +265,7 @@ impl Table {
     // The oldest instruction in flight, if one is, traps.
     fn trap(&mut self, cause: Cause, cycle: u64)
         ensures rows { (passages_of self.new).rows ≡ with_oldest (trapped_by cause cycle) (passages_of self.old).rows }
+        ensures counted { self.old.in_flight ≤ self.new.in_flight + 1 }
         ensures len { length self.new.rows.items ≡ length self.old.rows.items }
         ensures capacity { vec_capacity self.new.rows ≡ vec_capacity self.old.rows }
         ensures others { (self.new.interrupts ≡ self.old.interrupts) × (self.new.fetched ≡ self.old.fetched) × (self.new.retired ≡ self.old.retired) }
@@ -327,6 +331,7 @@ impl Table {
 
     // Forgets the first instructions, up to the oldest in flight.
     fn drop_first_ended(&mut self)
+        ensures rows { (passages_of self.new).rows ≡ drop (position_or_len is_in_flight (passages_of self.old).rows) (passages_of self.old).rows }
         ensures opened { still_open (passages_of self.new) ≡ still_open (passages_of self.old) }
         ensures capacity { vec_capacity self.new.rows ≡ vec_capacity self.old.rows }
         ensures interrupts { self.new.interrupts ≡ self.old.interrupts }

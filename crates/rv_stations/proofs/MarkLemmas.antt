@@ -101,9 +101,19 @@ module _ (p : Inside) (sound : IsSoundPool p) (at : ℕ) (low : at < p.count) wh
     ]
     | inr other ↦
         let marked : IsMarkedOther p.dispatched.items p.others place = rw same at (sound.others at 0 in_front) in
-        let set : bit_at p.others place ≡ 1 = marked (sym loads_here ∙ other) in
+        let set : bit_at p.others place ≡ 1 = marked ∙ ap (λ b. cond b 0 1) (sym loads_here ∙ other) in
         let set_held : bit_at p.held place ≡ 1 = rw same at (sound.held at 0 in_front) in
         absurd (omega (arith, bit_at_and p.held p.others place, set, set_held, unset))
+  ]
+
+  asked_by : (loads_wait : Bool) → is_ready w ≡ true → bit_at (cond loads_wait (bit_and p.held p.others) p.held) place ≡ 1 → is_asked loads_wait w ≡ true
+  asked_by false ready set = rw ready refl
+  asked_by true ready set = elim (cases_Bool (loads w)) [
+    | inl load ↦
+        let marked : IsMarkedOther p.dispatched.items p.others place = rw same at (sound.others at 0 in_front) in
+        let unset : bit_at p.others place ≡ 0 = marked ∙ ap (λ b. cond b 0 1) (sym loads_here ∙ load) in
+        absurd (omega (arith, bit_at_and p.held p.others place, unset, set))
+    | inr other ↦ rw (ready, other) refl
   ]
 
   module _ (a b mask : ℕ) (of_first : IsWaitMask p.first a) (of_second : IsWaitMask p.second b) where
@@ -119,8 +129,9 @@ module _ (p : Inside) (sound : IsSoundPool p) (at : ℕ) (low : at < p.count) wh
       | inr waits ↦ rw waits refl
     ])
 
-    -- one whose bit is set is ready
-    pub asked : ((k : ℕ) → k < 64 → bit_at mask k ≡ 1 → bit_at (bit_or a b) k ≡ 0) → bit_at mask place ≡ 1 → option_map is_ready (slice_get (pool p).waiting at) ≡ Some true
-    asked cleared set =
-        let idle : bit_and (bit_or a b / 2 ^ place) 1 ≡ 0 = shr_and_one (bit_or a b) place ∙ cleared place place_few set in
-        ready_told p sound a b at place of_first of_second low place_in_use ∙ ap Some (eq-eqb _ _ idle)
+    -- one whose bit is set is asked
+    pub asked : (loads_wait : Bool) → ((k : ℕ) → k < 64 → bit_at (bit_or a b) k ≡ 0 → bit_at mask k ≡ bit_at (cond loads_wait (bit_and p.held p.others) p.held) k) → ((k : ℕ) → k < 64 → bit_at mask k ≡ 1 → bit_at (bit_or a b) k ≡ 0) → bit_at mask place ≡ 1 → option_map (is_asked loads_wait) (slice_get (pool p).waiting at) ≡ Some true
+    asked loads_wait kept cleared set =
+        let idle : bit_at (bit_or a b) place ≡ 0 = cleared place place_few set in
+        let ready : is_ready w ≡ true = told ∙ eq-eqb _ _ (shr_and_one (bit_or a b) place ∙ idle) in
+        ap (option_map (is_asked loads_wait)) here ∙ ap Some (asked_by loads_wait ready (sym (kept place place_few idle) ∙ set))

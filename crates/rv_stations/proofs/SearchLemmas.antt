@@ -1,5 +1,5 @@
 -- A search for the oldest ready instruction that passes a test.
-use Rattle.std.proofs.Common.{◌≡◌, ℕ, zero, suc, ◌+◌, Bool, true, false, not, ◌&&◌, ◌<◌, ◌≤◌, length, List, [], ◌∷◌, ◌++◌, take, drop, remove, slice_get, None, Some, inl, inr, refl, ap, sym, ◌∙◌, arith}
+use Rattle.std.proofs.Common.{◌≡◌, ℕ, zero, suc, ◌+◌, Bool, true, false, not, ◌&&◌, ◌<◌, ◌≤◌, length, List, [], ◌∷◌, ◌++◌, take, drop, remove, slice_get, Option, None, Some, inl, inr, refl, ap, sym, ◌∙◌, arith}
 use Rattle.std.specs.Option.{option_map}
 use Rattle.std.proofs.lemmas.Bool.{and_parts, cases_Bool, cases_lt}
 use Rattle.std.proofs.lemmas.List.{append_assoc}
@@ -96,6 +96,13 @@ is_passed_by test ws at loads_wait w fail is unasked = elim (cases_Bool (is_read
       rw (ready, fail parts.0 at w (omega arith) is parts.1) refl
   | inr waits ↦ rw waits refl
 ]
+
+-- what is asked is ready
+pub ready-asked : (loads_wait : Bool) (found : Option Waiting) → option_map (is_asked loads_wait) found ≡ Some true → option_map is_ready found ≡ Some true
+ready-asked loads_wait None told = cc
+ready-asked loads_wait (Some w) told =
+    let asked : is_asked loads_wait w ≡ true = cc told in
+    ap Some (and_parts (is_ready w) (not (loads_wait && loads w)) asked).0
 
 -- and so from a later one
 pub LoadsFail-later : (test : Waiting → Bool) (ws : List Waiting) (at : ℕ) → LoadsFail test ws at → LoadsFail test ws (at + 1)

@@ -1,5 +1,5 @@
 -- The fields of the stations of a kind: what they stand for, and what is true of them.
-use Rattle.std.specs.Prelude.{◌≡◌, ℕ, ◌<◌, ◌≤◌, List, length, get_or, map, take, vec_len, false, Some}
+use Rattle.std.specs.Prelude.{◌≡◌, ℕ, ◌<◌, ◌≤◌, List, length, get_or, map, take, vec_len, Some, if◌then◌else◌}
 use Rattle.std.specs.Int.{bit_at}
 use Rattle.std.specs.List.{All, AllPairs}
 use Rattle.std.specs.Simd.Lanes.{zip2}
@@ -48,9 +48,9 @@ pool p = record { waiting = in_places (in_all p) (take p.count p.places.items); 
 abbrev pub nothing : Dispatched
 nothing = record { pc = 0; instruction = Fence }
 
--- the bit of the place is set if its instruction does not load
+-- the bit of the place is set if its instruction does not load, and clear if it does
 abbrev pub IsMarkedOther : List Dispatched → ℕ → ℕ → Type 0
-IsMarkedOther dispatched mask place = is_load (Some (get_or dispatched place nothing).instruction) ≡ false → bit_at mask place ≡ 1
+IsMarkedOther dispatched mask place = bit_at mask place ≡ if is_load (Some (get_or dispatched place nothing).instruction) then 0 else 1
 
 -- the lists are of one length, each place is there and no two are the same, the numbers rise, and the bits of the
 -- places are set where an instruction waits

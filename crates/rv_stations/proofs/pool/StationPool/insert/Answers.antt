@@ -1,5 +1,5 @@
 -- The parts are written to the first free place, which stands next.
-use Rattle.std.proofs.Common.{◌≡◌, All, Bool, cond, not, ◌<◌, ◌+◌, ◌∙◌, ◌++◌, ◌∷◌, [], List, Some, length, take, slice_get, slice_set, refl, sym, ap, vec_len, arith}
+use Rattle.std.proofs.Common.{◌≡◌, ℕ, All, Bool, true, false, cond, not, ◌<◌, ◌+◌, ◌∙◌, ◌++◌, ◌∷◌, [], List, Some, length, take, slice_get, slice_set, refl, sym, ap, vec_len, arith}
 use Rattle.std.proofs.lemmas.List.{length-set, get_or-set_same, get_or-set_other}
 use Rattle.std.proofs.lemmas.Option.{slice_get_read}
 use Rattle.std.specs.Int.{bit_at}
@@ -32,11 +32,15 @@ dispatched c = slice_set c.self.inside.dispatched.items c.from-place.result (new
 abbrev loads_of : Dispatched → Bool
 loads_of d = is_load (Some d.instruction)
 
+turned : (b : Bool) (one other : ℕ) → cond (not b) one other ≡ cond b other one
+turned true one other = refl
+turned false one other = refl
+
 marked_last : (c : goal.After-self-5-1) → IsMarkedOther (dispatched c) c.marked-self-inside-2.result c.from-place.result
-marked_last c = λ no.
+marked_last c =
     let there = place_there c.self.inside c.self.invariant c.self.inside.count c.from-place.result (is c) in
     let last = get_or-set_same c.self.inside.dispatched.items c.from-place.result (newest c) nothing (omega (arith, there, c.self.invariant.dispatched)) in
-    c.marked-self-inside-2.ensures.bit ∙ ap (λ b. cond (not b) 1 0) (c.is_load.ensures ∙ sym (ap loads_of last) ∙ no)
+    c.marked-self-inside-2.ensures.bit ∙ turned c.is_load.result 1 0 ∙ ap (λ b. cond b 0 1) (c.is_load.ensures ∙ sym (ap loads_of last))
 
 told : (c : goal.After-self-5-1) → in_places (joined (slice_set c.self.inside.seqs.items c.from-place.result c.args.waiting.seq) (slice_set c.self.inside.dispatched.items c.from-place.result (record { pc = c.args.waiting.pc; instruction = c.args.waiting.instruction })) c.put.new.self c.put-2.new.self) (take (c.self.inside.count + 1) c.self.inside.places.items) ≡ in_places (in_all c.self.inside) (take c.self.inside.count c.self.inside.places.items) ++ c.args.waiting ∷ []
 told c =
@@ -61,7 +65,7 @@ invariant_of-self c = record {
       (λ k low other set. c.marked-self-inside.ensures.others k low other ∙ set)
       c.self.inside.places.items c.self.inside.count c.self.invariant.apart (few c) (is c) c.marked-self-inside.ensures.bit c.self.invariant.held;
   others = marks-next (IsMarkedOther c.self.inside.dispatched.items c.self.inside.others) (IsMarkedOther (dispatched c) c.marked-self-inside-2.result) c.from-place.result
-      (λ k low other set no. c.marked-self-inside-2.ensures.others k low other ∙ set (sym (ap loads_of (get_or-set_other c.self.inside.dispatched.items c.from-place.result k (newest c) nothing other)) ∙ no))
+      (λ k low other set. c.marked-self-inside-2.ensures.others k low other ∙ set ∙ ap (λ b. cond b 0 1) (sym (ap loads_of (get_or-set_other c.self.inside.dispatched.items c.from-place.result k (newest c) nothing other))))
       c.self.inside.places.items c.self.inside.count c.self.invariant.apart (few c) (is c) (marked_last c) c.self.invariant.others;
 }
 

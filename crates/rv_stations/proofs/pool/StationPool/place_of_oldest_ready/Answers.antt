@@ -6,14 +6,14 @@ use Rattle.rv_stations.specs.declared.waiting.Waiting.{Waiting}
 use Rattle.rv_stations.specs.declared.waiting.Verdict.TheVariants.{Goes, Waits, LoadsWait}
 use Rattle.rv_stations.specs.Pool.{Pool}
 use Rattle.rv_stations.proofs.PoolLemmas.{is_ready-in_place}
-use Rattle.rv_stations.proofs.SearchLemmas.{passed_next, passed_unasked, passed_whole, LoadsFail-after, LoadsFail-from, LoadsFail-later, Searching-from, Searching-found}
+use Rattle.rv_stations.proofs.SearchLemmas.{passed_next, passed_unasked, passed_whole, ready-asked, LoadsFail-after, LoadsFail-from, LoadsFail-later, Searching-from, Searching-found}
 use Rattle.rv_stations.proofs.pool.StationPool.place_of_oldest_ready.Goals as goal
 use Rattle.rv_stations.proofs.pool.StationPool.place_of_oldest_ready.Goals.{in-Waits, in-LoadsWait}
 
 pub loop-at-init : goal.loop-at-init
 loop-at-init g c =
     let ws = c.args.self.now.waiting in (
-      c.next_asked-at.ensures.ready,
+      (λ low. ready-asked false _ (c.next_asked-at.ensures.asked low)),
       (λ test search. passed_unasked test ws c.args.passed c.next_asked-at.result false c.next_asked-at.ensures.others (λ wait. cc wait) search.1),
       λ test search wait. cc wait,
     )
@@ -42,7 +42,7 @@ loop-at-preserved g c =
     let low : at < length ws = omega (arith, c.loop-at-test.true, c.len-end.ensures.len) in
     let next = c.next_asked-at-in-loop-at.result in
     let later : at + 1 ≤ next = c.next_asked-at-in-loop-at.ensures.later (omega (arith, low)) in (
-      c.next_asked-at-in-loop-at.ensures.ready,
+      (λ low. ready-asked _ _ (c.next_asked-at-in-loop-at.ensures.asked low)),
       (λ test search. elim c.match-filter.branch [
         | in-Waits w ↦
             let waits = search.0 c.ready_at.result Waits (says_at g.F.Fn c.filter.ensures w.in-Waits.is) in
