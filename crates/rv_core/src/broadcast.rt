@@ -15,25 +15,15 @@ ghost use Rattle.rv_core.specs.InExecution.{IsRunning};
 ghost use Rattle.rv_core.specs.Turns.{turn_of};
 
 use crate::parts::Parts;
-use rv_isa::{Instr, Message, Recovery, StoreAccess};
+use rv_isa::{Message, Recovery, StoreAccess};
 use rv_rob::{Entry, Rob, Stage};
 use rv_stations::Stations;
 use rv_stores::StoreQueue;
 
-/// Whether an instruction's next pc comes from its execution.
-pub(crate) fn is_branch_or_jump(instruction: &Option<Instr>) -> bool
-    ensures { result ≡ is_branch_or_jump instruction.now }
-{
-    matches!(
-        instruction,
-        Some(Instr::Jal { .. } | Instr::Jalr { .. } | Instr::Branch { .. })
-    )
-}
-
 fn is_mispredicted(entry: &Entry, message: &Message) -> bool
     ensures { result ≡ is_mispredicted entry.now message.now }
 {
-    is_branch_or_jump(&entry.instruction)
+    entry.instruction.is_branch_or_jump()
         && message.fault.is_none()
         && message.next_pc != entry.predicted_next
 }

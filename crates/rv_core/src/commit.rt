@@ -19,7 +19,6 @@ ghost use Rattle.rv_hardware.specs.Lessons.{lesson_of, lessons_of};
 ghost use Rattle.rv_core.specs.Reached.{IsBegun};
 ghost use Rattle.rv_core.specs.Retiring.{registers_with, with_commit, without_target};
 
-use crate::dispatch::{is_serialising, target_of};
 use crate::head::{HeadTurn, message_of, row_of, waits_for_result};
 use crate::parts::Parts;
 use rv_arch::Stop;
@@ -160,7 +159,7 @@ impl Parts {
         if waits_for_result(head) {
             return HeadTurn::Ends(None);
         }
-        if is_serialising(&head.instruction) {
+        if head.instruction.is_serialising() {
             let step = self.serial_head();
             return end_with(predictor, steps, &step, self.pc);
         }
@@ -188,7 +187,7 @@ impl Parts {
             let step = self.trap(entry.pc, fault);
             return end_with(predictor, steps, &step, self.pc);
         }
-        let target = target_of(&entry.instruction);
+        let target = entry.instruction.target();
         append(
             steps,
             row_of(&entry, written_by(target, message.value), self.cycle),

@@ -1,4 +1,4 @@
-ghost use Rattle.std.specs.Prelude.{◌≡◌, ◌≢◌, ℕ, ◌<◌, ◌≤◌, ◌^◌, ◌&&◌, nat_le, length, true, false, None, Some, IfSome, option_and_then};
+ghost use Rattle.std.specs.Prelude.{◌≡◌, ℕ, ◌<◌, ◌≤◌, ◌^◌, ◌&&◌, nat_le, length, true, false, None, Some, IfSome, option_and_then};
 ghost use Rattle.std.specs.List.{AllPairs, list_any};
 ghost use Rattle.rv_isa.specs.Instruction.{is_branch_or_jump, is_serialising, is_store, target_of_word, kind_of_word};
 ghost use Rattle.rv_isa.specs.Numbered.{AreBelow};
@@ -17,46 +17,16 @@ ghost use Rattle.rv_core.specs.Entering.{are_full_for, with_instruction, with_ju
 ghost use Rattle.rv_core.specs.Ties.{operand_by, operand_of, producers_of, status_after, values_in};
 ghost use Rattle.rv_core.specs.Told.{dispatch_told, dispatching};
 
-use crate::broadcast::is_branch_or_jump;
 use crate::execute::result_at_dispatch;
 use crate::parts::Parts;
+use rv_decode::Decoded;
 use rv_front::Fetched;
 use rv_hardware::Stall;
-use rv_isa::{Instr, Kind, Recovery, Reg, kind, sources, target};
+use rv_isa::{Kind, Recovery, Reg};
 use rv_rename::RenameMap;
 use rv_rob::{Entry, Rob, Stage};
 use rv_stations::{Operand, Stations, Waiting};
 use rv_stores::StoreQueue;
-
-/// Whether an instruction waits to be the oldest, with nothing younger in flight beside it.
-pub(crate) fn is_serialising(instruction: &Option<Instr>) -> bool
-    ensures { result ≡ is_serialising instruction.now }
-{
-    matches!(
-        instruction,
-        Some(Instr::FenceI | Instr::Csr { .. } | Instr::Mret)
-    )
-}
-
-fn is_store(instruction: &Option<Instr>) -> bool
-    ensures { result ≡ is_store instruction.now }
-{
-    matches!(instruction, Some(Instr::Store { .. }))
-}
-
-fn kind_of(instruction: &Option<Instr>) -> Option<Kind>
-    ensures { result ≡ kind_of_word instruction.now }
-{
-    kind(instruction.as_ref()?)
-}
-
-/// The register that an instruction writes, which is never x0.
-pub(crate) fn target_of(instruction: &Option<Instr>) -> Option<Reg>
-    ensures target { result ≡ target_of_word instruction.now }
-    ensures in_range { IfSome result (λ register. (register ≢ 0) × (register < 32)) }
-{
-    target(instruction.as_ref()?)
-}
 
 impl Parts {
     /// Dispatch: fetched instructions enter the reorder buffer in order, up to a width. Returns how many did, and what
@@ -82,7 +52,7 @@ impl Parts {
         let Some(fetched) = self.front.peek() else {
             return Some(Stall::Fetch);
         };
-        let kind = kind_of(&fetched.instruction);
+        let kind = fetched.instruction.kind();
         if let Some(stall) = self.reason_to_wait(fetched, kind) {
             return Some(stall);
         }
@@ -153,7 +123,7 @@ fn is_serial(rob: &Rob) -> bool
     ensures { result ≡ list_any (λ e. is_serialising e.instruction) rob.now.entries }
 {
     match rob.youngest() {
-        Some(entry) => is_serialising(&entry.instruction),
+        Some(entry) => entry.instruction.is_serialising(),
         None => false,
     }
 }
@@ -167,10 +137,10 @@ fn are_full_for(stations: &Stations, kind: Option<Kind>) -> bool
     }
 }
 
-fn waits_for_queue(stores: &StoreQueue, instruction: &Option<Instr>) -> bool
+fn waits_for_queue(stores: &StoreQueue, instruction: &Decoded) -> bool
     ensures { result ≡ (is_store instruction.now && nat_le stores.now.capacity (length stores.now.stores)) }
 {
-    is_store(instruction) && stores.is_full()
+    instruction.is_store() && stores.is_full()
 }
 
 // The entry is the youngest. One with a unit waits in a station, a serialising one to be the oldest; any other is
@@ -181,7 +151,7 @@ fn push_entry(rob: &mut Rob, fetched: &Fetched, kind: Option<Kind>, cycle: u64)
     requires kind { kind ≡ kind_of_word fetched.now.instruction }
     ensures { (h : Hardware) → h.cycle ≡ cycle → rob.new ≡ pushed (entry_of_fetched h fetched.now) rob.old }
 {
-    if kind.is_some() || is_serialising(&fetched.instruction) {
+    if kind.is_some() || fetched.instruction.is_serialising() {
         rob.push(entering(fetched, cycle, Stage::Waiting));
     } else {
         push_finished(rob, fetched, cycle);
@@ -200,7 +170,7 @@ fn push_finished(rob: &mut Rob, fetched: &Fetched, cycle: u64)
     let stage = Stage::Finished {
         issue: None,
         cycle,
-        message: result_at_dispatch(fetched.pc, fetched.word, &fetched.instruction),
+        message: result_at_dispatch(fetched.pc, fetched.word, fetched.instruction.instruction()),
     };
     rob.push(entering(fetched, cycle, stage));
 }
@@ -236,13 +206,13 @@ fn station(
     requires youngest { (kind : KindOf) → AreBelow seq_of seq (at_kind kind stations.old).waiting }
     ensures { stations.new ≡ with_instruction (status_after (values_in registers.now) rob.now.retired rob.now.entries) seq fetched.now.pc fetched.now.instruction stations.old }
 {
-    let Some(instruction) = fetched.instruction else {
+    let Some(instruction) = *fetched.instruction.instruction() else {
         return;
     };
     let Some(kind) = kind else {
         return;
     };
-    let [first, second] = sources(&instruction);
+    let [first, second] = fetched.instruction.sources();
     let waiting = Waiting {
         seq,
         pc: fetched.pc,
@@ -285,23 +255,18 @@ fn operand_by(seq: u64, stage: &Stage) -> Operand
 }
 
 // The instruction is the youngest that writes its target.
-fn define_target(rename: &mut RenameMap, instruction: &Option<Instr>, seq: u64)
+fn define_target(rename: &mut RenameMap, instruction: &Decoded, seq: u64)
     requires { CanDefine seq rename.old }
     ensures defined { rename.new ≡ with_target seq (target_of_word instruction.now) rename.old }
     ensures in_range { IfSome (target_of_word instruction.now) (λ register. register < 32) }
 {
-    if let Some(register) = target_of(instruction) {
+    if let Some(register) = instruction.target() {
         rename.define(register, seq);
     }
 }
 
 // A branch or a jump notes who writes each register, for a wrong prediction.
-fn checkpoint_jump(
-    rename: &mut RenameMap,
-    recovery: Recovery,
-    instruction: &Option<Instr>,
-    seq: u64,
-)
+fn checkpoint_jump(rename: &mut RenameMap, recovery: Recovery, instruction: &Decoded, seq: u64)
     requires { CanCheckpoint seq rename.old }
     ensures { rename.new ≡ with_jump (mends_early recovery && is_branch_or_jump instruction.now) seq rename.old }
 {
@@ -310,20 +275,20 @@ fn checkpoint_jump(
     }
 }
 
-fn takes_checkpoint(recovery: Recovery, instruction: &Option<Instr>) -> bool
+fn takes_checkpoint(recovery: Recovery, instruction: &Decoded) -> bool
     ensures { result ≡ (mends_early recovery && is_branch_or_jump instruction.now) }
 {
     match recovery {
-        Recovery::Early => is_branch_or_jump(instruction),
+        Recovery::Early => instruction.is_branch_or_jump(),
         Recovery::Commit => false,
     }
 }
 
-fn enter_store(stores: &mut StoreQueue, instruction: &Option<Instr>, seq: u64)
+fn enter_store(stores: &mut StoreQueue, instruction: &Decoded, seq: u64)
     requires { is_store instruction.now ≡ true → CanEnter seq stores.old }
     ensures { stores.new ≡ with_store (is_store instruction.now) seq stores.old }
 {
-    if is_store(instruction) {
+    if instruction.is_store() {
         stores.enter(seq);
     }
 }

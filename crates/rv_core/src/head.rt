@@ -5,7 +5,6 @@ ghost use Rattle.rv_hardware.specs.InFlight.{broadcast_of};
 ghost use Rattle.rv_hardware.specs.Retirement.{execution_of, row_of};
 ghost use Rattle.rv_core.specs.HeadTurn.{role_of};
 
-use crate::dispatch::is_serialising;
 use rv_arch::Stop;
 use rv_hardware::{Execution, Row, Step};
 use rv_isa::{Cause, CsrAddress, CsrOp, CsrSource, Fault, Instr, Message, Reg};
@@ -67,7 +66,7 @@ pub(crate) fn waits_for_result(entry: &Entry) -> bool
 {
     match entry.stage {
         Stage::Finished { .. } => false,
-        _ => !is_serialising(&entry.instruction),
+        _ => !entry.instruction.is_serialising(),
     }
 }
 

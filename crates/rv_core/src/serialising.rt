@@ -53,7 +53,7 @@ impl Parts {
             return None;
         };
         let entry = *head;
-        match role_of(&entry.instruction) {
+        match role_of(entry.instruction.instruction()) {
             Role::FenceInstructions => self.fence_instructions(&entry),
             Role::CsrAccess(access) => self.access_csr(&entry, access),
             Role::TrapReturn => self.return_from_trap(&entry),

@@ -96,10 +96,16 @@ fn dispatch_before(cycle: u64, values: &Values, rob: &Rob, fetched: &Fetched) ->
         dispatched,
         serialising,
         stationed,
-    } = count_found(rob, cycle, kind_sought(fetched.instruction));
+    } = count_found(rob, cycle, kind_sought(*fetched.instruction.instruction()));
     Dispatch {
         count: dispatched,
-        loss: loss_of(values, rob, serialising, stationed, fetched.instruction),
+        loss: loss_of(
+            values,
+            rob,
+            serialising,
+            stationed,
+            *fetched.instruction.instruction(),
+        ),
     }
 }
 

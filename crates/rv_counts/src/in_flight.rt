@@ -41,7 +41,7 @@ fn is_of_kind(kind: Kind, found: Option<Kind>) -> bool
 fn is_stationed(kind: Kind, entry: &Entry) -> bool
     ensures { result ≡ is_stationed kind entry.now }
 {
-    matches!(entry.stage, Stage::Waiting) && is_of_kind(kind, kind_of_word(entry.instruction))
+    matches!(entry.stage, Stage::Waiting) && is_of_kind(kind, entry.instruction.kind())
 }
 
 // What stands at a place of the reorder buffer, the oldest at place 0.
@@ -98,7 +98,7 @@ pub(crate) fn count_found(buffer: &Rob, cycle: u64, kind: Kind) -> Found
     for place in 0..buffer.len() {
         let entry = entry_at(buffer, place);
         let is_new = entry.dispatched == cycle;
-        let is_serial = is_serialising(entry.instruction);
+        let is_serial = entry.instruction.is_serialising();
         let is_waiting = is_stationed(kind, entry);
         dispatched = one_more(is_new, dispatched);
         serialising = one_more(is_serial, serialising);

@@ -1,3 +1,4 @@
 pub mod Decodes
 pub mod InstructionTable
+pub mod Known
 pub mod Operand

@@ -20,6 +20,7 @@ use crate::operations::{
 use rv_isa::{CsrSource, Instr};
 
 /// The instruction that a word is, or `None` where it is illegal (Unprivileged ISA 20191213, 24).
+#[inline(always)]
 pub fn decode(word: u32) -> Option<Instr>
     ensures decoded { IfSome result (Decodes word) }
     ensures complete { (i : Instr) → Decodes word i → result ≡ Some i }
@@ -30,6 +31,7 @@ pub fn decode(word: u32) -> Option<Instr>
     by_opcode(word)
 }
 
+#[inline(always)]
 fn by_opcode(word: u32) -> Option<Instr>
     ensures { result ≡ instruction_of word }
 {

@@ -4,9 +4,11 @@
 #![tactic(auto)]
 
 mod codec;
+mod decoded;
 mod fields;
 mod formats;
 mod opcodes;
 mod operations;
 
 pub use codec::{decode, encode};
+pub use decoded::Decoded;

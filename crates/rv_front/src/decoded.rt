@@ -1,8 +1,7 @@
 ghost use Rattle.std.specs.Prelude.{◌≡◌, ◌==◌};
 ghost use Rattle.rv_decode.specs.Decodes.{instruction_of};
 
-use rv_decode::decode;
-use rv_isa::Instr;
+use rv_decode::Decoded;
 use std::alloc::{AllocError, Global};
 use std::marker::Model;
 
@@ -13,7 +12,7 @@ const PLACES: usize = 256;
 #[derive(Clone, Copy)]
 pub(crate) struct DecodedWord {
     word: u32,
-    instruction: Option<Instr>,
+    instruction: Decoded,
 }
 
 // Clauses see the word alone.
@@ -36,7 +35,7 @@ impl DecodedWord {
     {
         DecodedWord {
             word,
-            instruction: decode(word),
+            instruction: Decoded::of(word),
         }
     }
 
@@ -46,8 +45,8 @@ impl DecodedWord {
         self.word == word
     }
 
-    fn instruction(self) -> Option<Instr>
-        ensures { result ≡ instruction_of self }
+    fn instruction(&self) -> Decoded
+        ensures { result ≡ instruction_of self.now }
     {
         self.instruction
     }
@@ -69,11 +68,11 @@ impl DecodedWords {
     }
 
     /// What the word at a pc decodes to.
-    pub(crate) fn instruction_at(&mut self, pc: u32, word: u32) -> Option<Instr>
+    pub(crate) fn instruction_at(&mut self, pc: u32, word: u32) -> Decoded
         ensures { result ≡ instruction_of word }
     {
         let Some(place) = self.places.get_mut((pc / 4) as usize % PLACES) else {
-            return decode(word);
+            return Decoded::of(word);
         };
         if !place.is_of(word) {
             *place = DecodedWord::of(word);

@@ -1,7 +1,7 @@
 ghost use Rattle.std.specs.Prelude.{◌≡◌};
 ghost use Rattle.rv_front.specs.FetchBuffer.{stop_after};
 
-use rv_isa::Instr;
+use rv_decode::Decoded;
 
 /// A word in the fetch buffer.
 #[derive(Clone, Copy)]
@@ -11,7 +11,7 @@ pub struct Fetched {
     /// What RAM held there at that moment, None outside RAM: an access fault.
     pub word: Option<u32>,
     /// The instruction that the word is, None where there is no word or it is illegal.
-    pub instruction: Option<Instr>,
+    pub instruction: Decoded,
     /// The predicted pc of the next instruction, a multiple of 4.
     pub predicted: u32,
     /// The cycle of its fetch.

@@ -8,6 +8,7 @@ use crate::decoded::DecodedWords;
 use crate::fetched::{FetchStop, Fetched};
 use crate::predictor::Predictor;
 use circular_buffer::HeapCircularBuffer;
+use rv_decode::Decoded;
 use rv_isa::Description;
 use rv_memory::Ram;
 use std::alloc::{AllocError, Global};
@@ -161,7 +162,7 @@ fn fetch_word(
     };
     let instruction = match word {
         Some(word) => decoded.instruction_at(pc, word),
-        None => None,
+        None => Decoded::none(),
     };
     Fetched {
         pc,

@@ -5,7 +5,7 @@ ghost use Rattle.rv_json.specs.Entry.{cause_of, cost_of, entry_text, fault_of, f
 ghost use Rattle.rv_text.specs.Said.{Says};
 
 use crate::json::{Member, write_front, write_members, write_name};
-use rv_isa::{Fault, Kind, Message, kind, target};
+use rv_isa::{Fault, Message};
 use rv_rob::{Entry, Stage};
 use rv_text::Sink;
 use std::io::Write;
@@ -34,8 +34,8 @@ fn finished(stage: &Stage) -> Option<u64>
 fn target_number(entry: &Entry) -> Option<u64>
     ensures { result ≡ target_of_word entry.now.instruction }
 {
-    match &entry.instruction {
-        Some(instruction) => target(instruction).map(|register| u64::from(register.number())),
+    match entry.instruction.target() {
+        Some(register) => Some(u64::from(register.number())),
         None => None,
     }
 }
@@ -63,11 +63,7 @@ fn write_head<W: Write>(out: &mut Sink<'_, W>, number: u64, entry: &Entry)
 fn write_kind<W: Write>(out: &mut Sink<'_, W>, entry: &Entry)
     ensures { Says W.contents out.old out.new (kind_text (kind_of_word entry.now.instruction)) }
 {
-    let kind = match &entry.instruction {
-        Some(instruction) => kind(instruction),
-        None => None,
-    };
-    match kind {
+    match entry.instruction.kind() {
         Some(kind) => write_name(out, "kind", kind.name()),
         None => {}
     }

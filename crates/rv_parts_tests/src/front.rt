@@ -2,7 +2,7 @@ ghost use Rattle.rv_front.specs.Guide.{guide_by};
 
 use crate::checks::{check_equal, check_equal_at, check_true};
 use crate::words::{bytes_of, code_of};
-use rv_decode::decode;
+use rv_decode::Decoded;
 use rv_front::{
     BackwardTaken, Bimodal, DescribedPredictor, FetchStop, Fetched, Flow, Front, NotTaken,
     Predictor,
@@ -145,7 +145,10 @@ fn entry(pc: u32, word: Option<u32>, predicted: u32, cycle: u64) -> Fetched {
     Fetched {
         pc,
         word,
-        instruction: word.and_then(|word| decode(word)),
+        instruction: match word {
+            Some(word) => Decoded::of(word),
+            None => Decoded::none(),
+        },
         predicted,
         cycle,
     }
@@ -160,8 +163,8 @@ fn check_taken(rt: &impl Abort, front: &mut Front, expected: Fetched) {
     check_equal_at(
         rt,
         pc,
-        code_of(found.instruction),
-        code_of(expected.instruction),
+        code_of(*found.instruction.instruction()),
+        code_of(*expected.instruction.instruction()),
     );
     check_equal_at(rt, pc, found.predicted, expected.predicted);
     check_equal_at(rt, pc, found.cycle, expected.cycle);
@@ -227,7 +230,7 @@ fn fetched_code(front: &mut Front, ram: &Ram, pc: u32) -> Option<Option<u32>> {
     front.redirect(pc);
     front.fetch(0, ram, &NotTaken);
     match front.peek() {
-        Some(fetched) => Some(code_of(fetched.instruction)),
+        Some(fetched) => Some(code_of(*fetched.instruction.instruction())),
         None => None,
     }
 }

@@ -11,6 +11,8 @@ mod checks;
 #[cfg(test)]
 mod decode;
 #[cfg(test)]
+mod decoded;
+#[cfg(test)]
 mod front;
 #[cfg(test)]
 mod halves;

@@ -1,6 +1,7 @@
 ghost use Rattle.std.specs.Prelude.{◌<◌};
 
 use crate::checks::{check_equal, check_equal_at, check_true};
+use rv_decode::Decoded;
 use rv_isa::{Cause, Description, Fault, Issue, Message, Values};
 use rv_rob::{Entry, Rob, Stage};
 use std::alloc::Global;
@@ -20,7 +21,7 @@ fn waiting(pc: u32) -> Entry {
     Entry {
         pc,
         word: Some(0x0050_0093),
-        instruction: None,
+        instruction: Decoded::none(),
         predicted_next: pc.wrapping_add(4),
         fetched: 0,
         dispatched: 1,
@@ -134,7 +135,7 @@ fn check_entry(rt: &impl Abort, found: Option<&Entry>, expected: Entry) {
     let found = found.expect(rt, "an entry");
     check_equal(rt, found.pc, expected.pc);
     check_equal(rt, found.word, expected.word);
-    check_true(rt, found.instruction.is_none());
+    check_true(rt, found.instruction.instruction().is_none());
     check_equal(rt, found.predicted_next, expected.predicted_next);
     check_equal(rt, found.fetched, expected.fetched);
     check_equal(rt, found.dispatched, expected.dispatched);

@@ -240,11 +240,11 @@ impl Passage {
         if self.dispatched.is_some() {
             self.producers.follow(older);
         } else {
-            self.note_producers(older, &entry.instruction);
+            self.note_producers(older, entry.instruction.instruction());
         }
         self.pc = entry.pc;
         self.word = entry.word;
-        self.instruction = entry.instruction;
+        self.instruction = *entry.instruction.instruction();
         self.fetched = entry.fetched;
         self.dispatched = Some(entry.dispatched);
         self.reach(&entry.stage);
@@ -262,7 +262,7 @@ impl Passage {
         }
         self.pc = fetched.pc;
         self.word = fetched.word;
-        self.instruction = fetched.instruction;
+        self.instruction = *fetched.instruction.instruction();
         self.fetched = fetched.cycle;
         self.dispatched = None;
         self.issue = None;

@@ -117,7 +117,7 @@ fn take_steps(predictions: &mut HeapCircularBuffer<Option<u32>>, steps: &[Step],
 fn prediction_of(word: &Fetched) -> Option<u32>
     ensures { result ≡ prediction_of_word word.now }
 {
-    match (word.instruction, word.word) {
+    match (*word.instruction.instruction(), word.word) {
         (Some(Instr::Jal { .. } | Instr::Jalr { .. } | Instr::Branch { .. }), Some(_)) => {
             Some(word.predicted)
         }

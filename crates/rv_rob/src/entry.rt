@@ -1,7 +1,8 @@
 //! One instruction in flight, with all that its commit and its reported row need.
 ghost use Rattle.std.specs.Prelude.{◌≡◌};
 
-use rv_isa::{Instr, Issue, Message};
+use rv_decode::Decoded;
+use rv_isa::{Issue, Message};
 
 /// How far an instruction in flight has come.
 #[derive(Clone, Copy, PartialEq, Eq)]
@@ -44,7 +45,7 @@ pub struct Entry {
     /// The fetched word, or None where the pc lies outside RAM.
     pub word: Option<u32>,
     /// What the word decodes to, or None where it is illegal or there is no word.
-    pub instruction: Option<Instr>,
+    pub instruction: Decoded,
     /// The pc that was fetched next.
     pub predicted_next: u32,
     /// The cycle of its fetch.

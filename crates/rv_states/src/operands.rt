@@ -4,7 +4,7 @@ ghost use Rattle.rv_hardware.specs.InFlight.{broadcast_of, writes};
 ghost use Rattle.rv_states.specs.Operands.{both_text, operand_text, operands_of, operands_text, status_at};
 ghost use Rattle.rv_text.specs.Said.{Says};
 
-use rv_isa::{Instr, Reg, sources, target};
+use rv_isa::{Instr, Reg, sources};
 use rv_json::{broadcast, write_operand};
 use rv_rob::{Entry, Rob, Stage};
 use rv_stations::Operand;
@@ -43,11 +43,8 @@ pub(crate) fn entry_at(buffer: &Rob, place: usize) -> Entry
 fn writes(entry: &Entry, register: Reg) -> bool
     ensures { result ≡ writes entry.now register }
 {
-    match &entry.instruction {
-        Some(instruction) => match target(instruction) {
-            Some(target) => target == register,
-            None => false,
-        },
+    match entry.instruction.target() {
+        Some(target) => target == register,
         None => false,
     }
 }
@@ -149,7 +146,7 @@ pub(crate) fn write_operands<W: Write>(
     requires { count ≤ length buffer.now.entries }
     ensures { Says W.contents out.old out.new (operands_text (status_at registers.now buffer.now count) entry.now.stage entry.now.instruction) }
 {
-    match (&entry.stage, &entry.instruction) {
+    match (&entry.stage, entry.instruction.instruction()) {
         (Stage::Waiting, Some(instruction)) => {
             write_sources(out, buffer, registers, count, instruction)
         }

@@ -1,4 +1,5 @@
 use crate::json::expect_text;
+use rv_decode::{Decoded, encode};
 use rv_isa::{AluOp, Cause, Fault, Immediate, Instr, Issue, Message, Reg, Width};
 use rv_json::write_entry;
 use rv_rob::{Entry, Stage};
@@ -23,7 +24,7 @@ fn entry(instruction: Instr, stage: Stage) -> Entry {
     Entry {
         pc: 20,
         word: Some(21),
-        instruction: Some(instruction),
+        instruction: Decoded::of(encode(&instruction)),
         predicted_next: 24,
         fetched: 25,
         dispatched: 26,

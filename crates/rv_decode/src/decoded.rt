@@ -1,0 +1,155 @@
+ghost use Rattle.std.specs.Prelude.{◌≡◌, ◌≢◌, ◌<◌, IfSome, None, Some};
+ghost use Rattle.rv_isa.specs.Instruction.{is_branch_or_jump, is_serialising, is_store, kind_of_word, target_of_word};
+ghost use Rattle.rv_decode.specs.Decodes.{instruction_of};
+ghost use Rattle.rv_decode.specs.Known.{both_sources, known_of};
+
+use crate::codec::decode;
+use rv_isa::{Instr, Kind, Reg, kind, sources, target};
+use std::marker::Model;
+
+// What hardware asks of a word, over and over.
+#[derive(Clone, Copy)]
+struct Known {
+    kind: Option<Kind>,
+    // Register x0 where there is none.
+    target: Reg,
+    sources: [Option<Reg>; 2],
+    is_store: bool,
+    is_serialising: bool,
+    is_branch_or_jump: bool,
+}
+
+/// What a word decodes to, with what hardware asks of it: found once, where the word is decoded.
+#[derive(Clone, Copy)]
+pub struct Decoded {
+    instruction: Option<Instr>,
+    known: Known,
+}
+
+// Clauses see the instruction alone.
+impl Model for Decoded {
+    ghost use Rattle.std.specs.Prelude.{◌≡◌, Option};
+    ghost use Rattle.rv_isa.specs.declared.instructions.Instr.{Instr as InstrOf};
+    ghost use Rattle.rv_decode.specs.Known.{known_of};
+
+    ghost Value = { Option InstrOf };
+
+    ghost view = { λ d. d.instruction };
+
+    ghost invariant = { λ d. d.known ≡ known_of d.instruction };
+
+    ghost inverse = { λ instruction. record { instruction = instruction; known = known_of instruction } };
+}
+
+impl Decoded {
+    /// A word's, which may be illegal.
+    #[inline(never)]
+    pub fn of(word: u32) -> Decoded
+        ensures { result ≡ instruction_of word }
+    {
+        Decoded::new(decode(word))
+    }
+
+    /// That of a place without a word: no instruction.
+    pub fn none() -> Decoded
+        ensures { result ≡ None }
+    {
+        Decoded::new(None)
+    }
+
+    fn new(instruction: Option<Instr>) -> Decoded
+        ensures { result ≡ instruction }
+    {
+        Decoded {
+            instruction,
+            known: known_of(&instruction),
+        }
+    }
+
+    /// The instruction, None where there is no word or it is illegal.
+    pub fn instruction(&self) -> &Option<Instr>
+        ensures { result.now ≡ self.now }
+    {
+        &self.instruction
+    }
+
+    /// The kind of unit that executes it, None where it uses none.
+    pub fn kind(&self) -> Option<Kind>
+        ensures { result ≡ kind_of_word self.now }
+    {
+        self.known.kind
+    }
+
+    /// The register that it writes, None where it writes none or x0.
+    pub fn target(&self) -> Option<Reg>
+        ensures target { result ≡ target_of_word self.now }
+        ensures in_range { IfSome result (λ register. (register ≢ 0) × (register < 32)) }
+    {
+        let target = self.known.target;
+        if target.number() == 0 {
+            None
+        } else {
+            Some(target)
+        }
+    }
+
+    /// The registers that it reads, first `rs1` and then `rs2`; None where it has no such operand.
+    pub fn sources(&self) -> [Option<Reg>; 2]
+        ensures { result ≡ both_sources self.now }
+    {
+        self.known.sources
+    }
+
+    /// Whether it stores.
+    pub fn is_store(&self) -> bool
+        ensures { result ≡ is_store self.now }
+    {
+        self.known.is_store
+    }
+
+    /// Whether it waits to be the oldest, with nothing younger in flight beside it.
+    pub fn is_serialising(&self) -> bool
+        ensures { result ≡ is_serialising self.now }
+    {
+        self.known.is_serialising
+    }
+
+    /// Whether its next pc comes from its execution.
+    pub fn is_branch_or_jump(&self) -> bool
+        ensures { result ≡ is_branch_or_jump self.now }
+    {
+        self.known.is_branch_or_jump
+    }
+}
+
+fn known_of(instruction: &Option<Instr>) -> Known
+    ensures { result ≡ known_of instruction.now }
+{
+    match instruction {
+        Some(instruction) => known_of_instruction(instruction),
+        None => Known {
+            kind: None,
+            target: Reg::ZERO,
+            sources: [None, None],
+            is_store: false,
+            is_serialising: false,
+            is_branch_or_jump: false,
+        },
+    }
+}
+
+fn known_of_instruction(instruction: &Instr) -> Known
+    ensures { result ≡ known_of (Some instruction.now) }
+{
+    Known {
+        kind: kind(instruction),
+        target: target(instruction).unwrap_or(Reg::ZERO),
+        sources: sources(instruction),
+        is_store: matches!(instruction, Instr::Store { .. }),
+        is_serialising: matches!(instruction, Instr::FenceI | Instr::Csr { .. } | Instr::Mret),
+        is_branch_or_jump: matches!(
+            instruction,
+            Instr::Jal { .. } | Instr::Jalr { .. } | Instr::Branch { .. }
+        ),
+    }
+}
