@@ -94,10 +94,10 @@ impl Decoded {
     }
 
     /// The registers that it reads, first `rs1` and then `rs2`; None where it has no such operand.
-    pub fn sources(&self) -> [Option<Reg>; 2]
-        ensures { result ≡ both_sources self.now }
+    pub fn sources(&self) -> &[Option<Reg>; 2]
+        ensures { result.now ≡ both_sources self.now }
     {
-        self.known.sources
+        &self.known.sources
     }
 
     /// Whether it stores.

@@ -16,7 +16,7 @@ invariant_of-self c = sound-taken c.self.inside c.take-fetched.new.self c.self.i
 
 pub enter-requires-clause-kind : goal.enter-requires-clause-kind
 enter-requires-clause-kind c =
-    c.kind_of-kind.ensures
+    c.kind-kind.ensures
     ∙ ap (λ (f : Fetched). kind_of_word f.instruction)
     (one_first c.self.inside.front.entries c.in-Some.fetched.now c.take-fetched.result (sym c.in-Some.ensures)
     c.take-fetched.ensures.first)

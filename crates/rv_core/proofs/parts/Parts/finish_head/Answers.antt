@@ -54,7 +54,7 @@ row g c =
     let m = c.in-Some-message_of.message in
     c.row_of.ensures
     ∙ ap (λ w. row_of e w c.self.inside.cycle)
-    (c.written_by.ensures ∙ ap (option_map (λ (register : ℕ). (register, m.value))) c.target_of-target.ensures.target)
+    (c.written_by.ensures ∙ ap (option_map (λ (register : ℕ). (register, m.value))) c.target-target.ensures.target)
     ∙ ap (λ (x : Hardware). row_of e (written_of e m) x.cycle) c.self.view_is
 
 pub returns-then-message-entry-clause-turn : goal.returns-then-message-entry-clause-turn
