@@ -4,12 +4,13 @@ ghost use Rattle.rv_counts.specs.Found.{count_serialising, count_stationed};
 ghost use Rattle.rv_counts.specs.Places.{dispatched_in, has_no_station, has_serialising, loss_in, loss_of, loss_of_kind, places_by};
 ghost use Rattle.rv_counts.specs.declared.run_places.Loss.TheVariants.{Fetch};
 
-use crate::in_flight::{Found, count_dispatched, count_found, kind_of_word};
+use crate::in_flight::{Found, count_dispatched, count_found};
 use crate::place_uses::{count_retired, count_traps, flush_of};
 use crate::run_places::{CyclePlaces, Loss};
+use rv_decode::Decoded;
 use rv_front::{Fetched, Front};
 use rv_hardware::Step;
-use rv_isa::{Instr, Kind, Values};
+use rv_isa::{Kind, Values};
 use rv_rob::Rob;
 
 // What a cycle made of the places for dispatch that it had.
@@ -61,26 +62,26 @@ fn loss_of(
     rob: &Rob,
     serialising: usize,
     stationed: usize,
-    instruction: Option<Instr>,
+    instruction: &Decoded,
 ) -> Loss
     requires serialising { serialising ≡ count_serialising rob.now }
-    requires stationed { IfSome (kind_of_word instruction) (λ k. stationed ≡ count_stationed k rob.now) }
-    ensures { result ≡ loss_of values.now rob.now instruction }
+    requires stationed { IfSome (kind_of_word instruction.now) (λ k. stationed ≡ count_stationed k rob.now) }
+    ensures { result ≡ loss_of values.now rob.now instruction.now }
 {
     if has_serialising(rob, serialising) {
         Loss::Serial
     } else if rob.is_full() {
         Loss::Rob
     } else {
-        loss_of_kind(values, rob, stationed, kind_of_word(instruction))
+        loss_of_kind(values, rob, stationed, instruction.kind())
     }
 }
 
 // The kind of an instruction's unit; of one with none it is any.
-fn kind_sought(instruction: Option<Instr>) -> Kind
-    ensures { IfSome (kind_of_word instruction) (λ k. result ≡ k) }
+fn kind_sought(instruction: &Decoded) -> Kind
+    ensures { IfSome (kind_of_word instruction.now) (λ k. result ≡ k) }
 {
-    match kind_of_word(instruction) {
+    match instruction.kind() {
         Some(kind) => kind,
         None => Kind::Alu,
     }
@@ -96,16 +97,10 @@ fn dispatch_before(cycle: u64, values: &Values, rob: &Rob, fetched: &Fetched) ->
         dispatched,
         serialising,
         stationed,
-    } = count_found(rob, cycle, kind_sought(*fetched.instruction.instruction()));
+    } = count_found(rob, cycle, kind_sought(&fetched.instruction));
     Dispatch {
         count: dispatched,
-        loss: loss_of(
-            values,
-            rob,
-            serialising,
-            stationed,
-            *fetched.instruction.instruction(),
-        ),
+        loss: loss_of(values, rob, serialising, stationed, &fetched.instruction),
     }
 }
 

@@ -1,11 +1,10 @@
 ghost use Rattle.std.specs.Prelude.{◌≡◌, ◌+◌, ◌<◌, ◌≤◌, ◌^◌, if◌then◌else◌, Some, length, option_copied, slice_get};
 ghost use Rattle.rv_hardware.specs.Dispatch.{is_stationed};
-ghost use Rattle.rv_isa.specs.Instruction.{is_of_kind, kind_of_word};
+ghost use Rattle.rv_isa.specs.Instruction.{is_of_kind};
 ghost use Rattle.rv_counts.specs.Found.{count_serialising, count_stationed};
 ghost use Rattle.rv_counts.specs.Places.{dispatched_in};
 
-use crate::place_uses::is_serialising;
-use rv_isa::{Instr, Kind, kind};
+use rv_isa::Kind;
 use rv_rob::{Entry, Rob, Stage};
 
 /// How many instructions in the reorder buffer are of three sorts.
@@ -17,16 +16,6 @@ pub(crate) struct Found {
     pub(crate) serialising: usize,
     /// Those in the stations of a kind.
     pub(crate) stationed: usize,
-}
-
-/// The kind of unit that an instruction uses, None where there is none.
-pub fn kind_of_word(instruction: Option<Instr>) -> Option<Kind>
-    ensures { result ≡ kind_of_word instruction }
-{
-    match instruction {
-        Some(instruction) => kind(&instruction),
-        None => None,
-    }
 }
 
 fn is_of_kind(kind: Kind, found: Option<Kind>) -> bool

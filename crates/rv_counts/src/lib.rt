@@ -17,10 +17,9 @@ mod wait;
 
 pub use counts::WordCounts;
 pub use cycle_places::places_by;
-pub use in_flight::kind_of_word;
 pub use loads::{LoadCosts, load_cost};
 pub use passing::{has_retired, was_squashed};
-pub use place_uses::{count_retired, count_traps, flush_of, is_serialising};
+pub use place_uses::{count_retired, count_traps, flush_of};
 pub use profile::Profile;
 pub use run_places::{CyclePlaces, Flush, Loss, Lost, Places, RunPlaces, Squashed};
 pub use wait::Wait;

@@ -19,7 +19,7 @@ pub struct LoadCosts {
 pub fn load_cost(passage: &Passage) -> Option<u32>
     ensures { result ≡ load_cost passage.now }
 {
-    match passage.instruction {
+    match passage.instruction.instruction() {
         Some(Instr::Load { .. }) => Some(passage.issue?.cost),
         _ => None,
     }

@@ -35,8 +35,8 @@ pub fn count_retired(steps: &[Step]) -> usize
     retired
 }
 
-/// Whether an instruction waits to be the oldest, with nothing younger in flight beside it.
-pub fn is_serialising(instruction: Option<Instr>) -> bool
+// Whether an instruction waits to be the oldest, with nothing younger in flight beside it.
+fn is_serialising(instruction: Option<Instr>) -> bool
     ensures { result ≡ is_serialising instruction }
 {
     matches!(

@@ -1,5 +1,5 @@
 ghost use Rattle.std.specs.Prelude.{◌≡◌, ◌≢◌, ◌<◌, IfSome, None, Some};
-ghost use Rattle.rv_isa.specs.Instruction.{is_branch_or_jump, is_serialising, is_store, kind_of_word, target_of_word};
+ghost use Rattle.rv_isa.specs.Instruction.{is_branch_or_jump, is_load, is_serialising, is_store, kind_of_word, target_of_word};
 ghost use Rattle.rv_decode.specs.Decodes.{instruction_of};
 ghost use Rattle.rv_decode.specs.Known.{both_sources, known_of};
 
@@ -98,6 +98,13 @@ impl Decoded {
         ensures { result.now ≡ both_sources self.now }
     {
         &self.known.sources
+    }
+
+    /// Whether it loads.
+    pub fn is_load(&self) -> bool
+        ensures { result ≡ is_load self.now }
+    {
+        matches!(self.instruction, Some(Instr::Load { .. }))
     }
 
     /// Whether it stores.

@@ -8,16 +8,10 @@ use crate::room::dispatch_wait;
 use crate::window::Window;
 use itoa::Buffer;
 use rv_hardware::Stall;
-use rv_isa::{Instr, Kind, Reg, kind};
+use rv_isa::{Kind, Reg};
 use rv_passage::{Passage, Producer, register_name};
 use rv_text::{Sink, hexadecimal};
 use std::io::Write;
-
-fn kind_of(instruction: &Option<Instr>) -> Option<Kind>
-    ensures { result ≡ kind_of_word instruction.now }
-{
-    kind(instruction.as_ref()?)
-}
 
 // A producer, unless its broadcast came before a cycle.
 fn awaited(producer: Option<Producer>, cycle: u64) -> Option<Producer>
@@ -107,7 +101,7 @@ fn write_operand_wait<W: Write>(
 fn write_seen_wait<W: Write>(out: &mut Sink<'_, W>, row: &Passage, cycle: u64)
     ensures { Says W.contents out.old out.new (operand_wait (kind_of_word row.now.instruction) (awaited cycle row.now.producers.first) (awaited cycle row.now.producers.second)) }
 {
-    let kind = kind_of(&row.instruction);
+    let kind = row.instruction.kind();
     let first = awaited(row.producers.first, cycle);
     let second = awaited(row.producers.second, cycle);
     write_operand_wait(out, kind, &first, &second)

@@ -5,7 +5,7 @@ use Rattle.rv_arch.specs.declared.outcome.Stop.TheVariants.{Limit, Breakpoint, S
 use Rattle.rv_source.specs.Listing.{Listed, line_at}
 use Rattle.rv_sentences.specs.Exception.{first_text}
 use Rattle.rv_sentences.specs.Interrupt.{interrupts_text}
-use Rattle.rv_sentences.specs.Place.{place_text}
+use Rattle.rv_source.specs.PlaceText.{place_text}
 use Rattle.rv_sentences.specs.declared.{exception.Exception.Exception, interrupts.Interrupts.Interrupts, series.Series.Series}
 use Rattle.rv_explain.specs.declared.figures.Figures.{Figures}
 use Rattle.rv_explain.specs.declared.figures.Figures.TheVariants.{Always, UnlessCrashed}

@@ -6,7 +6,7 @@ use Rattle.rv_arch.specs.declared.outcome.Stop.TheVariants.{Limit, Breakpoint, S
 use Rattle.rv_memory.specs.Memory.{word_of}
 use Rattle.rv_hardware.specs.Hardware.{Hardware}
 use Rattle.rv_source.specs.Listing.{Listed}
-use Rattle.rv_sentences.specs.Place.{place_text}
+use Rattle.rv_source.specs.PlaceText.{place_text}
 use Rattle.rv_sentences.specs.WordNotes.{Notes, note_at}
 
 -- why a run ended

@@ -4,8 +4,8 @@ ghost use Rattle.rv_text.specs.Said.{Says};
 
 use crate::figures::Figures;
 use rv_arch::Stop;
-use rv_sentences::{Exception, Interrupts, Series, write_first, write_interrupts, write_place};
-use rv_source::Listing;
+use rv_sentences::{Exception, Interrupts, Series, write_first, write_interrupts};
+use rv_source::{Listing, write_place};
 use rv_text::Sink;
 use std::io::Write;
 

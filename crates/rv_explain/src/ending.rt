@@ -6,8 +6,8 @@ ghost use Rattle.rv_text.specs.Said.{Says};
 use rv_arch::Stop;
 use rv_core::Pipeline;
 use rv_isa::Csr;
-use rv_sentences::{WordNotes, write_place};
-use rv_source::Listing;
+use rv_sentences::WordNotes;
+use rv_source::{Listing, write_place};
 use rv_text::Sink;
 use std::io::Write;
 

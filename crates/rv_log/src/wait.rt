@@ -4,7 +4,7 @@ ghost use Rattle.rv_log.specs.Waited.{after_or_left, cycles_of, is_later, issue_
 ghost use Rattle.rv_drawing.specs.Cell.{is_past};
 ghost use Rattle.rv_passage.specs.Result.{ready_in};
 
-use rv_isa::{Instr, Kind, kind};
+use rv_isa::Kind;
 use rv_passage::{Passage, Producer};
 
 /// What an instruction waits for.
@@ -41,12 +41,6 @@ impl Wait {
     {
         self.until.saturating_sub(self.from)
     }
-}
-
-fn kind_of(instruction: &Option<Instr>) -> Option<Kind>
-    ensures { result ≡ kind_of_word instruction.now }
-{
-    kind(instruction.as_ref()?)
 }
 
 // Whether a stamp came before a cycle.
@@ -142,7 +136,7 @@ fn issue_awaited(row: &Passage, first: u64) -> Awaited
     if is_past(row.dispatched, first) {
         Awaited::Unknown
     } else {
-        Awaited::Unit(kind_of(&row.instruction))
+        Awaited::Unit(row.instruction.kind())
     }
 }
 

@@ -95,6 +95,31 @@ fn stores_serialising_instructions_branches_and_jumps_are_known(rt: HostRuntime)
 }
 
 #[test]
+fn loads_are_known(rt: HostRuntime) {
+    // lb, lh, lw, lbu, lhu
+    for word in [
+        0x7a53_0283,
+        0x7a53_1283,
+        0x7a53_2283,
+        0x7a53_4283,
+        0x7a53_5283,
+    ] {
+        check_equal_at(&rt, word, Decoded::of(word).is_load(), true);
+    }
+    // sw, jalr, addi, fence, an illegal width of a load, and an illegal word
+    for word in [
+        0x5473_2aa3,
+        0x7a53_02e7,
+        0x7a53_0293,
+        0x0ff0_000f,
+        0x7a53_3283,
+        0,
+    ] {
+        check_equal_at(&rt, word, Decoded::of(word).is_load(), false);
+    }
+}
+
+#[test]
 fn a_place_without_a_word_is_as_an_illegal_word(rt: HostRuntime) {
     let none = Decoded::none();
     check_equal_at(&rt, 0, code_of(*none.instruction()), None);

@@ -2,9 +2,10 @@ ghost use Rattle.std.specs.Prelude.{◌≡◌};
 ghost use Rattle.rv_passage.specs.Passage.{broadcast_of, prediction_after, start_of};
 
 use crate::producers::Producers;
+use rv_decode::Decoded;
 use rv_front::Fetched;
 use rv_hardware::{Execution, Row};
-use rv_isa::{Cause, Instr, Issue, Reg};
+use rv_isa::{Cause, Issue, Reg};
 use rv_rob::{Entry, Stage};
 
 /// How an instruction left the hardware, or that it did not yet.
@@ -67,7 +68,7 @@ pub struct Passage {
     /// What RAM held at the pc, None outside RAM.
     pub word: Option<u32>,
     /// The instruction that the word is, None where there is no word or it is illegal.
-    pub instruction: Option<Instr>,
+    pub instruction: Decoded,
     /// The pc that was predicted at its fetch to come next, None where there was no word. Of what was dispatched before the
     /// table began, the one that held then.
     pub predicted: Option<u32>,
@@ -153,9 +154,10 @@ impl Passage {
     pub fn prediction(&self) -> Option<u32>
         ensures { result ≡ prediction_of self.now }
     {
-        match self.instruction {
-            Some(Instr::Jal { .. } | Instr::Jalr { .. } | Instr::Branch { .. }) => self.predicted,
-            _ => None,
+        if self.instruction.is_branch_or_jump() {
+            self.predicted
+        } else {
+            None
         }
     }
 
@@ -208,7 +210,7 @@ impl Passage {
             number,
             pc: entry.pc,
             word: entry.word,
-            instruction: *entry.instruction.instruction(),
+            instruction: entry.instruction,
             predicted: prediction_after(entry.word, entry.predicted_next),
             fetched: entry.fetched,
             dispatched: Some(entry.dispatched),
@@ -227,7 +229,7 @@ impl Passage {
             number,
             pc: fetched.pc,
             word: fetched.word,
-            instruction: *fetched.instruction.instruction(),
+            instruction: fetched.instruction,
             predicted: prediction_after(fetched.word, fetched.predicted),
             fetched: fetched.cycle,
             dispatched: None,

@@ -1,12 +1,11 @@
 ghost use Rattle.std.specs.Prelude.{◌≡◌, Some, true, option_and_then};
 ghost use Rattle.std.specs.Option.{option_map};
-ghost use Rattle.rv_isa.specs.Instruction.{kind_of_word, target_of_word};
-ghost use Rattle.rv_isa.specs.Operands.{sources_of};
 ghost use Rattle.rv_passage.specs.Producers.{broadcast_among, followed_in, is_to_come, is_writer, other_than, producer_among, producer_by, producers_among, producers_for};
 
 use crate::passage::Passage;
+use rv_decode::Decoded;
 use rv_front::Fetched;
-use rv_isa::{Instr, Kind, Reg, kind, sources, target};
+use rv_isa::Reg;
 use rv_rob::{Entry, Stage};
 
 /// An instruction whose result another one waits for.
@@ -84,30 +83,18 @@ impl Producers {
     }
 }
 
-fn kind_of(instruction: &Option<Instr>) -> Option<Kind>
-    ensures { result ≡ kind_of_word instruction.now }
-{
-    kind(instruction.as_ref()?)
-}
-
-fn target_of(instruction: &Option<Instr>) -> Option<Reg>
-    ensures { result ≡ target_of_word instruction.now }
-{
-    target(instruction.as_ref()?)
-}
-
 // Whether an instruction is in flight, and writes a register.
 fn is_writer(row: &Passage, register: Reg) -> bool
     ensures { result ≡ is_writer register row.now }
 {
-    row.is_in_flight() && target_of(&row.instruction) == Some(register)
+    row.is_in_flight() && row.instruction.target() == Some(register)
 }
 
 // Whether the result of an instruction is still to come.
 fn is_to_come(row: &Passage) -> bool
     ensures { result ≡ is_to_come row.now }
 {
-    kind_of(&row.instruction).is_some() && row.broadcast.is_none()
+    row.instruction.kind().is_some() && row.broadcast.is_none()
 }
 
 #[inline(never)]
@@ -180,21 +167,21 @@ fn second_after(first: &Option<Producer>, second: Option<Producer>) -> Option<Pr
     }
 }
 
-fn producers_for(older: &[Passage], instruction: &Instr) -> Producers
-    ensures { result ≡ producers_for older.now (sources_of instruction.now) }
+fn producers_for(older: &[Passage], sources: &[Option<Reg>; 2]) -> Producers
+    ensures { result ≡ producers_for older.now sources.now }
 {
-    let [first, second] = sources(instruction);
-    let first = producer_among(older, first);
-    let second = second_after(&first, producer_among(older, second));
+    let [first, second] = sources;
+    let first = producer_among(older, *first);
+    let second = second_after(&first, producer_among(older, *second));
     Producers { first, second }
 }
 
 // Those of an instruction that is dispatched after the older ones.
-fn producers_among(older: &[Passage], instruction: &Option<Instr>) -> Producers
+fn producers_among(older: &[Passage], instruction: &Decoded) -> Producers
     ensures { result ≡ producers_among older.now instruction.now }
 {
-    match instruction {
-        Some(instruction) if kind(instruction).is_some() => producers_for(older, instruction),
+    match instruction.instruction() {
+        Some(_) if instruction.kind().is_some() => producers_for(older, instruction.sources()),
         _ => Producers::NONE,
     }
 }
@@ -206,7 +193,7 @@ impl Passage {
 
     // It is dispatched after the older ones.
     #[inline(never)]
-    fn note_producers(&mut self, older: &[Passage], instruction: &Option<Instr>)
+    fn note_producers(&mut self, older: &[Passage], instruction: &Decoded)
         ensures { self.new ≡ record self.old { producers = producers_among older.now instruction.now } }
     {
         self.producers = producers_among(older, instruction);
@@ -240,11 +227,11 @@ impl Passage {
         if self.dispatched.is_some() {
             self.producers.follow(older);
         } else {
-            self.note_producers(older, entry.instruction.instruction());
+            self.note_producers(older, &entry.instruction);
         }
         self.pc = entry.pc;
         self.word = entry.word;
-        self.instruction = *entry.instruction.instruction();
+        self.instruction = entry.instruction;
         self.fetched = entry.fetched;
         self.dispatched = Some(entry.dispatched);
         self.reach(&entry.stage);
@@ -262,7 +249,7 @@ impl Passage {
         }
         self.pc = fetched.pc;
         self.word = fetched.word;
-        self.instruction = *fetched.instruction.instruction();
+        self.instruction = fetched.instruction;
         self.fetched = fetched.cycle;
         self.dispatched = None;
         self.issue = None;

@@ -2,7 +2,7 @@
 use Rattle.std.specs.Prelude.{ℕ, nat_lt, if◌then◌else◌, List, ◌++◌, codes, take, Option, Some, None}
 use Rattle.std.specs.List.{flat_map, fold, slice_index_or}
 use Rattle.rv_source.specs.Listing.{Listed}
-use Rattle.rv_sentences.specs.Place.{place_text}
+use Rattle.rv_source.specs.PlaceText.{place_text}
 use Rattle.rv_path.specs.Account.{Accounted}
 use Rattle.rv_path.specs.Cause.{cause_name, place_of}
 use Rattle.rv_path.specs.Text.{percent_text, ranked}

@@ -11,7 +11,7 @@ use crate::event::{Event, Waited};
 use crate::leaving::{Leaving, lines_event};
 use crate::point::{Point, Stage};
 use crate::scene::{Scene, last_left};
-use crate::sought::{Sought, first_of, kind_of};
+use crate::sought::{Sought, first_of};
 use crate::way::{Found, Way};
 use rv_isa::{Issue, Values};
 use rv_passage::Passage;
@@ -157,7 +157,7 @@ fn push_hold(values: &Values, row: &Passage, way: &Way, issue: Issue, holds: &mu
     ensures few { length holds.new.items ≤ length holds.old.items + 1 }
     ensures capacity { vec_capacity holds.old ≤ vec_capacity holds.new }
 {
-    let Some(kind) = kind_of(&row.instruction) else {
+    let Some(kind) = row.instruction.kind() else {
         return;
     };
     if !values.kinds.get(kind).pipelined {

@@ -8,9 +8,7 @@ use crate::before::{Holder, UnitHold};
 use crate::cause::Cause;
 use crate::event::Waited;
 use crate::scene::Scene;
-use crate::sought::{
-    Sought, are_as_many, first_of, is_at, is_just_before, is_load, is_ready_at, kind_of, last_of,
-};
+use crate::sought::{Sought, are_as_many, first_of, is_at, is_just_before, is_ready_at, last_of};
 use crate::way::{Found, Way};
 use rv_isa::Kind;
 use rv_passage::{Passage, Producer};
@@ -56,7 +54,7 @@ fn after_stores_known<'a>(
 ) -> Option<Waited<'a>>
     ensures { result ≡ after_stores_known (setting_of scene.now) ways.now row.now }
 {
-    if !is_load(&row.instruction) {
+    if !row.instruction.is_load() {
         return None;
     }
     match first_of(Sought::StoreBefore(scene.number), scene.rows, ways) {
@@ -146,7 +144,7 @@ fn issue_after<'a>(scene: &'a Scene<'_>, ways: &'a [Way], row: &Passage) -> Opti
     if let Some(event) = after_stores_known(scene, ways, row) {
         return Some(event);
     }
-    if let Some(event) = after_units_of(scene, ways, kind_of(&row.instruction)) {
+    if let Some(event) = after_units_of(scene, ways, row.instruction.kind()) {
         return Some(event);
     }
     scene.after_port()
@@ -174,7 +172,7 @@ pub(crate) fn issue_wait<'a>(
 fn execution_cause(scene: &Scene<'_>, row: &Passage) -> Cause
     ensures { result ≡ execution_cause (setting_of scene.now) row.now }
 {
-    if is_load(&row.instruction) {
+    if row.instruction.is_load() {
         if !scene.has_held(Holder::Load, row.number) {
             return Cause::LoadForwarded;
         }
@@ -183,7 +181,7 @@ fn execution_cause(scene: &Scene<'_>, row: &Passage) -> Cause
             _ => Cause::LoadMiss,
         };
     }
-    match kind_of(&row.instruction) {
+    match row.instruction.kind() {
         Some(kind) => Cause::execution(kind),
         None => Cause::Other,
     }

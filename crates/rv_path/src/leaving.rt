@@ -13,10 +13,10 @@ use crate::cause::Cause;
 use crate::event::{Event, Waited};
 use crate::point::{Point, Reason, Stage};
 use crate::scene::{Scene, since_left};
-use crate::sought::{Sought, count, is_end, is_fence_i, is_just_before, is_serialising, is_store};
+use crate::sought::{Sought, count, is_end, is_fence_i, is_just_before};
 use crate::way::Way;
 use rv_hardware::Step;
-use rv_isa::{Instr, Recovery};
+use rv_isa::Recovery;
 use rv_passage::{Ending, Passage};
 
 /// The events of the instructions that leave the hardware in a cycle.
@@ -62,7 +62,7 @@ fn after_left<'a>(scene: &Scene<'_>, left: &'a Left) -> Waited<'a>
 fn first_to_leave<'a>(scene: &'a Scene<'_>, row: &Passage) -> Option<Waited<'a>>
     ensures { result ≡ first_to_leave (setting_of scene.now) row.now }
 {
-    if is_fence_i(&row.instruction) {
+    if is_fence_i(row.instruction.instruction()) {
         if let Some(event) = after_own_lines(scene, row) {
             return Some(event);
         }
@@ -110,7 +110,7 @@ fn leaving_wait<'a>(
 fn is_retired_store(row: &Passage) -> bool
     ensures { result ≡ is_retired_store row.now }
 {
-    matches!(row.ending, Ending::Retired { .. }) && is_store(&row.instruction)
+    matches!(row.ending, Ending::Retired { .. }) && row.instruction.is_store()
 }
 
 /// Whether a wrong prediction is put right at its broadcast.
@@ -118,15 +118,6 @@ pub(crate) fn mends_early(scene: &Scene<'_>) -> bool
     ensures { result ≡ mends_early (setting_of scene.now).values.recovery }
 {
     scene.values.recovery == Recovery::Early
-}
-
-fn is_branch_or_jump(instruction: &Option<Instr>) -> bool
-    ensures { result ≡ is_branch_or_jump instruction.now }
-{
-    matches!(
-        instruction,
-        Some(Instr::Jal { .. } | Instr::Jalr { .. } | Instr::Branch { .. })
-    )
 }
 
 /// Whether the prediction was another one.
@@ -143,7 +134,7 @@ fn flushes_late(scene: &Scene<'_>, row: &Passage) -> bool
     ensures { result ≡ flushes_late (setting_of scene.now) row.now }
 {
     differ(row.predicted, row.ending.next())
-        && !(mends_early(scene) && is_branch_or_jump(&row.instruction))
+        && !(mends_early(scene) && row.instruction.is_branch_or_jump())
 }
 
 // Why the fetch begins anew where an instruction leaves, if it does.
@@ -154,7 +145,7 @@ fn cause_of_flush(scene: &Scene<'_>, row: &Passage) -> Option<Cause>
         Ending::InFlight | Ending::Squashed { .. } => None,
         Ending::Trapped { .. } => Some(Cause::RefillTrap),
         Ending::Retired { .. } => {
-            if is_serialising(&row.instruction) {
+            if row.instruction.is_serialising() {
                 Some(Cause::RefillSerialising)
             } else if flushes_late(scene, row) {
                 Some(Cause::RefillPrediction)

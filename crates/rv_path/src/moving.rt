@@ -11,7 +11,7 @@ use crate::leaving::Leaving;
 use crate::point::Stage;
 use crate::scene::Scene;
 use crate::sought::{
-    Sought, are_as_many, comes_after, first_of, is_at, is_just_before, kind_of, one_before,
+    Sought, are_as_many, comes_after, first_of, is_at, is_just_before, one_before,
 };
 use crate::way::{Found, Way};
 use rv_isa::Kind;
@@ -94,7 +94,7 @@ fn room_for<'a>(
     if let Some(event) = room_by_leaving(scene, leaving) {
         return Some(event);
     }
-    if let Some(event) = room_by_issue(scene, ways, kind_of(&row.instruction)) {
+    if let Some(event) = room_by_issue(scene, ways, row.instruction.kind()) {
         return Some(event);
     }
     room_by_drain(scene)

@@ -10,8 +10,7 @@ use crate::account::Account;
 use crate::cause::Cause;
 use crate::text::{Share, write_percent};
 use crate::word_cycles::WordCycles;
-use rv_sentences::write_place;
-use rv_source::Listing;
+use rv_source::{Listing, write_place};
 use rv_text::Sink;
 use std::io::Write;
 

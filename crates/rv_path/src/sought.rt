@@ -1,11 +1,11 @@
 ghost use Rattle.std.specs.Prelude.{◌≡◌, ◌+◌, ◌==◌, count_by};
-ghost use Rattle.rv_isa.specs.Instruction.{is_fence_i, is_load, is_serialising, is_store, kind_of_word};
+ghost use Rattle.rv_isa.specs.Instruction.{is_fence_i, is_store};
 ghost use Rattle.rv_passage.specs.Result.{ready_in};
 ghost use Rattle.rv_path.specs.Lookup.{first_of, last_of, one_before};
 ghost use Rattle.rv_path.specs.Sought.{is_at, is_before, is_end, is_just_before, is_sought, uses};
 
 use crate::way::{Found, Way};
-use rv_isa::{Instr, Kind, kind};
+use rv_isa::{Instr, Kind};
 use rv_passage::{Ending, Passage};
 
 /// What is looked for among the instructions of a cycle.
@@ -89,18 +89,6 @@ pub(crate) fn is_ready_at(cycle: u64, row: &Passage) -> bool
     }
 }
 
-pub(crate) fn kind_of(instruction: &Option<Instr>) -> Option<Kind>
-    ensures { result ≡ kind_of_word instruction.now }
-{
-    kind(instruction.as_ref()?)
-}
-
-pub(crate) fn is_load(instruction: &Option<Instr>) -> bool
-    ensures { result ≡ is_load instruction.now }
-{
-    matches!(instruction, Some(Instr::Load { .. }))
-}
-
 pub(crate) fn is_store(instruction: &Option<Instr>) -> bool
     ensures { result ≡ is_store instruction.now }
 {
@@ -111,15 +99,6 @@ pub(crate) fn is_fence_i(instruction: &Option<Instr>) -> bool
     ensures { result ≡ is_fence_i instruction.now }
 {
     matches!(instruction, Some(Instr::FenceI))
-}
-
-pub(crate) fn is_serialising(instruction: &Option<Instr>) -> bool
-    ensures { result ≡ is_serialising instruction.now }
-{
-    matches!(
-        instruction,
-        Some(Instr::FenceI | Instr::Csr { .. } | Instr::Mret)
-    )
 }
 
 /// Whether an instruction retired or trapped.
@@ -133,7 +112,7 @@ pub(crate) fn is_end(ending: Ending) -> bool
 fn uses(kind: Kind, row: &Passage) -> bool
     ensures { result ≡ uses kind row.now }
 {
-    match kind_of(&row.instruction) {
+    match row.instruction.kind() {
         Some(other) => kind == other,
         None => false,
     }
@@ -159,11 +138,11 @@ pub(crate) fn is_sought(sought: Sought, row: &Passage) -> bool
         Sought::IssuedIn(kind, cycle) => is_at(cycle, row.issued()) && uses(kind, row),
         Sought::IssuedBefore(kind, cycle) => is_just_before(cycle, row.issued()) && uses(kind, row),
         Sought::LoadUntil(cycle, end) => {
-            is_at(cycle, row.issued()) && is_load(&row.instruction) && is_ready_at(end, row)
+            is_at(cycle, row.issued()) && row.instruction.is_load() && is_ready_at(end, row)
         }
         Sought::BroadcastBefore(cycle) => is_just_before(cycle, row.broadcast),
         Sought::StoreBefore(cycle) => {
-            is_just_before(cycle, row.broadcast) && is_store(&row.instruction)
+            is_just_before(cycle, row.broadcast) && row.instruction.is_store()
         }
     }
 }

@@ -12,7 +12,7 @@ use Rattle.rv_source.specs.Listing.{Listed}
 use Rattle.rv_text.specs.Line.{word_text}
 use Rattle.rv_hardware.specs.History.{Moment}
 use Rattle.rv_sentences.specs.Kinds.{others}
-use Rattle.rv_sentences.specs.Place.{place_text}
+use Rattle.rv_source.specs.PlaceText.{place_text}
 use Rattle.rv_sentences.specs.Stack.{indent}
 use Rattle.rv_sentences.specs.declared.{exception.Exception.Exception, series.Series.Series}
 

@@ -7,7 +7,7 @@ use Rattle.rv_hardware.specs.History.{Moment}
 use Rattle.rv_hardware.specs.declared.step.Step.{Step}
 use Rattle.rv_hardware.specs.declared.step.Step.TheVariants.{Retired, Trap, Interrupt}
 use Rattle.rv_source.specs.Listing.{Listed}
-use Rattle.rv_sentences.specs.Place.{place_text}
+use Rattle.rv_source.specs.PlaceText.{place_text}
 use Rattle.rv_sentences.specs.Series.{series_of, series_with}
 use Rattle.rv_sentences.specs.declared.{interruption.Interruption.Interruption, interrupts.Interrupts.Interrupts, series.Series.Series}
 

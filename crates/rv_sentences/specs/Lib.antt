@@ -1,4 +1,3 @@
-pub mod Place
 pub mod WordNotes
 pub mod WordCount
 pub mod LastStore

@@ -4,7 +4,7 @@ use Rattle.std.specs.List.{flat_map}
 use Rattle.rv_memory.specs.Memory.{word_of}
 use Rattle.rv_source.specs.Listing.{Listed}
 use Rattle.rv_sentences.specs.OutcomeText.{has_any, outcomes_text}
-use Rattle.rv_sentences.specs.Place.{place_text}
+use Rattle.rv_source.specs.PlaceText.{place_text}
 use Rattle.rv_sentences.specs.Spot.{first_greatest, greatest_lines}
 use Rattle.rv_sentences.specs.Stack.{part_line, parts_of}
 use Rattle.rv_sentences.specs.Stay.{all_stays}

@@ -3,7 +3,7 @@ use Rattle.std.specs.Prelude.{ℕ, List, [], ◌∷◌, ◌++◌, codes}
 use Rattle.std.specs.List.{flat_map}
 use Rattle.rv_memory.specs.Memory.{word_of}
 use Rattle.rv_source.specs.Listing.{Listed}
-use Rattle.rv_sentences.specs.Place.{place_text}
+use Rattle.rv_source.specs.PlaceText.{place_text}
 use Rattle.rv_sentences.specs.Spot.{greatest_lines, line_counts}
 use Rattle.rv_sentences.specs.WordCount.{count_in}
 use Rattle.rv_sentences.specs.WordNotes.{Notes}

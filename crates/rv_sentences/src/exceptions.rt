@@ -3,10 +3,9 @@ ghost use Rattle.rv_sentences.specs.Exception.{cause_name, cause_text, first_tex
 ghost use Rattle.rv_text.specs.Said.{Says};
 
 use crate::exception::Exception;
-use crate::place::write_place;
 use itoa::Buffer;
 use rv_isa::Cause;
-use rv_source::Listing;
+use rv_source::{Listing, write_place};
 use rv_text::{Sink, hexadecimal};
 use std::io::Write;
 

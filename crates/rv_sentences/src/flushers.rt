@@ -2,14 +2,13 @@ ghost use Rattle.std.specs.Prelude.{◌≡◌, ◌+◌, ◌<◌, ◌^◌};
 ghost use Rattle.rv_counts.specs.Counts.{one_more};
 ghost use Rattle.rv_sentences.specs.Head.{flusher_after, flusher_with, flushes, is_idle};
 
-use rv_counts::is_serialising;
 use rv_passage::{Ending, Passage};
 
 // Whether what was fetched after an instruction that retired is squashed.
 fn flushes(passage: &Passage) -> bool
     ensures { result ≡ flushes passage.now }
 {
-    is_serialising(passage.instruction) || passage.is_mispredicted()
+    passage.instruction.is_serialising() || passage.is_mispredicted()
 }
 
 // The word of the last instruction that retired or trapped, if it flushed the reorder buffer, with one more.

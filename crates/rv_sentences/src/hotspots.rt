@@ -6,12 +6,11 @@ ghost use Rattle.rv_text.specs.Said.{Says};
 use crate::greatest_lines::greatest_lines;
 use crate::outcome_text::{has_any, write_outcomes};
 use crate::outcomes::Outcomes;
-use crate::place::write_place;
 use crate::spot::Spot;
 use crate::stack::write_share;
 use crate::store_counts::StoreCounts;
 use crate::word_notes::WordNotes;
-use rv_source::Listing;
+use rv_source::{Listing, write_place};
 use rv_text::Sink;
 use std::io::Write;
 

@@ -4,10 +4,9 @@ ghost use Rattle.rv_text.specs.Said.{Says};
 
 use crate::interruption::Interruption;
 use crate::interrupts::Interrupts;
-use crate::place::write_place;
 use crate::series::Series;
 use itoa::Buffer;
-use rv_source::Listing;
+use rv_source::{Listing, write_place};
 use rv_text::Sink;
 use std::io::Write;
 

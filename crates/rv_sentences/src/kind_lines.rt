@@ -7,12 +7,11 @@ ghost use Rattle.rv_text.specs.Said.{Says};
 use crate::exception::Exception;
 use crate::exceptions::{cause_name, write_first, write_taken};
 use crate::kinds::Exceptions;
-use crate::place::write_place;
 use crate::series::Series;
 use crate::stack::behind;
 use itoa::Buffer;
 use rv_isa::Cause;
-use rv_source::Listing;
+use rv_source::{Listing, write_place};
 use rv_text::Sink;
 use std::io::Write;
 

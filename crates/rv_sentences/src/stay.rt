@@ -1,9 +1,7 @@
 ghost use Rattle.std.specs.Prelude.{◌≡◌};
-ghost use Rattle.rv_isa.specs.Instruction.{is_load, is_store};
 ghost use Rattle.rv_sentences.specs.Stay.{awaited, awaited_word, came_before, dispatched_stay, first_awaited, have_addresses, lacks_address, load_stay, open_stay, ready_stay, station_stay, stay_in};
 
-use rv_counts::kind_of_word;
-use rv_isa::{Instr, Kind};
+use rv_isa::Kind;
 use rv_passage::{Passage, Producer, Producers};
 
 /// Why an instruction that was dispatched before a cycle stays in flight in it.
@@ -61,18 +59,6 @@ fn first_awaited(cycle: u64, producers: &Producers) -> Option<u32>
     }
 }
 
-fn is_load(instruction: Option<Instr>) -> bool
-    ensures { result ≡ is_load instruction }
-{
-    matches!(instruction, Some(Instr::Load { .. }))
-}
-
-fn is_store(instruction: Option<Instr>) -> bool
-    ensures { result ≡ is_store instruction }
-{
-    matches!(instruction, Some(Instr::Store { .. }))
-}
-
 // What a load with its operands waits for.
 fn load_stay(has_unit: bool, has_addresses: bool) -> Stay
     ensures { result ≡ load_stay has_unit has_addresses }
@@ -91,7 +77,7 @@ fn lacks_address(cycle: u64, passage: &Passage) -> bool
     ensures { result ≡ lacks_address cycle passage.now }
 {
     passage.is_in_flight()
-        && is_store(passage.instruction)
+        && passage.instruction.is_store()
         && !came_before(cycle, passage.broadcast)
 }
 
@@ -119,7 +105,7 @@ fn ready_stay(
 ) -> Stay
     ensures { result ≡ ready_stay has_unit (have_addresses cycle has_addresses older.now) kind passage.now }
 {
-    if is_load(passage.instruction) {
+    if passage.instruction.is_load() {
         load_stay(has_unit, have_addresses(cycle, has_addresses, older))
     } else {
         Stay::Unit(kind)
@@ -167,7 +153,7 @@ fn open_stay(
             has_unit,
             has_addresses,
             older,
-            kind_of_word(passage.instruction),
+            passage.instruction.kind(),
             passage,
         )
     }

@@ -7,13 +7,12 @@ ghost use Rattle.rv_text.specs.Said.{Says};
 use crate::greatest_lines::greatest_lines;
 use crate::outcome_text::{has_any, write_outcomes};
 use crate::outcomes::Outcomes;
-use crate::place::write_place;
 use crate::spot::{Greatest, Spot};
 use crate::stack::{Share, parts_of, write_shares};
 use crate::stays::Stays;
 use crate::word_notes::{WordNotes, clear, first_greatest};
 use itoa::Buffer;
-use rv_source::Listing;
+use rv_source::{Listing, write_place};
 use rv_text::Sink;
 use std::io::Write;
 

@@ -2,7 +2,6 @@ ghost use Rattle.std.specs.Prelude.{◌≡◌, ◌+◌, ◌<◌, ◌^◌, count_
 ghost use Rattle.rv_counts.specs.Passing.{has_left};
 ghost use Rattle.rv_sentences.specs.Work.{both_work, branches_text, is_mispredicted_branch, is_of, is_retired_branch, part_text, word_in, work_of, work_text, work_with};
 ghost use Rattle.rv_sentences.specs.WordCount.{with_all};
-ghost use Rattle.rv_isa.specs.Instruction.{is_branch_or_jump};
 ghost use Rattle.rv_text.specs.Said.{Says};
 
 use crate::loads::retired_load_cost;
@@ -11,7 +10,6 @@ use crate::stack::parts_of;
 use crate::word_notes::{WordNotes, count_one};
 use itoa::Buffer;
 use rv_counts::{has_retired, was_squashed};
-use rv_isa::Instr;
 use rv_passage::Passage;
 use rv_text::Sink;
 use std::io::Write;
@@ -28,19 +26,10 @@ pub struct Work {
     pub mispredicted: u64,
 }
 
-fn is_branch_or_jump(instruction: Option<Instr>) -> bool
-    ensures { result ≡ is_branch_or_jump instruction }
-{
-    matches!(
-        instruction,
-        Some(Instr::Jal { .. } | Instr::Jalr { .. } | Instr::Branch { .. })
-    )
-}
-
 fn is_retired_branch(passage: &Passage) -> bool
     ensures { result ≡ is_retired_branch passage.now }
 {
-    has_retired(passage) && is_branch_or_jump(passage.instruction)
+    has_retired(passage) && passage.instruction.is_branch_or_jump()
 }
 
 fn is_mispredicted_branch(passage: &Passage) -> bool

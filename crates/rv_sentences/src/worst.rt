@@ -4,11 +4,10 @@ ghost use Rattle.rv_sentences.specs.Worst.{worst_line, worst_lines, worst_text};
 ghost use Rattle.rv_text.specs.Said.{Says};
 
 use crate::greatest_lines::greatest_lines;
-use crate::place::write_place;
 use crate::spot::Spot;
 use crate::word_notes::{WordNotes, count_by_line, count_in};
 use crate::work::write_part;
-use rv_source::Listing;
+use rv_source::{Listing, write_place};
 use rv_text::Sink;
 use std::io::Write;
 

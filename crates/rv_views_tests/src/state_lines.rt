@@ -1,5 +1,6 @@
 use crate::machine::{described, narrow, pipeline};
 use rv_core::Progress;
+use rv_decode::Decoded;
 use rv_front::{DescribedPredictor, NotTaken};
 use rv_hardware::{Stall, StallCounts, Step};
 use rv_isa::{Cause, Issue, Lines, Reg};
@@ -38,7 +39,7 @@ fn passage(number: u64, pc: u32, fetched: u64, ending: Ending) -> Passage {
         number,
         pc,
         word: None,
-        instruction: None,
+        instruction: Decoded::none(),
         predicted: None,
         fetched,
         dispatched: None,

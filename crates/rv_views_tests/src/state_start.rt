@@ -1,6 +1,7 @@
 use crate::machine::{described, narrow, pipeline};
 use crate::states::has_part;
 use rv_core::Progress;
+use rv_decode::Decoded;
 use rv_front::NotTaken;
 use rv_hardware::{Stall, StallCounts};
 use rv_isa::Lines;
@@ -42,19 +43,21 @@ pub(crate) fn counts(stall: Option<Stall>) -> Progress {
 }
 
 // An instruction in flight.
-const ROW: Passage = Passage {
-    number: 24,
-    pc: 25,
-    word: Some(26),
-    instruction: None,
-    predicted: Some(27),
-    fetched: 28,
-    dispatched: None,
-    producers: Producers::NONE,
-    issue: None,
-    broadcast: None,
-    ending: Ending::InFlight,
-};
+fn row() -> Passage {
+    Passage {
+        number: 24,
+        pc: 25,
+        word: Some(26),
+        instruction: Decoded::none(),
+        predicted: Some(27),
+        fetched: 28,
+        dispatched: None,
+        producers: Producers::NONE,
+        issue: None,
+        broadcast: None,
+        ending: Ending::InFlight,
+    }
+}
 
 #[test]
 fn the_hardware_before_a_window_has_the_number_of_its_first_cycle(rt: HostRuntime) {
@@ -62,7 +65,12 @@ fn the_hardware_before_a_window_has_the_number_of_its_first_cycle(rt: HostRuntim
     let mut pipeline = pipeline(&rt, alloc, &described(&rt, narrow()), &ADDITION);
     let _report = pipeline.cycle(&mut NotTaken, Lines::default());
     let mut line = Vec::new(alloc);
-    write_start(&mut Sink::new(&mut line), &[ROW], &pipeline, &counts(None));
+    write_start(
+        &mut Sink::new(&mut line),
+        &[row()],
+        &pipeline,
+        &counts(None),
+    );
     assert_eq!(&rt; line.as_slice(), START);
 }
 

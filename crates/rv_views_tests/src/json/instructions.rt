@@ -1,4 +1,5 @@
 use crate::json::expect_text;
+use rv_decode::Decoded;
 use rv_isa::{Cause, Issue, Reg};
 use rv_json::{Instructions, write_array_member};
 use rv_passage::{Ending, Passage, Producers};
@@ -10,7 +11,7 @@ fn passed(number: u64, ending: Ending) -> Passage {
         number,
         pc: 20,
         word: Some(21),
-        instruction: None,
+        instruction: Decoded::none(),
         predicted: Some(24),
         fetched: 25,
         dispatched: Some(26),

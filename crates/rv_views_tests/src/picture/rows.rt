@@ -1,4 +1,5 @@
 use crate::machine::listing;
+use rv_decode::Decoded;
 use rv_drawing::{Window, write_picture_svg, write_picture_text};
 use rv_isa::{Cause, Issue, Reg};
 use rv_passage::{Ending, Passage, Producers};
@@ -36,7 +37,7 @@ pub(crate) fn fetched(number: u64, pc: u32, word: Option<u32>, cycle: u64) -> Pa
         number,
         pc,
         word,
-        instruction: None,
+        instruction: Decoded::none(),
         predicted: None,
         fetched: cycle,
         dispatched: None,

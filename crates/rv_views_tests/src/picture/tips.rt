@@ -1,6 +1,6 @@
 use crate::machine::listing;
 use crate::picture::rows::fetched;
-use rv_decode::decode;
+use rv_decode::Decoded;
 use rv_drawing::{Window, write_picture_svg};
 use rv_hardware::Stall;
 use rv_isa::{Cause, Issue, Reg};
@@ -36,7 +36,7 @@ const RETURN: u32 = 0x3020_0073;
 // An instruction at 80000010 that is fetched in cycle 10 and dispatched in 11, after which 80000014 is predicted.
 fn dispatched(word: u32) -> Passage {
     Passage {
-        instruction: decode(word),
+        instruction: Decoded::of(word),
         predicted: Some(0x8000_0014),
         dispatched: Some(11),
         ..fetched(7, 0x8000_0010, Some(word), 10)

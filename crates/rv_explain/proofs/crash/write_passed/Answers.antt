@@ -1,6 +1,6 @@
 use Rattle.std.proofs.Common.{◌≡◌, ◌∙◌, ◌-◌, true, rules, sym, ap}
 use Rattle.rv_explain.specs.Crash.{is_behind_code, passed_text}
-use Rattle.rv_sentences.specs.Place.{place_text}
+use Rattle.rv_source.specs.PlaceText.{place_text}
 use Rattle.rv_text.proofs.Saying.{says_both, says_same}
 use Rattle.rv_explain.proofs.crash.write_passed.Goals as goal
 

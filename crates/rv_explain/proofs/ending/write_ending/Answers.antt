@@ -1,6 +1,6 @@
 use Rattle.std.proofs.Common.{ap}
 use Rattle.rv_explain.specs.Ending.{ending_text}
-use Rattle.rv_sentences.specs.Place.{place_text}
+use Rattle.rv_source.specs.PlaceText.{place_text}
 use Rattle.rv_text.proofs.Saying.{says_both, says_same}
 use Rattle.rv_explain.proofs.ending.write_ending.Goals as goal
 

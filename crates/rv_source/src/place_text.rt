@@ -1,15 +1,15 @@
 ghost use Rattle.std.specs.Prelude.{take};
-ghost use Rattle.rv_sentences.specs.Place.{address_text, line_text, number_text, place_text};
+ghost use Rattle.rv_source.specs.PlaceText.{address_text, line_text, number_text, place_text};
 ghost use Rattle.rv_source.specs.Listing.{line_at};
 ghost use Rattle.rv_text.specs.Plain.{plain_text};
 ghost use Rattle.rv_text.specs.Said.{Says};
 
+use crate::listing::Listing;
 use itoa::Buffer;
-use rv_source::Listing;
 use rv_text::{Sink, front, hexadecimal};
 use std::io::Write;
 
-#[tactic(auto, unfolding(crate::specs::Place::number_text))]
+#[tactic(auto, unfolding(crate::specs::PlaceText::number_text))]
 fn write_number<W: Write>(out: &mut Sink<'_, W>, address: &[u8], number: usize)
     ensures { Says W.contents out.old out.new (number_text address.now number) }
 {
@@ -27,7 +27,7 @@ fn write_statement<W: Write>(out: &mut Sink<'_, W>, text: &[u8])
 }
 
 // Writes an address, the number of its line, and at most 64 bytes of the statement.
-#[tactic(auto, using(rv_text::proofs::Saying::saying), unfolding(crate::specs::Place::line_text))]
+#[tactic(auto, using(rv_text::proofs::Saying::saying), unfolding(crate::specs::PlaceText::line_text))]
 fn write_line<W: Write>(out: &mut Sink<'_, W>, address: &[u8], number: usize, text: &[u8])
     ensures { Says W.contents out.old out.new (line_text address.now number text.now) }
 {
@@ -37,7 +37,7 @@ fn write_line<W: Write>(out: &mut Sink<'_, W>, address: &[u8], number: usize, te
 }
 
 // Writes an address by its digits, and the line of the word there.
-#[tactic(auto, using(rv_text::proofs::Saying::saying), unfolding(crate::specs::Place::address_text))]
+#[tactic(auto, using(rv_text::proofs::Saying::saying), unfolding(crate::specs::PlaceText::address_text))]
 fn write_address<W: Write>(out: &mut Sink<'_, W>, digits: &[u8], listing: &Listing, address: u32)
     ensures { Says W.contents out.old out.new (address_text digits.now (line_at listing.now address)) }
 {
@@ -51,7 +51,7 @@ fn write_address<W: Write>(out: &mut Sink<'_, W>, digits: &[u8], listing: &Listi
 }
 
 /// Writes an address, and the line of the word there.
-#[tactic(auto, using(rv_text::proofs::Saying::saying), unfolding(crate::specs::Place::place_text))]
+#[tactic(auto, using(rv_text::proofs::Saying::saying), unfolding(crate::specs::PlaceText::place_text))]
 pub fn write_place<W: Write>(out: &mut Sink<'_, W>, listing: &Listing, address: u32)
     ensures { Says W.contents out.old out.new (place_text listing.now address) }
 {
