@@ -33,7 +33,6 @@ ebreak
 
 const SENTENCES: &[u8] = b"\
 The run ended at a breakpoint, at 80000004, line 2: ebreak
-No exception came before that.
 cycles of instructions in flight: 6, of them 4 waiting for retirement (66.7%)
 Where the 10 places for dispatch went, 2 in each cycle:
 squashed by traps                     4   40.0%  ####################

@@ -105,8 +105,8 @@ several_text listing all kinds =
     if all.count == 1 then []
     else taken_text (codes "The last exception came in cycle ") listing all.last ++ kinds_text listing all.count kinds
 
--- the exceptions of a run
+-- the exceptions of a run, if there was one
 unfoldable pub exceptions_text : Listed → Option (Series Exception) → List (Series Exception) → List ℕ
-exceptions_text listing None kinds = codes "No exception came before that.\n"
+exceptions_text listing None kinds = []
 exceptions_text listing (Some all) kinds =
     first_text listing all.first ++ several_text listing all kinds

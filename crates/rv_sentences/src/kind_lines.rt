@@ -127,13 +127,12 @@ fn write_all<W: Write>(
 }
 
 /// Writes what the first and the last exception were, where the program went on after them, and how many there were of each
-/// cause and place.
+/// cause and place, if there was one.
 #[tactic(auto, using(rv_text::proofs::Saying::saying), unfolding(crate::specs::Exception::exceptions_text))]
 pub fn write_exceptions<W: Write>(out: &mut Sink<'_, W>, listing: &Listing, exceptions: &Exceptions)
     ensures { Says W.contents out.old out.new (exceptions_text listing.now exceptions.now.all exceptions.now.kinds) }
 {
-    match exceptions.all() {
-        Some(all) => write_all(out, listing, &all, exceptions.kinds()),
-        None => out.put(b"No exception came before that.\n"),
+    if let Some(all) = exceptions.all() {
+        write_all(out, listing, &all, exceptions.kinds());
     }
 }

@@ -15,7 +15,6 @@ ebreak
 
 const SENTENCES: &[u8] = b"\
 The run ended at a breakpoint, at 80000008, line 3: ebreak
-No exception came before that.
 cycles of instructions in flight: 8, of them 4 waiting for retirement (50.0%)
 Where the 12 places for dispatch went, 2 in each cycle:
 squashed by traps                     4   33.3%  #################
