@@ -1,4 +1,4 @@
--- What holds of each element of a list holds of its parts, of two lists together, of images, and where one element changes.
+-- What holds of each element of a list holds of parts, of two lists together, of images, and where one changes.
 use Rattle.std.proofs.Common.{◌≡◌, Bool, cond, List, [], ◌∷◌, ◌++◌, map, All, filter, ap, arith}
 use Rattle.std.proofs.lemmas.List.Elements.{All-cons, All-head, All-nil, All-tail}
 use Rattle.rv_cache.specs.WriteBack.{Each}

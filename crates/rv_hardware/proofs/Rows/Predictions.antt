@@ -6,7 +6,10 @@ use Rattle.rv_decode.specs.InstructionTable.{table}
 use Rattle.rv_hardware.proofs.Rows.Programs.{breakpoint, ebreak, executed, machine, steps_by_one_counter}
 
 -- two branches that retire in one cycle teach the counter in program order: down from 0, and then up to 1
-lessons_come_in_program_order : steps_by_one_counter machine (0x02001263 ∷ 0x0252c3b3 ∷ 0x00000013 ∷ 0x00001c63 ∷ 0x00000463 ∷ 0x00000013 ∷ 0x00300313 ∷ 0xfff30313 ∷ 0xfe031ee3 ∷ ebreak ∷ []) 0x80000000 39 ≡
+lessons_come_in_program_order : steps_by_one_counter machine
+    (0x02001263 ∷ 0x0252c3b3 ∷ 0x00000013 ∷ 0x00001c63 ∷ 0x00000463 ∷ 0x00000013 ∷ 0x00300313 ∷ 0xfff30313 ∷
+    0xfe031ee3 ∷ ebreak ∷ [])
+    0x80000000 39 ≡
     executed 0x80000000 0x02001263 None 0 1 2 1 3 4 ∷
     executed 0x80000004 0x0252c3b3 (Some (7, 0xffffffff)) 0 1 2 16 18 19 ∷
     executed 0x80000008 0x00000013 None 1 2 3 1 4 19 ∷
@@ -24,7 +27,8 @@ unfolding instruction_of table
 lessons_come_in_program_order = refl
 
 -- a branch that retires is learned before the fetch of its cycle
-lessons_come_before_the_fetch : steps_by_one_counter machine (0x00400293 ∷ 0xfff28293 ∷ 0xfe029ee3 ∷ ebreak ∷ []) 0x80000000 21 ≡
+lessons_come_before_the_fetch : steps_by_one_counter machine
+    (0x00400293 ∷ 0xfff28293 ∷ 0xfe029ee3 ∷ ebreak ∷ []) 0x80000000 21 ≡
     executed 0x80000000 0x00400293 (Some (5, 0x4)) 0 1 2 1 3 4 ∷
     executed 0x80000004 0xfff28293 (Some (5, 0x3)) 0 1 4 1 5 6 ∷
     executed 0x80000008 0xfe029ee3 None 1 2 6 1 7 8 ∷
@@ -38,8 +42,10 @@ lessons_come_before_the_fetch : steps_by_one_counter machine (0x00400293 ∷ 0xf
 unfolding instruction_of table
 lessons_come_before_the_fetch = refl
 
--- a branch that traps teaches nothing: each turn the division after it is fetched, and holds the unit that the next turn waits for
-traps_teach_nothing : steps_by_one_counter (record machine { ram_base = 0; kinds = record machine.kinds { div = record machine.kinds.div { latency = 8 } } }) (0x020042b3 ∷ 0x00000563 ∷ 0x020043b3 ∷ []) 0 44 ≡
+-- a branch that traps teaches nothing: each turn the division after it is fetched and holds the unit of the next turn
+traps_teach_nothing : steps_by_one_counter
+    (record machine { ram_base = 0; kinds = record machine.kinds { div = record machine.kinds.div { latency = 8 } } })
+    (0x020042b3 ∷ 0x00000563 ∷ 0x020043b3 ∷ []) 0 44 ≡
     executed 0x00000000 0x020042b3 (Some (5, 0xffffffff)) 0 1 2 8 10 11 ∷
     Trap 0x00000004 InstructionAddressMisaligned 0xe 11 ∷
     executed 0x00000000 0x020042b3 (Some (5, 0xffffffff)) 11 12 18 8 26 27 ∷

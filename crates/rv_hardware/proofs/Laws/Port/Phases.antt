@@ -1,7 +1,17 @@
 -- Through every phase the port is busy until each load that uses the cache is over, and one begins when all others are.
-use Rattle.rv_hardware.proofs.Words.{◌≡◌, ℕ, ◌+◌, ◌<◌, ◌≤◌, Bool, true, false, not, ◌&&◌, ◌⊎◌, List, [], ◌∷◌, ◌++◌, IfSome, nat_le, None, Option, sym, refl, ap, ◌∙◌, subst, inl, inr, true≢false, append_assoc, arith, leb-true, IsLegal, Instr, Kind, Values, Each, finished, predicting, started, Entry, with_write_back, with_drained, Hardware, cost_of, issued, path, with_access, and_first, and_second, Each-append, Each-left, Each-right, Each-set, Each-place, Each-weaker, Each-all, Each-both, EveryPair, EveryPair-append, EveryPair-left, EveryPair-right, EveryPair-across, EveryPair-set}
-use Rattle.rv_hardware.proofs.Marks.Cited.{with_entries, IsKeptByBroadcast, with_mended, IsKeptByCommit, IsKeptByDispatch, IsKeptByDrain, IsReady, ready-parts, InCycle, IsKeptInCycle, finished_mark, dispatched_mark, message_at, started_entries, Mark, Start, mark_of_entry, start_of_issue, positive_cost}
-use Rattle.rv_hardware.proofs.Laws.Port.Loads.{uses_cache, WhereUsed, OverBy, OneAtATime, path_of_user, has_its_port, port_grows}
+use Rattle.rv_hardware.proofs.Words.{◌≡◌, ℕ, ◌+◌, ◌<◌, ◌≤◌, Bool, true, false, not, ◌&&◌, ◌⊎◌, List, [], ◌∷◌, ◌++◌}
+use Rattle.rv_hardware.proofs.Words.{IfSome, nat_le, None, Option, sym, refl, ap, ◌∙◌, subst, inl, inr, true≢false}
+use Rattle.rv_hardware.proofs.Words.{append_assoc, arith, leb-true, IsLegal, Instr, Kind, Values, Each, finished}
+use Rattle.rv_hardware.proofs.Words.{predicting, started, Entry, with_write_back, with_drained, Hardware, cost_of}
+use Rattle.rv_hardware.proofs.Words.{issued, path, with_access, and_first, and_second, Each-append, Each-left}
+use Rattle.rv_hardware.proofs.Words.{Each-right, Each-set, Each-place, Each-weaker, Each-all, Each-both, EveryPair}
+use Rattle.rv_hardware.proofs.Words.{EveryPair-append, EveryPair-left, EveryPair-right, EveryPair-across, EveryPair-set}
+use Rattle.rv_hardware.proofs.Marks.Cited.{with_entries, IsKeptByBroadcast, with_mended, IsKeptByCommit}
+use Rattle.rv_hardware.proofs.Marks.Cited.{IsKeptByDispatch, IsKeptByDrain, IsReady, ready-parts, InCycle}
+use Rattle.rv_hardware.proofs.Marks.Cited.{IsKeptInCycle, finished_mark, dispatched_mark, message_at, started_entries}
+use Rattle.rv_hardware.proofs.Marks.Cited.{Mark, Start, mark_of_entry, start_of_issue, positive_cost}
+use Rattle.rv_hardware.proofs.Laws.Port.Loads.{uses_cache, WhereUsed, OverBy, OneAtATime, path_of_user, has_its_port}
+use Rattle.rv_hardware.proofs.Laws.Port.Loads.{port_grows}
 
 -- the port is busy until it is over
 abbrev pub Tied : Values → ℕ → Mark → Type 0
@@ -12,7 +22,8 @@ pub record PortOk (v : Values) (now : ℕ) (h : Hardware) : Type 0 where
   pub tie : Each (λ e. Tied v h.port_free (mark_of_entry e)) h.rob.entries
   pub pairs : EveryPair (λ a b. OneAtATime v now (mark_of_entry a) (mark_of_entry b)) h.rob.entries
 
-used_weaker : (v : Values) (i : Option Instr) (o : Option Start) {P Q : Start → Type 0} → ((s : Start) → P s → Q s) → IfSome o (λ s. uses_cache v i s ≡ true → P s) → IfSome o (λ s. uses_cache v i s ≡ true → Q s)
+used_weaker : (v : Values) (i : Option Instr) (o : Option Start) {P Q : Start → Type 0} → ((s : Start) → P s → Q s) →
+    IfSome o (λ s. uses_cache v i s ≡ true → P s) → IfSome o (λ s. uses_cache v i s ≡ true → Q s)
 used_weaker v i o f h = grind arith
 
 tied_later : (v : Values) (c d : ℕ) (m : Mark) → c ≤ d → Tied v c m → Tied v d m
@@ -23,7 +34,8 @@ tied_over v c d m le h = used_weaker v m.instruction m.start (λ s k. omega (ari
 
 -- the same entries, or fewer
 
-pub port_same : {v : Values} {now : ℕ} (g : Hardware) {h : Hardware} → g.rob.entries ≡ h.rob.entries → h.port_free ≤ g.port_free →
+pub port_same : {v : Values} {now : ℕ} (g : Hardware) {h : Hardware} → g.rob.entries ≡ h.rob.entries →
+    h.port_free ≤ g.port_free →
     PortOk v now h → PortOk v now g
 port_same g given le ok = grind (arith, Each-weaker, tied_later)
 
@@ -38,7 +50,8 @@ port_commit v now = record {
     tie = (subst (Each (λ x. Tied v h.port_free (mark_of_entry x))) split ok.tie).1;
     pairs = (subst (EveryPair (λ a b. OneAtATime v now (mark_of_entry a) (mark_of_entry b))) split ok.pairs).1;
   };
-  writes_back = λ h ok drained. let le = drained_idle _ h drained in port_same (with_write_back h) refl (omega (arith, le)) ok;
+  writes_back =
+      λ h ok drained. let le = drained_idle _ h drained in port_same (with_write_back h) refl (omega (arith, le)) ok;
 }
 
 port_drain : (v : Values) (now : ℕ) → IsKeptByDrain (PortOk v now)
@@ -59,7 +72,9 @@ pub turned : (v : Values) (now : ℕ) (a b : Mark) → OneAtATime v now a b → 
 turned v now a b p = (p.1, p.0)
 
 module _ {v : Values} (legal : IsLegal v) (now : ℕ) where
-  module _ {k : Kind} {h : Hardware} {older : List Entry} (younger : List Entry) {e : Entry} (at : h.rob.entries ≡ older ++ e ∷ younger) (ready : IsReady h k older e) (p : InCycle v now h × PortOk v now h) where
+  module _ {k : Kind} {h : Hardware} {older : List Entry} (younger : List Entry) {e : Entry}
+      (at : h.rob.entries ≡ older ++ e ∷ younger) (ready : IsReady h k older e)
+      (p : InCycle v now h × PortOk v now h) where
     abbrev new_start : Start
     new_start = start_of_issue (record { cycle = h.cycle; cost = cost_of h k (path h older e) }) (message_at h older e)
 
@@ -88,10 +103,15 @@ module _ {v : Values} (legal : IsLegal v) (now : ℕ) where
             Each (λ z. OneAtATime v now (mark_of_entry z) (mark_of_entry new_entry)) xs
         by_use true used =
             Each-weaker _ _
-            (λ z k. pair_with_new v now (mark_of_entry z) (mark_of_entry new_entry) (inl (tied_later v h.port_free now (mark_of_entry z) (let idle = (by_cache used).0 in omega (arith, idle, p.0.1)) k))) xs tie
+            (λ z k. pair_with_new v now (mark_of_entry z) (mark_of_entry new_entry)
+            (inl (tied_later v h.port_free now (mark_of_entry z)
+            (let idle = (by_cache used).0 in omega (arith, idle, p.0.1)) k)))
+            xs tie
         by_use false used =
             Each-weaker _ _
-            (λ z k. pair_with_new v now (mark_of_entry z) (mark_of_entry new_entry) (inr (λ is. absurd (true≢false (sym is ∙ used))))) xs tie
+            (λ z k. pair_with_new v now (mark_of_entry z) (mark_of_entry new_entry)
+            (inr (λ is. absurd (true≢false (sym is ∙ used)))))
+            xs tie
 
     pub started_port : PortOk v now (issued k h older e)
     started_port =
@@ -102,39 +122,53 @@ module _ {v : Values} (legal : IsLegal v) (now : ℕ) where
         let right = EveryPair-right _ older _ pairs in
         record {
           tie = rw (started_entries k h older younger e at)
-              (Each-set _ older younger e _ (λ used. ((by_cache used).1, positive_cost legal h p.0.0 k (path h older e)))
+              (Each-set _ older younger e _
+              (λ used. ((by_cache used).1, positive_cost legal h p.0.0 k (path h older e)))
               (Each-weaker _ _ (λ z w. tied_later v h.port_free new_port (mark_of_entry z) grows w) _ tie));
           pairs = rw (started_entries k h older younger e at)
-              (EveryPair-append _ older _ (EveryPair-left _ older _ pairs)
-              (Each-weaker _ _ (λ z w. turned v now (mark_of_entry z) (mark_of_entry new_entry) w) younger (others younger youngers), right.1)
+              (EveryPair-append _ older _ (EveryPair-left _ older _ pairs) (
+                Each-weaker _ _ (λ z w. turned v now (mark_of_entry z) (mark_of_entry new_entry) w) younger
+                    (others younger youngers),
+                right.1,
+              )
               (Each-both _ (λ a w n. (n, w.1)) older (EveryPair-across _ older _ pairs) (others older olders)));
         }
 
 -- broadcast and dispatch: what began stays
 
 -- a mark with the same start
-same_tied : (v : Values) (c : ℕ) (m n : Mark) → n.instruction ≡ m.instruction → n.start ≡ m.start → Tied v c m → Tied v c n
+same_tied : (v : Values) (c : ℕ) (m n : Mark) → n.instruction ≡ m.instruction → n.start ≡ m.start →
+    Tied v c m → Tied v c n
 same_tied v c m n instruction start h = rw (instruction, start) h
 
-same_first : (v : Values) (now : ℕ) (m n z : Mark) → n.instruction ≡ m.instruction → n.start ≡ m.start → OneAtATime v now m z →
+same_first : (v : Values) (now : ℕ) (m n z : Mark) → n.instruction ≡ m.instruction → n.start ≡ m.start →
+    OneAtATime v now m z →
     OneAtATime v now n z
 same_first v now m n z instruction start h = rw (instruction, start) h
 
-same_second : (v : Values) (now : ℕ) (m n z : Mark) → n.instruction ≡ m.instruction → n.start ≡ m.start → OneAtATime v now z m →
+same_second : (v : Values) (now : ℕ) (m n z : Mark) → n.instruction ≡ m.instruction → n.start ≡ m.start →
+    OneAtATime v now z m →
     OneAtATime v now z n
-same_second v now m n z instruction start h = turned v now n z (same_first v now m n z instruction start (turned v now z m h))
+same_second v now m n z instruction start h =
+    turned v now n z (same_first v now m n z instruction start (turned v now z m h))
 
-module _ {v : Values} {now : ℕ} (g : Hardware) {h : Hardware} (older younger : List Entry) (e x : Entry) (at : h.rob.entries ≡ older ++ e ∷ younger)
-    (instruction : (mark_of_entry x).instruction ≡ (mark_of_entry e).instruction) (start : (mark_of_entry x).start ≡ (mark_of_entry e).start) (port : g.port_free ≡ h.port_free) (ok : PortOk v now h) where
+module _ {v : Values} {now : ℕ} (g : Hardware) {h : Hardware} (older younger : List Entry) (e x : Entry)
+    (at : h.rob.entries ≡ older ++ e ∷ younger)
+    (instruction : (mark_of_entry x).instruction ≡ (mark_of_entry e).instruction)
+    (start : (mark_of_entry x).start ≡ (mark_of_entry e).start) (port : g.port_free ≡ h.port_free)
+    (ok : PortOk v now h) where
   set_tie : Each (λ z. Tied v g.port_free (mark_of_entry z)) (older ++ x ∷ younger)
   set_tie =
       rw port (let tie = subst (Each (λ z. Tied v h.port_free (mark_of_entry z))) at ok.tie in
-      Each-set _ older younger e x (same_tied v h.port_free (mark_of_entry e) (mark_of_entry x) instruction start (Each-place _ older younger e tie)) tie)
+      Each-set _ older younger e x
+      (same_tied v h.port_free (mark_of_entry e) (mark_of_entry x) instruction start (Each-place _ older younger e tie))
+      tie)
 
   set_pairs : EveryPair (λ a b. OneAtATime v now (mark_of_entry a) (mark_of_entry b)) (older ++ x ∷ younger)
   set_pairs =
       EveryPair-set _ older younger e x
-      (λ z w. same_second v now (mark_of_entry e) (mark_of_entry x) (mark_of_entry z) instruction start w) (λ z w. same_first v now (mark_of_entry e) (mark_of_entry x) (mark_of_entry z) instruction start w)
+      (λ z w. same_second v now (mark_of_entry e) (mark_of_entry x) (mark_of_entry z) instruction start w)
+      (λ z w. same_first v now (mark_of_entry e) (mark_of_entry x) (mark_of_entry z) instruction start w)
       (subst (EveryPair (λ a b. OneAtATime v now (mark_of_entry a) (mark_of_entry b))) at ok.pairs)
 
   port_set : g.rob.entries ≡ older ++ x ∷ younger → PortOk v now g
@@ -151,7 +185,8 @@ port_broadcast v now = record {
   broadcasts = λ h older younger e message ok split gives.
       let x : Entry = finished message h.cycle e in
       let same = finished_mark h.cycle e gives.runs in
-      port_set (with_entries (older ++ x ∷ younger) h) older younger e x split refl (ap (λ (m : Mark). m.start) same) refl ok refl;
+      port_set (with_entries (older ++ x ∷ younger) h) older younger e x split refl
+      (ap (λ (m : Mark). m.start) same) refl ok refl;
   mends = λ h older younger e next ok split.
       let x : Entry = predicting next e in
       port_cut (with_mended next (older ++ x ∷ []) h) older younger e x split refl refl refl ok refl;
