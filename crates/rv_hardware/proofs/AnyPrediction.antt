@@ -6,6 +6,14 @@ use Rattle.rv_front.specs.FetchBuffer.{Answers, FetchBuffer, Fetches, FetchesInt
 use Rattle.rv_front.specs.FetchBuffer.{stop_after}
 use Rattle.rv_hardware.specs.Guided.{GuidedCycles, GuidedHardware, ended as guided_ended, cycled as guided_cycled}
 
+-- what a fetch leaves in the buffer, by whether that was halted: `FetchesInto` says it by the buffer itself
+abbrev pub IntoBy : Answers → Memory → ℕ → Bool → FetchBuffer → FetchBuffer → FetchStop → Type 0
+IntoBy answers ram cycle halted old new stop =
+    MatchBool halted ((new ≡ old) × (stop ≡ Halted))
+    ((added : List Fetched) ×
+    Fetches answers ram cycle old.width (old.capacity - length old.entries) old.next_pc added new.next_pc stop ×
+    (new ≡ record old { entries = old.entries ++ added; next_pc = new.next_pc; halted = is_halted stop }))
+
 module _ (answers : Answers) (ram : Memory) (cycle : ℕ) where
   any-guess : (pc : ℕ) (word : Option ℕ) (next : ℕ) → IsGuess answers pc word next → IsGuess any_prediction pc word next
   any-guess pc word next is = grind arith
@@ -27,16 +35,8 @@ module _ (answers : Answers) (ram : Memory) (cycle : ℕ) where
   )
   any-fetches width room pc (e ∷ es) next stop is = is
 
-  any-into_at : (halted : Bool) (old new : FetchBuffer) (stop : FetchStop)
-      → MatchBool halted ((new ≡ old) × (stop ≡ Halted))
-      ((added : List Fetched) ×
-      Fetches answers ram cycle old.width (old.capacity - length old.entries) old.next_pc added new.next_pc stop ×
-      (new ≡ record old { entries = old.entries ++ added; next_pc = new.next_pc; halted = is_halted stop }))
-      → MatchBool halted ((new ≡ old) × (stop ≡ Halted))
-      ((added : List Fetched) ×
-      Fetches any_prediction ram cycle old.width
-      (old.capacity - length old.entries) old.next_pc added new.next_pc stop ×
-      (new ≡ record old { entries = old.entries ++ added; next_pc = new.next_pc; halted = is_halted stop }))
+  any-into_at : (halted : Bool) (old new : FetchBuffer) (stop : FetchStop) →
+      IntoBy answers ram cycle halted old new stop → IntoBy any_prediction ram cycle halted old new stop
   any-into_at halted old new stop is = grind (arith, any-fetches)
 
   any-into : (old new : FetchBuffer) (stop : FetchStop) → FetchesInto answers ram cycle old new stop →

@@ -1,13 +1,12 @@
 -- What a described predictor guides is determined: from the same hardware and predictor, two runs are the same run.
 use Rattle.rv_hardware.proofs.Words.{◌≡◌, ◌∙◌, ℕ, suc, ◌+◌, ◌-◌, ◌^◌, ◌≤◌, Bool, true, false, List, [], ◌∷◌, ◌++◌}
-use Rattle.rv_hardware.proofs.Words.{length, Option, Some, None, MatchBool, MatchOption, is_some, refl, sym, ap, subst}
-use Rattle.rv_hardware.proofs.Words.{arith, length-append, unwrap_or, Memory, Stop, Halted, Committing, Dispatching}
-use Rattle.rv_hardware.proofs.Words.{Hardware, Report, IsStop, NoneStops, true≢false, Arrival, Lines, Fetched}
-use Rattle.rv_hardware.proofs.Words.{FetchStop}
+use Rattle.rv_hardware.proofs.Words.{length, Option, Some, None, MatchOption, is_some, refl, sym, ap, subst, arith}
+use Rattle.rv_hardware.proofs.Words.{length-append, unwrap_or, Memory, Stop, Committing, Dispatching, Hardware, Report}
+use Rattle.rv_hardware.proofs.Words.{IsStop, NoneStops, true≢false, Arrival, Lines, Fetched, FetchStop}
 use Rattle.std.specs.List.{fold}
 use Rattle.rv_arch.specs.declared.outcome.Stop.TheVariants as stop
-use Rattle.rv_front.specs.FetchBuffer.{EndsFor, FetchBuffer, Fetches, FetchesInto, IsFetchedAt, IsGuess, is_halted}
-use Rattle.rv_front.specs.FetchBuffer.{stop_after}
+use Rattle.rv_front.specs.FetchBuffer.{EndsFor, FetchBuffer, Fetches, FetchesInto, IsFetchedAt, IsGuess, stop_after}
+use Rattle.rv_front.specs.FetchBuffer.{Answers}
 use Rattle.rv_front.specs.Lesson.{Lesson}
 use Rattle.rv_front.specs.Guide.{after_lesson, answers_of}
 use Rattle.rv_front.specs.Predictors.{guide_of, taught}
@@ -15,6 +14,7 @@ use Rattle.rv_front.specs.declared.predictors.DescribedPredictor.{DescribedPredi
 use Rattle.rv_hardware.specs.Cycle.{execute, report_of}
 use Rattle.rv_hardware.specs.Guided.{GuidedCycles, GuidedHardware, IsGuidedCycle, cycled, ended}
 use Rattle.rv_hardware.specs.Lessons.{lessons_of}
+use Rattle.rv_hardware.proofs.AnyPrediction.{IntoBy}
 
 -- ---- the fetch phase
 
@@ -22,12 +22,16 @@ ends_for_one : (width room : ℕ) (why why' : FetchStop) → EndsFor width room 
 ends_for_one width room why why' is is' = grind arith
 
 module _ (predictor : DescribedPredictor) (ram : Memory) (cycle : ℕ) where
-  guessed_once : (pc : ℕ) (word : Option ℕ) (next next' : ℕ) → IsGuess (answers_of (guide_of predictor)) pc word next →
-      IsGuess (answers_of (guide_of predictor)) pc word next' → next ≡ next'
+  -- what it answers
+  abbrev guided : Answers
+  guided = answers_of (guide_of predictor)
+
+  guessed_once : (pc : ℕ) (word : Option ℕ) (next next' : ℕ) → IsGuess guided pc word next →
+      IsGuess guided pc word next' → next ≡ next'
   guessed_once pc word next next' is is' = grind arith
 
-  fetched_once : (pc : ℕ) (e e' : Fetched) → IsFetchedAt (answers_of (guide_of predictor)) ram cycle pc e →
-      IsFetchedAt (answers_of (guide_of predictor)) ram cycle pc e' → e ≡ e'
+  fetched_once : (pc : ℕ) (e e' : Fetched) → IsFetchedAt guided ram cycle pc e →
+      IsFetchedAt guided ram cycle pc e' → e ≡ e'
   fetched_once pc e e' given at' = grind (arith, guessed_once)
 
   -- the same words, the same pc after them, and the same reason
@@ -38,24 +42,22 @@ module _ (predictor : DescribedPredictor) (ram : Memory) (cycle : ℕ) where
 
   abbrev Rest : ℕ → ℕ → Fetched → List Fetched → ℕ → FetchStop → Option FetchStop → Type 0
   Rest width room e es next why o =
-      MatchOption o (Fetches (answers_of (guide_of predictor)) ram cycle width room e.predicted es next why)
+      MatchOption o (Fetches guided ram cycle width room e.predicted es next why)
       (λ reason. (es ≡ []) × (next ≡ e.predicted) × (why ≡ reason))
 
   rest_once : (width room : ℕ) (e : Fetched) {es es' : List Fetched} {next next' : ℕ} {why why' : FetchStop}
-      (o : Option FetchStop)
-      → (Fetches (answers_of (guide_of predictor)) ram cycle width room e.predicted es next why →
-      Fetches (answers_of (guide_of predictor)) ram cycle width room e.predicted es' next' why' →
-      AreSame es es' next next' why why')
-      → Rest width room e es next why o → Rest width room e es' next' why' o → AreSame es es' next next' why why'
+      (o : Option FetchStop) →
+      (Fetches guided ram cycle width room e.predicted es next why →
+      Fetches guided ram cycle width room e.predicted es' next' why' → AreSame es es' next next' why why') →
+      Rest width room e es next why o → Rest width room e es' next' why' o → AreSame es es' next next' why why'
   rest_once width room e o further is is' = grind arith
 
   same_more : {e e' : Fetched} {es es' : List Fetched} {next next' : ℕ} {why why' : FetchStop} → e ≡ e' →
       AreSame es es' next next' why why' → AreSame (e ∷ es) (e' ∷ es') next next' why why'
   same_more first same = record { words = λ i. first i ∷ same.words i; after = same.after; reasons = same.reasons }
 
-  fetches_once : (width room pc : ℕ) (es es' : List Fetched) (next next' : ℕ) (why why' : FetchStop)
-      → Fetches (answers_of (guide_of predictor)) ram cycle width room pc es next why →
-      Fetches (answers_of (guide_of predictor)) ram cycle width room pc es' next' why' →
+  fetches_once : (width room pc : ℕ) (es es' : List Fetched) (next next' : ℕ) (why why' : FetchStop) →
+      Fetches guided ram cycle width room pc es next why → Fetches guided ram cycle width room pc es' next' why' →
       AreSame es es' next next' why why'
   fetches_once (suc width) (suc room) pc (e ∷ es) (e' ∷ es') next next' why why' is is' =
       let first : e ≡ e' = fetched_once pc e e' is.0 is'.0 in
@@ -69,24 +71,13 @@ module _ (predictor : DescribedPredictor) (ram : Memory) (cycle : ℕ) where
   fetches_once width room pc [] [] next next' why why' is is' =
       record { words = refl; after = is.1 ∙ sym is'.1; reasons = ends_for_one width room why why' is.0 is'.0 }
 
-  into_once : (halted : Bool) (old new new' : FetchBuffer) (why why' : FetchStop)
-      → MatchBool halted ((new ≡ old) × (why ≡ Halted))
-      ((added : List Fetched) ×
-      Fetches (answers_of (guide_of predictor)) ram cycle old.width
-      (old.capacity - length old.entries) old.next_pc added new.next_pc why ×
-      (new ≡ record old { entries = old.entries ++ added; next_pc = new.next_pc; halted = is_halted why }))
-      → MatchBool halted ((new' ≡ old) × (why' ≡ Halted))
-      ((added : List Fetched) ×
-      Fetches (answers_of (guide_of predictor)) ram cycle old.width
-      (old.capacity - length old.entries) old.next_pc added new'.next_pc why' ×
-      (new' ≡ record old { entries = old.entries ++ added; next_pc = new'.next_pc; halted = is_halted why' }))
-      → new ≡ new'
+  into_once : (halted : Bool) (old new new' : FetchBuffer) (why why' : FetchStop) →
+      IntoBy guided ram cycle halted old new why → IntoBy guided ram cycle halted old new' why' → new ≡ new'
   into_once true old new new' why why' is is' = is.0 ∙ sym is'.0
   into_once false old new new' why why' (added, fetches, news) (added', fetches', news') = grind (arith, fetches_once)
 
-  fetch_once : (old new new' : FetchBuffer) (why why' : FetchStop) →
-      FetchesInto (answers_of (guide_of predictor)) ram cycle old new why →
-      FetchesInto (answers_of (guide_of predictor)) ram cycle old new' why' → new ≡ new'
+  fetch_once : (old new new' : FetchBuffer) (why why' : FetchStop) → FetchesInto guided ram cycle old new why →
+      FetchesInto guided ram cycle old new' why' → new ≡ new'
   fetch_once old new new' why why' is is' = into_once old.halted old new new' why why' is is'
 
 -- ---- a cycle
@@ -118,26 +109,25 @@ module _ {lines : Lines} {old new new' : GuidedHardware} {report report' : Repor
       sym cycle'.learns
 
   module _ (predictor : DescribedPredictor) (is : new.predictor ≡ guide_of predictor) where
+    -- what this cycle's fetch leaves of the front that a dispatch left
+    abbrev LeavesNew : Answers → Dispatching → Type 0
+    LeavesNew answers d =
+        FetchesInto answers d.hardware.cache.backing old.hardware.cycle d.hardware.front new.hardware.front
+        cycle.cycle.fetch_stop
+
+    abbrev LeavesOther : Answers → Dispatching → Type 0
+    LeavesOther answers d =
+        FetchesInto answers d.hardware.cache.backing old.hardware.cycle d.hardware.front new'.hardware.front
+        cycle'.cycle.fetch_stop
+
     fetched_alike : new.hardware.front ≡ new'.hardware.front
     fetched_alike =
-        fetch_once predictor cycle'.cycle.dispatching.hardware.cache.backing old.hardware.cycle
-        cycle'.cycle.dispatching.hardware.front new.hardware.front new'.hardware.front cycle.cycle.fetch_stop
-        cycle'.cycle.fetch_stop
-        (subst (λ (d : Dispatching).
-        FetchesInto
-        (answers_of (guide_of predictor)) d.hardware.cache.backing old.hardware.cycle d.hardware.front
-        new.hardware.front cycle.cycle.fetch_stop)
-        executed
-        (subst (λ p.
-        FetchesInto
-        (answers_of p) cycle.cycle.dispatching.hardware.cache.backing old.hardware.cycle
-        cycle.cycle.dispatching.hardware.front new.hardware.front cycle.cycle.fetch_stop)
-        is cycle.cycle.fetches))
-        (subst (λ p.
-        FetchesInto
-        (answers_of p) cycle'.cycle.dispatching.hardware.cache.backing old.hardware.cycle
-        cycle'.cycle.dispatching.hardware.front new'.hardware.front cycle'.cycle.fetch_stop)
-        (sym taught_once ∙ is) cycle'.cycle.fetches)
+        let d : Dispatching = cycle'.cycle.dispatching in
+        fetch_once predictor d.hardware.cache.backing old.hardware.cycle d.hardware.front new.hardware.front
+        new'.hardware.front cycle.cycle.fetch_stop cycle'.cycle.fetch_stop
+        (subst (LeavesNew (answers_of (guide_of predictor))) executed
+        (subst (λ p. LeavesNew (answers_of p) cycle.cycle.dispatching) is cycle.cycle.fetches))
+        (subst (λ p. LeavesOther (answers_of p) d) (sym taught_once ∙ is) cycle'.cycle.fetches)
 
     hardware_once : new.hardware ≡ new'.hardware
     hardware_once = grind (arith, fetched_alike)

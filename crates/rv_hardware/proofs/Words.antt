@@ -123,7 +123,8 @@ pub use Rattle.rv_hardware.specs.Issue.{FromCache, FromStores, Path, Without, co
 pub use Rattle.rv_hardware.specs.Issue.{issue, issue_kind, issue_oldest, issue_turn, issued, may_load, oldest}
 pub use Rattle.rv_hardware.specs.Issue.{oldest_from, path, path_of, with_access, with_start}
 pub use Rattle.rv_hardware.specs.Laws.{AreApartAtPort, AreCounted, DoesNotWait, EachProducer, FitUnits, HasCost}
-pub use Rattle.rv_hardware.specs.Laws.{HasOperandsIn, HasOrderedStamps, IsBroadcastFirst, IsCost, IsFetchedAhead}
+pub use Rattle.rv_hardware.specs.Laws.{HasOperandsIn, HasOrderedStamps, IsBetween, IsBroadcastFirst, IsCost}
+pub use Rattle.rv_hardware.specs.Laws.{IsFetchedAhead}
 pub use Rattle.rv_hardware.specs.Laws.{IsFetchedAfter, IsFetchedSince, IsFirst, IsKnownBefore, IsLoadCost}
 pub use Rattle.rv_hardware.specs.Laws.{IsTrappedSoon, IssuesWithOperands, LacksRoom, Laws, LeaveNoUnitIdle}
 pub use Rattle.rv_hardware.specs.Laws.{LeavesNoBusIdle, LeavesNoUnitIdle, LoadsAfterStore, NeverMoreThan}
@@ -154,7 +155,8 @@ pub use Rattle.rv_hardware.specs.declared.step.Row.{Row}
 pub use Rattle.rv_hardware.specs.declared.step.Step.{Step}
 pub use Rattle.rv_hardware.specs.declared.step.Step.TheVariants.{Interrupt, Retired, Trap}
 pub use Rattle.rv_hardware.proofs.Tests.{by_test, and_first, and_second, not_both, never_both}
-pub use Rattle.rv_hardware.proofs.Each.{All-Each, Each-All, All-right, Each-append, Each-left, Each-right, Each-push}
+pub use Rattle.rv_hardware.proofs.Each.{each_image, each_then, All-Each, Each-All, All-right, Each-append}
+pub use Rattle.rv_hardware.proofs.Each.{Each-left, Each-right, Each-push}
 pub use Rattle.rv_hardware.proofs.Each.{Each-change, Each-set, Each-place, Each-weaker, Each-all, Each-both, Each-map}
 pub use Rattle.rv_hardware.proofs.Each.{Each-images, Each-unmap, Each-filter, map-change}
 pub use Rattle.rv_hardware.proofs.Lists.{EveryPair, EveryAfter, count, Beginning, AllPairs-EveryPair, Across}

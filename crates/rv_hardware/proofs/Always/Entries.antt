@@ -4,7 +4,7 @@ use Rattle.rv_hardware.proofs.Words.{sym, subst, is_of_kind, is_serialising, is_
 use Rattle.rv_hardware.proofs.Words.{Lines, Kind, instruction_of, Layout, Effect, State, Each, issue_of, Entry, Stage}
 use Rattle.rv_hardware.proofs.Words.{Finished, Running, Waiting, Fetched, any_prediction, entry_of_fetched, stage_by}
 use Rattle.rv_hardware.proofs.Words.{Hardware, broadcast_of, is_waiting, access_of, effect_message, result_of_word}
-use Rattle.rv_hardware.proofs.Words.{Each-append, Each-left, Each-right, Each-push, Each-change, Each-weaker, arith}
+use Rattle.rv_hardware.proofs.Words.{Each-left, Each-right, Each-push, Each-change, arith, each_then, Each-append}
 use Rattle.rv_hardware.proofs.Turns.Cited.{fetch_phase, IsKept, phases-kept, IsKeptByChanges, all_squashed}
 use Rattle.rv_hardware.proofs.Turns.Cited.{head_retires, one_starts, one_sent, one_mended, one_enters, IsResultOfWord}
 use Rattle.rv_hardware.proofs.Turns.Cited.{HasRun}
@@ -130,6 +130,6 @@ entries-kept = record {
   phases = phases-kept entries_changes;
   fetch = λ ram cycle h front stop shape fetches.
       let phase = fetch_phase any_prediction ram cycle h.front front stop fetches in
-      let added = Each-weaker _ _ (λ f new. no_word f.word new.1) _ phase.are_new in
+      let added = each_then (λ f new. no_word f.word new.1) _ phase.are_new in
       (shape.0, subst (Each FetchedShape) (sym phase.entries) (Each-append _ _ _ shape.1 added));
 }

@@ -56,6 +56,14 @@ module _ (h : Hardware) (front : FetchBuffer) (instruction : Option Instr) {k : 
   abbrev pool : Pool
   pool = at_kind k h.units
 
+  -- the time until a unit is free, and the port for a load, and the patience where it waits for them
+  abbrev time_here : ℕ
+  time_here =
+      free_time (cond (is_load instruction) (port_time h) 0) (unit_time h.cycle pool.starts) (longest_execution h)
+
+  abbrev IsPatient : Type 0
+  IsPatient = patience h ≡ time_here + longest_execution h + 2
+
   abbrev Keeps : Hardware → Type 0
   Keeps g = (at_kind k g.units ≡ pool) × (is_load instruction ≡ true → next_port_time g ≡ 0)
 
@@ -79,11 +87,7 @@ module _ (h : Hardware) (front : FetchBuffer) (instruction : Option Instr) {k : 
   still_waits stage given keeps = grind (arith, no_port, execute-same, waiting_is, same-longest)
 
   fall_held : CanStart instruction of_kind pool h.cycle issued → is_free h.cycle pool ≡ false → AreEnding new →
-      unit_time h.cycle pool.starts ≤ longest_execution h →
-      patience h ≡
-      free_time (cond (is_load instruction) (port_time h) 0) (unit_time h.cycle pool.starts)
-      (longest_execution h) + longest_execution h + 2 →
-      patience new + 1 ≤ patience h
+      unit_time h.cycle pool.starts ≤ longest_execution h → IsPatient → patience new + 1 ≤ patience h
   fall_held can held ending most is =
       let waits : HeadIs instruction Waits new.rob.entries = head-executed instruction h (waits_closed h.cycle) can.0 in
       let keeps : Keeps (execute h).hardware =
@@ -132,11 +136,7 @@ module _ (h : Hardware) (front : FetchBuffer) (instruction : Option Instr) {k : 
   still_busy stage ends held = grind (arith, unit_time-most, free_time-most, waiting_is, no_more, begun_stage)
 
   fall_busy : h.cycle < (drain h).port_free → next_port_time (drain h) ≤ port_time h - 1 → 1 ≤ port_time h →
-      is_load instruction ≡ true → AreEnding new → AreHeld new →
-      patience h ≡
-      free_time (cond (is_load instruction) (port_time h) 0) (unit_time h.cycle pool.starts)
-      (longest_execution h) + longest_execution h + 2 →
-      patience new + 1 ≤ patience h
+      is_load instruction ≡ true → AreEnding new → AreHeld new → IsPatient → patience new + 1 ≤ patience h
   fall_busy busy falls some load ending held is =
       let time : ℕ = next_port_time (drain h) in
       let same = drain-same h in
@@ -156,26 +156,18 @@ module _ (h : Hardware) (front : FetchBuffer) (instruction : Option Instr) {k : 
       (new.cycle + longest_execution new) plain
       (λ stage waiting ends. still_busy stage ends held) there ending in
       let port : cond (is_load instruction) (port_time h) 0 ≡ port_time h = rw load refl in
-      let free : free_time (cond (is_load instruction) (port_time h) 0) (unit_time h.cycle pool.starts)
-      (longest_execution h) ≡
+      let free : time_here ≡
       port_time h + longest_execution h =
       ap (λ n. free_time n (unit_time h.cycle pool.starts) (longest_execution h)) port ∙
       free_time-port (port_time h) (unit_time h.cycle pool.starts) (longest_execution h) some in
       omega (arith, patient, lasts, same-longest h front, falls, some, free, is)
 
   -- ---- in all
-  by_start : AreEnding new → AreHeld h →
-      patience h ≡
-      free_time (cond (is_load instruction) (port_time h) 0) (unit_time h.cycle pool.starts)
-      (longest_execution h) + longest_execution h + 2 →
-      IsAfterIssue instruction of_kind pool h.cycle issued → patience new + 1 ≤ patience h
+  by_start : AreEnding new → AreHeld h → IsPatient → IsAfterIssue instruction of_kind pool h.cycle issued →
+      patience new + 1 ≤ patience h
   by_start ending held is given = grind (arith, fall_held, unit_time-most, fall_begun)
 
-  fall_ready : CanGo instruction (drain h) → AreEnding new → AreHeld h →
-      patience h ≡
-      free_time (cond (is_load instruction) (port_time h) 0) (unit_time h.cycle pool.starts)
-      (longest_execution h) + longest_execution h + 2 →
-      patience new + 1 ≤ patience h
+  fall_ready : CanGo instruction (drain h) → AreEnding new → AreHeld h → IsPatient → patience new + 1 ≤ patience h
   fall_ready can ending held is =
       let same = drain-same h in
       let start : CanStart instruction of_kind pool h.cycle (drain h) = (

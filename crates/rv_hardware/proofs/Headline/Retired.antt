@@ -6,8 +6,7 @@ use Rattle.rv_hardware.proofs.Words.{le-leb, and_from, cases_eq, Message, StoreA
 use Rattle.rv_hardware.proofs.Words.{fetched_word, is_in_ram, word_of, Kept, State, trap_taken, handler_of, Contents}
 use Rattle.rv_hardware.proofs.Words.{is_draining, Store as QueuedStore, Committed, Filled, Entry, Fetched, Hardware}
 use Rattle.rv_hardware.proofs.Words.{bytes_after, store_of_message, with_store, committed_store, stale_after}
-use Rattle.rv_hardware.proofs.Words.{with_result, layout_of, seen, with_state, flushed, with_trap, Each-push}
-use Rattle.rv_hardware.proofs.Words.{Each-weaker}
+use Rattle.rv_hardware.proofs.Words.{with_result, layout_of, seen, with_state, flushed, with_trap, Each-push, each_then}
 use Rattle.std.specs.FinSet as set
 use Rattle.rv_hardware.proofs.Headline.Fold.{result_at, with_message, executed, behind, IsWordAt, AreInFlight}
 use Rattle.rv_hardware.proofs.Headline.Fold.{AreInBuffer}
@@ -64,7 +63,7 @@ module _ (values : Values) (stale : set.FinSet nat_cmp) (cache : Contents Memory
               legal = legal;
               marked = now_marked stale word;
             })
-            (Each-weaker _ _ (λ s. IsRetiredStore-more layout stale word s) _ was.retired);
+            (each_then (λ s. IsRetiredStore-more layout stale word s) _ was.retired);
         drains = drains_push values.ram_base cache.bytes committed new refl was.drains;
         fresh = λ i fresh.
             let parts = not_marked stale word (word_of (values.ram_base + i)) fresh in

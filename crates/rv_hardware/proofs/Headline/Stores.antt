@@ -3,8 +3,8 @@ use Rattle.rv_hardware.proofs.Words.{◌≡◌, ℕ, ◌+◌, ◌%◌, true, fal
 use Rattle.rv_hardware.proofs.Words.{false≢true, is_serialising, is_store, Message, StoreAccess, Instr, Lines, Layout}
 use Rattle.rv_hardware.proofs.Words.{Effect, effect, State, Each, Entry, Stage, Finished, Running, Waiting, Hardware}
 use Rattle.rv_hardware.proofs.Words.{broadcast_of, store_of_broadcast, store_of_message, stores_of, effect_message}
-use Rattle.rv_hardware.proofs.Words.{result_of_word, Reachable, layout_of, seen, stores_after, Each-append, Each-weaker}
-use Rattle.rv_hardware.proofs.Words.{arith}
+use Rattle.rv_hardware.proofs.Words.{result_of_word, Reachable, layout_of, seen, stores_after, arith, each_then}
+use Rattle.rv_hardware.proofs.Words.{Each-append}
 use Rattle.rv_hardware.proofs.Headline.Bytes.{IsStateInside, IsInside}
 use Rattle.rv_hardware.proofs.Headline.Cycle.{always_sound}
 use Rattle.rv_hardware.proofs.Headline.Fold.{executed, IsResult, AreInFlight}
@@ -65,6 +65,5 @@ stores_inside h reached older younger entries =
     AreInFlight-older layout (seen h) (seen h) older younger
     (subst (AreInFlight layout (seen h) (seen h)) entries is.program.in_flight) in
     Each-append _ _ _
-    (Each-weaker _ _
-    (λ s retired. subst (IsStateInside layout) (sym retired.state_is) retired.legal) _ is.memory.retired)
+    (each_then (λ s retired. subst (IsStateInside layout) (sym retired.state_is) retired.legal) _ is.memory.retired)
     (stores_of_inside layout older h.rob.retired (stages_inside layout (seen h) older (seen h) is.pc_aligned all))

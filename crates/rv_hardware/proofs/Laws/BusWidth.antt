@@ -3,15 +3,16 @@ use Rattle.rv_hardware.proofs.Words.{◌≡◌, ℕ, suc, ◌+◌, ◌<◌, ◌�
 use Rattle.rv_hardware.proofs.Words.{Option, refl, ap, arith, ne_eqb, eqb-true, le-leb, and_from, Instr, Values}
 use Rattle.rv_hardware.proofs.Words.{finished, predicting, Entry, Stage, broadcast, broadcast_turn, Dispatching}
 use Rattle.rv_hardware.proofs.Words.{dispatch, dispatch_turn, Hardware, NeverMoreThan, Turn, is_broadcast_in, passes}
-use Rattle.rv_hardware.proofs.Words.{rows_of, Execution, Step, Each-weaker, count, count-none, count-set-more}
-use Rattle.rv_hardware.proofs.Words.{count-push, count-push-no, count-left, Leads, turns_within, kept_by_turns}
+use Rattle.rv_hardware.proofs.Words.{rows_of, Execution, Step, count, count-none, count-set-more, count-push}
+use Rattle.rv_hardware.proofs.Words.{count-push-no, count-left, Leads, turns_within, kept_by_turns, IsBetween}
+use Rattle.rv_hardware.proofs.Words.{each_then}
 use Rattle.rv_hardware.proofs.Marks.Cited.{dispatched_mark, BroadcastTurn, no_result, sends, mends, broadcast_turn_is}
 use Rattle.rv_hardware.proofs.Marks.Cited.{sent_entries, mended_entries, Shows, counted_law, History, issued_all}
 use Rattle.rv_hardware.proofs.Marks.Cited.{sent_all, DispatchTurn, dispatch_turn_is, until, broadcast_of_stage}
 use Rattle.rv_hardware.proofs.Marks.Cited.{broadcast_of_execution, until_by, SoundStage, is_at, count_in_flight}
 
 sent_shows_by : (c D C : ℕ) (x : Option Execution) →
-    IfSome x (λ x. (D < x.issued) × (x.issued + x.cost ≤ x.broadcast) × (x.broadcast < C)) →
+    IfSome x (IsBetween D C) →
     passes (λ y. y.broadcast == c) x ≡ true →
     (is_at c (until c (broadcast_of_execution x)) ≡ true) × (D < c) × (c < C)
 sent_shows_by c D C x h is = grind (arith, eqb-true, until_by)
@@ -66,7 +67,7 @@ sent_earlier : (v : Values) (i : Option Instr) (D a now : ℕ) (st : Stage) → 
 sent_earlier v i D a now st h = grind (arith, ne_eqb)
 
 row_sent_earlier : (D C now : ℕ) (x : Option Execution) → C ≤ now →
-    IfSome x (λ x. (D < x.issued) × (x.issued + x.cost ≤ x.broadcast) × (x.broadcast < C)) →
+    IfSome x (IsBetween D C) →
     is_at now (broadcast_of_execution x) ≡ false
 row_sent_earlier D C now x le h = grind (arith, ne_eqb)
 
@@ -81,8 +82,7 @@ law_of_bus_width {v} history =
     (omega (arith, w.below)) w.stamps.executed_between)
     (λ f. refl) in
     let at_start = count-none (is_sent_now old.cycle v.bus_width) _
-    (Each-weaker _ _
-    (λ e w. sent_earlier v e.instruction e.dispatched (old.cycle + 1) old.cycle e.stage w.stage) _
+    (each_then (λ e w. sent_earlier v e.instruction e.dispatched (old.cycle + 1) old.cycle e.stage w.stage) _
     passed.issues.basics.entries) in
     let within = dispatch_keeps_sent old.cycle v.bus_width (sent_all lines old)
     (broadcast_within old.cycle v.bus_width (issued_all lines old)

@@ -5,9 +5,9 @@ use Rattle.rv_hardware.proofs.Words.{append-nil, arith, ne_eqb, eqb-true, list_a
 use Rattle.rv_hardware.proofs.Words.{Values, Each, Entry, Fetched, IsCycle, any_prediction, Dispatching, dispatch}
 use Rattle.rv_hardware.proofs.Words.{dispatch_turn, Hardware, AreCounted, dispatch_cycles, Turn, Report, Cycles}
 use Rattle.rv_hardware.proofs.Words.{Reachable, busy_of, cycled, ended, stalls_of, steps_of, is_dispatched_in, rows_of}
-use Rattle.rv_hardware.proofs.Words.{Row, Step, Each-append, Each-left, Each-set, Each-place, Each-weaker, Each-all}
-use Rattle.rv_hardware.proofs.Words.{Each-map, Each-unmap, count, count-count_by, count-le, Leads, kept_by_turns}
-use Rattle.rv_hardware.proofs.Words.{Each-images}
+use Rattle.rv_hardware.proofs.Words.{Row, Step, Each-left, Each-set, Each-place, Each-all, Each-unmap, count}
+use Rattle.rv_hardware.proofs.Words.{count-count_by, count-le, Leads, kept_by_turns, Each-images, each_image, each_then}
+use Rattle.rv_hardware.proofs.Words.{Each-append}
 use Rattle.rv_hardware.proofs.Headline.Reached.{cycles_counted}
 use Rattle.rv_hardware.proofs.Marks.Cited.{Advances, Kept, Anything, History, went_on, Passed, cycle_passes}
 use Rattle.rv_hardware.proofs.Marks.Cited.{dispatching, sent_all, history_is_legal, history_is_sound}
@@ -87,16 +87,14 @@ module _ (v : Values) {earlier : List Step} {old new : Hardware} {lines : Lines}
       let now : ℕ = old.cycle in
       let d : Hardware = (dispatching lines old).hardware in
       let all : List Step = earlier ++ report.steps in
-      let entries = none_now now (sent_all lines old) (Each-weaker _ _ (λ e s. s.by_now) _ passed.sends.basics.entries)
+      let entries = none_now now (sent_all lines old) (each_then (λ e s. s.by_now) _ passed.sends.basics.entries)
       (sym passed.report_is.0 ∙ idle) in
       subst (Each (IsElsewhere now)) (sym passed.new_marks)
       (Each-append _ _ _
       (Each-append _ _ _
-      (Each-map _ _ _
-      (Each-weaker _ _
-      (λ row s. elsewhere (omega (arith, s.stamps.retired_after_dispatch, s.below))) _ passed.dispatches.basics.rows))
-      (Each-append _ _ _ (Each-map _ _ _ (Each-weaker _ _ (λ e lt. elsewhere lt) _ entries))
-      (words_elsewhere now d.front.entries)))
+      (each_image _
+      (λ row s. elsewhere (omega (arith, s.stamps.retired_after_dispatch, s.below))) _ passed.dispatches.basics.rows)
+      (Each-append _ _ _ (each_image _ (λ e lt. elsewhere lt) _ entries) (words_elsewhere now d.front.entries)))
       (words_elsewhere now passed.fetches.added))
 
 -- no row was dispatched in it

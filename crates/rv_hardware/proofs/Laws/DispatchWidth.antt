@@ -1,8 +1,8 @@
 -- At most `dispatch_width` instructions are dispatched in a cycle.
 use Rattle.rv_hardware.proofs.Words.{◌≡◌, ℕ, suc, ◌<◌, ◌≤◌, List, ◌==◌, None, refl, ap, arith, ne_eqb, eqb-true, le-leb}
 use Rattle.rv_hardware.proofs.Words.{and_from, Values, Dispatching, dispatch, dispatch_turn, Hardware, NeverMoreThan}
-use Rattle.rv_hardware.proofs.Words.{Turn, is_dispatched_in, rows_of, Step, Each-weaker, count, count-none, count-push}
-use Rattle.rv_hardware.proofs.Words.{Leads, turns_within}
+use Rattle.rv_hardware.proofs.Words.{Turn, is_dispatched_in, rows_of, Step, count, count-none, count-push, Leads}
+use Rattle.rv_hardware.proofs.Words.{turns_within, each_then}
 use Rattle.rv_hardware.proofs.Marks.Cited.{Shows, counted_law, History, sent_all, DispatchTurn, dispatch_turn_is}
 use Rattle.rv_hardware.proofs.Marks.Cited.{until_by, is_at, count_in_flight}
 
@@ -34,7 +34,7 @@ law_of_dispatch_width {v} history =
     let all = count_in_flight (λ m. is_at old.cycle m.dispatched) passed
     (λ row w. ne_eqb row.dispatched old.cycle (omega (arith, w.stamps.retired_after_dispatch, w.below))) (λ f. refl) in
     let at_start = count-none (λ e. e.dispatched == old.cycle) _
-    (Each-weaker _ _ (λ e w. ne_eqb e.dispatched old.cycle (omega (arith, w.by_now))) _ passed.sends.basics.entries) in
+    (each_then (λ e w. ne_eqb e.dispatched old.cycle (omega (arith, w.by_now))) _ passed.sends.basics.entries) in
     let within = dispatch_within old.cycle v.dispatch_width (sent_all lines old)
     (ap (λ (w : Values). w.dispatch_width) passed.sends.basics.always.sizes.values) (omega (arith, at_start)) in
     omega (arith, all, within)) history

@@ -5,7 +5,7 @@ use Rattle.rv_hardware.proofs.Words.{le-ltb, lt-ltb, eq-eqb, ne_eqb, cases_lt, f
 use Rattle.rv_hardware.proofs.Words.{due, Run, State, interrupt_cause, Each, IsCycle, any_prediction, Hardware}
 use Rattle.rv_hardware.proofs.Words.{reference_step, TakesDueInterrupts, Report, Cycles, Reachable, cycled, ended}
 use Rattle.rv_hardware.proofs.Words.{steps_of, layout_of, seen, steps_below, steps_in, stamp_of, Step, Interrupt}
-use Rattle.rv_hardware.proofs.Words.{Each-right, Each-weaker}
+use Rattle.rv_hardware.proofs.Words.{Each-right, each_then}
 use Rattle.rv_hardware.proofs.Headline.Run.{headline_of_run}
 use Rattle.rv_hardware.proofs.Marks.History.{History, went_on, reachable_has_history, history_is_legal}
 use Rattle.rv_hardware.proofs.Marks.History.{history_is_sound}
@@ -86,18 +86,18 @@ module _ {v : Values} {earlier : List Step} {arrivals : List Arrival} {c : ℕ} 
   next_is = ap (λ (h : Hardware). h.cycle) a.is.others_stay
 
   first_below : Each (λ s. stamp_of s < c) (steps_of a.first)
-  first_below = Each-weaker _ _ (λ s lt. omega (arith, lt, a.cycle)) _
-      (Each-right _ earlier _ (history_has_steps history_here).before)
+  first_below =
+      each_then (λ s lt. omega (arith, lt, a.cycle)) _ (Each-right _ earlier _ (history_has_steps history_here).before)
 
   here_in : Each (λ s. stamp_of s ≡ c) a.here.steps
   here_in =
-      Each-weaker _ _ (λ s at. omega (arith, at, a.cycle)) _
+      each_then (λ s at. omega (arith, at, a.cycle)) _
       (steps_of_cycle v (history_is_legal history_here) (earlier ++ steps_of a.first) a.begins a.ends
       (lines_at arrivals a.begins.cycle) a.here (history_is_sound history_here) (history_has_steps history_here) a.is)
 
   later_after : Each (λ s. c < stamp_of s) (steps_of a.later)
   later_after =
-      Each-weaker _ _ (λ s le. omega (arith, le)) _
+      each_then (λ s le. omega (arith, le)) _
       (since_by (c + 1) a.after (went_on history_here a.is) (omega (arith, next_is, a.cycle)))
 
   all_below : steps_below c (steps_of reports) ≡ steps_of a.first
@@ -106,11 +106,11 @@ module _ {v : Values} {earlier : List Step} {arrivals : List Arrival} {c : ℕ} 
       ap (filter below) a.steps
       ∙ filter-three below (steps_of a.first) a.here.steps (steps_of a.later)
       ∙ ap (λ l. l ++ (filter below a.here.steps ++ filter below (steps_of a.later)))
-      (kept_all below _ (Each-weaker _ _ (λ s lt. lt-ltb (stamp_of s) c lt) _ first_below))
+      (kept_all below _ (each_then (λ s lt. lt-ltb (stamp_of s) c lt) _ first_below))
       ∙ ap (λ l. steps_of a.first ++ (l ++ filter below (steps_of a.later)))
-      (kept_none below _ (Each-weaker _ _ (λ s at. le-ltb (stamp_of s) c (omega (arith, at))) _ here_in))
+      (kept_none below _ (each_then (λ s at. le-ltb (stamp_of s) c (omega (arith, at))) _ here_in))
       ∙ ap (λ l. steps_of a.first ++ l)
-      (kept_none below _ (Each-weaker _ _ (λ s lt. le-ltb (stamp_of s) c (omega (arith, lt))) _ later_after))
+      (kept_none below _ (each_then (λ s lt. le-ltb (stamp_of s) c (omega (arith, lt))) _ later_after))
       ∙ append-nil (steps_of a.first)
 
   all_in : steps_in c (steps_of reports) ≡ a.here.steps
@@ -119,11 +119,11 @@ module _ {v : Values} {earlier : List Step} {arrivals : List Arrival} {c : ℕ} 
       ap (filter test) a.steps
       ∙ filter-three test (steps_of a.first) a.here.steps (steps_of a.later)
       ∙ ap (λ l. l ++ (filter test a.here.steps ++ filter test (steps_of a.later)))
-      (kept_none test _ (Each-weaker _ _ (λ s lt. ne_eqb (stamp_of s) c (omega (arith, lt))) _ first_below))
+      (kept_none test _ (each_then (λ s lt. ne_eqb (stamp_of s) c (omega (arith, lt))) _ first_below))
       ∙ ap (λ l. l ++ filter test (steps_of a.later))
-      (kept_all test _ (Each-weaker _ _ (λ s at. eq-eqb (stamp_of s) c at) _ here_in))
+      (kept_all test _ (each_then (λ s at. eq-eqb (stamp_of s) c at) _ here_in))
       ∙ ap (λ l. a.here.steps ++ l)
-      (kept_none test _ (Each-weaker _ _ (λ s lt. ne_eqb (stamp_of s) c (omega (arith, lt))) _ later_after))
+      (kept_none test _ (each_then (λ s lt. ne_eqb (stamp_of s) c (omega (arith, lt))) _ later_after))
       ∙ append-nil a.here.steps
 
   abbrev Reaches : List Step → Type 0

@@ -4,10 +4,10 @@ use Rattle.rv_hardware.proofs.Words.{IfSome, ◌==◌, Some, None, count_by, Opt
 use Rattle.rv_hardware.proofs.Words.{arith, eq-eqb, le-leb, Message, Issue, Values, Each, finished, predicting, Entry}
 use Rattle.rv_hardware.proofs.Words.{Fetched, broadcast, broadcast_turn, has_result, with_broadcast, Hardware}
 use Rattle.rv_hardware.proofs.Words.{LeavesNoBusIdle, Turn, EachAfter, is_broadcast_in, passes, rows_of, Execution, Row}
-use Rattle.rv_hardware.proofs.Words.{Step, and_second, Each-append, Each-all, EveryAfter, count, count-set-grows}
-use Rattle.rv_hardware.proofs.Words.{count-set-one_more, EveryAfter-left, EveryAfter-append, EveryAfter-right}
-use Rattle.rv_hardware.proofs.Words.{Beginning-EveryAfter, EveryAfter-moved, EveryAfter-all, EveryAfter-set, Leads}
-use Rattle.rv_hardware.proofs.Words.{turns_within, Each-images}
+use Rattle.rv_hardware.proofs.Words.{Step, and_second, Each-all, EveryAfter, count, count-set-grows, count-set-one_more}
+use Rattle.rv_hardware.proofs.Words.{EveryAfter-left, EveryAfter-append, EveryAfter-right, Beginning-EveryAfter}
+use Rattle.rv_hardware.proofs.Words.{EveryAfter-moved, EveryAfter-all, EveryAfter-set, Leads, turns_within, Each-images}
+use Rattle.rv_hardware.proofs.Words.{Each-append}
 use Rattle.rv_hardware.proofs.Laws.BusWidth.{sent_shows}
 use Rattle.rv_hardware.proofs.Laws.RunsOn.{RunsOn, row_of_all, row_of_run, none_earlier}
 use Rattle.rv_hardware.proofs.Marks.Cited.{IsBefore, IsSentIfReady, Advances, IsSent, Kept, BroadcastTurn, no_result}
@@ -18,7 +18,7 @@ use Rattle.rv_hardware.proofs.Marks.Cited.{rows_obey, Broadcasts, broadcast_turn
 use Rattle.rv_hardware.proofs.Marks.Cited.{before_broadcast, before_dispatch, send_is, with_marks, SoundRow, Mark}
 use Rattle.rv_hardware.proofs.Marks.Cited.{Start, mark_of_row, mark_of_entry, mark_of_fetched, marks, marks_in}
 use Rattle.rv_hardware.proofs.Marks.Cited.{marks_at_entry, as_of, at_end, until, broadcast_of_execution, until_now}
-use Rattle.rv_hardware.proofs.Marks.Cited.{is_at}
+use Rattle.rv_hardware.proofs.Marks.Cited.{is_at, older_marks}
 
 abbrev pub is_sent_in : ℕ → Mark → Bool
 is_sent_in c m = is_at c m.broadcast
@@ -80,11 +80,18 @@ busy_is_kept k v now = grind (arith, EveryAfter-left, EveryAfter-set, busy_goes_
 -- the broadcast phase
 
 module _ (v : Values) (now total : ℕ) (steps : List Step) where
-  abbrev Bus : ℕ → Hardware → Type 0
-  Bus k h = Broadcasts (anything_is_kept v now) steps h × EveryAfter (BusyBus k now) [] (marks_in steps h)
+  -- what is known of the phase, and that where a result waits, so many that are older were broadcast
+  abbrev IsSound : Hardware → Type 0
+  IsSound = Broadcasts (anything_is_kept v now) steps
 
-  rows_wait_not : (h : Hardware) → Broadcasts (anything_is_kept v now) steps h →
-      Each (IsSentIfReady now) (map mark_of_entry h.rob.entries) → EveryAfter (BusyBus total now) [] (marks_in steps h)
+  abbrev IsBusy : ℕ → Hardware → Type 0
+  IsBusy k h = EveryAfter (BusyBus k now) [] (marks_in steps h)
+
+  abbrev Bus : ℕ → Hardware → Type 0
+  Bus k h = IsSound h × IsBusy k h
+
+  rows_wait_not : (h : Hardware) → IsSound h →
+      Each (IsSentIfReady now) (map mark_of_entry h.rob.entries) → IsBusy total h
   rows_wait_not h p es =
       none_waits total now [] _
       (Each-append _ _ _ (rows_sent v now _ p.basics.rows)
@@ -92,11 +99,10 @@ module _ (v : Values) (now total : ℕ) (steps : List Step) where
 
   after_send : (k : ℕ) {h : Hardware} {older younger : List Entry} {e : Entry} {issue : Issue} {message : Message}
       (sent : Sends h older younger e issue message) →
-      Bus k h →
-      EveryAfter (BusyBus (suc k) now) [] (marks_in steps (with_broadcast (h.rob.retired + length older) message h))
+      Bus k h → IsBusy (suc k) (with_broadcast (h.rob.retired + length older) message h)
   after_send k {h} {older} {younger} {e} {issue} {message} sent p =
       let x : Entry = finished message h.cycle e in
-      let xs : List Mark = map mark_of_row (rows_of steps) ++ map mark_of_entry older in
+      let xs : List Mark = older_marks steps older in
       let ys : List Mark = map mark_of_entry younger ++ map mark_of_fetched h.front.entries in
       rw (sent_entries h older younger e message sent.place, marks_at_entry steps older younger x h.front.entries)
       (one_more k ys (send_is (anything_is_kept v now) steps sent p.0)
@@ -105,8 +111,7 @@ module _ (v : Values) (now total : ℕ) (steps : List Step) where
       p.1))
 
   bus_leads : (k : ℕ) {h : Hardware} {t : Turn Hardware} → k < total → BroadcastTurn h t → Bus k h →
-      Leads (Broadcasts (anything_is_kept v now) steps) (Broadcasts (anything_is_kept v now) steps) t →
-      Leads (Bus (suc k)) (λ g. EveryAfter (BusyBus total now) [] (marks_in steps g)) t
+      Leads IsSound IsSound t → Leads (Bus (suc k)) (IsBusy total) t
   bus_leads k {h} lt (no_result none) p goes =
       rows_wait_not h p.0
       (entries_sent v now (now + 1) now [] _ p.0.basics.entries
@@ -116,7 +121,7 @@ module _ (v : Values) (now total : ℕ) (steps : List Step) where
       let x : Entry = finished message h.cycle e in
       let y : Entry = predicting message.next_pc x in
       let evidence = send_is (anything_is_kept v now) steps sent p.0 in
-      let xs : List Mark = map mark_of_row (rows_of steps) ++ map mark_of_entry older in
+      let xs : List Mark = older_marks steps older in
       rw (mended_entries h older younger e message sent.place, marks_at_entry steps older [] y [])
       (EveryAfter-append _ [] xs _ (none_waits total now [] xs evidence.oldest)
       (λ waits. absurd (was_sent (ap (λ (m : Mark). m.broadcast) evidence.becomes) waits.1), tt))
@@ -125,10 +130,9 @@ module _ (v : Values) (now total : ℕ) (steps : List Step) where
           (mark_of_entry (finished message h.cycle e)).broadcast ≡ None → ⊥
       was_sent some none = absurd (cc)
 
-  pub bus_is_busy : (h : Hardware) → h.values.bus_width ≡ total → Broadcasts (anything_is_kept v now) steps h →
-      EveryAfter (BusyBus total now) [] (marks_in steps (broadcast h))
+  pub bus_is_busy : (h : Hardware) → h.values.bus_width ≡ total → IsSound h → IsBusy total (broadcast h)
   bus_is_busy h width p =
-      turns_within total Bus (λ g. EveryAfter (BusyBus total now) [] (marks_in steps g)) broadcast_turn
+      turns_within total Bus (IsBusy total) broadcast_turn
       (λ k g lt q.
       bus_leads k lt (broadcast_turn_is g) q
       (broadcast_turn_keeps (anything_is_kept v now) steps (broadcast_turn_is g) q.0))

@@ -8,10 +8,11 @@ use Rattle.rv_hardware.proofs.Words.{LacksRoom, Entry, Stage, Fetched, Dispatchi
 use Rattle.rv_hardware.proofs.Words.{has_full_stations, is_stationed, Hardware, is_waiting, WaitsForRoom, Turn}
 use Rattle.rv_hardware.proofs.Words.{EachAfter, is_dispatched_in, is_in_flight_in, is_row_of_kind, is_stationed_in}
 use Rattle.rv_hardware.proofs.Words.{is_store_row, passes, rows_of, Execution, Row, Step, and_first, and_second}
-use Rattle.rv_hardware.proofs.Words.{Each-All, Each-append, Each-left, Each-right, Each-place, Each-weaker, Each-all}
-use Rattle.rv_hardware.proofs.Words.{Each-map, Each-filter, EveryAfter, count, count-count_by, count-append, count-yes}
-use Rattle.rv_hardware.proofs.Words.{count-map, count-le, EveryAfter-append, Beginning-EveryAfter, EveryAfter-all}
+use Rattle.rv_hardware.proofs.Words.{Each-All, Each-left, Each-right, Each-place, Each-weaker, Each-all, Each-map}
+use Rattle.rv_hardware.proofs.Words.{Each-filter, EveryAfter, count, count-count_by, count-append, count-yes, count-map}
+use Rattle.rv_hardware.proofs.Words.{count-le, EveryAfter-append, Beginning-EveryAfter, EveryAfter-all}
 use Rattle.rv_hardware.proofs.Words.{EachAfter-EveryAfter, Leads, turns_within, entry_of_fetched, Each-images}
+use Rattle.rv_hardware.proofs.Words.{each_image, each_then, Each-append}
 use Rattle.rv_hardware.proofs.Laws.DispatchWidth.{dispatched_shows}
 use Rattle.rv_hardware.proofs.Laws.ReorderBuffer.{in_flight_shows}
 use Rattle.rv_hardware.proofs.Laws.Stations.{stationed_shows}
@@ -194,7 +195,7 @@ soon_marks {v} history =
     (EveryAfter-append _ rows es fs (dispatched_ones v now rows es (Each-images _ _ (λ e. refl) _))
     (words_wait v now (rows_of all) d passed.dispatches.basics.always.sizes d.front.entries refl left)))
     (EveryAfter-all (λ b x le may. absurd (too_new now x le may.fetched)) _ _
-    (Each-map _ _ _ (Each-weaker _ _ (λ f w. omega (arith, w.0)) _ passed.fetches.are_new)))))
+    (each_image _ (λ f w. omega (arith, w.0)) _ passed.fetches.are_new))))
     history
   where
     too_new : (now : ℕ) (x : Mark) → now ≤ x.fetched → x.fetched < now → ⊥
@@ -236,8 +237,8 @@ module _ {v : Values} {bound : ℕ} (c : ℕ) (before : List Row) {row : Row} (o
       count p (as_of c (map mark_of_row before)) ≤ count_by q before
   fewer p {q} f =
       after_count p q c before
-      (Each-weaker _ _
-      (λ a o h. f a o.sound (and_second (was_fetched c (mark_of_row a)) (p (at_end c (mark_of_row a))) h)) before older)
+      (each_then (λ a o h. f a o.sound (and_second (was_fetched c (mark_of_row a)) (p (at_end c (mark_of_row a))) h)) _
+      older)
 
   room_of_rows : NoRoom v c (as_of c (map mark_of_row before)) (at_end c (mark_of_row row)) →
       (v.dispatch_width ≤ count_by (is_dispatched_in c) before) ⊎ (v.rob ≤ count_by (is_in_flight_in c) before) ⊎
@@ -265,7 +266,7 @@ law_of_no_idle_dispatch {v} {earlier} run before after row at plain c from fetch
     let sound = row_of_run run before after row at in
     let older = EachAfter-EveryAfter _ _ (rows_are_older run.all) (rows_of earlier ++ before) after row place in
     let gone : Each (λ e. e.dispatched ≤ c) (rows_of earlier) =
-    Each-weaker _ _ (λ e s. omega (arith, s.stamps.retired_after_dispatch, s.below, from)) _
+    each_then (λ e s. omega (arith, s.stamps.retired_after_dispatch, s.below, from)) _
     (history_is_sound run.before).rows in
     let soon = after_law _ c (rows_of earlier ++ before) after row
     (soon_marks run.all c (omega (arith, later, sound.stamps.retired_after_dispatch, sound.below))) place

@@ -52,18 +52,19 @@ module _ {v : Values} {earlier steps : List Step} {old h : Hardware} (run : Runs
       rows_of (earlier ++ steps) ≡ rows_of before ++ a ∷ b ∷ rows_of after
   rows_at before after a b at = ap rows_of at ∙ rows_append before (Retired a ∷ Retired b ∷ after)
 
+  -- the marks after those of the rows
+  abbrev after_rows : List Mark
+  after_rows = map mark_of_entry h.rob.entries ++ map mark_of_fetched h.front.entries
+
   followed_rows : (before after : List Row) (a b : Row) → rows_of (earlier ++ steps) ≡ before ++ a ∷ b ∷ after →
       Followed v h.cycle (held_after (λ c. 0) (map mark_of_row before)) (mark_of_row a) (mark_of_row b)
   followed_rows before after a b at =
       linked_at v h.cycle (IsOpen v h.front.halted h.cycle) (λ c. 0) (map mark_of_row before)
-      (map mark_of_row after ++ (map mark_of_entry h.rob.entries ++ map mark_of_fetched h.front.entries))
-      (mark_of_row a) (mark_of_row b)
+      (map mark_of_row after ++ after_rows) (mark_of_row a) (mark_of_row b)
       (subst (Linked v h.cycle (IsOpen v h.front.halted h.cycle) (λ c. 0))
-      (ap (λ l. map mark_of_row l ++ (map mark_of_entry h.rob.entries ++ map mark_of_fetched h.front.entries)) at ∙
-      ap (λ l. l ++ (map mark_of_entry h.rob.entries ++ map mark_of_fetched h.front.entries))
-      (map-append mark_of_row before (a ∷ b ∷ after)) ∙
-      append_assoc (map mark_of_row before) (map mark_of_row (a ∷ b ∷ after))
-      (map mark_of_entry h.rob.entries ++ map mark_of_fetched h.front.entries))
+      (ap (λ l. map mark_of_row l ++ after_rows) at ∙
+      ap (λ l. l ++ after_rows) (map-append mark_of_row before (a ∷ b ∷ after)) ∙
+      append_assoc (map mark_of_row before) (map mark_of_row (a ∷ b ∷ after)) after_rows)
       (marks_are_linked run.all))
 
   module _ (before after : List Row) (a b : Row) (at : rows_of (earlier ++ steps) ≡ before ++ a ∷ b ∷ after)

@@ -7,8 +7,8 @@ use Rattle.rv_hardware.proofs.Words.{ap, ◌∙◌, subst, arith, le-leb, and_fr
 use Rattle.rv_hardware.proofs.Words.{Hardware, HasOperandsIn, LeaveNoUnitIdle, is_pipelined, instruction_of_row}
 use Rattle.rv_hardware.proofs.Words.{is_issued_in, is_row_of_kind, last_from, last_that, passes, producer_among}
 use Rattle.rv_hardware.proofs.Words.{rows_of, sources_of_row, writes_register, Execution, Row, Step, and_first}
-use Rattle.rv_hardware.proofs.Words.{and_second, Each-All, Each-all, Each-place, Each-weaker, EveryAfter}
-use Rattle.rv_hardware.proofs.Words.{Beginning-EveryAfter, EachAfter-EveryAfter, EveryAfter-EveryPair}
+use Rattle.rv_hardware.proofs.Words.{and_second, Each-All, Each-all, Each-place, EveryAfter, Beginning-EveryAfter}
+use Rattle.rv_hardware.proofs.Words.{EachAfter-EveryAfter, EveryAfter-EveryPair, IsBetween, each_then}
 use Rattle.rv_hardware.proofs.Laws.PipelinedUnits.{begun_shows}
 use Rattle.rv_hardware.proofs.Laws.RunsOn.{RunsOn, row_of_all, row_of_run, none_earlier, operands_of_all}
 use Rattle.rv_hardware.proofs.Marks.Cited.{IsBefore, writes_mark, IsKnownMark, OperandsKnown, after_law, after_count}
@@ -77,7 +77,7 @@ module _ (c : ℕ) where
     sources_known (Some register ∷ sources) h = (
       rw (last_of register None before)
           (found_known (last_that (writes_register register) before)
-          (found_sound None (writes_register register) before tt (Each-weaker _ _ (λ a o. o.sound) before older)) h.0),
+          (found_sound None (writes_register register) before tt (each_then (λ a o. o.sound) _ older)) h.0),
       sources_known sources h.1,
     )
 
@@ -124,12 +124,9 @@ law_of_no_idle_unit {v} {earlier} {steps} {old} {new} run k line before after ro
         (at_kind k v.kinds).units ≤ count_by (is_issued_in k c) before)
     by_execution None e = tt
     by_execution (Some x) e = λ c from dispatched later operands.
-        let between = subst
-        (λ o. IfSome o
-        (λ x. (row.dispatched < x.issued) × (x.issued + x.cost ≤ x.broadcast) × (x.broadcast < row.retired)))
-        e sound.stamps.executed_between in
+        let between = subst (λ o. IfSome o (IsBetween row.dispatched row.retired)) e sound.stamps.executed_between in
         let fetched : row.fetched ≤ c = omega (arith, dispatched, sound.stamps.dispatched_after_fetch) in
-        let all = Each-weaker _ _ (λ a le. omega (arith, le, fetched)) _ in_order in
+        let all = each_then (λ a le. omega (arith, le, fetched)) _ in_order in
         let may : MayStart k c (as_of c (map mark_of_row (rows_of earlier ++ before))) (at_end c (mark_of_row row)) =
         record {
           kind = kind;

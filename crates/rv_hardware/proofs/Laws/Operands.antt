@@ -5,7 +5,7 @@ use Rattle.rv_hardware.proofs.Words.{Some, None, All, Option, MatchOption, optio
 use Rattle.rv_hardware.proofs.Words.{is_serialising, kind_of_word, Instr, Values, Each, Hardware, IsKnownBefore}
 use Rattle.rv_hardware.proofs.Words.{IssuesWithOperands, EachAfter, instruction_of_row, last_from, last_that}
 use Rattle.rv_hardware.proofs.Words.{producer_among, rows_of, sources_of_row, writes_register, Execution, Row, Step}
-use Rattle.rv_hardware.proofs.Words.{All-Each, Each-weaker, EachAfter-EveryAfter, EveryAfter-both}
+use Rattle.rv_hardware.proofs.Words.{All-Each, EachAfter-EveryAfter, EveryAfter-both, each_then}
 use Rattle.rv_hardware.proofs.Marks.Cited.{IsBefore, writes_mark, IsKnownMark, OperandsKnown, History, history_is_sound}
 use Rattle.rv_hardware.proofs.Marks.Cited.{mark_of_row, start_of_execution, broadcast_of_execution, Older}
 use Rattle.rv_hardware.proofs.Marks.Cited.{rows_start_after, rows_are_older, two_after, writer_serialises, SoundRow}
@@ -52,7 +52,7 @@ source_known {v} {bound} before {row} x sound older register known =
     by_found (last_that (writes_register register) before)
     (subst (λ o. IfSome o (IsKnownMark x.issued)) (last_of_rows register None before) known)
     (last_passes (λ p. Older v bound row p × (writes_register register p ≡ true))
-    (writes_register register) None before tt (Each-weaker _ _ (λ p o w. (o, w)) before older))
+    (writes_register register) None before tt (each_then (λ p o w. (o, w)) _ older))
   where
     by_found : (o : Option Row) → IfSome (option_map mark_of_row o) (IsKnownMark x.issued) →
         IfSome o (λ p. Older v bound row p × (writes_register register p ≡ true)) → IfSome o (IsKnownBefore row x)

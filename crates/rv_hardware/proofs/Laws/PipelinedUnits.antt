@@ -2,19 +2,19 @@
 use Rattle.rv_hardware.proofs.Words.{◌≡◌, ℕ, ◌<◌, ◌≤◌, true, false, List, ◌==◌, Option, sym, refl, subst, arith, lt-ltb}
 use Rattle.rv_hardware.proofs.Words.{ne_eqb, eqb-true, le-leb, and_from, and_right, is_of_kind, kind_of_word, at_kind}
 use Rattle.rv_hardware.proofs.Words.{Kind, Values, Hardware, FitUnits, is_pipelined, is_issued_in, is_row_of_kind}
-use Rattle.rv_hardware.proofs.Words.{passes, rows_of, Execution, Step, and_first, and_second}
+use Rattle.rv_hardware.proofs.Words.{passes, rows_of, Execution, Step, and_first, and_second, IsBetween, IfSome}
 use Rattle.rv_hardware.proofs.Marks.Cited.{Shows, History, Start, start_until, start_of_execution}
 use Rattle.rv_hardware.proofs.Laws.OtherUnits.Phases.{start_holds}
-use Rattle.rv_hardware.proofs.Laws.OtherUnits.Rows.{Between, units_law, starts_at, begins_mark}
+use Rattle.rv_hardware.proofs.Laws.OtherUnits.Rows.{units_law, starts_at, begins_mark}
 
 begins_holds : (c : ℕ) (o : Option Start) → starts_at c o ≡ true → start_holds true c o ≡ true
 begins_holds c o h = grind (arith, eqb-true, and_from, le-leb, lt-ltb)
 
-not_begun : (now D C : ℕ) (x : Option Execution) → C ≤ now → Between D C x →
+not_begun : (now D C : ℕ) (x : Option Execution) → C ≤ now → IfSome x (IsBetween D C) →
     starts_at now (start_of_execution x) ≡ false
 not_begun now D C x le h = grind (arith, ne_eqb)
 
-begun_row : (c D C : ℕ) (x : Option Execution) → Between D C x → passes (λ y. y.issued == c) x ≡ true →
+begun_row : (c D C : ℕ) (x : Option Execution) → IfSome x (IsBetween D C) → passes (λ y. y.issued == c) x ≡ true →
     (starts_at c (start_until c (start_of_execution x)) ≡ true) × (D < c) × (c < C)
 begun_row c D C x h is = grind (arith, eqb-true, le-leb)
 

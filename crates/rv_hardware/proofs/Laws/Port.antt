@@ -6,10 +6,10 @@ use Rattle.rv_hardware.proofs.Words.{IfSome, nat_le, ◌==◌, Some, None, Optio
 use Rattle.rv_hardware.proofs.Words.{inr, true≢false, append_assoc, arith, le-leb, and_from, cases_lt, Instr, Values}
 use Rattle.rv_hardware.proofs.Words.{Each, Entry, Stage, Finished, Running, Waiting, Fetched, Hardware, AreApartAtPort}
 use Rattle.rv_hardware.proofs.Words.{EachAfter, instruction_of_row, is_load_row, passes, rows_of, uses_port, Execution}
-use Rattle.rv_hardware.proofs.Words.{Row, Step, and_first, and_second, Each-left, Each-place, Each-weaker, Each-all}
-use Rattle.rv_hardware.proofs.Words.{Each-both, Each-map, EveryPair, EveryAfter, AllPairs-EveryPair, EveryPair-append}
-use Rattle.rv_hardware.proofs.Words.{EveryPair-map, Beginning-EveryAfter, EveryPair-EveryAfter, EveryAfter-EveryPair}
-use Rattle.rv_hardware.proofs.Words.{Each-images}
+use Rattle.rv_hardware.proofs.Words.{Row, Step, and_first, and_second, Each-left, Each-place, Each-all, Each-both}
+use Rattle.rv_hardware.proofs.Words.{EveryPair, EveryAfter, AllPairs-EveryPair, EveryPair-append, EveryPair-map}
+use Rattle.rv_hardware.proofs.Words.{Beginning-EveryAfter, EveryPair-EveryAfter, EveryAfter-EveryPair, Each-images}
+use Rattle.rv_hardware.proofs.Words.{IsBetween, each_then}
 use Rattle.rv_hardware.proofs.Marks.Cited.{in_cycle, after_law, History, began, went_on, dispatching, history_is_legal}
 use Rattle.rv_hardware.proofs.Marks.Cited.{history_is_sound, history_passes, Mark, Start, mark_of_row, mark_of_entry}
 use Rattle.rv_hardware.proofs.Marks.Cited.{mark_of_fetched, marks_in, as_of, as_of-cons, at_end, start_until}
@@ -29,12 +29,11 @@ fresh_pairs : (v : Values) (now : ℕ) (es : List Entry) → Each (SoundEntry v 
     EveryPair (λ a b. OneAtATime v now (mark_of_entry a) (mark_of_entry b)) es
 fresh_pairs v now [] sound = tt
 fresh_pairs v now (e ∷ es) sound = (
-  Each-weaker _ _
-      (λ b w. (
-        not_begun_stage v e.instruction e.dispatched now e.stage (λ s. OverBy v now (mark_of_entry b)) sound.0.stage,
-        not_begun_stage v b.instruction b.dispatched now b.stage (λ s. OverBy v now (mark_of_entry e)) w.stage,
-      ))
-      es sound.1,
+  each_then (λ b w. (
+    not_begun_stage v e.instruction e.dispatched now e.stage (λ s. OverBy v now (mark_of_entry b)) sound.0.stage,
+    not_begun_stage v b.instruction b.dispatched now b.stage (λ s. OverBy v now (mark_of_entry e)) w.stage,
+  )) _
+      sound.1,
   fresh_pairs v now es sound.1,
 )
 
@@ -54,12 +53,12 @@ port_of_history {v} (went_on {earlier} {old} {new} {lines} {report} before is) =
 -- rows were over before the cycle
 
 row_over : (v : Values) (now D C : ℕ) (i : Option Instr) (x : Option Execution) → C ≤ now →
-    IfSome x (λ x. (D < x.issued) × (x.issued + x.cost ≤ x.broadcast) × (x.broadcast < C)) →
+    IfSome x (IsBetween D C) →
     IfSome (start_of_execution x) (λ s. uses_cache v i s ≡ true → s.cycle + s.cost ≤ now)
 row_over v now D C i x le h = grind arith
 
 row_not_begun : (v : Values) (now D C : ℕ) (i : Option Instr) (x : Option Execution) (P : Start → Type 0) → C ≤ now →
-    IfSome x (λ x. (D < x.issued) × (x.issued + x.cost ≤ x.broadcast) × (x.broadcast < C)) →
+    IfSome x (IsBetween D C) →
     IfSome (start_of_execution x) (λ s. uses_cache v i s ≡ true → s.cycle ≡ now → P s)
 row_not_begun v now D C i x P le h = grind arith
 
@@ -156,13 +155,8 @@ module _ {v : Values} {bound : ℕ} {a b : Row} (sound_a : SoundRow v bound a) (
   two_apart : (x y : Execution) → a.execution ≡ Some x → b.execution ≡ Some y → uses_port v.forward a ≡ true →
       uses_port v.forward b ≡ true → (x.issued + x.cost ≤ y.issued) ⊎ (y.issued + y.cost ≤ x.issued)
   two_apart x y at at' used used' =
-      let between_a = subst
-      (λ o. IfSome o
-      (λ x. (a.dispatched < x.issued) × (x.issued + x.cost ≤ x.broadcast) ×
-      (x.broadcast < a.retired))) at sound_a.stamps.executed_between in
-      let between_b = subst
-      (λ o. IfSome o (λ x. (b.dispatched < x.issued) × (x.issued + x.cost ≤ x.broadcast) × (x.broadcast < b.retired)))
-      at' sound_b.stamps.executed_between in
+      let between_a = subst (λ o. IfSome o (IsBetween a.dispatched a.retired)) at sound_a.stamps.executed_between in
+      let between_b = subst (λ o. IfSome o (IsBetween b.dispatched b.retired)) at' sound_b.stamps.executed_between in
       elim (cases_lt y.issued x.issued) [
         | inl later ↦
             let both = pair x.issued (

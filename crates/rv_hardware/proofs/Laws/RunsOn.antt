@@ -1,9 +1,9 @@
 -- A run comes after a history: a row of it after all earlier ones, what tests none of these, and what they leave known.
-use Rattle.rv_hardware.proofs.Words.{◌≡◌, ℕ, ◌+◌, ◌<◌, ◌≤◌, Bool, true, false, cond, List, [], ◌∷◌, ◌++◌, IfSome, Some}
+use Rattle.rv_hardware.proofs.Words.{◌≡◌, ℕ, ◌<◌, ◌≤◌, Bool, true, false, cond, List, [], ◌∷◌, ◌++◌, IfSome, Some}
 use Rattle.rv_hardware.proofs.Words.{None, count_by, Option, refl, subst, append_assoc, arith, All-weaker, Values, Each}
 use Rattle.rv_hardware.proofs.Words.{Hardware, HasOperandsIn, last_from, producer_among, rows_of, writes_register}
-use Rattle.rv_hardware.proofs.Words.{stamp_of, Execution, Row, Step, Each-place, Each-weaker, count-count_by}
-use Rattle.rv_hardware.proofs.Words.{count-append, count-none}
+use Rattle.rv_hardware.proofs.Words.{stamp_of, Execution, Row, Step, Each-place, count-count_by, count-append}
+use Rattle.rv_hardware.proofs.Words.{count-none, IsBetween, each_then}
 use Rattle.rv_hardware.proofs.Marks.Cited.{Shows, fails_later, History, history_is_sound, last_from-append}
 use Rattle.rv_hardware.proofs.Marks.Cited.{last_from-Each, Mark, rows_append, SoundRow}
 
@@ -55,8 +55,7 @@ module _ {v : Values} {earlier steps : List Step} {old new : Hardware} (run : Ru
       count_by (row_test c) (rows_of earlier ++ before) ≡ count_by (row_test c) before
   none_earlier {row_test} {test} shows c le before =
       count_by-rest (row_test c) _ before
-      (Each-weaker _ _ (λ row sound. fails_later shows c le sound (row_test c row) refl) _
-      (history_is_sound run.before).rows)
+      (each_then (λ row sound. fails_later shows c le sound (row_test c row) refl) _ (history_is_sound run.before).rows)
 
   -- operands that are known after the rows of the run are known after all
   pub operands_of_all : (c : ℕ) → old.cycle ≤ c → (before : List Row) (row : Row) → HasOperandsIn c before row →
@@ -65,13 +64,13 @@ module _ {v : Values} {earlier steps : List Step} {old new : Hardware} (run : Ru
       All-weaker _ _ by_source _ h
     where
       sent_by : (D C : ℕ) (o : Option Execution) → C ≤ c →
-          IfSome o (λ x. (D < x.issued) × (x.issued + x.cost ≤ x.broadcast) × (x.broadcast < C)) →
+          IfSome o (IsBetween D C) →
           IfSome o (λ y. y.broadcast < c)
       sent_by D C None le k = tt
       sent_by D C (Some x) le k = omega (arith, le, k.2)
 
       all_sent : Each (λ p. IfSome p.execution (λ y. y.broadcast < c)) (rows_of earlier)
-      all_sent = Each-weaker _ _
+      all_sent = each_then
           (λ p s. sent_by p.dispatched p.retired p.execution (omega (arith, s.below, from)) s.stamps.executed_between) _
           (history_is_sound run.before).rows
 

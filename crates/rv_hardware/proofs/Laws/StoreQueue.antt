@@ -10,7 +10,7 @@ use Rattle.rv_hardware.proofs.Words.{with_lines, dispatch, drain, Hardware, broa
 use Rattle.rv_hardware.proofs.Words.{NeverMoreThan, Turn, Report, written_of, is_queued_in, is_store_row, rows_of, Row}
 use Rattle.rv_hardware.proofs.Words.{Step, Interrupt, Retired, Trap, and_first, and_second, Each-weaker, Each-all}
 use Rattle.rv_hardware.proofs.Words.{count, count-count_by, count-append, count-none, count-map, count-le, count-length}
-use Rattle.rv_hardware.proofs.Words.{Beginning-count, Leads, and_right}
+use Rattle.rv_hardware.proofs.Words.{Beginning-count, Leads, and_right, each_then}
 use Rattle.std.specs.FinSet as set
 use Rattle.rv_hardware.proofs.Marks.Cited.{IsKeptByBroadcast, broadcast-keeps, access_cost-least, IsKeptByDispatch}
 use Rattle.rv_hardware.proofs.Marks.Cited.{dispatch-keeps, IsKeptByDrain, drain-keeps, IsKeptByIssue, issue-keeps}
@@ -257,15 +257,15 @@ module _ {v : Values} {steps : List Step} {h : Hardware} (history : History v st
       count-map (λ m. was_fetched c m && p (at_end c m)) mark_of_row (rows_of steps) in
       let fewer = count-le (is_queued_in v.cache.hit c)
       (λ row. was_fetched c (mark_of_row row) && p (at_end c (mark_of_row row))) _
-      (Each-weaker _ _ (λ row sound. row_is_queued c sound) _ (history_is_sound history).rows) in
+      (each_then (λ row sound. row_is_queued c sound) _ (history_is_sound history).rows) in
       omega (arith, law, counts, fewer)
 
   queued_by : (n c : ℕ) → h.cycle ≡ n → n ≤ c → count (is_queued_in v.cache.hit c) (rows_of steps) ≤ v.store_queue
   queued_by zero c at le = grind (arith, count-none, Each-weaker, history_is_sound)
   queued_by (suc now) c at le =
       let fewer = count-le (is_queued_in v.cache.hit c) (is_queued_in v.cache.hit now) _
-      (Each-weaker _ _
-      (λ row sound. still_queued c now (omega (arith, le)) (subst (λ n. SoundRow v n row) (omega (arith, at)) sound)) _
+      (each_then (λ row sound.
+      still_queued c now (omega (arith, le)) (subst (λ n. SoundRow v n row) (omega (arith, at)) sound)) _
       (history_is_sound history).rows) in
       let law = queued_before now (omega (arith, at)) in
       omega (arith, fewer, law)

@@ -26,7 +26,8 @@ pub use Rattle.rv_hardware.proofs.Always.Stores.{instructions_of, store_count}
 pub use Rattle.rv_hardware.proofs.Always.Serial.{AreSerialLast, alone, older_plain, cut_serial}
 pub use Rattle.rv_hardware.proofs.Always.Halted.{words_of, HaltsAfter, runs-empty, IsHalted, halted-kept}
 pub use Rattle.rv_hardware.proofs.Always.Sound.{IsBounded, sound-cycle, sound}
-pub use Rattle.rv_hardware.proofs.Marks.List.{marks, Start, Mark, start_of_execution, broadcast_of_execution}
+pub use Rattle.rv_hardware.proofs.Marks.List.{marks, older_marks, Start, Mark, start_of_execution}
+pub use Rattle.rv_hardware.proofs.Marks.List.{broadcast_of_execution}
 pub use Rattle.rv_hardware.proofs.Marks.List.{mark_of_row, start_of_issue, start_of_stage, broadcast_of_stage}
 pub use Rattle.rv_hardware.proofs.Marks.List.{mark_of_entry, mark_of_fetched, marks_in, until, start_until, at_end}
 pub use Rattle.rv_hardware.proofs.Marks.List.{was_fetched, as_of, Extends, marks_append, rows_append, as_of-cons}

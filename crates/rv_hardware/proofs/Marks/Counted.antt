@@ -1,8 +1,9 @@
 -- Where marks are counted at the end of each cycle, no more rows pass the test of a cycle than marks did.
 use Rattle.rv_hardware.proofs.Words.{◌≡◌, ℕ, suc, ◌<◌, ◌≤◌, Bool, true, false, cond, ◌&&◌, List, [], ◌∷◌, ◌++◌, map}
 use Rattle.rv_hardware.proofs.Words.{count_by, refl, ap, ◌∙◌, inl, inr, arith, le-leb, cases_lt, map-append, Lines}
-use Rattle.rv_hardware.proofs.Words.{Values, Each, Hardware, Report, rows_of, Row, Step, Each-weaker, EveryAfter, count}
+use Rattle.rv_hardware.proofs.Words.{Values, Each, Hardware, Report, rows_of, Row, Step, EveryAfter, count}
 use Rattle.rv_hardware.proofs.Words.{count-count_by, count-none, count-map, count-le, Beginning-count, EveryAfter-at}
+use Rattle.rv_hardware.proofs.Words.{each_then}
 use Rattle.rv_hardware.proofs.Marks.History.{Passed, History, history_is_sound}
 use Rattle.rv_hardware.proofs.Marks.List.{Mark, mark_of_row, marks_in, at_end, as_of, as_of-append, as_of-cons}
 use Rattle.rv_hardware.proofs.Marks.List.{was_fetched, Extends}
@@ -50,15 +51,14 @@ module _ {v : Values} {row_test : ℕ → Row → Bool} {test : ℕ → Mark →
       count-map (λ m. was_fetched c m && test c (at_end c m)) mark_of_row (rows_of steps) in
       let fewer = count-le (row_test c)
       (λ row. was_fetched c (mark_of_row row) && test c (at_end c (mark_of_row row))) _
-      (Each-weaker _ _ (λ row sound. shows.mark c h.cycle row sound) _ (history_is_sound history).rows) in
+      (each_then (λ row sound. shows.mark c h.cycle row sound) _ (history_is_sound history).rows) in
       omega (arith, obeys, counts, fewer)
 
   counted_after : {steps : List Step} {h : Hardware} → History v steps h → (c : ℕ) → h.cycle ≤ c →
       count (row_test c) (rows_of steps) ≤ most
   counted_after {steps} {h} history c le =
       let none = count-none (row_test c) _
-      (Each-weaker _ _ (λ row sound. fails_later shows c le sound (row_test c row) refl) _
-      (history_is_sound history).rows) in
+      (each_then (λ row sound. fails_later shows c le sound (row_test c row) refl) _ (history_is_sound history).rows) in
       omega (arith, none)
 
   -- at most so many rows pass

@@ -1,14 +1,14 @@
 -- Where an instruction starts, is broadcast or enters, the marks of older ones show its operands, turn and room.
-use Rattle.rv_hardware.proofs.Words.{◌≡◌, ℕ, ◌+◌, ◌<◌, ◌≤◌, Bool, true, false, cond, not, ◌&&◌, List, [], ◌∷◌, ◌++◌}
+use Rattle.rv_hardware.proofs.Words.{◌≡◌, ℕ, ◌+◌, ◌≤◌, Bool, true, false, cond, not, ◌&&◌, List, [], ◌∷◌, ◌++◌}
 use Rattle.rv_hardware.proofs.Words.{map, length, is_some, is_none, IfSome, nat_le, Some, None, filter, Option, sym}
 use Rattle.rv_hardware.proofs.Words.{refl, ◌∙◌, true≢false, arith, leb-false, length-filter, list_all, is_of_kind}
 use Rattle.rv_hardware.proofs.Words.{is_store, kind_of_word, Message, Instr, Issue, Kind, Values, Each}
 use Rattle.rv_hardware.proofs.Words.{is_known as is_known_store, Store as QueuedStore, Entry, Stage, has_result}
 use Rattle.rv_hardware.proofs.Words.{result_at, is_stationed, broadcast_of, is_known_from, is_waiting}
 use Rattle.rv_hardware.proofs.Words.{store_of_broadcast, stores_of, writes, has_operands, last_from, last_that}
-use Rattle.rv_hardware.proofs.Words.{Execution, Row, and_first, and_second, Each-append, Each-weaker, Each-map}
-use Rattle.rv_hardware.proofs.Words.{EveryAfter, count, count-count_by, count-append, count-none, count-map, count-le}
-use Rattle.rv_hardware.proofs.Words.{count-length, Each-images, list_all-append}
+use Rattle.rv_hardware.proofs.Words.{Execution, Row, and_first, and_second, Each-weaker, EveryAfter, count}
+use Rattle.rv_hardware.proofs.Words.{count-count_by, count-append, count-none, count-map, count-le, count-length}
+use Rattle.rv_hardware.proofs.Words.{Each-images, list_all-append, IsBetween, each_image, each_then, Each-append}
 use Rattle.rv_hardware.specs.InFlight.{is_known}
 use Rattle.rv_hardware.proofs.Marks.Advance.{IsBefore, writes_mark, IsKnownMark, OperandsKnown, IsKnownStore}
 use Rattle.rv_hardware.proofs.Marks.Advance.{IsSentIfReady, is_in_flight_mark, is_stationed_mark}
@@ -40,7 +40,7 @@ last_from-Each P found test (x ∷ xs) h are =
 
 row_known_by : (now C : ℕ) (i : Option Instr) (x : Option Execution) (D : ℕ) → C ≤ now →
     is_some x ≡ is_some (kind_of_word i) →
-    IfSome x (λ x. (D < x.issued) × (x.issued + x.cost ≤ x.broadcast) × (x.broadcast < C)) →
+    IfSome x (IsBetween D C) →
     is_some (kind_of_word i) ≡ true → IsBefore now (broadcast_of_execution x)
 row_known_by now C i x D le same h some = grind arith
 
@@ -51,7 +51,7 @@ store_has_unit : (i : Option Instr) → is_store i ≡ true → is_some (kind_of
 store_has_unit i h = grind arith
 
 row_sent_by : (now C D : ℕ) (x : Option Execution) → C ≤ now →
-    IfSome x (λ x. (D < x.issued) × (x.issued + x.cost ≤ x.broadcast) × (x.broadcast < C)) →
+    IfSome x (IsBetween D C) →
     IfSome (start_of_execution x) (λ s. s.cycle + s.cost ≤ now → IsBefore (now + 1) (broadcast_of_execution x))
 row_sent_by now C D x le h = grind arith
 
@@ -92,7 +92,7 @@ module _ (v : Values) (d a now : ℕ) where
 
   module _ (rows : List Row) (sound_rows : Each (SoundRow v (now + 1)) rows) where
     rows_known : Each (IsKnownMark now) (map mark_of_row rows)
-    rows_known = Each-map _ _ rows (Each-weaker _ _ (row_known now) rows sound_rows)
+    rows_known = each_image _ (row_known now) _ sound_rows
 
     register_known : (older : List Entry) (register : ℕ) → Each (SoundEntry v d a now) older →
         is_known older register ≡ true →
@@ -143,7 +143,7 @@ module _ (v : Values) (d a now : ℕ) where
         Each (SoundEntry v d a now) older → list_all is_known_store (committed ++ stores_of seq older) ≡ true →
         Each (IsKnownStore now) (map mark_of_row rows ++ map mark_of_entry older)
     stores_known committed seq older sound h =
-        Each-append _ _ _ (Each-weaker _ _ (λ m known store. known (store_has_unit m.instruction store)) _ rows_known)
+        Each-append _ _ _ (each_then (λ m known store. known (store_has_unit m.instruction store)) _ rows_known)
         (stores_all seq older sound
         (and_second (list_all is_known_store committed) (list_all is_known_store (stores_of seq older))
         (sym (list_all-append is_known_store committed (stores_of seq older)) ∙ h)))
@@ -172,7 +172,7 @@ entries_sent v d a now before (e ∷ es) sound none = (
 -- each row that was ready was broadcast
 pub rows_sent : (v : Values) (now : ℕ) (rows : List Row) → Each (SoundRow v (now + 1)) rows →
     Each (IsSentIfReady now) (map mark_of_row rows)
-rows_sent v now rows sound = Each-map _ _ rows (Each-weaker _ _ (row_sent now) rows sound)
+rows_sent v now rows sound = each_image _ (row_sent now) _ sound
 
 -- where nothing older has a result for the bus, each older mark that was ready was broadcast
 pub none_waits : (v : Values) (d a now : ℕ) (rows : List Row) (older : List Entry) → Each (SoundRow v (now + 1)) rows →
@@ -180,8 +180,7 @@ pub none_waits : (v : Values) (d a now : ℕ) (rows : List Row) (older : List En
     EveryAfter (λ before e. has_result now before e ≡ false) [] older →
     Each (IsSentIfReady now) (map mark_of_row rows ++ map mark_of_entry older)
 none_waits v d a now rows older sound_rows sound none =
-    Each-append _ _ _ (Each-map _ _ rows (Each-weaker _ _ (row_sent now) rows sound_rows))
-    (entries_sent v d a now [] older sound none)
+    Each-append _ _ _ (each_image _ (row_sent now) _ sound_rows) (entries_sent v d a now [] older sound none)
 
 -- there is room
 
@@ -223,7 +222,7 @@ pub stations_room : (v : Values) (d a b bound : ℕ) (k : Kind) (rows : List Row
 stations_room v d a b bound k rows es sound_rows sound =
     let both = count-append (is_stationed_mark k) (map mark_of_row rows) (map mark_of_entry es) in
     let none = count-map (is_stationed_mark k) mark_of_row rows ∙
-    count-none (λ row. is_stationed_mark k (mark_of_row row)) rows (Each-weaker _ _ (row_started k) rows sound_rows) in
+    count-none (λ row. is_stationed_mark k (mark_of_row row)) rows (each_then (row_started k) _ sound_rows) in
     let all = count-map (is_stationed_mark k) mark_of_entry es in
     let some = count-le (λ e. is_stationed_mark k (mark_of_entry e)) (is_stationed k) es
     (entries_stationed v d a b k es sound) in

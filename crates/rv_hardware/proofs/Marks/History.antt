@@ -3,8 +3,8 @@ use Rattle.rv_hardware.proofs.Words.{◌≡◌, ℕ, suc, ◌+◌, ◌-◌, ◌<
 use Rattle.rv_hardware.proofs.Words.{sym, refl, ap, ◌∙◌, subst, append-nil, arith, IsLegal, Lines, Values, Each, Entry}
 use Rattle.rv_hardware.proofs.Words.{Fetched, broadcast, Committing, IsCycle, any_prediction, commit_with, execute}
 use Rattle.rv_hardware.proofs.Words.{with_lines, Dispatching, dispatch, stall_of, drain, Hardware, issue, Report}
-use Rattle.rv_hardware.proofs.Words.{reset_hardware, Reachable, at_reset, by_cycle, rows_of, Row, Step, Each-append}
-use Rattle.rv_hardware.proofs.Words.{Each-weaker, Each-map, count, count-append}
+use Rattle.rv_hardware.proofs.Words.{reset_hardware, Reachable, at_reset, by_cycle, rows_of, Row, Step, count}
+use Rattle.rv_hardware.proofs.Words.{count-append, each_image, each_then, Each-append}
 use Rattle.std.specs.FinSet as set
 use Rattle.rv_hardware.proofs.Marks.Advance.{Kept}
 use Rattle.rv_hardware.proofs.Marks.Basics.{Basics}
@@ -98,9 +98,9 @@ module _ {v : Values} (legal : IsLegal v) {R : List Mark → Type 0} {earlier : 
       rows = dispatched.basics.rows;
       entries = subst (Each (SoundEntry v (old.cycle + 1) (old.cycle + 1) (old.cycle + 1)))
           (sym (ap (λ (h : Hardware). h.rob.entries) others_stay)) dispatched.basics.entries;
-      fetched = rw (fetches.entries) (Each-append _ _ _
-          (Each-weaker _ _ (λ f w. (omega (arith, w.0), w.1)) _ dispatched.basics.fetched)
-          (Each-weaker _ _ (λ f w. (omega (arith, w.0), w.1)) _ fetches.are_new));
+      fetched = rw (fetches.entries)
+          (Each-append _ _ _ (each_then (λ f w. (omega (arith, w.0), w.1)) _ dispatched.basics.fetched)
+          (each_then (λ f w. (omega (arith, w.0), w.1)) _ fetches.are_new));
     }
 
     more_marks : marks_in steps new ≡ marks_in steps d ++ map mark_of_fetched fetches.added
@@ -215,11 +215,10 @@ pub fetched_before : (v : Values) (now : ℕ) (steps : List Step) (es : List Ent
     Each (SoundFetched now) fs → Each (λ m. m.fetched < now) (marks steps es fs)
 fetched_before v now steps es fs rows entries words =
     Each-append _ _ _
-    (Each-map _ _ _
-    (Each-weaker _ _
-    (λ row w. omega (arith, w.stamps.dispatched_after_fetch, w.stamps.retired_after_dispatch, w.below)) _ rows))
-    (Each-append _ _ _ (Each-map _ _ es (Each-weaker _ _ (λ e w. omega (arith, w.after_fetch, w.by_now)) es entries))
-    (Each-map _ _ fs (Each-weaker _ _ (λ f w. w.0) fs words)))
+    (each_image _
+    (λ row w. omega (arith, w.stamps.dispatched_after_fetch, w.stamps.retired_after_dispatch, w.below)) _ rows)
+    (Each-append _ _ _ (each_image _ (λ e w. omega (arith, w.after_fetch, w.by_now)) _ entries)
+    (each_image _ (λ f w. w.0) _ words))
 
 rows_not_buffered : (rows : List Row) → count is_buffered_mark (map mark_of_row rows) ≡ 0
 rows_not_buffered [] = refl

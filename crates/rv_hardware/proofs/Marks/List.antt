@@ -84,6 +84,10 @@ mark_of_fetched f = record {
 abbrev pub marks : List Step → List Entry → List Fetched → List Mark
 marks steps es fs = map mark_of_row (rows_of steps) ++ (map mark_of_entry es ++ map mark_of_fetched fs)
 
+-- the marks before an instruction in flight: of the rows, and of what is older
+abbrev pub older_marks : List Step → List Entry → List Mark
+older_marks steps older = map mark_of_row (rows_of steps) ++ map mark_of_entry older
+
 -- the marks after some steps: of their rows, and of what the hardware holds
 abbrev pub marks_in : List Step → Hardware → List Mark
 marks_in steps h = marks steps h.rob.entries h.front.entries

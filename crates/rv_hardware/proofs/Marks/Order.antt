@@ -2,11 +2,11 @@
 use Rattle.rv_hardware.proofs.Words.{◌≡◌, ℕ, ◌+◌, ◌≤◌, Bool, true, false, ◌&&◌, List, [], ◌∷◌, ◌++◌, map, is_some}
 use Rattle.rv_hardware.proofs.Words.{is_none, IfSome, Some, None, Option, sym, refl, ap, ◌∙◌, subst, arith, and_left}
 use Rattle.rv_hardware.proofs.Words.{and_right, is_of_kind, kind_of_word, at_kind, Kind, Values, Each, Fetched}
-use Rattle.rv_hardware.proofs.Words.{Hardware, Step, and_second, never_both, Each-append, Each-left, Each-set}
-use Rattle.rv_hardware.proofs.Words.{Each-place, Each-weaker, Each-all, Each-both, Each-map, EveryPair, count, Across}
+use Rattle.rv_hardware.proofs.Words.{Hardware, Step, and_second, never_both, Each-left, Each-set, Each-place}
+use Rattle.rv_hardware.proofs.Words.{Each-weaker, Each-all, Each-both, Each-map, EveryPair, count, Across}
 use Rattle.rv_hardware.proofs.Words.{EveryPair-append, EveryPair-left, EveryPair-right, EveryPair-across, EveryPair-set}
 use Rattle.rv_hardware.proofs.Words.{count-append, count-none, count-map, count-length, count-set-same, count-set-less}
-use Rattle.rv_hardware.proofs.Words.{count-push-most, count-left, Each-images}
+use Rattle.rv_hardware.proofs.Words.{count-push-most, count-left, Each-images, each_image, each_then, Each-append}
 use Rattle.rv_hardware.proofs.Marks.Advance.{IsBefore, Advances, mark_retires, mark_starts, mark_is_sent, mark_enters}
 use Rattle.rv_hardware.proofs.Marks.Advance.{Enters, is_in_flight_mark, is_stationed_mark}
 use Rattle.rv_hardware.proofs.Marks.History.{NewWords, is_buffered_mark, KeptMarks, History, marks_of_history}
@@ -69,8 +69,8 @@ module _ (v : Values) (now : ℕ) (xs ys : List Mark) (m n : Mark) where
     across = EveryPair-across _ xs _ o.dispatched
 
     younger : Each (λ y. y.dispatched ≡ None) ys
-    younger = Each-weaker _ _
-        (λ y w. none_before y.dispatched (subst (λ x. IfSome y.dispatched (λ d. IsBefore (d + 1) x)) a.not_yet w)) ys
+    younger = each_then
+        (λ y w. none_before y.dispatched (subst (λ x. IfSome y.dispatched (λ d. IsBefore (d + 1) x)) a.not_yet w)) _
         (pairs).0
 
     n_dispatched : n.dispatched ≡ Some now
@@ -95,13 +95,12 @@ module _ (v : Values) (now : ℕ) (xs ys : List Mark) (m n : Mark) where
         )
 
     not_in_flight : count is_in_flight_mark ys ≡ 0
-    not_in_flight = count-none is_in_flight_mark ys (Each-weaker _ _ (λ y none. rw none refl) ys younger)
+    not_in_flight = count-none is_in_flight_mark ys (each_then (λ y none. rw none refl) _ younger)
 
     not_stationed : (k : Kind) → count (is_stationed_mark k) ys ≡ 0
     not_stationed k =
         count-none (is_stationed_mark k) ys
-        (Each-weaker _ _
-        (λ y none. rw none (and_right (is_of_kind k (kind_of_word y.instruction)) false refl)) ys younger)
+        (each_then (λ y none. rw none (and_right (is_of_kind k (kind_of_word y.instruction)) false refl)) _ younger)
 
     station_by : (k : Kind) (b : Bool) → is_of_kind k (kind_of_word m.instruction) ≡ b →
         count (is_stationed_mark k) (xs ++ n ∷ ys) ≤ (at_kind k v.kinds).stations
@@ -165,12 +164,10 @@ orderly_more : {v : Values} (now : ℕ) (ms : List Mark) (fs : List Fetched) →
     Orderly v (now + 1) (ms ++ map mark_of_fetched fs)
 orderly_more now ms fs words o = record {
   fetched = EveryPair-append _ ms _ o.fetched (new_in_order now fs words.are_new)
-      (Each-weaker _ _
-      (λ m le. Each-map _ _ fs (Each-weaker _ _ (λ g w. omega (arith, w.0, le)) fs words.are_new)) ms words.by_now);
+      (each_then (λ m le. each_image _ (λ g w. omega (arith, w.0, le)) _ words.are_new) _ words.by_now);
   dispatched = EveryPair-append _ ms _ o.dispatched (none_dispatched fs)
       (Each-all _ (λ m. Each-images _ _ (λ g. tt) fs) ms);
-  by_now = Each-append _ ms _ (Each-weaker _ _ (λ m w. later m.dispatched w) ms o.by_now)
-      (Each-images _ _ (λ f. tt) fs);
+  by_now = Each-append _ _ _ (each_then (λ m w. later m.dispatched w) _ o.by_now) (Each-images _ _ (λ f. tt) fs);
   buffer = let same = not_there is_in_flight_mark ms fs (λ f. refl) in omega (arith, same, o.buffer);
   words =
       let all = count-append is_buffered_mark ms (map mark_of_fetched fs) in

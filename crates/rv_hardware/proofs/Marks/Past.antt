@@ -1,8 +1,8 @@
 -- What each cycle obeys at its end is so of the marks as they stood then, ever after.
 use Rattle.rv_hardware.proofs.Words.{◌≡◌, ℕ, ◌+◌, ◌<◌, ◌≤◌, List, [], ◌∷◌, ◌++◌, map, IfSome, Some, Option, sym, refl}
 use Rattle.rv_hardware.proofs.Words.{ap, subst, inl, inr, arith, le-leb, cases_lt, Instr, Lines, Values, Each, Entry}
-use Rattle.rv_hardware.proofs.Words.{Stage, Fetched, Hardware, Report, rows_of, Execution, Row, Step, Each-append}
-use Rattle.rv_hardware.proofs.Words.{Each-weaker, Each-map, Beginning}
+use Rattle.rv_hardware.proofs.Words.{Stage, Fetched, Hardware, Report, rows_of, Execution, Row, Step, Beginning}
+use Rattle.rv_hardware.proofs.Words.{IsBetween, each_image, Each-append}
 use Rattle.rv_hardware.proofs.Marks.Basics.{Basics}
 use Rattle.rv_hardware.proofs.Marks.Advance.{extends_kept}
 use Rattle.rv_hardware.proofs.Marks.History.{dispatching, Passed, History, began, went_on, cycle_passes}
@@ -30,7 +30,7 @@ as_of_now now [] settled = refl
 as_of_now now (m ∷ ms) settled = settled_keep now m ms settled.0 (as_of_now now ms settled.1)
 
 execution_settled : (now D C : ℕ) (x : Option Execution) → C ≤ now →
-    IfSome x (λ x. (D < x.issued) × (x.issued + x.cost ≤ x.broadcast) × (x.broadcast < C)) →
+    IfSome x (IsBetween D C) →
     (start_until now (start_of_execution x) ≡ start_of_execution x) ×
     (until now (broadcast_of_execution x) ≡ broadcast_of_execution x)
 execution_settled now D C x le h = grind (arith, start_past, until_by)
@@ -56,9 +56,8 @@ pub marks_settled : (v : Values) (now : ℕ) (steps : List Step) (es : List Entr
     Each (SoundEntry v (now + 1) (now + 1) (now + 1)) es → Each (SoundFetched (now + 1)) fs →
     Each (Settled now) (marks steps es fs)
 marks_settled v now steps es fs rows entries words =
-    Each-append _ _ _ (Each-map _ _ _ (Each-weaker _ _ (row_settled now) _ rows))
-    (Each-append _ _ _ (Each-map _ _ es (Each-weaker _ _ (entry_settled now) es entries))
-    (Each-map _ _ fs (Each-weaker _ _ (fetched_settled now) fs words)))
+    Each-append _ _ _ (each_image _ (row_settled now) _ rows)
+    (Each-append _ _ _ (each_image _ (entry_settled now) _ entries) (each_image _ (fetched_settled now) _ words))
 
 -- what the marks of each past cycle obey
 abbrev pub Past : (ℕ → List Mark → Type 0) → List Step → Hardware → Type 0
@@ -76,7 +75,7 @@ module _ (v : Values) (P : ℕ → List Mark → Type 0) (closed : IsKeptByBegin
       let next : new.cycle ≡ old.cycle + 1 = ap (λ (h : Hardware). h.cycle) passed.others_stay in
       let ends = subst (λ n. Basics v n n n n n n (earlier ++ report.steps) new) next passed.ends in
       let d : Hardware = (dispatching lines old).hardware in
-      let words = Each-map _ _ _ (Each-weaker _ _ (λ f w. omega (arith, w.0)) _ passed.fetches.are_new) in
+      let words = each_image _ (λ f w. omega (arith, w.0)) _ passed.fetches.are_new in
       let goes = subst (Extends old.cycle (marks_in earlier old)) (sym passed.new_marks)
       (Extends-trans (marks_in earlier old) (marks_in (earlier ++ report.steps) d)
       (marks_in (earlier ++ report.steps) d ++ map mark_of_fetched passed.fetches.added) passed.dispatches.marks

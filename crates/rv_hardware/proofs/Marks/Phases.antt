@@ -28,7 +28,7 @@ use Rattle.rv_hardware.proofs.Marks.Basics.{Basics, started_sound, finished_soun
 use Rattle.rv_hardware.proofs.Marks.Basics.{dispatched_sound, dispatched_mark, is_waiting_is}
 use Rattle.rv_hardware.proofs.Marks.List.{Mark, start_of_issue, start_of_stage, broadcast_of_stage, mark_of_row}
 use Rattle.rv_hardware.proofs.Marks.List.{mark_of_entry, mark_of_fetched, marks, marks_in, marks_squashed, rows_append}
-use Rattle.rv_hardware.proofs.Marks.List.{marks_at_entry, marks_retired, marks_dispatched}
+use Rattle.rv_hardware.proofs.Marks.List.{marks_at_entry, marks_retired, marks_dispatched, older_marks}
 use Rattle.rv_hardware.proofs.Marks.Row.{SoundRow, row_at, row_is_sound, row_advances, may_retire_serial}
 use Rattle.rv_hardware.proofs.Marks.Row.{may_retire_finished, MayRetire}
 use Rattle.rv_hardware.proofs.Always.Sizes.{HasShape}
@@ -200,7 +200,7 @@ module _ {v : Values} {now : ℕ} (bound : ℕ) {R : List Mark → Type 0} (kept
       h.rob.entries ≡ older ++ e ∷ younger →
       g.rob.entries ≡ older ++ x ∷ younger → g.front.entries ≡ h.front.entries → g.cycle ≡ h.cycle → IsSoundFor v g →
       SoundEntry v now (now + 1) bound x →
-      Advances v now (map mark_of_row (rows_of steps) ++ map mark_of_entry older) (mark_of_entry e) (mark_of_entry x) →
+      Advances v now (older_marks steps older) (mark_of_entry e) (mark_of_entry x) →
       Executes h → Executes g
   change {g} {h} older younger e {x} at at' front cycle always sound agree p = record {
     basics = record {
@@ -217,7 +217,7 @@ module _ {v : Values} {now : ℕ} (bound : ℕ) {R : List Mark → Type 0} (kept
           marks_at_entry steps older younger e h.front.entries,
           marks_at_entry steps older younger x h.front.entries,
         )
-        (kept.set (map mark_of_row (rows_of steps) ++ map mark_of_entry older)
+        (kept.set (older_marks steps older)
         (map mark_of_entry younger ++ map mark_of_fetched h.front.entries) (mark_of_entry e) (mark_of_entry x) agree));
   }
 
@@ -248,7 +248,7 @@ module _ {v : Values} (legal : IsLegal v) {now : ℕ} {R : List Mark → Type 0}
   -- what a start finds
   pub start_is : (k : Kind) (h : Hardware) (older younger : List Entry) (e : Entry) →
       h.rob.entries ≡ older ++ e ∷ younger → is_ready h k older e ≡ true → Issues h →
-      Starts v now (map mark_of_row (rows_of steps) ++ map mark_of_entry older) (mark_of_entry e)
+      Starts v now (older_marks steps older) (mark_of_entry e)
       (mark_of_entry
       (started (record { cycle = h.cycle; cost = cost_of h k (path h older e) }) (message_at h older e) e))
   start_is k h older younger e at is p =
@@ -334,14 +334,14 @@ module _ {v : Values} {now : ℕ} {R : List Mark → Type 0} (kept : Kept v now 
           always = always;
           rows = q.basics.rows;
           entries = rw at'
-              (Each-append _ older _ (Each-left _ older _ entries) (sound (Each-place _ older younger x entries), tt));
+              (Each-append _ _ _ (Each-left _ older _ entries) (sound (Each-place _ older younger x entries), tt));
           fetched = rw none tt;
         };
         marks = marks_from R steps steps r g at' none q.marks
             (rw (at, ← append_assoc older (x ∷ []) younger)
             (λ went. subst R
             (marks_at_entry steps older [] x [] ∙
-            ap (λ m. (map mark_of_row (rows_of steps) ++ map mark_of_entry older) ++ m ∷ []) same ∙
+            ap (λ m. older_marks steps older ++ m ∷ []) same ∙
             sym (marks_at_entry steps older [] y []))
             (squash_marks kept [] (λ words word. false) steps (older ++ x ∷ []) younger g.front.entries went)));
       }
@@ -349,8 +349,7 @@ module _ {v : Values} {now : ℕ} {R : List Mark → Type 0} (kept : Kept v now 
   -- what a broadcast finds
   pub send_is : {h : Hardware} {older younger : List Entry} {e : Entry} {issue : Issue} {message : Message} →
       Sends h older younger e issue message → Broadcasts h →
-      IsSent now (map mark_of_row (rows_of steps) ++ map mark_of_entry older) (mark_of_entry e)
-      (mark_of_entry (finished message h.cycle e))
+      IsSent now (older_marks steps older) (mark_of_entry e) (mark_of_entry (finished message h.cycle e))
   send_is {older} {younger} {e} {issue} {message} sent p =
       let olders : Each (SoundEntry v now (now + 1) (now + 1)) older =
       Each-left _ older _ (subst (Each (SoundEntry v now (now + 1) (now + 1))) sent.place p.basics.entries) in
@@ -432,7 +431,7 @@ module _ {v : Values} {now : ℕ} {R : List Mark → Type 0} (kept : Kept v now 
         };
         marks = marks_from R steps steps g h refl refl p.marks
             (rw (at, marks_dispatched steps h.rob.entries f fs, marks_at_entry steps h.rob.entries [] e fs)
-            (kept.set (map mark_of_row (rows_of steps) ++ map mark_of_entry h.rob.entries) (map mark_of_fetched fs)
+            (kept.set (older_marks steps h.rob.entries) (map mark_of_fetched fs)
             (mark_of_fetched f) (mark_of_entry e)
             (mark_enters (record {
               becomes =

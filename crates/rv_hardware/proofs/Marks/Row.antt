@@ -1,8 +1,8 @@
 -- A sound instruction in flight that retires leaves a row with stamps in order, and its mark goes on.
-use Rattle.rv_hardware.proofs.Words.{◌≡◌, ℕ, ◌+◌, ◌<◌, ◌≤◌, true, false, ◌⊎◌, is_some, IfSome, None, Option, unwrap_or}
+use Rattle.rv_hardware.proofs.Words.{◌≡◌, ℕ, ◌+◌, ◌<◌, true, false, ◌⊎◌, is_some, IfSome, None, Option, unwrap_or}
 use Rattle.rv_hardware.proofs.Words.{ap, inr, arith, is_load, is_serialising, kind_of_word, Message, Instr, Issue}
 use Rattle.rv_hardware.proofs.Words.{Values, instruction_of, Entry, Stage, Finished, HasCost, HasOrderedStamps, IsCost}
-use Rattle.rv_hardware.proofs.Words.{execution_of, Row, not_both}
+use Rattle.rv_hardware.proofs.Words.{execution_of, Row, not_both, IsBetween}
 use Rattle.rv_hardware.proofs.Marks.Advance.{IsKnownMark, Retires}
 use Rattle.rv_hardware.proofs.Marks.List.{Start, mark_of_row, mark_of_entry, start_of_execution, broadcast_of_execution}
 use Rattle.rv_hardware.proofs.Marks.List.{start_of_stage, broadcast_of_stage}
@@ -35,7 +35,7 @@ MayRetire i _ = is_serialising i ≡ true
 -- what the stage says of an execution that may retire
 record SoundExecution (v : Values) (i : Option Instr) (D now : ℕ) (st : Stage) : Type 0 where
   by_unit : is_some (execution_of st) ≡ is_some (kind_of_word i)
-  between : IfSome (execution_of st) (λ x. (D < x.issued) × (x.issued + x.cost ≤ x.broadcast) × (x.broadcast < now))
+  between : IfSome (execution_of st) (IsBetween D now)
   cost : IfSome (execution_of st) (λ x. IfSome (kind_of_word i) (λ k. IsCost v (is_load i) k x.cost))
   start : start_of_execution (execution_of st) ≡ start_of_stage st
   broadcast : broadcast_of_execution (execution_of st) ≡ broadcast_of_stage st

@@ -1,7 +1,7 @@
 -- A count of marks is the sum of those of rows, of instructions in flight and of fetched words.
 use Rattle.rv_hardware.proofs.Words.{◌≡◌, ℕ, ◌+◌, Bool, false, List, ◌++◌, map, ◌==◌, Some, None, Option, ap, ◌∙◌}
 use Rattle.rv_hardware.proofs.Words.{arith, Entry, Fetched, Lines, Values, Hardware, Report, rows_of, Row, Step}
-use Rattle.rv_hardware.proofs.Words.{Each-all, Each-weaker, count, count-append, count-map, count-none}
+use Rattle.rv_hardware.proofs.Words.{Each-all, count, count-append, count-map, count-none, each_then}
 use Rattle.rv_hardware.proofs.Marks.History.{Passed, dispatching}
 use Rattle.rv_hardware.proofs.Marks.List.{Mark, mark_of_row, mark_of_entry, mark_of_fetched, marks, marks_in}
 use Rattle.rv_hardware.proofs.Marks.Row.{SoundRow}
@@ -31,7 +31,7 @@ count_in_flight p {v} {R} {earlier} {lines} {old} {new} {report} passed no_row n
     ap (count p) passed.new_marks
     ∙ count-append p (marks_in (earlier ++ report.steps) d) (map mark_of_fetched passed.fetches.added) in
     let parts = count_marks p (earlier ++ report.steps) d.rob.entries d.front.entries in
-    let rows = count-none (λ row. p (mark_of_row row)) all (Each-weaker _ _ no_row all passed.dispatches.basics.rows) in
+    let rows = count-none (λ row. p (mark_of_row row)) all (each_then no_row _ passed.dispatches.basics.rows) in
     let words : (fs : List Fetched) → count (λ f. p (mark_of_fetched f)) fs ≡ 0 =
     λ fs. count-none (λ f. p (mark_of_fetched f)) fs (Each-all _ no_word fs) in
     let added = count-map p mark_of_fetched passed.fetches.added ∙ words passed.fetches.added in

@@ -37,27 +37,30 @@ pub record Sends (h : Hardware) (older younger : List Entry) (e : Entry) (issue 
   pub over : issue.cycle + issue.cost ≤ h.cycle
   pub oldest_one : EveryAfter (λ before x. has_result h.cycle before x ≡ false) [] older
 
+-- the hardware once the instruction behind some older ones was broadcast, and once early recovery mended it
+abbrev pub once_sent : Hardware → List Entry → Message → Hardware
+once_sent h older message = with_broadcast (h.rob.retired + length older) message h
+
+abbrev pub once_mended : Hardware → List Entry → Message → Hardware
+once_mended h older message = with_recovery (h.rob.retired + length older) message (once_sent h older message)
+
+-- early recovery mends what this message shows to be predicted wrongly
+abbrev pub mends_now : Hardware → Entry → Message → Bool
+mends_now h e message = mends_early h.values.recovery && is_mispredicted e message
+
 -- no result is ready, or the oldest is broadcast, and early recovery squashes what is younger
 pub data BroadcastTurn (h : Hardware) : Turn Hardware → Type 0 where
   no_result : EveryAfter (λ before x. has_result h.cycle before x ≡ false) [] h.rob.entries → BroadcastTurn h (Ends h)
   sends : (older younger : List Entry) (e : Entry) (issue : Issue) (message : Message) →
-      Sends h older younger e issue message →
-      (mends_early h.values.recovery && is_mispredicted e message) ≡ false →
-      BroadcastTurn h (GoesOn (with_broadcast (h.rob.retired + length older) message h))
+      Sends h older younger e issue message → mends_now h e message ≡ false →
+      BroadcastTurn h (GoesOn (once_sent h older message))
   mends : (older younger : List Entry) (e : Entry) (issue : Issue) (message : Message) →
-      Sends h older younger e issue message →
-      (mends_early h.values.recovery && is_mispredicted e message) ≡ true →
-      BroadcastTurn h
-      (Ends (with_recovery (h.rob.retired + length older) message
-      (with_broadcast (h.rob.retired + length older) message h)))
+      Sends h older younger e issue message → mends_now h e message ≡ true →
+      BroadcastTurn h (Ends (once_mended h older message))
 
 entry_turn : {h : Hardware} {older younger : List Entry} {e : Entry} {issue : Issue} {message : Message} →
-    Sends h older younger e issue message → (b : Bool) →
-    (mends_early h.values.recovery && is_mispredicted e message) ≡ b →
-    BroadcastTurn h
-    (cond b (Ends
-    (with_recovery (h.rob.retired + length older) message (with_broadcast (h.rob.retired + length older) message h)))
-    (GoesOn (with_broadcast (h.rob.retired + length older) message h)))
+    Sends h older younger e issue message → (b : Bool) → mends_now h e message ≡ b →
+    BroadcastTurn h (cond b (Ends (once_mended h older message)) (GoesOn (once_sent h older message)))
 entry_turn {older} {younger} {e} {issue} {message} is true early = mends older younger e issue message is early
 entry_turn {older} {younger} {e} {issue} {message} is false early = sends older younger e issue message is early
 
@@ -69,7 +72,7 @@ found_turn h (Some found) finds =
     let is : Sends h found.0 finds.0 found.1 held.issue held.message =
     record { place = finds.1; runs = held.runs; over = held.over; oldest_one = finds.3 } in
     subst (λ r. BroadcastTurn h (broadcast_result h (h.rob.retired + length found.0) found.1 r)) (sym held.result)
-    (entry_turn is (mends_early h.values.recovery && is_mispredicted found.1 held.message) refl)
+    (entry_turn is (mends_now h found.1 held.message) refl)
 
 -- what the definition's turn of the broadcast phase leaves is one of these outcomes
 pub broadcast_turn_is : (h : Hardware) → BroadcastTurn h (broadcast_turn h)
@@ -79,14 +82,11 @@ broadcast_turn_is h =
 -- the entry that is broadcast is the one that changes
 pub sent_entries : (h : Hardware) (older younger : List Entry) (e : Entry) (message : Message) →
     h.rob.entries ≡ older ++ e ∷ younger →
-    (with_broadcast (h.rob.retired + length older) message h).rob.entries ≡
-    older ++ finished message h.cycle e ∷ younger
+    (once_sent h older message).rob.entries ≡ older ++ finished message h.cycle e ∷ younger
 sent_entries h older younger e message given = grind (arith, with_entry-at)
 
 -- after a broadcast that early recovery mends, the entries end with the instruction that was broadcast
 pub mended_entries : (h : Hardware) (older younger : List Entry) (e : Entry) (message : Message) →
     h.rob.entries ≡ older ++ e ∷ younger →
-    (with_recovery (h.rob.retired + length older) message
-    (with_broadcast (h.rob.retired + length older) message h)).rob.entries ≡
-    older ++ predicting message.next_pc (finished message h.cycle e) ∷ []
+    (once_mended h older message).rob.entries ≡ older ++ predicting message.next_pc (finished message h.cycle e) ∷ []
 mended_entries h older younger e message given = grind (arith, sent_entries, with_entry-at, entries_below-at)

@@ -167,54 +167,54 @@ module _ (v : Values) {earlier : List Step} {old new : Hardware} {lines : Lines}
       (ap (λ (w : Values). w.commit_width) begins.always.sizes.values) first
       (rw (append-nil earlier) (past.follow)) (rw (append-nil earlier) (past.next))
 
-  here : earlier ++ report.steps ≡ earlier ++ (committing lines old).steps
+  -- the steps with those of this cycle
+  abbrev so_far : List Step
+  so_far = earlier ++ report.steps
+
+  here : so_far ≡ earlier ++ (committing lines old).steps
   here = ap (λ l. earlier ++ l) passed.steps
 
-  d : Hardware
+  abbrev c : Hardware
+  c = (committing lines old).hardware
+
+  abbrev d : Hardware
   d = (dispatching lines old).hardware
 
   d_is : is.dispatching ≡ dispatching lines old
-  d_is = is.executes ∙ ap (λ (c : Committing). execute c.hardware) is.commits
+  d_is = is.executes ∙ ap (λ (x : Committing). execute x.hardware) is.commits
 
-  dispatched : HasNext old.cycle (last_stamp (earlier ++ report.steps)) (has_step (earlier ++ report.steps))
-      (dispatching lines old).hardware
-  dispatched = next_executed old.cycle (last_stamp (earlier ++ report.steps)) (has_step (earlier ++ report.steps))
-      (committing lines old).hardware (
-        passed.committed.basics.cycle,
-        subst (λ l.
-            Next (old.cycle + 1) old.cycle (last_stamp l) (has_step l) (committing lines old).hardware.stale
-            (committing lines old).hardware.rob.entries (committing lines old).hardware.front.entries)
-            (sym here) committed.next,
-      )
+  dispatched : HasNext old.cycle (last_stamp so_far) (has_step so_far) d
+  dispatched = next_executed old.cycle (last_stamp so_far) (has_step so_far) c (
+    passed.committed.basics.cycle,
+    subst (λ l. Next (old.cycle + 1) old.cycle (last_stamp l) (has_step l) c.stale c.rob.entries c.front.entries)
+        (sym here) committed.next,
+  )
 
-  d_halted : IsHalted (dispatching lines old).hardware
+  d_halted : IsHalted d
   d_halted = subst (λ (x : Dispatching). IsHalted x.hardware) d_is
       (phases-keep halted-kept.phases is ((history_is_sound before).always.halted))
 
   -- no store has retired where there is no step
-  c_unused : earlier ++ report.steps ≡ [] → (committing lines old).hardware.committed ≡ []
+  c_unused : so_far ≡ [] → c.committed ≡ []
   c_unused given = grind (arith, both_empty, commit_unused, passed)
 
-  d_unused : earlier ++ report.steps ≡ [] → (dispatching lines old).hardware.committed ≡ []
-  d_unused none = execute_unused (committing lines old).hardware (c_unused none)
+  d_unused : so_far ≡ [] → d.committed ≡ []
+  d_unused none = execute_unused c (c_unused none)
 
-  fetched : Next (old.cycle + 1) (old.cycle + 1) (last_stamp (earlier ++ report.steps))
-      (has_step (earlier ++ report.steps)) (dispatching lines old).hardware.stale
-      (dispatching lines old).hardware.rob.entries
-      ((dispatching lines old).hardware.front.entries ++ passed.fetches.added)
+  fetched : Next (old.cycle + 1) (old.cycle + 1) (last_stamp so_far) (has_step so_far) d.stale d.rob.entries
+      (d.front.entries ++ passed.fetches.added)
   fetched =
-      let h : Hardware = (dispatching lines old).hardware in
+      let legal = history_is_legal before in
       let b = passed.dispatches.basics in
-      next_fetched (history_is_legal before) old.cycle (last_stamp (earlier ++ report.steps))
-      (has_step (earlier ++ report.steps)) h.stale h.front passed.fetches.are_new b.always.sizes.width
-      b.always.sizes.room passed.fetches.goes_on refl d_halted.1
+      let sent = passed.sends.basics in
+      next_fetched legal old.cycle (last_stamp so_far) (has_step so_far) d.stale d.front passed.fetches.are_new
+      b.always.sizes.width b.always.sizes.room passed.fetches.goes_on refl d_halted.1
       (λ f gs none first.
-      only_store_left (history_is_legal before)
-      (sent_all lines old) refl passed.sends.basics.always.sizes.values passed.sends.basics.cycle b.always.sizes
-      (λ none_yet. d_unused (no_step (earlier ++ report.steps) none_yet)) f gs none first)
+      only_store_left legal (sent_all lines old) refl sent.always.sizes.values sent.cycle b.always.sizes
+      (λ none_yet. d_unused (no_step so_far none_yet)) f gs none first)
       dispatched.1
 
-  next_goes_on : NextPast (earlier ++ report.steps) new
+  next_goes_on : NextPast so_far new
   next_goes_on = grind (arith, here, committed, passed, fetched, d_unused)
 
 history_has_next : {v : Values} {steps : List Step} {h : Hardware} → History v steps h → NextPast steps h

@@ -62,6 +62,10 @@ module _ (now s : ℕ) (store_waits : Bool) where
       IsKnownSince (now + 1) i cycle (stage_by kind serial (Finished None cycle message))
   known_at_dispatch cycle i message kind serial given = grind arith
 
+  -- what comes next, where these are in flight
+  abbrev NextIn : Hardware → List Entry → Type 0
+  NextIn h es = Next (now + 1) now s store_waits h.stale es h.front.entries
+
   next_drained : IsKeptByDrain HasNext
   next_drained = record { leaves = λ h has idle. has; drains = λ h access has idle is. has }
 
@@ -72,7 +76,7 @@ module _ (now s : ℕ) (store_waits : Bool) where
       has.0,
       next-change (now + 1) now s store_waits h.stale older younger younger h.front.entries h.front.entries
           (λ next. record { fetched = next.fetched; dispatched = next.dispatched; reason = inr (inr (inr tt)) })
-          (subst (λ es. Next (now + 1) now s store_waits h.stale es h.front.entries) split has.1),
+          (subst (NextIn h) split has.1),
     );
   }
 
@@ -86,13 +90,13 @@ module _ (now s : ℕ) (store_waits : Bool) where
             dispatched = next.dispatched;
             reason = inr (inr (inr (known_now e.dispatched e.instruction has.0 gives)));
           })
-          (subst (λ es. Next (now + 1) now s store_waits h.stale es h.front.entries) split has.1),
+          (subst (NextIn h) split has.1),
     );
     mends = λ h older younger e next has split. (
       has.0,
       next-change (now + 1) now s store_waits h.stale older younger [] h.front.entries []
           (λ is. record { fetched = is.fetched; dispatched = is.dispatched; reason = is.reason })
-          (subst (λ es. Next (now + 1) now s store_waits h.stale es h.front.entries) split has.1),
+          (subst (NextIn h) split has.1),
     );
   }
 

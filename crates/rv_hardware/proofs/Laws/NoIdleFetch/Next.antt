@@ -4,7 +4,7 @@ use Rattle.rv_hardware.proofs.Words.{Option, nat_cmp, sym, refl, ap, ◌∙◌, 
 use Rattle.rv_hardware.proofs.Words.{arith, Lines, Kind, Values, due, interrupt_cause, Each, Entry, FetchBuffer}
 use Rattle.rv_hardware.proofs.Words.{Fetched, broadcast, Committing, commit_unless, with_fault, IsCycle, any_prediction}
 use Rattle.rv_hardware.proofs.Words.{with_lines, dispatch, drain, Hardware, issue, Turn, Report, written_of, EachNext}
-use Rattle.rv_hardware.proofs.Words.{stamp_of, Step, Interrupt, Retired, Trap, Each-weaker, Leads}
+use Rattle.rv_hardware.proofs.Words.{stamp_of, Step, Interrupt, Retired, Trap, Leads, each_then}
 use Rattle.std.specs.FinSet as set
 use Rattle.rv_hardware.proofs.Marks.Cited.{IsKeptByBroadcast, broadcast-keeps, IsKeptByDispatch, dispatch-keeps}
 use Rattle.rv_hardware.proofs.Marks.Cited.{IsKeptByDrain, drain-keeps, IsKeptByIssue, issue-keeps, HaltsAfter, words_of}
@@ -220,7 +220,7 @@ module _ {v : Values} {earlier : List Step} {old new : Hardware} {lines : Lines}
       let after = commit_follows_by v old.cycle earlier set.contains (due g.csrs g.lines) g first
       (rw (append-nil earlier) p) in
       let executed = executed_comes old.cycle (coming old.cycle c.rob.entries c.front.entries) c refl in
-      let fetched = coming_fetched old.cycle d.front.entries _ (Each-weaker _ _ (λ f w. w.0) _ passed.fetches.are_new)
+      let fetched = coming_fetched old.cycle d.front.entries _ (each_then (λ f w. w.0) _ passed.fetches.are_new)
       (something_is_there passed) in
       let here = ap (λ (h : Hardware). coming h.cycle h.rob.entries new.front.entries) passed.others_stay ∙
       ap (coming (old.cycle + 1) d.rob.entries) passed.fetches.entries ∙ fetched ∙ executed in

@@ -3,7 +3,7 @@ use Rattle.rv_hardware.proofs.Words.{◌≡◌, ℕ, ◌+◌, ◌-◌, ◌<◌, 
 use Rattle.rv_hardware.proofs.Words.{Some, None, Option, sym, refl, ap, ◌∙◌, subst, inl, inr, true≢false, append-nil}
 use Rattle.rv_hardware.proofs.Words.{arith, length-append, cases_lt, Lines, Early, Values, due, Each, FetchBuffer}
 use Rattle.rv_hardware.proofs.Words.{Fetched, Committing, IsCycle, any_prediction, execute, with_lines, Dispatching}
-use Rattle.rv_hardware.proofs.Words.{Hardware, Report, rows_of, Row, Step, Each-weaker, Each-map, count}
+use Rattle.rv_hardware.proofs.Words.{Hardware, Report, rows_of, Row, Step, count, each_image, each_then}
 use Rattle.std.specs.FinSet as set
 use Rattle.rv_hardware.proofs.Marks.Cited.{fetch-cases, IsNew, count-as_of, Passed, History, began, went_on}
 use Rattle.rv_hardware.proofs.Marks.Cited.{is_buffered_mark, buffered_words, committing, issued_all, dispatching}
@@ -90,7 +90,7 @@ module _ (v : Values) {earlier : List Step} {old new : Hardware} {lines : Lines}
   new_ones : {fs : List Fetched} → passed.fetches.added ≡ fs →
       Each (λ m. m.fetched ≡ old.cycle) (map mark_of_fetched fs)
   new_ones {fs} at =
-      Each-map _ _ fs (Each-weaker _ _ (λ f w. w.0) fs (subst (Each (IsNew old.cycle)) at passed.fetches.are_new))
+      each_image _ (λ f w. w.0) _ (subst (Each (IsNew old.cycle)) at passed.fetches.are_new)
 
   -- after a squash
 
@@ -144,7 +144,7 @@ module _ (v : Values) {earlier : List Step} {old new : Hardware} {lines : Lines}
         v.fetch_buffer ≤ held_after (λ c. 0) (marks_in all d) old.cycle
     full_now full =
         let b = passed.dispatches.basics in
-        let words = Each-weaker _ _ (λ f w. (omega (arith, w.0), w.1)) _ b.fetched in
+        let words = each_then (λ f w. (omega (arith, w.0), w.1)) _ b.fetched in
         let held = held_count (λ c. 0) (marks_in all d) old.cycle in
         let counts = count-as_of is_buffered_mark old.cycle (marks_in all d) in
         let settled = ap (count is_buffered_mark)

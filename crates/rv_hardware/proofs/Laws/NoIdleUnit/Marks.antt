@@ -4,8 +4,8 @@ use Rattle.rv_hardware.proofs.Words.{IfSome, Some, None, Option, sym, refl, ap, 
 use Rattle.rv_hardware.proofs.Words.{arith, and_from, is_load, is_of_kind, is_serialising, kind_of_word}
 use Rattle.rv_hardware.proofs.Words.{sources_of_word, Instr, Kind, Values, Each, Entry, Stage, Fetched, Hardware}
 use Rattle.rv_hardware.proofs.Words.{broadcast_of, is_known_from, is_waiting, writes, has_operands, is_ready, last_from}
-use Rattle.rv_hardware.proofs.Words.{last_that, Execution, Row, never_both, Each-append, EveryAfter, count}
-use Rattle.rv_hardware.proofs.Words.{count-set-grows, EveryAfter-left, EveryAfter-set}
+use Rattle.rv_hardware.proofs.Words.{last_that, Execution, Row, never_both, EveryAfter, count, count-set-grows}
+use Rattle.rv_hardware.proofs.Words.{EveryAfter-left, EveryAfter-set, Each-append}
 use Rattle.rv_hardware.specs.InFlight.{is_known}
 use Rattle.rv_hardware.proofs.Marks.Cited.{IsBefore, writes_mark, IsKnownMark, OperandsKnown, Advances, mark_is_sent}
 use Rattle.rv_hardware.proofs.Marks.Cited.{Kept, last_from-append, Mark, mark_of_row, mark_of_entry, mark_of_fetched}

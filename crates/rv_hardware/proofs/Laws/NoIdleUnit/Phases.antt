@@ -6,10 +6,10 @@ use Rattle.rv_hardware.proofs.Words.{with_kind-other, with_kind-own, IsLegal, is
 use Rattle.rv_hardware.proofs.Words.{for_each, with_kind, Issue, Lines, Kind, PerKind, Values, Each, Pool, free_pool}
 use Rattle.rv_hardware.proofs.Words.{holding, holds_unit, started, Entry, with_lines, Hardware, cost_of, is_ready}
 use Rattle.rv_hardware.proofs.Words.{issue, issue_kind, issue_turn, issued, path, Turn, Report, rows_of, Step}
-use Rattle.rv_hardware.proofs.Words.{Each-append, Each-left, Each-weaker, Each-all, Each-filter, EveryAfter, count}
+use Rattle.rv_hardware.proofs.Words.{Each-append, Each-left, Each-all, Each-filter, EveryAfter, count}
 use Rattle.rv_hardware.proofs.Words.{count-set-one_more, EveryAfter-append, EveryAfter-right, EveryAfter-moved}
 use Rattle.rv_hardware.proofs.Words.{EveryAfter-all, EveryAfter-weaker, Leads, turns_within, length-filter}
-use Rattle.rv_hardware.proofs.Words.{count-count_by, count-length}
+use Rattle.rv_hardware.proofs.Words.{count-count_by, count-length, each_then}
 use Rattle.std.specs.FinSet as set
 use Rattle.rv_isa.specs.declared.operations.Kind.TheVariants as kind
 use Rattle.rv_units.specs.Pool.{started as started_unit}
@@ -22,6 +22,7 @@ use Rattle.rv_hardware.proofs.Marks.Cited.{started_entries, Mark, mark_of_row, m
 use Rattle.rv_hardware.proofs.Marks.Cited.{marks_in, marks_at_entry, Issues, issue_turn_keeps, issue_kind_keeps}
 use Rattle.rv_hardware.proofs.Marks.Cited.{start_is, with_marks, before_broadcast, before_dispatch, broadcast_keeps}
 use Rattle.rv_hardware.proofs.Marks.Cited.{dispatch_keeps, AreSerialLast, cut_serial, instructions_of, SoundEntry}
+use Rattle.rv_hardware.proofs.Marks.Cited.{older_marks}
 use Rattle.rv_hardware.proofs.Laws.NoIdleUnit.Marks.{MayStart, BusyUnits, may_back, busy_units_are_kept}
 use Rattle.rv_hardware.proofs.Laws.NoIdleUnit.Marks.{rows_do_not_start, words_do_not_start, entries_do_not_start}
 use Rattle.rv_hardware.proofs.Laws.OtherUnits.Rows.{starts_at, begins_mark}
@@ -53,24 +54,32 @@ module _ {v : Values} (legal : IsLegal v) (now : ℕ) (steps : List Step) (k : K
   abbrev units_here : ℕ
   units_here = (at_kind k v.kinds).units
 
-  abbrev Busy : ℕ → Hardware → Type 0
-  Busy j h = Issues legal (anything_is_kept v now) steps h × EveryAfter (BusyUnits k j now) [] (marks_in steps h) ×
-      (length (holding now (at_kind k h.units).starts) ≤ j)
+  -- what is known of the phase, and that where one could start but does not, so many that are older did
+  abbrev IsSound : Hardware → Type 0
+  IsSound = Issues legal (anything_is_kept v now) steps
 
-  never_busy : (j : ℕ) (before xs : List Mark) → EveryAfter (λ b m. MayStart k now b m → ⊥) before xs →
-      EveryAfter (BusyUnits k j now) before xs
+  abbrev AreBusy : ℕ → Hardware → Type 0
+  AreBusy j h = EveryAfter (BusyUnits k j now) [] (marks_in steps h)
+
+  abbrev MayNot : List Mark → Mark → Type 0
+  MayNot before m = MayStart k now before m → ⊥
+
+  -- after so many turns as many units at most hold an instruction
+  abbrev Busy : ℕ → Hardware → Type 0
+  Busy j h = IsSound h × AreBusy j h × (length (holding now (at_kind k h.units).starts) ≤ j)
+
+  never_busy : (j : ℕ) (before xs : List Mark) → EveryAfter MayNot before xs → EveryAfter (BusyUnits k j now) before xs
   never_busy j before xs h = EveryAfter-weaker (λ b m never may. absurd (never may)) before xs h
 
-  none_started : (j : ℕ) (h : Hardware) → Issues legal (anything_is_kept v now) steps h →
-      EveryAfter (λ b e. is_ready h k b e ≡ false) [] h.rob.entries →
-      EveryAfter (BusyUnits k j now) [] (marks_in steps h)
+  none_started : (j : ℕ) (h : Hardware) → IsSound h →
+      EveryAfter (λ b e. is_ready h k b e ≡ false) [] h.rob.entries → AreBusy j h
   none_started j h p none =
       let rows : List Mark = map mark_of_row (rows_of steps) in
       let es : List Mark = map mark_of_entry h.rob.entries in
       EveryAfter-append _ [] rows _ (never_busy j [] rows (rows_do_not_start v k now (now + 1) [] _ p.basics.rows))
       (EveryAfter-append _ rows es _
       (never_busy j rows es
-      (subst (λ l. EveryAfter (λ b m. MayStart k now b m → ⊥) l es) (append-nil rows)
+      (subst (λ l. EveryAfter MayNot l es) (append-nil rows)
       (entries_do_not_start v k now now (now + 1) now
       (rows_of steps) h [] _ tt p.basics.entries p.basics.always.last none)))
       (never_busy j _ _ (words_do_not_start v k now (rows ++ es) h.front.entries)))
@@ -81,11 +90,10 @@ module _ {v : Values} (legal : IsLegal v) (now : ℕ) (steps : List Step) (k : K
     abbrev begun : Entry
     begun = started (record { cycle = h.cycle; cost = cost_of h k (path h older e) }) (message_at h older e) e
 
-    evidence : Starts v now (map mark_of_row (rows_of steps) ++ map mark_of_entry older) (mark_of_entry e)
-        (mark_of_entry begun)
+    evidence : Starts v now (older_marks steps older) (mark_of_entry e) (mark_of_entry begun)
     evidence = start_is legal (anything_is_kept v now) steps k h older younger e at is p.0
 
-    after_start : EveryAfter (BusyUnits k (suc j) now) [] (marks_in steps (issued k h older e))
+    after_start : AreBusy (suc j) (issued k h older e)
     after_start =
         let rows : List Mark = map mark_of_row (rows_of steps) in
         let xs : List Mark = rows ++ map mark_of_entry older in
@@ -105,7 +113,7 @@ module _ {v : Values} (legal : IsLegal v) (now : ℕ) (steps : List Step) (k : K
         (EveryAfter-append _ [] rows _
         (never_busy (suc j) [] rows (rows_do_not_start v k now (now + 1) [] _ p.0.basics.rows))
         (never_busy (suc j) rows _
-        (subst (λ l. EveryAfter (λ b z. MayStart k now b z → ⊥) l (map mark_of_entry older)) (append-nil rows)
+        (subst (λ l. EveryAfter MayNot l (map mark_of_entry older)) (append-nil rows)
         (entries_do_not_start v k now now (now + 1) now (rows_of steps) h [] older tt olders serial none)))) (
           (λ may. absurd (has_begun may.not_yet)),
           EveryAfter-moved _ _ _ _
@@ -136,15 +144,13 @@ module _ {v : Values} (legal : IsLegal v) (now : ℕ) (steps : List Step) (k : K
   held_after j h older e cycle le = grind (arith, issued_units, with_kind-own, filter-append_length, fewer_held)
 
   busy_leads : (j : ℕ) {h : Hardware} {t : Turn Hardware} → j < units_here → IssueTurn k h t → Busy j h →
-      Leads (Issues legal (anything_is_kept v now) steps) (Issues legal (anything_is_kept v now) steps) t →
-      Leads (Busy (suc j)) (λ g. EveryAfter (BusyUnits k units_here now) [] (marks_in steps g)) t
+      Leads IsSound IsSound t → Leads (Busy (suc j)) (AreBusy units_here) t
   busy_leads j lt given p goes = grind (arith, ltb-false, none_started, after_start, held_after)
 
-  pub kind_is_busy : (h : Hardware) → Issues legal (anything_is_kept v now) steps h →
-      Over now (at_kind k h.units) → EveryAfter (BusyUnits k units_here now) [] (marks_in steps (issue_kind k h))
+  pub kind_is_busy : (h : Hardware) → IsSound h → Over now (at_kind k h.units) → AreBusy units_here (issue_kind k h)
   kind_is_busy h p over =
       let none = ap (λ l. length l) (none_holds now _ over) in
-      turns_within units_here Busy (λ g. EveryAfter (BusyUnits k units_here now) [] (marks_in steps g)) (issue_turn k)
+      turns_within units_here Busy (AreBusy units_here) (issue_turn k)
       (λ j g lt q.
       busy_leads j lt (issue_turn_is k g) q
       (issue_turn_keeps legal (anything_is_kept v now) steps (issue_turn_is k g) q.0))
@@ -237,46 +243,47 @@ module _ (v : Values) (legal : IsLegal v) (now : ℕ) (steps : List Step) (k : K
 -- the issue phase of all kinds
 module _ {v : Values} (legal : IsLegal v) {now : ℕ} {steps : List Step} {h : Hardware}
     (p : Issues legal (anything_is_kept v now) steps h) where
+  abbrev IsPipelined : Kind → Type 0
+  IsPipelined k = (at_kind k v.kinds).pipelined ≡ true
+
+  -- after the phase of its own kind another one keeps the units of a kind busy
+  keep : (k : Kind) (line : IsPipelined k) (j : Kind) {g : Hardware} → KeepsBusy v legal now steps k line g →
+      KeepsBusy v legal now steps k line (issue_kind j g)
+  keep k line j busy = on v legal now steps k line busy j
+
+  -- before it another one leaves the pool of a kind over
+  leave : (k : Kind) (line : IsPipelined k) (j : Kind) (g : Hardware) → is_of_kind k (Some j) ≡ false →
+      Over now (at_kind k g.units) → Over now (at_kind k (issue_kind j g).units)
+  leave k line j g other over =
+      subst (Over now) (sym (apart_kind v legal now steps k line (at_kind k g.units) j g other refl)) over
+
+  sound : {g : Hardware} → Issues legal (anything_is_kept v now) steps g → (j : Kind) →
+      Issues legal (anything_is_kept v now) steps (issue_kind j g)
+  sound q j = issue_kind_keeps legal (anything_is_kept v now) steps j q
+
   pub issue_is_busy : (k : Kind) → (at_kind k v.kinds).pipelined ≡ true → Over now (at_kind k h.units) →
       EveryAfter (BusyUnits k (at_kind k v.kinds).units now) [] (marks_in steps (issue h))
   issue_is_busy kind.Alu line over =
-      let a = issue_kind kind.Alu h in
-      let m = issue_kind kind.Mul a in
-      (on v legal now steps kind.Alu line
-      (on v legal now steps kind.Alu line
-      (on v legal now steps kind.Alu line (here v legal now steps kind.Alu line h p over) kind.Mul) kind.Div)
-      kind.Mem).marks
+      let own = here v legal now steps kind.Alu line h p over in
+      (keep kind.Alu line kind.Mem (keep kind.Alu line kind.Div (keep kind.Alu line kind.Mul own))).marks
   issue_is_busy kind.Mul line over =
       let a = issue_kind kind.Alu h in
-      let m = issue_kind kind.Mul a in
-      let at_a = plain v legal now steps kind.Mul line p kind.Alu in
-      let over_a = subst (Over now)
-      (sym (apart_kind v legal now steps kind.Mul line (at_kind kind.Mul h.units) kind.Alu h refl refl)) over in
-      (on v legal now steps kind.Mul line
-      (on v legal now steps kind.Mul line (here v legal now steps kind.Mul line a at_a over_a) kind.Div) kind.Mem).marks
+      let over_a = leave kind.Mul line kind.Alu h refl over in
+      let own = here v legal now steps kind.Mul line a (sound p kind.Alu) over_a in
+      (keep kind.Mul line kind.Mem (keep kind.Mul line kind.Div own)).marks
   issue_is_busy kind.Div line over =
       let a = issue_kind kind.Alu h in
       let m = issue_kind kind.Mul a in
-      let at_m = plain v legal now steps kind.Div line (plain v legal now steps kind.Div line p kind.Alu) kind.Mul in
-      let pool : Pool = at_kind kind.Div h.units in
-      let over_m = subst (Over now)
-      (sym (apart_kind v legal now steps kind.Div line pool kind.Mul a refl
-      (apart_kind v legal now steps kind.Div line pool kind.Alu h refl refl)))
-      over in
-      (on v legal now steps kind.Div line (here v legal now steps kind.Div line m at_m over_m) kind.Mem).marks
+      let over_m = leave kind.Div line kind.Mul a refl (leave kind.Div line kind.Alu h refl over) in
+      let own = here v legal now steps kind.Div line m (sound (sound p kind.Alu) kind.Mul) over_m in
+      (keep kind.Div line kind.Mem own).marks
   issue_is_busy kind.Mem line over =
       let a = issue_kind kind.Alu h in
       let m = issue_kind kind.Mul a in
       let d = issue_kind kind.Div m in
-      let at_d = plain v legal now steps kind.Mem line
-      (plain v legal now steps kind.Mem line (plain v legal now steps kind.Mem line p kind.Alu) kind.Mul) kind.Div in
-      let pool : Pool = at_kind kind.Mem h.units in
-      let over_d = subst (Over now)
-      (sym (apart_kind v legal now steps kind.Mem line pool kind.Div m refl
-      (apart_kind v legal now steps kind.Mem line pool kind.Mul a refl
-      (apart_kind v legal now steps kind.Mem line pool kind.Alu h refl refl))))
-      over in
-      (here v legal now steps kind.Mem line d at_d over_d).marks
+      let over_m = leave kind.Mem line kind.Mul a refl (leave kind.Mem line kind.Alu h refl over) in
+      let over_d = leave kind.Mem line kind.Div m refl over_m in
+      (here v legal now steps kind.Mem line d (sound (sound (sound p kind.Alu) kind.Mul) kind.Div) over_d).marks
 
 -- in every history
 
@@ -292,7 +299,7 @@ over_of_history {v} k line (went_on {earlier} {old} {new} {lines} {report} befor
     let passed = history_passes v before is in
     let begins = subst (λ u. Over old.cycle (at_kind k u)) (sym (begin_units lines old))
     (over_of_history k line before) in
-    let later = Each-weaker _ _ (λ s le. omega (arith, le)) _ begins in
+    let later = each_then (λ s le. omega (arith, le)) _ begins in
     let issues = timely_issue v legal old.cycle (earlier ++ report.steps) k line (drained lines old)
     ((passed.drains.basics.always.sizes, passed.drains.basics.cycle), later) in
     let next : new.cycle ≡ old.cycle + 1 = ap (λ (h : Hardware). h.cycle) passed.others_stay in

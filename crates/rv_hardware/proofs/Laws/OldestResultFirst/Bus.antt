@@ -1,9 +1,9 @@
 -- Of the results that are ready the oldest is broadcast first.
 use Rattle.rv_hardware.proofs.Words.{◌≡◌, ℕ, ◌+◌, ◌<◌, ◌≤◌, List, [], ◌∷◌, ◌++◌, map, IfSome, Some, None, Option, sym}
-use Rattle.rv_hardware.proofs.Words.{ap, ◌∙◌, subst, arith, Values, Each, Fetched, Hardware, Step, Each-append}
-use Rattle.rv_hardware.proofs.Words.{Each-left, Each-right, Each-set, Each-place, Each-weaker, Each-all, Each-both}
-use Rattle.rv_hardware.proofs.Words.{EveryPair, EveryPair-append, EveryPair-left, EveryPair-right, EveryPair-across}
-use Rattle.rv_hardware.proofs.Words.{EveryPair-set, Each-images}
+use Rattle.rv_hardware.proofs.Words.{ap, ◌∙◌, subst, arith, Values, Each, Fetched, Hardware, Step, Each-left}
+use Rattle.rv_hardware.proofs.Words.{Each-right, Each-set, Each-place, Each-all, Each-both, EveryPair, EveryPair-append}
+use Rattle.rv_hardware.proofs.Words.{EveryPair-left, EveryPair-right, EveryPair-across, EveryPair-set, Each-images}
+use Rattle.rv_hardware.proofs.Words.{each_then, Each-append}
 use Rattle.rv_hardware.proofs.Marks.Cited.{IsBefore, Advances, mark_retires, mark_starts, mark_is_sent, mark_enters}
 use Rattle.rv_hardware.proofs.Marks.Cited.{Starts, IsSent, KeptMarks, History, marks_of_history, Mark, Start}
 use Rattle.rv_hardware.proofs.Marks.Cited.{mark_of_fetched, marks_in}
@@ -56,12 +56,12 @@ module _ (now : ℕ) (xs ys : List Mark) (m n : Mark) where
       let start : n.start ≡ Some a.start = ap (λ x. x.start) a.becomes in
       record {
         oldest_first = EveryPair-append _ xs _ (EveryPair-left _ xs _ o.oldest_first) (
-          Each-weaker _ _
-              (λ z by. subst (λ q. IfSome z.broadcast (λ b. ReadyFirst q n.broadcast b)) (sym start)
-              (started_later a.start now z.broadcast n.broadcast a.now_is a.positive by)) ys
+          each_then (λ z by.
+              subst (λ q. IfSome z.broadcast (λ b. ReadyFirst q n.broadcast b)) (sym start)
+              (started_later a.start now z.broadcast n.broadcast a.now_is a.positive by)) _
               (Each-right _ xs _ o.by_now).1,
           (EveryPair-right _ xs _ o.oldest_first).1,
-        ) (Each-weaker _ _ (λ x w. (pair_second m n x same w.0, w.1)) xs (EveryPair-across _ xs _ o.oldest_first));
+        ) (each_then (λ x w. (pair_second m n x same w.0, w.1)) _ (EveryPair-across _ xs _ o.oldest_first));
         by_now = Each-set _ xs ys m n (rw same (Each-place _ xs ys m o.by_now)) o.by_now;
       }
 
@@ -72,9 +72,8 @@ module _ (now : ℕ) (xs ys : List Mark) (m n : Mark) where
       let behind = EveryPair-right _ xs _ o.oldest_first in
       record {
         oldest_first = EveryPair-append _ xs _ (EveryPair-left _ xs _ o.oldest_first) (
-          Each-weaker _ _
-              (λ z w. rw (start, sent) (sent_later a.start now z.broadcast (rw (a.started, a.not_yet) at w)))
-              ys behind.0,
+          each_then (λ z w. rw (start, sent) (sent_later a.start now z.broadcast (rw (a.started, a.not_yet) at w))) _
+              behind.0,
           behind.1,
         )
             (Each-both _ (λ x w ready. (rw sent ready, w.1)) xs (EveryPair-across _ xs _ o.oldest_first) a.oldest);
@@ -108,7 +107,7 @@ bus_is_kept v = record {
   more = λ now ms fs words o. record {
     oldest_first = EveryPair-append _ ms _ o.oldest_first (none_sent fs)
         (Each-all _ (λ m. Each-images _ _ (λ g. tt) fs) ms);
-    by_now = Each-append _ ms _ (Each-weaker _ _ (λ m w. sent_by_later now m m.broadcast w) ms o.by_now)
+    by_now = Each-append _ _ _ (each_then (λ m w. sent_by_later now m m.broadcast w) _ o.by_now)
         (Each-images _ _ (λ g. tt) fs);
   };
 }

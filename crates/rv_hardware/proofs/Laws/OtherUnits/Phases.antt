@@ -4,9 +4,9 @@ use Rattle.rv_hardware.proofs.Words.{nat_lt, nat_le, Some, None, filter, Option,
 use Rattle.rv_hardware.proofs.Words.{arith, ltb-true, lt-ltb, le-leb, and_from, and_left, and_right, at_kind-for_each}
 use Rattle.rv_hardware.proofs.Words.{with_kind-each, is_of_kind, kind_of_word, at_kind, for_each, with_kind, Issue}
 use Rattle.rv_hardware.proofs.Words.{Kind, Values, Each, Pool, free_pool, held_for, holding, holds_unit, is_free}
-use Rattle.rv_hardware.proofs.Words.{started, Entry, Hardware, cost_of, issued, path, Step, and_second, Each-append}
-use Rattle.rv_hardware.proofs.Words.{Each-weaker, Each-filter, count, count-append, count-yes, count-length}
-use Rattle.rv_hardware.proofs.Words.{count-set-same, count-set-more, count-set-less, count-push-no}
+use Rattle.rv_hardware.proofs.Words.{started, Entry, Hardware, cost_of, issued, path, Step, and_second, Each-weaker}
+use Rattle.rv_hardware.proofs.Words.{Each-filter, count, count-append, count-yes, count-length, count-set-same}
+use Rattle.rv_hardware.proofs.Words.{count-set-more, count-set-less, count-push-no, each_then, Each-append}
 use Rattle.rv_units.specs.Pool.{started as started_unit}
 use Rattle.rv_hardware.proofs.Marks.Cited.{IsKeptByBroadcast, IsKeptByCommit, IsKeptByDispatch, IsReady, ready-parts}
 use Rattle.rv_hardware.proofs.Marks.Cited.{InCycle, IsKeptInCycle, in_cycle, finished_mark, dispatched_mark}
@@ -73,7 +73,7 @@ module _ (v : Values) (now : ℕ) (k : Kind) (pool : Pool) where
             let some = count-length (holds_unit c) kept in
             let one = count-length (holds_unit c) (fresh ∷ []) in
             omega (arith, all, some, one, room, units);
-        begun = Each-append _ kept _ (Each-filter _ _ _ h.begun) (omega arith, tt);
+        begun = Each-append _ _ _ (Each-filter _ _ _ h.begun) (omega arith, tt);
       }
     where
       tie : (c : ℕ) → now ≤ c → (fresh : Issue) (kept : List Issue) →
@@ -84,7 +84,7 @@ module _ (v : Values) (now : ℕ) (k : Kind) (pool : Pool) where
         where
           old : count (holds_unit c) pool.starts ≤ count (holds_unit c) (holding now pool.starts)
           old = filter_holds (holds_unit c) (holds_unit now) pool.starts
-              (Each-weaker _ _ (λ s begun hold. holds_between now c s le begun hold) _ h.begun)
+              (each_then (λ s begun hold. holds_between now c s le begun hold) _ h.begun)
 
           by_test : (b : Bool) → holds_mark v k c (mark_of_entry x) ≡ b →
               count (λ z. holds_mark v k c (mark_of_entry z)) (older ++ x ∷ younger) ≤

@@ -1,16 +1,11 @@
 -- Of rows that hold a unit in a cycle there are at most as many as there are units.
-use Rattle.rv_hardware.proofs.Words.{◌≡◌, ℕ, ◌+◌, ◌<◌, ◌≤◌, Bool, true, false, ◌&&◌, List, ◌++◌, IfSome, ◌==◌, Some}
-use Rattle.rv_hardware.proofs.Words.{None, count_by, Option, arith, is_of_kind, kind_of_word, at_kind, Lines, Kind}
-use Rattle.rv_hardware.proofs.Words.{Values, Fetched, Hardware, Report, rows_of, Execution, Row, Step, Each-all, count}
-use Rattle.rv_hardware.proofs.Words.{count-le}
+use Rattle.rv_hardware.proofs.Words.{◌≡◌, ℕ, ◌+◌, ◌≤◌, Bool, true, false, ◌&&◌, List, ◌++◌, ◌==◌, Some, None}
+use Rattle.rv_hardware.proofs.Words.{count_by, Option, arith, is_of_kind, kind_of_word, at_kind, Lines, Kind, Values}
+use Rattle.rv_hardware.proofs.Words.{Fetched, Hardware, Report, rows_of, Row, Step, Each-all, count, count-le}
 use Rattle.rv_hardware.proofs.Marks.Cited.{in_cycle, Shows, counted_law, History, Passed, dispatching, Mark, Start}
 use Rattle.rv_hardware.proofs.Marks.Cited.{mark_of_row, mark_of_entry, mark_of_fetched, marks_in, Extends, SoundRow}
 use Rattle.rv_hardware.proofs.Marks.Cited.{count_in_flight}
 use Rattle.rv_hardware.proofs.Laws.OtherUnits.Phases.{holds_mark, units_of_history, units_kept}
-
--- an execution lies between the dispatch and the retirement
-abbrev pub Between : ℕ → ℕ → Option Execution → Type 0
-Between D C x = IfSome x (λ x. (D < x.issued) × (x.issued + x.cost ≤ x.broadcast) × (x.broadcast < C))
 
 -- at most as many as hold a unit
 module _ {v : Values} (k : Kind) {test : ℕ → Mark → Bool}

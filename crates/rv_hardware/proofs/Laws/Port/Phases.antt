@@ -6,6 +6,7 @@ use Rattle.rv_hardware.proofs.Words.{predicting, started, Entry, with_write_back
 use Rattle.rv_hardware.proofs.Words.{issued, path, with_access, and_first, and_second, Each-append, Each-left}
 use Rattle.rv_hardware.proofs.Words.{Each-right, Each-set, Each-place, Each-weaker, Each-all, Each-both, EveryPair}
 use Rattle.rv_hardware.proofs.Words.{EveryPair-append, EveryPair-left, EveryPair-right, EveryPair-across, EveryPair-set}
+use Rattle.rv_hardware.proofs.Words.{each_then}
 use Rattle.rv_hardware.proofs.Marks.Cited.{with_entries, IsKeptByBroadcast, with_mended, IsKeptByCommit}
 use Rattle.rv_hardware.proofs.Marks.Cited.{IsKeptByDispatch, IsKeptByDrain, IsReady, ready-parts, InCycle}
 use Rattle.rv_hardware.proofs.Marks.Cited.{IsKeptInCycle, finished_mark, dispatched_mark, message_at, started_entries}
@@ -17,10 +18,17 @@ use Rattle.rv_hardware.proofs.Laws.Port.Loads.{port_grows}
 abbrev pub Tied : Values → ℕ → Mark → Type 0
 Tied v c m = WhereUsed v m (λ s. (s.cycle + s.cost ≤ c) × (0 < s.cost))
 
+-- of instructions in flight: it is so of each, and no two of them use the cache at one time
+abbrev pub AreTied : Values → ℕ → List Entry → Type 0
+AreTied v c = Each (λ e. Tied v c (mark_of_entry e))
+
+abbrev pub AreApart : Values → ℕ → List Entry → Type 0
+AreApart v now = EveryPair (λ a b. OneAtATime v now (mark_of_entry a) (mark_of_entry b))
+
 -- the port is busy until each load that uses the cache is over, and none began before another was
 pub record PortOk (v : Values) (now : ℕ) (h : Hardware) : Type 0 where
-  pub tie : Each (λ e. Tied v h.port_free (mark_of_entry e)) h.rob.entries
-  pub pairs : EveryPair (λ a b. OneAtATime v now (mark_of_entry a) (mark_of_entry b)) h.rob.entries
+  pub tie : AreTied v h.port_free h.rob.entries
+  pub pairs : AreApart v now h.rob.entries
 
 used_weaker : (v : Values) (i : Option Instr) (o : Option Start) {P Q : Start → Type 0} → ((s : Start) → P s → Q s) →
     IfSome o (λ s. uses_cache v i s ≡ true → P s) → IfSome o (λ s. uses_cache v i s ≡ true → Q s)
@@ -47,8 +55,8 @@ port_commit : (v : Values) (now : ℕ) → IsKeptByCommit (PortOk v now)
 port_commit v now = record {
   empties = λ h s retired ok. record { tie = tt; pairs = tt };
   retires = λ h e es s message ok split known faultless. record {
-    tie = (subst (Each (λ x. Tied v h.port_free (mark_of_entry x))) split ok.tie).1;
-    pairs = (subst (EveryPair (λ a b. OneAtATime v now (mark_of_entry a) (mark_of_entry b))) split ok.pairs).1;
+    tie = (subst (AreTied v h.port_free) split ok.tie).1;
+    pairs = (subst (AreApart v now) split ok.pairs).1;
   };
   writes_back =
       λ h ok drained. let le = drained_idle _ h drained in port_same (with_write_back h) refl (omega (arith, le)) ok;
@@ -84,6 +92,9 @@ module _ {v : Values} (legal : IsLegal v) (now : ℕ) where
     abbrev new_port : ℕ
     new_port = (with_access (path h older e) h).port_free
 
+    abbrev IsBesideNew : Entry → Type 0
+    IsBesideNew z = OneAtATime v now (mark_of_entry z) (mark_of_entry new_entry)
+
     not_true : (b : Bool) → not b ≡ true → b ≡ false
     not_true b is = grind arith
 
@@ -95,12 +106,10 @@ module _ {v : Values} (legal : IsLegal v) (now : ℕ) where
     grows : h.port_free ≤ new_port
     grows = port_grows h (path h older e) (has_its_port h older e ready.loads)
 
-    others : (xs : List Entry) → Each (λ z. Tied v h.port_free (mark_of_entry z)) xs →
-        Each (λ z. OneAtATime v now (mark_of_entry z) (mark_of_entry new_entry)) xs
+    others : (xs : List Entry) → AreTied v h.port_free xs → Each IsBesideNew xs
     others xs tie = by_use (uses_cache v e.instruction (new_start)) refl
       where
-        by_use : (b : Bool) → uses_cache v e.instruction (new_start) ≡ b →
-            Each (λ z. OneAtATime v now (mark_of_entry z) (mark_of_entry new_entry)) xs
+        by_use : (b : Bool) → uses_cache v e.instruction (new_start) ≡ b → Each IsBesideNew xs
         by_use true used =
             Each-weaker _ _
             (λ z k. pair_with_new v now (mark_of_entry z) (mark_of_entry new_entry)
@@ -108,15 +117,15 @@ module _ {v : Values} (legal : IsLegal v) (now : ℕ) where
             (let idle = (by_cache used).0 in omega (arith, idle, p.0.1)) k)))
             xs tie
         by_use false used =
-            Each-weaker _ _
-            (λ z k. pair_with_new v now (mark_of_entry z) (mark_of_entry new_entry)
-            (inr (λ is. absurd (true≢false (sym is ∙ used)))))
-            xs tie
+            each_then (λ z k.
+            pair_with_new v now (mark_of_entry z) (mark_of_entry new_entry)
+            (inr (λ is. absurd (true≢false (sym is ∙ used))))) _
+            tie
 
     pub started_port : PortOk v now (issued k h older e)
     started_port =
-        let tie = subst (Each (λ z. Tied v h.port_free (mark_of_entry z))) at p.1.tie in
-        let pairs = subst (EveryPair (λ a b. OneAtATime v now (mark_of_entry a) (mark_of_entry b))) at p.1.pairs in
+        let tie = subst (AreTied v h.port_free) at p.1.tie in
+        let pairs = subst (AreApart v now) at p.1.pairs in
         let olders = Each-left _ older _ tie in
         let youngers = (Each-right _ older _ tie).1 in
         let right = EveryPair-right _ older _ pairs in
@@ -124,10 +133,10 @@ module _ {v : Values} (legal : IsLegal v) (now : ℕ) where
           tie = rw (started_entries k h older younger e at)
               (Each-set _ older younger e _
               (λ used. ((by_cache used).1, positive_cost legal h p.0.0 k (path h older e)))
-              (Each-weaker _ _ (λ z w. tied_later v h.port_free new_port (mark_of_entry z) grows w) _ tie));
+              (each_then (λ z w. tied_later v h.port_free new_port (mark_of_entry z) grows w) _ tie));
           pairs = rw (started_entries k h older younger e at)
               (EveryPair-append _ older _ (EveryPair-left _ older _ pairs) (
-                Each-weaker _ _ (λ z w. turned v now (mark_of_entry z) (mark_of_entry new_entry) w) younger
+                each_then (λ z w. turned v now (mark_of_entry z) (mark_of_entry new_entry) w) _
                     (others younger youngers),
                 right.1,
               )
@@ -157,19 +166,19 @@ module _ {v : Values} {now : ℕ} (g : Hardware) {h : Hardware} (older younger :
     (instruction : (mark_of_entry x).instruction ≡ (mark_of_entry e).instruction)
     (start : (mark_of_entry x).start ≡ (mark_of_entry e).start) (port : g.port_free ≡ h.port_free)
     (ok : PortOk v now h) where
-  set_tie : Each (λ z. Tied v g.port_free (mark_of_entry z)) (older ++ x ∷ younger)
+  set_tie : AreTied v g.port_free (older ++ x ∷ younger)
   set_tie =
-      rw port (let tie = subst (Each (λ z. Tied v h.port_free (mark_of_entry z))) at ok.tie in
+      rw port (let tie = subst (AreTied v h.port_free) at ok.tie in
       Each-set _ older younger e x
       (same_tied v h.port_free (mark_of_entry e) (mark_of_entry x) instruction start (Each-place _ older younger e tie))
       tie)
 
-  set_pairs : EveryPair (λ a b. OneAtATime v now (mark_of_entry a) (mark_of_entry b)) (older ++ x ∷ younger)
+  set_pairs : AreApart v now (older ++ x ∷ younger)
   set_pairs =
       EveryPair-set _ older younger e x
       (λ z w. same_second v now (mark_of_entry e) (mark_of_entry x) (mark_of_entry z) instruction start w)
       (λ z w. same_first v now (mark_of_entry e) (mark_of_entry x) (mark_of_entry z) instruction start w)
-      (subst (EveryPair (λ a b. OneAtATime v now (mark_of_entry a) (mark_of_entry b))) at ok.pairs)
+      (subst (AreApart v now) at ok.pairs)
 
   port_set : g.rob.entries ≡ older ++ x ∷ younger → PortOk v now g
   port_set at' = record { tie = rw at' set_tie; pairs = rw at' set_pairs }

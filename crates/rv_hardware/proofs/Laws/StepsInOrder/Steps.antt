@@ -7,8 +7,9 @@ use Rattle.rv_hardware.proofs.Words.{Each, Entry, Finished, Committing, commit_t
 use Rattle.rv_hardware.proofs.Words.{any_prediction, with_lines, Hardware, IsFetchedSince, Turn, Report, written_of}
 use Rattle.rv_hardware.proofs.Words.{flushes, rows_of, is_interrupt, stamp_of, Row, Step, Retired, Trap, Each-append}
 use Rattle.rv_hardware.proofs.Words.{Each-left, Each-right, Each-set, Each-place, Each-weaker, Each-all, Each-both}
-use Rattle.rv_hardware.proofs.Words.{Each-map, Each-unmap, EveryPair, count, EveryPair-append, count-append, count-none}
-use Rattle.rv_hardware.proofs.Words.{count-length, Leads, leads_both, turns_within, Each-images}
+use Rattle.rv_hardware.proofs.Words.{Each-unmap, EveryPair, count, EveryPair-append, count-append, count-none}
+use Rattle.rv_hardware.proofs.Words.{count-length, Leads, leads_both, turns_within, Each-images, each_image, each_then}
+use Rattle.rv_hardware.proofs.Words.{Fetched}
 use Rattle.std.specs.FinSet as set
 use Rattle.rv_hardware.proofs.Marks.Advance.{Kept, Advances}
 use Rattle.rv_hardware.proofs.Marks.List.{Mark, mark_of_row, mark_of_entry, mark_of_fetched, marks_in}
@@ -25,6 +26,21 @@ use Rattle.rv_hardware.proofs.Marks.Sound.{row_decodes}
 abbrev pub NotBefore : List Step → ℕ → Type 0
 NotBefore steps cycle = Each (λ a. flushes a ≡ true → stamp_of a ≤ cycle) steps
 
+-- what is in flight, and what is fetched, came after every flush among some steps
+abbrev pub EntriesAnew : List Step → List Entry → Type 0
+EntriesAnew steps = Each (λ e. NotBefore steps e.fetched)
+
+abbrev pub WordsAnew : List Step → List Fetched → Type 0
+WordsAnew steps = Each (λ f. NotBefore steps f.cycle)
+
+-- a step was fetched after every flush among some steps
+abbrev SinceFlushes : Step → List Step → Type 0
+SinceFlushes s = Each (λ a. flushes a ≡ true → IsFetchedSince a s)
+
+-- the commit phase of a cycle has come so far after some steps
+abbrev ComesSoFar : Values → ℕ → List Step → Hardware → Type 0
+ComesSoFar v now steps h = Goes v now now now now now (now + 1) Anything steps h
+
 -- two steps, the later of which may be of the same cycle
 pub record InOrder (a b : Step) : Type 0 where
   pub order : stamp_of a ≤ stamp_of b
@@ -34,12 +50,12 @@ pub record InOrder (a b : Step) : Type 0 where
 
 -- the steps of a cycle so far, after those of earlier cycles
 pub record Steps (v : Values) (now : ℕ) (earlier : List Step) (k : ℕ) (c : Committing) : Type 0 where
-  pub goes : Goes v now now now now now (now + 1) Anything (earlier ++ c.steps) c.hardware
+  pub goes : ComesSoFar v now (earlier ++ c.steps) c.hardware
   pub pairs : EveryPair InOrder (earlier ++ c.steps)
   pub of_now : Each (λ s. stamp_of s ≡ now) c.steps
   pub within : length c.steps ≤ k
-  pub entries : Each (λ e. NotBefore (earlier ++ c.steps) e.fetched) c.hardware.rob.entries
-  pub words : Each (λ f. NotBefore (earlier ++ c.steps) f.cycle) c.hardware.front.entries
+  pub entries : EntriesAnew (earlier ++ c.steps) c.hardware.rob.entries
+  pub words : WordsAnew (earlier ++ c.steps) c.hardware.front.entries
 
 abbrev pub Plain : Step → Type 0
 Plain s = (is_interrupt s ≡ false) × (flushes s ≡ false)
@@ -52,7 +68,7 @@ module _ (v : Values) (now : ℕ) (earlier : List Step) (before : Each (λ s. st
 
   -- one more step of this cycle
   module _ {k : ℕ} {c : Committing} (s : Step) (p : Going k c) (at : stamp_of s ≡ now) (alone : is_interrupt s ≡ false)
-      (anew : Each (λ a. flushes a ≡ true → IsFetchedSince a s) (earlier ++ c.steps)) where
+      (anew : SinceFlushes s (earlier ++ c.steps)) where
     regroup : earlier ++ (c.steps ++ s ∷ []) ≡ (earlier ++ c.steps) ++ s ∷ []
     regroup = sym (append_assoc earlier c.steps (s ∷ []))
 
@@ -78,7 +94,7 @@ module _ (v : Values) (now : ℕ) (earlier : List Step) (before : Each (λ s. st
     more_pairs : EveryPair InOrder (earlier ++ (c.steps ++ s ∷ []))
     more_pairs =
         rw regroup (EveryPair-append _ _ _ p.steps.pairs (tt, tt)
-        (Each-weaker _ _ (λ a h. (h, tt)) _ (Each-append _ earlier _ from_earlier from_now)))
+        (each_then (λ a h. (h, tt)) _ (Each-append _ _ _ from_earlier from_now)))
 
     more_of_now : Each (λ a. stamp_of a ≡ now) (c.steps ++ s ∷ [])
     more_of_now = Each-append _ _ _ p.steps.of_now (at, tt)
@@ -87,9 +103,8 @@ module _ (v : Values) (now : ℕ) (earlier : List Step) (before : Each (λ s. st
     more_within = let all = length-append c.steps (s ∷ []) in omega (arith, all, p.steps.within)
 
     -- which flushes everything
-    pub flushing : {g : Hardware} (stop : Option Stop) →
-        Goes v now now now now now (now + 1) Anything (earlier ++ (c.steps ++ s ∷ [])) g → g.rob.entries ≡ [] →
-        g.front.entries ≡ [] →
+    pub flushing : {g : Hardware} (stop : Option Stop) → ComesSoFar v now (earlier ++ (c.steps ++ s ∷ [])) g →
+        g.rob.entries ≡ [] → g.front.entries ≡ [] →
         Steps v now earlier (suc k) (record { hardware = g; steps = c.steps ++ s ∷ []; stop = stop })
     flushing stop goes none none' =
         record {
@@ -107,17 +122,18 @@ module _ (v : Values) (now : ℕ) (earlier : List Step) (before : Each (λ s. st
 
     -- or leaves what is younger
     pub leaving : {g : Hardware} (stop : Option Stop) (e : Entry) {es : List Entry} → flushes s ≡ false →
-        Goes v now now now now now (now + 1) Anything (earlier ++ (c.steps ++ s ∷ [])) g →
-        c.hardware.rob.entries ≡ e ∷ es → g.rob.entries ≡ es → g.front.entries ≡ c.hardware.front.entries →
+        ComesSoFar v now (earlier ++ (c.steps ++ s ∷ [])) g → c.hardware.rob.entries ≡ e ∷ es → g.rob.entries ≡ es →
+        g.front.entries ≡ c.hardware.front.entries →
         Steps v now earlier (suc k) (record { hardware = g; steps = c.steps ++ s ∷ []; stop = stop })
     leaving stop e {es} plain goes place here front = record {
       goes = goes;
       pairs = more_pairs;
       of_now = more_of_now;
       within = more_within;
-      entries = rw here (Each-weaker _ _ (λ x h. not_before x.fetched plain h) es
-          (subst (Each (λ x. NotBefore (earlier ++ c.steps) x.fetched)) place p.steps.entries).1);
-      words = rw front (Each-weaker _ _ (λ x h. not_before x.cycle plain h) _ p.steps.words);
+      entries = rw here
+          (each_then (λ x h. not_before x.fetched plain h) _
+          (subst (EntriesAnew (earlier ++ c.steps)) place p.steps.entries).1);
+      words = rw front (each_then (λ x h. not_before x.cycle plain h) _ p.steps.words);
     }
 
   steps_up_to : {k : ℕ} (n : ℕ) {c : Committing} → k ≤ n → Steps v now earlier k c → Steps v now earlier n c
@@ -146,18 +162,17 @@ module _ (v : Values) (now : ℕ) (earlier : List Step) (before : Each (λ s. st
   }
 
   no_row_since : (s : Step) (steps : List Step) → ((a : Step) → IsFetchedSince a s) →
-      Each (λ a. flushes a ≡ true → IsFetchedSince a s) steps
+      SinceFlushes s steps
   no_row_since s steps f = Each-all _ (λ a h. f a) steps
 
   row_since : (c : Committing) (e : Entry) (es : List Entry) (written : Option (ℕ × ℕ)) →
-      c.hardware.rob.entries ≡ e ∷ es →
-      Each (λ x. NotBefore (earlier ++ c.steps) x.fetched) c.hardware.rob.entries →
-      Each (λ a. flushes a ≡ true → IsFetchedSince a (Retired (row_at e written c.hardware.cycle))) (earlier ++ c.steps)
-  row_since c e es written place h = (subst (Each (λ x. NotBefore (earlier ++ c.steps) x.fetched)) place h).0
+      c.hardware.rob.entries ≡ e ∷ es → EntriesAnew (earlier ++ c.steps) c.hardware.rob.entries →
+      SinceFlushes (Retired (row_at e written c.hardware.cycle)) (earlier ++ c.steps)
+  row_since c e es written place h = (subst (EntriesAnew (earlier ++ c.steps)) place h).0
 
   plain_row : (c : Committing) (e : Entry) (es : List Entry) {issue : Option Issue} {cycle : ℕ} {message : Message} →
       c.hardware.rob.entries ≡ e ∷ es → is_serialising e.instruction ≡ false → e.stage ≡ Finished issue cycle message →
-      message.fault ≡ None → Goes v now now now now now (now + 1) Anything (earlier ++ c.steps) c.hardware →
+      message.fault ≡ None → ComesSoFar v now (earlier ++ c.steps) c.hardware →
       is_serialising (instruction_of (unwrap_or e.word 0)) ≡ false
   plain_row c e es place plain given holds goes = grind (arith, row_decodes, retiring_is_one, may_retire_finished)
 
@@ -203,9 +218,8 @@ module _ (v : Values) (now : ℕ) (earlier : List Step) (before : Each (λ s. st
   turn_leads total k c _ lt it q p goes = steps_up_to total (omega (arith, lt)) p.steps
 
   commit_leads_by : {total : ℕ} → 1 ≤ total → (o : Option ℕ) {h : Hardware} → h.values.commit_width ≡ total →
-      Goes v now now now now now (now + 1) Anything (earlier ++ []) h → EveryPair InOrder (earlier ++ []) →
-      Each (λ e. NotBefore (earlier ++ []) e.fetched) h.rob.entries →
-      Each (λ f. NotBefore (earlier ++ []) f.cycle) h.front.entries →
+      ComesSoFar v now (earlier ++ []) h → EveryPair InOrder (earlier ++ []) →
+      EntriesAnew (earlier ++ []) h.rob.entries → WordsAnew (earlier ++ []) h.front.entries →
       Commits (anything_is_kept v now) earlier is_stale (commit_unless is_stale o h) →
       Steps v now earlier total (commit_unless is_stale o h)
   commit_leads_by le (Some code) width goes pairs entries words after =
@@ -238,8 +252,8 @@ pub record StepsPast (v : Values) (steps : List Step) (h : Hardware) : Type 0 wh
   pub before : Each (λ s. stamp_of s < h.cycle) steps
   pub pairs : EveryPair InOrder steps
   pub width : (c : ℕ) → count (λ s. stamp_of s == c) steps ≤ v.commit_width
-  pub entries : Each (λ e. NotBefore steps e.fetched) h.rob.entries
-  pub words : Each (λ f. NotBefore steps f.cycle) h.front.entries
+  pub entries : EntriesAnew steps h.rob.entries
+  pub words : WordsAnew steps h.front.entries
 
 -- what is in flight was fetched after every flush
 abbrev pub FetchedAnew : List Step → Mark → Type 0
@@ -280,44 +294,43 @@ module _ (v : Values) (legal : IsLegal v) (earlier : List Step) (old new : Hardw
       (rw (append-nil earlier) (past.words))
       (commit_keeps (anything_is_kept v old.cycle) earlier set.contains first)
 
-  here : earlier ++ report.steps ≡ earlier ++ (committing lines old).steps
+  -- the steps with those of this cycle
+  abbrev so_far : List Step
+  so_far = earlier ++ report.steps
+
+  here : so_far ≡ earlier ++ (committing lines old).steps
   here = ap (λ l. earlier ++ l) passed.steps
 
-  at_commit : Each (FetchedAnew (earlier ++ report.steps))
-      (marks_in (earlier ++ report.steps) (committing lines old).hardware)
+  at_commit : Each (FetchedAnew so_far) (marks_in so_far (committing lines old).hardware)
   at_commit =
       let h : Hardware = (committing lines old).hardware in
-      let es = subst (λ l. Each (λ e. NotBefore l e.fetched) h.rob.entries) (sym here) committed.entries in
-      let fs = subst (λ l. Each (λ f. NotBefore l f.cycle) h.front.entries) (sym here) committed.words in
-      Each-append _ _ _ (rows_are_gone (earlier ++ report.steps) (rows_of (earlier ++ report.steps)))
-      (Each-append _ _ _ (Each-map _ _ _ (Each-weaker _ _ (λ e w none. w) _ es))
-      (Each-map _ _ _ (Each-weaker _ _ (λ f w none. w) _ fs)))
+      let es = subst (λ l. EntriesAnew l h.rob.entries) (sym here) committed.entries in
+      let fs = subst (λ l. WordsAnew l h.front.entries) (sym here) committed.words in
+      Each-append _ _ _ (rows_are_gone so_far (rows_of so_far))
+      (Each-append _ _ _ (each_image _ (λ e w none. w) _ es) (each_image _ (λ f w none. w) _ fs))
 
-  at_dispatch : Each (FetchedAnew (earlier ++ report.steps))
-      (marks_in (earlier ++ report.steps) (dispatching lines old).hardware)
+  at_dispatch : Each (FetchedAnew so_far) (marks_in so_far (dispatching lines old).hardware)
   at_dispatch =
-      (execute_keeps legal (anew_is_kept (earlier ++ report.steps) v old.cycle)
-      (with_marks (Each (FetchedAnew (earlier ++ report.steps))) at_commit passed.committed)).marks
+      (execute_keeps legal (anew_is_kept so_far v old.cycle)
+      (with_marks (Each (FetchedAnew so_far)) at_commit passed.committed)).marks
 
-  by_now : Each (λ s. stamp_of s < old.cycle + 1) (earlier ++ report.steps)
+  by_now : Each (λ s. stamp_of s < old.cycle + 1) so_far
   by_now =
-      Each-append _ earlier _ (Each-weaker _ _ (λ s lt. omega (arith, lt)) earlier past.before)
-      (Each-weaker _ _ (λ s e. omega (arith, e)) _
+      Each-append _ _ _ (each_then (λ s lt. omega (arith, lt)) _ past.before)
+      (each_then (λ s e. omega (arith, e)) _
       (subst (Each (λ s. stamp_of s ≡ old.cycle)) (sym passed.steps) committed.of_now))
 
-  new_words_anew : Each (λ f. NotBefore (earlier ++ report.steps) f.cycle) passed.fetches.added
+  new_words_anew : WordsAnew so_far passed.fetches.added
   new_words_anew = grind (arith, Each-weaker, by_now, passed)
 
   -- the steps of a cycle carry its number
   pub steps_of_cycle : Each (λ s. stamp_of s ≡ old.cycle) report.steps
   steps_of_cycle = subst (Each (λ s. stamp_of s ≡ old.cycle)) (sym passed.steps) committed.of_now
 
-  none_of_now : (c : ℕ) (b : Bool) → eqb old.cycle c ≡ b →
-      count (λ s. stamp_of s == c) (earlier ++ report.steps) ≤ v.commit_width
+  none_of_now : (c : ℕ) (b : Bool) → eqb old.cycle c ≡ b → count (λ s. stamp_of s == c) so_far ≤ v.commit_width
   none_of_now c true e =
       let none = count-none (λ s. stamp_of s == c) earlier
-      (Each-weaker _ _
-      (λ s lt. ne_eqb (stamp_of s) c (omega (arith, lt, eqb-true old.cycle c e))) earlier past.before) in
+      (each_then (λ s lt. ne_eqb (stamp_of s) c (omega (arith, lt, eqb-true old.cycle c e))) _ past.before) in
       omega (
         arith,
         none,
@@ -327,28 +340,27 @@ module _ (v : Values) (legal : IsLegal v) (earlier : List Step) (old new : Hardw
         committed.within,
       )
   none_of_now c false e =
-      let none = count-none (λ s. stamp_of s == c) _ (Each-weaker _ _ (λ s at. rw at e) _ steps_of_cycle) in
+      let none = count-none (λ s. stamp_of s == c) _ (each_then (λ s at. rw at e) _ steps_of_cycle) in
       omega (arith, none, count-append (λ s. stamp_of s == c) earlier report.steps, past.width c)
 
-  pub steps_go_on : StepsPast v (earlier ++ report.steps) new
+  pub steps_go_on : StepsPast v so_far new
   steps_go_on =
       let d : Hardware = (dispatching lines old).hardware in
       let behind = Each-right _ _ _ at_dispatch in
       let es = Each-unmap _ _ _ (Each-left _ _ _ behind) in
       let fs = Each-unmap _ _ _ (Each-right _ _ _ behind) in
       record {
-        before = subst (λ n. Each (λ s. stamp_of s < n) (earlier ++ report.steps))
+        before = subst (λ n. Each (λ s. stamp_of s < n) so_far)
             (sym (ap (λ (h : Hardware). h.cycle) passed.others_stay)) by_now;
         pairs = subst (EveryPair InOrder) (sym here) committed.pairs;
         width = λ c. none_of_now c (eqb old.cycle c) refl;
-        entries = subst (Each (λ e. NotBefore (earlier ++ report.steps) e.fetched))
-            (sym (ap (λ (h : Hardware). h.rob.entries) passed.others_stay))
-            (Each-weaker (λ e. FetchedAnew (earlier ++ report.steps) (mark_of_entry e))
-            (λ e. NotBefore (earlier ++ report.steps) e.fetched) (λ e w. w refl) d.rob.entries es);
+        entries = subst (EntriesAnew so_far) (sym (ap (λ (h : Hardware). h.rob.entries) passed.others_stay))
+            (Each-weaker (λ e. FetchedAnew so_far (mark_of_entry e)) (λ e. NotBefore so_far e.fetched)
+            (λ e w. w refl) d.rob.entries es);
         words = rw (passed.fetches.entries)
-            (Each-append (λ f. NotBefore (earlier ++ report.steps) f.cycle) d.front.entries passed.fetches.added
-            (Each-weaker (λ f. FetchedAnew (earlier ++ report.steps) (mark_of_fetched f))
-            (λ f. NotBefore (earlier ++ report.steps) f.cycle) (λ f w. w refl) d.front.entries fs)
+            (Each-append (λ f. NotBefore so_far f.cycle) d.front.entries passed.fetches.added
+            (Each-weaker (λ f. FetchedAnew so_far (mark_of_fetched f)) (λ f. NotBefore so_far f.cycle)
+            (λ f w. w refl) d.front.entries fs)
             new_words_anew);
       }
 

@@ -2,7 +2,7 @@
 use Rattle.rv_hardware.proofs.Words.{◌≡◌, ℕ, ◌+◌, ◌≤◌, Bool, true, false, cond, List, [], ◌∷◌, ◌++◌, length, is_some}
 use Rattle.rv_hardware.proofs.Words.{filter, Option, sym, refl, ap, ◌∙◌, append_assoc, append-nil, arith, filter-append}
 use Rattle.rv_hardware.proofs.Words.{StoreAccess, Each, with_oldest_draining, without_drained, is_draining, Store}
-use Rattle.rv_hardware.proofs.Words.{committed_store, is_store_row, Row, Each-append, Each-weaker}
+use Rattle.rv_hardware.proofs.Words.{committed_store, is_store_row, Row, Each-weaker, Each-append}
 
 -- row by row, the queue's retired stores; the port is busy until the access is over that one has begun
 abbrev pub AreQueued : ℕ → ℕ → List Row → List Store → Type 0
@@ -90,7 +90,7 @@ module _ (hit now : ℕ) (rows : List Row) (port : ℕ) (idle : port ≤ now) wh
     gone = gone ++ row ∷ [];
     kept = kept;
     split = split ∙ sym (append_assoc gone (row ∷ []) kept);
-    over = Each-append _ gone _ over (let by = queued.0 begun in omega (arith, by, idle), tt);
+    over = Each-append _ _ _ over (let by = queued.0 begun in omega (arith, by, idle), tt);
     by_now = by_now.1;
     queued = queued.1;
   }
