@@ -138,8 +138,8 @@ module _ {lines : Lines} {old new new' : GuidedHardware} {report report' : Repor
 -- a cycle leaves the one hardware and the one predictor, which is described
 pub cycle_once : {lines : Lines} {old new new' : GuidedHardware} {report report' : Report}
     (predictor : DescribedPredictor) →
-    old.predictor ≡ guide_of predictor → IsGuidedCycle lines old report new → IsGuidedCycle lines old report' new' →
-    new ≡ new'
+    old.predictor ≡ guide_of predictor → IsGuidedCycle lines old report new →
+    IsGuidedCycle lines old report' new' → new ≡ new'
 cycle_once {lines} {old} {new} {new'} {report} predictor is cycle cycle' =
     left_once cycle cycle' (fold taught predictor (lessons_of report.steps new.hardware.pc))
     (cycle.learns ∙ ap (λ p. fold after_lesson p (lessons_of report.steps new.hardware.pc)) is ∙
@@ -205,10 +205,9 @@ stops_or_not same stops none = true≢false (ap is_some (sym stops ∙ ap (λ (r
 
 one_run : {arrivals : List Arrival} {old new new' : GuidedHardware} {reports reports' : List Report}
     {reason reason' : Stop} {left : ℕ} (predictor : DescribedPredictor) →
-    old.predictor ≡ guide_of predictor → old.hardware.cycle + left ≤ 2 ^ 40
-    → GuidedCycles arrivals old reports new → GuidedCycles arrivals old reports' new' →
-    Ending new.hardware reason left reports → Ending new'.hardware reason' left reports' →
-    IsOneRun reports reports' new new' reason reason'
+    old.predictor ≡ guide_of predictor → old.hardware.cycle + left ≤ 2 ^ 40 → GuidedCycles arrivals old reports new →
+    GuidedCycles arrivals old reports' new' → Ending new.hardware reason left reports →
+    Ending new'.hardware reason' left reports' → IsOneRun reports reports' new new' reason reason'
 one_run predictor is within ended ended (at_limit why) (at_limit why') =
     record { reports_are = refl; ends = refl; reasons = why ∙ sym why' }
 one_run predictor is within ended ended (at_exhaustion why full) (at_exhaustion why' full') =

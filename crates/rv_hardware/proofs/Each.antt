@@ -98,6 +98,9 @@ pub each_image : {X Y : Type 0} (P : X → Type 0) {Q : Y → Type 0} {f : Y →
     (ys : List Y) → Each Q ys → Each P (map f ys)
 each_image P {Q} {f} g ys h = Each-map P f ys (Each-weaker Q (λ y. P (f y)) g ys h)
 
+-- of each element, and so of parts, of more, of images and of a list in which one is another now
+pub ruleset each_moves = (Each-append, Each-left, Each-right, Each-place, Each-set, Each-weaker, Each-map, Each-all)
+
 -- what a function takes from each element is the same where one of them is another one with the same
 pub map-change : {X Y : Type 0} (f : X → Y) (xs ys : List X) (old new : X) → f new ≡ f old →
     map f (xs ++ new ∷ ys) ≡ map f (xs ++ old ∷ ys)

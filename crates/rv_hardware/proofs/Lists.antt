@@ -233,8 +233,8 @@ module _ {X : Type 0} where
 
   -- another element at a place
   pub EveryAfter-set : (P : List X → X → Type 0) (xs ys : List X) (m n : X) → (P xs m → P xs n) →
-      ((mid : List X) (z : X) → P (xs ++ m ∷ mid) z → P (xs ++ n ∷ mid) z) →
-      EveryAfter P [] (xs ++ m ∷ ys) → EveryAfter P [] (xs ++ n ∷ ys)
+      ((mid : List X) (z : X) → P (xs ++ m ∷ mid) z → P (xs ++ n ∷ mid) z) → EveryAfter P [] (xs ++ m ∷ ys) →
+      EveryAfter P [] (xs ++ n ∷ ys)
   EveryAfter-set P xs ys m n f g h =
       let right = EveryAfter-right P [] xs (m ∷ ys) h in
       let rest = moved P P (xs ++ m ∷ []) (xs ++ n ∷ [])
@@ -302,3 +302,8 @@ module _ {X : Type 0} (R : X → X → Type 0) where
         (Each-weaker (λ z. Each (R z) (x ∷ xs)) (λ z. Each (R z) xs) (λ z w. w.1) before a) (h.0, tt))
         h.1,
   )
+
+-- of each pair, and of each element behind others, and so of parts, of more and of a list in which one is another now
+pub ruleset pair_moves = (EveryPair-append, EveryPair-left, EveryPair-right, EveryPair-across, EveryPair-set)
+
+pub ruleset after_moves = (EveryAfter-append, EveryAfter-left, EveryAfter-right, EveryAfter-moved, EveryAfter-set)

@@ -25,8 +25,8 @@ module _ (n before m : ℕ) (reports : List Report) (few : before ≤ n) (passed
   Gap xs = HasGap n before m (xs ++ steps_of reports)
 
   gap_after : (xs : List Step) (x : Step) → All (λ y. stamp_of y ≡ n) (x ∷ xs) →
-      HasGap (n + 1) 0 m (steps_of reports) (longest_gap_from 0 reports) →
-      before < longest_gap_from 0 reports → Gap (x ∷ xs) (max before (longest_gap_from 0 reports))
+      HasGap (n + 1) 0 m (steps_of reports) (longest_gap_from 0 reports) → before < longest_gap_from 0 reports →
+      Gap (x ∷ xs) (max before (longest_gap_from 0 reports))
   gap_after xs x stamped anew longer =
       let is : longest_gap_from 0 reports ≡ max before (longest_gap_from 0 reports) = omega (arith, longer) in
       let outside = IsOutside anew.first (longest_gap_from 0 reports) in

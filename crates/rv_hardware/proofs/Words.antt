@@ -155,11 +155,12 @@ pub use Rattle.rv_hardware.specs.declared.step.Row.{Row}
 pub use Rattle.rv_hardware.specs.declared.step.Step.{Step}
 pub use Rattle.rv_hardware.specs.declared.step.Step.TheVariants.{Interrupt, Retired, Trap}
 pub use Rattle.rv_hardware.proofs.Tests.{by_test, and_first, and_second, not_both, never_both}
-pub use Rattle.rv_hardware.proofs.Each.{each_image, each_then, All-Each, Each-All, All-right, Each-append}
+pub use Rattle.rv_hardware.proofs.Each.{each_moves, each_image, each_then, All-Each, Each-All, All-right, Each-append}
 pub use Rattle.rv_hardware.proofs.Each.{Each-left, Each-right, Each-push}
 pub use Rattle.rv_hardware.proofs.Each.{Each-change, Each-set, Each-place, Each-weaker, Each-all, Each-both, Each-map}
 pub use Rattle.rv_hardware.proofs.Each.{Each-images, Each-unmap, Each-filter, map-change}
-pub use Rattle.rv_hardware.proofs.Lists.{EveryPair, EveryAfter, count, Beginning, AllPairs-EveryPair, Across}
+pub use Rattle.rv_hardware.proofs.Lists.{pair_moves, after_moves, EveryPair, EveryAfter, count, Beginning}
+pub use Rattle.rv_hardware.proofs.Lists.{AllPairs-EveryPair, Across}
 pub use Rattle.rv_hardware.proofs.Lists.{EveryPair-append, EveryPair-left, EveryPair-right, EveryPair-across}
 pub use Rattle.rv_hardware.proofs.Lists.{EveryPair-weaker, EveryPair-map, EveryPair-unmap, EveryPair-set}
 pub use Rattle.rv_hardware.proofs.Lists.{count-count_by, count-append, count-none, count-yes, count-map, count-le}

@@ -43,12 +43,12 @@ HasWordOr None None = ⊥
 HasWordOr (Some fault) None = Unit {0}
 
 by_word : (layout : Layout) (s : State) (lines : Lines) (word : Option ℕ) (instruction : Option Instr) →
-    HasWordOr None word →
-    is_some (kind_of_word instruction) ≡ true → IsUnitFault (result_of_word layout s lines word instruction).fault
+    HasWordOr None word → is_some (kind_of_word instruction) ≡ true →
+    IsUnitFault (result_of_word layout s lines word instruction).fault
 by_word layout s lines word instruction has unit = grind (arith, in_message, by_unit)
 
 -- a message of an instruction with a unit gives no fault but one that its unit finds
 pub by_result : (word : Option ℕ) (instruction : Option Instr) (message : Message) →
-    IsResultOfWord word instruction message →
-    HasWordOr None word → is_some (kind_of_word instruction) ≡ true → IsUnitFault message.fault
+    IsResultOfWord word instruction message → HasWordOr None word → is_some (kind_of_word instruction) ≡ true →
+    IsUnitFault message.fault
 by_result word instruction message result has unit = grind (arith, by_word)

@@ -47,8 +47,7 @@ has_word : (word : Option ℕ) (message : Message) → message.fault ≡ None �
 has_word word message faultless has = subst (λ fault. HasWordOr fault word) faultless has
 
 next_last : (halted : Bool) (word : Option ℕ) (ws : List (Option ℕ)) → HasWordOr None word →
-    HaltsAfter halted (word ∷ ws) →
-    HaltsAfter halted ws
+    HaltsAfter halted (word ∷ ws) → HaltsAfter halted ws
 next_last false word ws has behind = tt
 next_last true None ws has behind = absurd has
 next_last true (Some word) [] has behind = absurd (cc)
@@ -67,8 +66,7 @@ moved_words entries e f rest same = grind (arith, map-append, append_assoc)
 
 -- ---- a fetch
 halted_for : (word : Option ℕ) (straight : Bool) (reason : FetchStop) → stop_for word straight ≡ Some reason →
-    reason ≡ Halted →
-    word ≡ None
+    reason ≡ Halted → word ≡ None
 halted_for word straight reason is halted = grind arith
 
 module _ (ram : Memory) (cycle : ℕ) where

@@ -58,8 +58,7 @@ last-kept = record { phases = phases-kept last_changes; fetch = λ ram cycle h f
 
 -- so one that is the oldest is alone
 pub alone : (e : Entry) (es : List Entry) → AreSerialLast (instructions_of (e ∷ es)) →
-    is_serialising e.instruction ≡ true →
-    es ≡ []
+    is_serialising e.instruction ≡ true → es ≡ []
 alone e [] last serial = refl
 alone e (f ∷ es) last serial = absurd (cc (serial, last.0))
 

@@ -27,8 +27,7 @@ HasSizes h = HasShape h.values h
 
 -- another front with the same room and width leaves it so
 pub with_front : (v : Values) (h : Hardware) (front : FetchBuffer) (cycle : ℕ) → front.capacity ≡ h.front.capacity →
-    front.width ≡ h.front.width →
-    HasShape v h → HasShape v (record h { front = front; cycle = cycle })
+    front.width ≡ h.front.width → HasShape v h → HasShape v (record h { front = front; cycle = cycle })
 with_front v h front cycle room width shape = grind arith
 
 -- of the description that the hardware's own stands for

@@ -54,8 +54,7 @@ HasStores h = AreShaped h × FitQueue h h.committed h.rob.entries
 
 -- ---- a retirement
 one_committed : (instruction : Option Instr) (seq : ℕ) (access : Option StoreAccess) →
-    is_some access ≡ is_store instruction →
-    length (committed_store seq access) ≤ cond (is_store instruction) 1 0
+    is_some access ≡ is_store instruction → length (committed_store seq access) ≤ cond (is_store instruction) 1 0
 one_committed instruction seq access tells = grind arith
 
 fits_retired : (h : Hardware) (e : Entry) (es : List Entry) (message : Message) → HasStores h → h.rob.entries ≡ e ∷ es →

@@ -108,8 +108,7 @@ module _ (h : Hardware) (instruction : Option Instr) (R : Stage → Type 0) (mos
 
 -- the patience of hardware with a given oldest instruction
 pub plain-head : (h : Hardware) (e : Entry) (es : List Entry) → h.rob.entries ≡ e ∷ es →
-    is_serialising e.instruction ≡ false →
-    patience h ≡ stage_time h e.instruction e.stage
+    is_serialising e.instruction ≡ false → patience h ≡ stage_time h e.instruction e.stage
 plain-head h e es split plain = ap (flight_time h) split ∙ plain_time h e.instruction e.stage plain
 
 -- where it has begun, it is over within the longest execution
@@ -125,8 +124,7 @@ begun-patience h instruction plain head ends = grind (arith, plain-patience, beg
 -- ---- stages and results
 -- a result leaves any stage in one
 pub anywhere_closed : {cycle : ℕ} (stage : Stage) (message : Message) (issue : Option Issue) →
-    HasRun cycle stage message →
-    IsAnywhere stage → IsAnywhere (Finished issue cycle message)
+    HasRun cycle stage message → IsAnywhere stage → IsAnywhere (Finished issue cycle message)
 anywhere_closed stage message issue gives is = tt
 
 -- what has begun and gives a result has begun

@@ -10,15 +10,14 @@ HeadIs instruction R (e ∷ es) = (e.instruction ≡ instruction) × R e.stage
 module _ (instruction : Option Instr) (R : Stage → Type 0) where
   -- the oldest stays what it was where an instruction in flight changes
   pub head-change : (older younger : List Entry) (old new : Entry) → new.instruction ≡ old.instruction →
-      (old.instruction ≡ instruction → R old.stage → R new.stage) →
-      HeadIs instruction R (older ++ old ∷ younger) → HeadIs instruction R (older ++ new ∷ younger)
+      (old.instruction ≡ instruction → R old.stage → R new.stage) → HeadIs instruction R (older ++ old ∷ younger) →
+      HeadIs instruction R (older ++ new ∷ younger)
   head-change [] younger old new same keeps head = (same ∙ head.0, keeps head.0 head.1)
   head-change (o ∷ older) younger old new same keeps head = head
 
   -- the oldest stays what it was where what is younger than one is cut
   pub head-cut : (older younger : List Entry) (old new : Entry) → new.instruction ≡ old.instruction →
-      new.stage ≡ old.stage →
-      HeadIs instruction R (older ++ old ∷ younger) → HeadIs instruction R (older ++ new ∷ [])
+      new.stage ≡ old.stage → HeadIs instruction R (older ++ old ∷ younger) → HeadIs instruction R (older ++ new ∷ [])
   head-cut [] younger old new same stage head = (same ∙ head.0, subst R (sym stage) head.1)
   head-cut (o ∷ older) younger old new same stage head = head
 

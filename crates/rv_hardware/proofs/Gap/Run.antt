@@ -19,8 +19,7 @@ module _ (bound silent before after : ℕ) (report : Report)
     (below : silent + before + 1 < bound) where
   cycle_below : (reports : List Report) →
       ((more : ℕ) → more + after + 1 < bound → OnlyLastStops reports → longest_gap_from more reports < bound) →
-      OnlyLastStops (report ∷ reports) →
-      longest_gap_from silent (report ∷ reports) < bound
+      OnlyLastStops (report ∷ reports) → longest_gap_from silent (report ∷ reports) < bound
   cycle_below reports next only = grind (arith, by_test, no_steps)
 
 same_values : {lines : Lines} {old new : Hardware} {report : Report} → IsCycle any_prediction lines old report new →

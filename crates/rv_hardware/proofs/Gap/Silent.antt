@@ -90,8 +90,8 @@ module _ (is_stale : set.FinSet nat_cmp → ℕ → Bool) where
     first_outcome _ = reports (Ends _) tt
 
   unless_silent : (code : Option ℕ) (h : Hardware) → 1 ≤ h.values.commit_width →
-      (commit_unless is_stale code h).steps ≡ [] →
-      (commit_unless is_stale code h).stop ≡ None → SilentAt h.rob.entries h (commit_unless is_stale code h).hardware
+      (commit_unless is_stale code h).steps ≡ [] → (commit_unless is_stale code h).stop ≡ None →
+      SilentAt h.rob.entries h (commit_unless is_stale code h).hardware
   unless_silent (Some code) h wide silent going = absurd (cc)
   unless_silent None h wide silent going =
       let width : h.values.commit_width ≡ suc (h.values.commit_width - 1) = omega arith in

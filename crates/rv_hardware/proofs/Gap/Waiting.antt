@@ -24,8 +24,7 @@ begun_by_issue instruction j = record {
 }
 
 pub begun-issue_kind : (instruction : Option Instr) (j : Kind) (h : Hardware) →
-    HeadIs instruction HasBegun h.rob.entries →
-    HeadIs instruction HasBegun (issue_kind j h).rob.entries
+    HeadIs instruction HasBegun h.rob.entries → HeadIs instruction HasBegun (issue_kind j h).rob.entries
 begun-issue_kind instruction j h head = issue_kind-keeps j (starts-keep (begun_by_issue instruction j)) h head
 
 module _ (instruction : Option Instr) {k : Kind} (of_kind : kind_of_word instruction ≡ Some k) (pool : Pool)

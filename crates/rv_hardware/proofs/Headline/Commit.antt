@@ -115,8 +115,8 @@ module _ (lines : Lines) (before : State) (old : Hardware) where
 
         retire_done : (straight : Bool) → nat_eq message.next_pc e.predicted_next ≡ straight →
             Leads (IsGoing lines before old) (IsDone lines before old)
-            (if straight then GoesOn (record c { hardware = after; steps = c.steps ++ row ∷ [] }) else Ends
-            (record c { hardware = flushed after; steps = c.steps ++ row ∷ [] }))
+            (if straight then GoesOn (record c { hardware = after; steps = c.steps ++ row ∷ [] })
+            else Ends (record c { hardware = flushed after; steps = c.steps ++ row ∷ [] }))
         retire_done true is = record {
           stays = going.stays;
           calm = going.calm;

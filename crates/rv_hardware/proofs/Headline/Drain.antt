@@ -15,8 +15,7 @@ use Rattle.rv_hardware.proofs.Headline.Words.{length-stored, stored_again, bytes
 module _ {values : Values} {cycle : ℕ} {s : State} {h : Hardware} (is : IsSoundAt values cycle s h) where
   -- the hardware with other memory, where that holds what it has to, and programs see the same
   pub with_other_memory : (new : Hardware) → new.values ≡ h.values → new.cycle ≡ h.cycle → new.pc ≡ h.pc →
-      new.csrs ≡ h.csrs →
-      new.rob ≡ h.rob → new.front ≡ h.front → seen new ≡ seen h →
+      new.csrs ≡ h.csrs → new.rob ≡ h.rob → new.front ≡ h.front → seen new ≡ seen h →
       HoldsMemory new.values new.stale new.cache new.committed → IsSoundAt values cycle s new
   with_other_memory new same_values same_cycle same_pc same_csrs same_rob same_front same_seen memory = record {
     values_are = same_values ∙ is.values_are;

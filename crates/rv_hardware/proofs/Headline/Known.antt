@@ -53,8 +53,7 @@ same_where_written xs ys r value size = grind (arith, get_or-set_same, past_end)
 agree_after_one : (xs ys : List ℕ) (r : ℕ) (known : Bool) (target : Option ℕ) (broadcast : Option Message)
     (message : Message) →
     length xs ≡ length ys → (known ≡ true → slice_index xs r ≡ slice_index ys r) → IsNotZero target →
-    IfSome broadcast (λ b. b ≡ message) →
-    (if is_target r target then is_some broadcast else known) ≡ true →
+    IfSome broadcast (λ b. b ≡ message) → (if is_target r target then is_some broadcast else known) ≡ true →
     slice_index (with_value xs target broadcast) r ≡ slice_index (with_value ys target (Some message)) r
 agree_after_one xs ys r known None broadcast message size same zero is test = same test
 agree_after_one xs ys r known (Some rd) None message size same zero is test =
@@ -69,9 +68,8 @@ broadcast_is stage result is = grind arith
 
 module _ (layout : Layout) (now : State) where
   known_from : (older : List Entry) (s : State) (registers : List ℕ) {known : Bool} (r : ℕ) →
-      AreInFlight layout now s older →
-      length registers ≡ length s.registers → (known ≡ true → slice_index registers r ≡ register_of s r) →
-      is_known_from known older r ≡ true →
+      AreInFlight layout now s older → length registers ≡ length s.registers →
+      (known ≡ true → slice_index registers r ≡ register_of s r) → is_known_from known older r ≡ true →
       slice_index (registers_after registers older) r ≡ register_of (behind layout older s) r
   known_from [] s registers r all size same test = same test
   known_from (e ∷ es) s registers {known} r all size same test =
@@ -85,8 +83,8 @@ module _ (layout : Layout) (now : State) where
       test
 
   pub operands_known : (older : List Entry) (s t : State) (sources : List (Option ℕ)) → AreInFlight layout now s older →
-      t.registers ≡ registers_after s.registers older →
-      has_operands older sources ≡ true → ReadsSame t (behind layout older s) sources
+      t.registers ≡ registers_after s.registers older → has_operands older sources ≡ true →
+      ReadsSame t (behind layout older s) sources
   operands_known older s t [] all is has = tt
   operands_known older s t (None ∷ sources) all is has = operands_known older s t sources all is has
   operands_known older s t (Some r ∷ sources) all is has =
@@ -109,8 +107,7 @@ no_store layout s lines word i other = grind (arith, no_access, no_store_of_effe
 
 -- a store that is known has its bytes
 store_known : (base : ℕ) (xs ys : List ℕ) (broadcast : Option Message) (message : Message) → xs ≡ ys →
-    IfSome broadcast (λ b. b ≡ message) →
-    is_known_state (store_of_broadcast broadcast) ≡ true →
+    IfSome broadcast (λ b. b ≡ message) → is_known_state (store_of_broadcast broadcast) ≡ true →
     with_store base (store_of_broadcast broadcast) xs ≡ with_store base (store_of_message message.store) ys
 store_known base xs ys broadcast message same is known = grind (arith, false≢true)
 
@@ -131,9 +128,8 @@ module _ (layout : Layout) (now : State) where
       (behind layout (e ∷ es) s).ram
   known_by e es s seq is result same rest known = grind (arith, and_parts, store_known, broadcast_is, no_store)
 
-  pub memory_known : (older : List Entry) (s : State) (seq : ℕ) {bytes : List ℕ} →
-      AreInFlight layout now s older → bytes ≡ s.ram →
-      list_all is_known_store (stores_of seq older) ≡ true →
+  pub memory_known : (older : List Entry) (s : State) (seq : ℕ) {bytes : List ℕ} → AreInFlight layout now s older →
+      bytes ≡ s.ram → list_all is_known_store (stores_of seq older) ≡ true →
       bytes_after layout.base (stores_of seq older) bytes ≡ (behind layout older s).ram
   memory_known [] s seq all same known = same
   memory_known (e ∷ es) s seq {bytes} all same known =
@@ -150,8 +146,8 @@ bytes_after-append base (x ∷ xs) ys bytes = bytes_after-append base xs ys (wit
 module _ (h : Hardware) (older : List Entry) (e : Entry) where
   -- an instruction whose operands and older stores are known gives the result that it has in program order
   pub issued_result : AreInFlight (layout_of h.values) (seen h) (seen h) older →
-      e.pc ≡ (behind (layout_of h.values) older (seen h)).pc →
-      is_serialising e.instruction ≡ false → has_operands older (sources_of_word e.instruction) ≡ true →
+      e.pc ≡ (behind (layout_of h.values) older (seen h)).pc → is_serialising e.instruction ≡ false →
+      has_operands older (sources_of_word e.instruction) ≡ true →
       (is_load e.instruction ≡ true → list_all is_known_store (stores_after h older) ≡ true) →
       result_of_word (layout_of h.values) (state_after h older e.pc) h.lines e.word e.instruction ≡
       result_at (layout_of h.values) (behind (layout_of h.values) older (seen h)) e

@@ -45,11 +45,11 @@ module _ (s t : State) where
 
   loads_by : (aligned inside : Bool) (a b : Cause) (rd address value value' : ℕ) → s.pc ≡ t.pc → value ≡ value' →
       effect_message None
-      (if not aligned then Faults a address else
-      (if not inside then Faults b address else writes s rd value (pc_plus_4 s.pc))) ≡
+      (if not aligned then Faults a address
+      else (if not inside then Faults b address else writes s rd value (pc_plus_4 s.pc))) ≡
       effect_message None
-      (if not aligned then Faults a address else
-      (if not inside then Faults b address else writes t rd value' (pc_plus_4 t.pc)))
+      (if not aligned then Faults a address
+      else (if not inside then Faults b address else writes t rd value' (pc_plus_4 t.pc)))
   loads_by aligned inside a b rd address value value' here same = grind (arith, writes_same)
 
   loads_same : (layout : Layout) (form : LoadForm) (rd address address' : ℕ) → s.pc ≡ t.pc → s.ram ≡ t.ram →
@@ -65,8 +65,8 @@ module _ (s t : State) where
       (if not aligned then Faults a address else (if not writable then Faults b address else Retires None v))
   stores_by aligned writable a b access address u v here = grind arith
 
-  stores_same : (layout : Layout) (width : Width) (address address' word word' : ℕ) → s.pc ≡ t.pc →
-      address ≡ address' → word ≡ word' →
+  stores_same : (layout : Layout) (width : Width) (address address' word word' : ℕ) → s.pc ≡ t.pc → address ≡ address' →
+      word ≡ word' →
       effect_message (Some (record { address = address; bytes = bytes_of_number (bytes_of width) word }))
       (stores layout s width address word) ≡
       effect_message (Some (record { address = address'; bytes = bytes_of_number (bytes_of width) word' }))
@@ -75,8 +75,7 @@ module _ (s t : State) where
 
   module _ (layout : Layout) (lines lines' : Lines) (here : s.pc ≡ t.pc) where
     same_result_in : (word word' : ℕ) (i : Instr) → is_serialising (Some i) ≡ false → ReadsSame s t (sources_of i) →
-        (is_load (Some i) ≡ true → s.ram ≡ t.ram) →
-        result_in layout s lines word i ≡ result_in layout t lines' word' i
+        (is_load (Some i) ≡ true → s.ram ≡ t.ram) → result_in layout s lines word i ≡ result_in layout t lines' word' i
     same_result_in word word' (Lui rd immediate) plain reads memory = writes_same rd _ _ _ _ refl (ap pc_plus_4 here)
     same_result_in word word' (Auipc rd immediate) plain reads memory = grind (arith, writes_same)
     same_result_in word word' (Jal rd offset) plain reads memory =

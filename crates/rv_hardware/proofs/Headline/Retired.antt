@@ -79,9 +79,8 @@ module _ (values : Values) (stale : set.FinSet nat_cmp) (cache : Contents Memory
 
   -- words that are not stale then are as before
   pub words_stored : (s : State) → s.ram ≡ ram → s.stale ≡ stale → (e : Entry) (message : Message) (next : ℕ) →
-      IfSome message.store (IsStoreAccess layout) →
-      (pc : ℕ) (word : Option ℕ) → pc % 4 ≡ 0 → IsWordAt layout s pc word →
-      IsWordAt layout (with_message values.ram_base e message next s) pc word
+      IfSome message.store (IsStoreAccess layout) → (pc : ℕ) (word : Option ℕ) → pc % 4 ≡ 0 →
+      IsWordAt layout s pc word → IsWordAt layout (with_message values.ram_base e message next s) pc word
   words_stored s same_ram same_stale e message next legal pc word aligned at = by_store message.store legal where
     by_store : (store : Option StoreAccess) → IfSome store (IsStoreAccess layout) →
         set.contains (stale_after store s.stale) (word_of pc) ≡ false →

@@ -81,8 +81,8 @@ module _ (layout : Layout) (s : State) (here : s.pc % 4 ≡ 0) where
 
   loads_by : (aligned inside : Bool) (a b : Cause) (rd address value : ℕ) →
       IsTold layout s (written rd) None
-      (if not aligned then Faults a address else
-      (if not inside then Faults b address else writes s rd value (pc_plus_4 s.pc)))
+      (if not aligned then Faults a address
+      else (if not inside then Faults b address else writes s rd value (pc_plus_4 s.pc)))
   loads_by aligned inside a b rd address value = grind (arith, writes_told, aligned_next)
 
   length-bytes_of_number : (count number : ℕ) → length (bytes_of_number count number) ≡ count

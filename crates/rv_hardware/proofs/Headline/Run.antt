@@ -16,8 +16,7 @@ pub data TrueCycles (layout : Layout) (arrivals : List Arrival) : State → ℕ 
   none : {s : State} {n : ℕ} → TrueCycles layout arrivals s n [] s n
   one_more : {s t u : State} {n m : ℕ} {report : Report} {reports : List Report} →
       IsTrueCycle layout (lines_at arrivals n) n s report.steps report.stop t →
-      TrueCycles layout arrivals t (n + 1) reports u m →
-      TrueCycles layout arrivals s n (report ∷ reports) u m
+      TrueCycles layout arrivals t (n + 1) reports u m → TrueCycles layout arrivals s n (report ∷ reports) u m
 
 -- the cycles of a run of sound hardware are true, one after another
 pub cycles_true : {arrivals : List Arrival} {old new : Hardware} {reports : List Report} → IsSound old →
@@ -83,8 +82,7 @@ module _ (layout : Layout) (arrivals : List Arrival) where
       (steps_of reports) (true_run_within rest))
 
   ordered : (n : ℕ) (xs ys : List Step) → EndAtTraps xs → All (λ x. stamp_of x ≡ n) xs →
-      All (λ y. n + 1 ≤ stamp_of y) ys →
-      AllPairs ComesBefore ys → AllPairs ComesBefore (xs ++ ys)
+      All (λ y. n + 1 ≤ stamp_of y) ys → AllPairs ComesBefore ys → AllPairs ComesBefore (xs ++ ys)
   ordered n [] ys precise stamped later rest = rest
   ordered n (x ∷ xs) ys precise stamped later rest =
       let at : stamp_of x ≡ n = All-head (λ z. stamp_of z ≡ n) x xs stamped in

@@ -64,9 +64,8 @@ module _ {layout : Layout} {lines : Lines} (cycle : ℕ) {before s : State} {xs 
 
   -- ... and one more step at its end
   pub true_push : (x : Step) (t : State) {ending : Option Stop} → MachineStep layout s lines (reference_step x) t →
-      stamp_of x ≡ cycle →
-      (ending ≡ Some stop.Breakpoint) ↔ (is_breakpoint x ≡ true) → ((pc : ℕ) → ending ≡ Some (stop.Stale pc) → ⊥) →
-      IsTrueCycle layout lines cycle before (xs ++ x ∷ []) ending t
+      stamp_of x ≡ cycle → (ending ≡ Some stop.Breakpoint) ↔ (is_breakpoint x ≡ true) →
+      ((pc : ℕ) → ending ≡ Some (stop.Stale pc) → ⊥) → IsTrueCycle layout lines cycle before (xs ++ x ∷ []) ending t
   true_push x t takes stamped breaks stale =
       let any : list_any is_breakpoint (xs ++ x ∷ []) ≡ is_breakpoint x =
       list_any-append is_breakpoint xs (x ∷ []) ∙

@@ -18,8 +18,7 @@ pub serialising_is_no_store : (i : Option Instr) → is_serialising i ≡ true �
 serialising_is_no_store i serial = grind (arith, false≢true)
 
 store_of_effect : (layout : Layout) (s : State) (target : Option ℕ) (access : Option StoreAccess) (effect : Effect) →
-    IsTold layout s target access effect →
-    IfSome (effect_message access effect).store (IsStoreAccess layout)
+    IsTold layout s target access effect → IfSome (effect_message access effect).store (IsStoreAccess layout)
 store_of_effect layout s target access effect told = grind arith
 
 store_inside : (layout : Layout) (s : State) (lines : Lines) (word : Option ℕ) (i : Option Instr) → s.pc % 4 ≡ 0 →

@@ -40,8 +40,7 @@ marked_before words k q marked other =
 
 -- ---- a word is its four bytes
 pub fetched_same : (layout : Layout) (xs ys : List ℕ) (pc : ℕ) → pc % 4 ≡ 0 → length xs ≡ layout.size →
-    length ys ≡ layout.size →
-    ((i : ℕ) → word_of (layout.base + i) ≡ word_of pc → get_or xs i 0 ≡ get_or ys i 0) →
+    length ys ≡ layout.size → ((i : ℕ) → word_of (layout.base + i) ≡ word_of pc → get_or xs i 0 ≡ get_or ys i 0) →
     fetched_word layout xs pc ≡ fetched_word layout ys pc
 fetched_same layout xs ys pc aligned size size' same = elim (cases_Bool (is_in_ram layout pc 4)) [
   | inr outside ↦
@@ -127,8 +126,7 @@ module _ (layout : Layout) (words : set.FinSet nat_cmp) where
 
   -- they change no byte of a word that is not stale
   pub bytes_after-fresh : (ss : List QueuedStore) (xs : List ℕ) → Each (IsRetiredStore layout words) ss →
-      length xs ≡ layout.size →
-      (i : ℕ) → set.contains words (word_of (layout.base + i)) ≡ false →
+      length xs ≡ layout.size → (i : ℕ) → set.contains words (word_of (layout.base + i)) ≡ false →
       get_or (bytes_after layout.base ss xs) i 0 ≡ get_or xs i 0
   bytes_after-fresh [] xs all size i fresh = refl
   bytes_after-fresh (s ∷ ss) xs all size i fresh =

@@ -11,10 +11,8 @@ use Rattle.rv_hardware.proofs.Marks.Cited.{sent_entries, mended_entries, Shows, 
 use Rattle.rv_hardware.proofs.Marks.Cited.{sent_all, DispatchTurn, dispatch_turn_is, until, broadcast_of_stage}
 use Rattle.rv_hardware.proofs.Marks.Cited.{broadcast_of_execution, until_by, SoundStage, is_at, count_in_flight}
 
-sent_shows_by : (c D C : ℕ) (x : Option Execution) →
-    IfSome x (IsBetween D C) →
-    passes (λ y. y.broadcast == c) x ≡ true →
-    (is_at c (until c (broadcast_of_execution x)) ≡ true) × (D < c) × (c < C)
+sent_shows_by : (c D C : ℕ) (x : Option Execution) → IfSome x (IsBetween D C) →
+    passes (λ y. y.broadcast == c) x ≡ true → (is_at c (until c (broadcast_of_execution x)) ≡ true) × (D < c) × (c < C)
 sent_shows_by c D C x h is = grind (arith, eqb-true, until_by)
 
 -- that a row's result is broadcast in a cycle shows in its mark
@@ -66,8 +64,7 @@ sent_earlier : (v : Values) (i : Option Instr) (D a now : ℕ) (st : Stage) → 
     is_at now (broadcast_of_stage st) ≡ false
 sent_earlier v i D a now st h = grind (arith, ne_eqb)
 
-row_sent_earlier : (D C now : ℕ) (x : Option Execution) → C ≤ now →
-    IfSome x (IsBetween D C) →
+row_sent_earlier : (D C now : ℕ) (x : Option Execution) → C ≤ now → IfSome x (IsBetween D C) →
     is_at now (broadcast_of_execution x) ≡ false
 row_sent_earlier D C now x le h = grind (arith, ne_eqb)
 

@@ -16,8 +16,7 @@ both_executed : (x y : Option Execution) → IfSome y (λ t. IfSome x (λ s. s.b
 both_executed x y h = grind arith
 
 load_by : (a : Row) (i : Option Instr) (before : List Row) (y : Option Execution) →
-    IfSome (start_of_execution y) (λ s. Found (map mark_of_row before) i s.cycle) →
-    is_load i ≡ true →
+    IfSome (start_of_execution y) (λ s. Found (map mark_of_row before) i s.cycle) → is_load i ≡ true →
     IfSome y (λ t. Each (λ a. is_store_row a ≡ true → IfSome a.execution (λ s. s.broadcast < t.issued)) before)
 load_by a i before y h load = grind (arith, Each-weaker, store_by, Each-unmap)
 

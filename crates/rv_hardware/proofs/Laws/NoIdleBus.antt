@@ -5,9 +5,9 @@ use Rattle.rv_hardware.proofs.Words.{arith, eq-eqb, le-leb, Message, Issue, Valu
 use Rattle.rv_hardware.proofs.Words.{Fetched, broadcast, broadcast_turn, has_result, with_broadcast, Hardware}
 use Rattle.rv_hardware.proofs.Words.{LeavesNoBusIdle, Turn, EachAfter, is_broadcast_in, passes, rows_of, Execution, Row}
 use Rattle.rv_hardware.proofs.Words.{Step, and_second, Each-all, EveryAfter, count, count-set-grows, count-set-one_more}
-use Rattle.rv_hardware.proofs.Words.{EveryAfter-left, EveryAfter-append, EveryAfter-right, Beginning-EveryAfter}
-use Rattle.rv_hardware.proofs.Words.{EveryAfter-moved, EveryAfter-all, EveryAfter-set, Leads, turns_within, Each-images}
-use Rattle.rv_hardware.proofs.Words.{Each-append}
+use Rattle.rv_hardware.proofs.Words.{EveryAfter-append, Beginning-EveryAfter}
+use Rattle.rv_hardware.proofs.Words.{EveryAfter-all, Leads, turns_within, Each-images}
+use Rattle.rv_hardware.proofs.Words.{Each-append, after_moves}
 use Rattle.rv_hardware.proofs.Laws.BusWidth.{sent_shows}
 use Rattle.rv_hardware.proofs.Laws.RunsOn.{RunsOn, row_of_all, row_of_run, none_earlier}
 use Rattle.rv_hardware.proofs.Marks.Cited.{IsBefore, IsSentIfReady, Advances, IsSent, Kept, BroadcastTurn, no_result}
@@ -54,16 +54,7 @@ words_do_not_wait now fs = Each-images _ _ (λ f. tt) fs
 pub one_more : (k : ℕ) {now : ℕ} {xs : List Mark} (ys : List Mark) {m n : Mark} → IsSent now xs m n →
     EveryAfter (BusyBus k now) [] (xs ++ m ∷ ys) → EveryAfter (BusyBus (suc k) now) [] (xs ++ n ∷ ys)
 one_more k ys a h =
-    grind (
-      arith,
-      EveryAfter-right,
-      EveryAfter-append,
-      none_waits,
-      EveryAfter-moved,
-      append_assoc,
-      count-set-one_more,
-      eq-eqb,
-    )
+    grind (arith, after_moves, none_waits, append_assoc, count-set-one_more, eq-eqb)
 
 -- a mark that goes on
 busy_goes_on : (k : ℕ) (v : Values) (now : ℕ) (xs : List Mark) (m n : Mark) → Advances v now xs m n →
@@ -75,7 +66,7 @@ sent_goes_on : (v : Values) (now : ℕ) (xs : List Mark) (m n : Mark) → Advanc
 sent_goes_on v now xs m n given h = grind (arith, eq-eqb)
 
 pub busy_is_kept : (k : ℕ) (v : Values) (now : ℕ) → Kept v now (EveryAfter (BusyBus k now) [])
-busy_is_kept k v now = grind (arith, EveryAfter-left, EveryAfter-set, busy_goes_on, count-set-grows, sent_goes_on)
+busy_is_kept k v now = grind (arith, after_moves, busy_goes_on, count-set-grows, sent_goes_on)
 
 -- the broadcast phase
 
@@ -179,8 +170,7 @@ in_cycle c given sound = grind arith
 
 -- the field `no_idle_bus` of `Laws`, of every run
 pub law_of_no_idle_bus : {v : Values} {earlier steps : List Step} {old new : Hardware} →
-    RunsOn v earlier steps old new →
-    EachAfter (LeavesNoBusIdle v.bus_width old.cycle) (rows_of steps)
+    RunsOn v earlier steps old new → EachAfter (LeavesNoBusIdle v.bus_width old.cycle) (rows_of steps)
 law_of_no_idle_bus {v} {earlier} {old = old} run before after row at = by_execution row.execution refl
   where
     by_execution : (o : Option Execution) → row.execution ≡ o →

@@ -259,8 +259,7 @@ module _ {v : Values} {bound : ℕ} (c : ℕ) (before : List Row) {row : Row} (o
 
 -- the field `no_idle_dispatch` of `Laws`, of every run
 pub law_of_no_idle_dispatch : {v : Values} {earlier steps : List Step} {old new : Hardware} →
-    RunsOn v earlier steps old new →
-    EachAfter (WaitsForRoom v old.cycle) (rows_of steps)
+    RunsOn v earlier steps old new → EachAfter (WaitsForRoom v old.cycle) (rows_of steps)
 law_of_no_idle_dispatch {v} {earlier} run before after row at plain c from fetched later all =
     let place = row_of_all run before after row at in
     let sound = row_of_run run before after row at in

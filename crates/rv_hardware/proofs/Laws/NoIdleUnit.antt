@@ -55,8 +55,7 @@ module _ (c : ℕ) where
 
   module _ (v : Values) (bound : ℕ) (before : List Row) (row : Row) (older : Each (Older v bound row) before) where
     found_known : (o : Option Row) → IfSome o (SoundRow v bound) →
-        IfSome o (λ p. IfSome p.execution (λ y. y.broadcast < c)) →
-        IfSome (option_map ended_row o) (IsKnownMark c)
+        IfSome o (λ p. IfSome p.execution (λ y. y.broadcast < c)) → IfSome (option_map ended_row o) (IsKnownMark c)
     found_known o s h = grind (arith, known_by)
 
     found_sound : (o : Option Row) (test : Row → Bool) (rows : List Row) → IfSome o (SoundRow v bound) →
@@ -87,8 +86,7 @@ begun_at c x h = grind arith
 
 -- where the mark of a row begins in a cycle, the row was issued in it
 begun_in : (k : Kind) (c : ℕ) (a : Row) →
-    (was_fetched c (mark_of_row a) && begins_mark k c (at_end c (mark_of_row a))) ≡ true →
-    is_issued_in k c a ≡ true
+    (was_fetched c (mark_of_row a) && begins_mark k c (at_end c (mark_of_row a))) ≡ true → is_issued_in k c a ≡ true
 begun_in k c a is =
     let of_kind = is_row_of_kind k a in
     let starts = starts_at c (start_until c (start_of_execution a.execution)) in
@@ -98,8 +96,8 @@ begun_in k c a is =
 
 -- the field `no_idle_unit` of `Laws`, of every run
 pub law_of_no_idle_unit : {v : Values} {earlier steps : List Step} {old new : Hardware} →
-    RunsOn v earlier steps old new → (k : Kind) →
-    is_pipelined v k ≡ true → LeaveNoUnitIdle v k old.cycle (rows_of steps)
+    RunsOn v earlier steps old new → (k : Kind) → is_pipelined v k ≡ true →
+    LeaveNoUnitIdle v k old.cycle (rows_of steps)
 law_of_no_idle_unit {v} {earlier} {steps} {old} {new} run k line before after row at kind plain =
     by_execution row.execution refl
   where
@@ -126,7 +124,8 @@ law_of_no_idle_unit {v} {earlier} {steps} {old} {new} run k line before after ro
     by_execution (Some x) e = λ c from dispatched later operands.
         let between = subst (λ o. IfSome o (IsBetween row.dispatched row.retired)) e sound.stamps.executed_between in
         let fetched : row.fetched ≤ c = omega (arith, dispatched, sound.stamps.dispatched_after_fetch) in
-        let all = each_then (λ a le. omega (arith, le, fetched)) _ in_order in
+        let all : Each (λ a. a.fetched ≤ c) (rows_of earlier ++ before) =
+        each_then (λ a le. omega (arith, le, fetched)) _ in_order in
         let may : MayStart k c (as_of c (map mark_of_row (rows_of earlier ++ before))) (at_end c (mark_of_row row)) =
         record {
           kind = kind;

@@ -21,8 +21,7 @@ not_executing : (now D C : ℕ) (x : Option Execution) → C ≤ now → IfSome 
     start_holds false now (start_of_execution x) ≡ false
 not_executing now D C x le h = grind (arith, and_right, le-ltb)
 
-executing_row : (c D C : ℕ) (x : Option Execution) → IfSome x (IsBetween D C) →
-    passes (executes_in c) x ≡ true →
+executing_row : (c D C : ℕ) (x : Option Execution) → IfSome x (IsBetween D C) → passes (executes_in c) x ≡ true →
     (start_holds false c (start_until c (start_of_execution x)) ≡ true) × (D < c) × (c < C)
 executing_row c D C x h is = grind (arith, and_first, leb-true, ltb-true, and_second)
 

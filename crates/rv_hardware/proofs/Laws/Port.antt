@@ -21,8 +21,7 @@ use Rattle.rv_hardware.proofs.Laws.Port.Phases.{PortOk, Tied, new_pair, port_kep
 -- at the start of a cycle nothing has begun in it
 
 not_begun_stage : (v : Values) (i : Option Instr) (D now : ℕ) (st : Stage) (P : Start → Type 0) →
-    SoundStage v i D now now st →
-    IfSome (start_of_stage st) (λ s. uses_cache v i s ≡ true → s.cycle ≡ now → P s)
+    SoundStage v i D now now st → IfSome (start_of_stage st) (λ s. uses_cache v i s ≡ true → s.cycle ≡ now → P s)
 not_begun_stage v i D now st P h = grind arith
 
 fresh_pairs : (v : Values) (now : ℕ) (es : List Entry) → Each (SoundEntry v now now now) es →
@@ -58,8 +57,7 @@ row_over : (v : Values) (now D C : ℕ) (i : Option Instr) (x : Option Execution
 row_over v now D C i x le h = grind arith
 
 row_not_begun : (v : Values) (now D C : ℕ) (i : Option Instr) (x : Option Execution) (P : Start → Type 0) → C ≤ now →
-    IfSome x (IsBetween D C) →
-    IfSome (start_of_execution x) (λ s. uses_cache v i s ≡ true → s.cycle ≡ now → P s)
+    IfSome x (IsBetween D C) → IfSome (start_of_execution x) (λ s. uses_cache v i s ≡ true → s.cycle ≡ now → P s)
 row_not_begun v now D C i x P le h = grind arith
 
 over_whenever : (v : Values) (now : ℕ) (m n : Mark) → OverBy v now m →
@@ -136,8 +134,7 @@ row_uses : (v : Values) (a : Row) (x : Execution) → a.execution ≡ Some x →
 row_uses v a x given used = grind (arith, and_from, and_first, and_second)
 
 over_row : (v : Values) (c : ℕ) (a : Row) (x : Execution) → a.execution ≡ Some x → x.issued ≤ c →
-    uses_port v.forward a ≡ true →
-    OverBy v c (at_end c (mark_of_row a)) → x.issued + x.cost ≤ c
+    uses_port v.forward a ≡ true → OverBy v c (at_end c (mark_of_row a)) → x.issued + x.cost ≤ c
 over_row v c a x given le used over = grind (arith, begun_by, row_uses)
 
 when_row : (v : Values) (c : ℕ) (a : Row) (x : Execution) (P : Start → Type 0) → a.execution ≡ Some x → x.issued ≤ c →

@@ -1,6 +1,6 @@
 -- A run comes after a history: a row of it after all earlier ones, what tests none of these, and what they leave known.
-use Rattle.rv_hardware.proofs.Words.{◌≡◌, ℕ, ◌<◌, ◌≤◌, Bool, true, false, cond, List, [], ◌∷◌, ◌++◌, IfSome, Some}
-use Rattle.rv_hardware.proofs.Words.{None, count_by, Option, refl, subst, append_assoc, arith, All-weaker, Values, Each}
+use Rattle.rv_hardware.proofs.Words.{◌≡◌, ℕ, ◌<◌, ◌≤◌, Bool, true, false, cond, List, [], ◌∷◌, ◌++◌, IfSome, Some, None}
+use Rattle.rv_hardware.proofs.Words.{count_by, Option, refl, subst, append_assoc, arith, All-weaker, Values, Each}
 use Rattle.rv_hardware.proofs.Words.{Hardware, HasOperandsIn, last_from, producer_among, rows_of, writes_register}
 use Rattle.rv_hardware.proofs.Words.{stamp_of, Execution, Row, Step, Each-place, count-count_by, count-append}
 use Rattle.rv_hardware.proofs.Words.{count-none, IsBetween, each_then}
@@ -63,9 +63,7 @@ module _ {v : Values} {earlier steps : List Step} {old new : Hardware} (run : Ru
   operands_of_all c from before row h =
       All-weaker _ _ by_source _ h
     where
-      sent_by : (D C : ℕ) (o : Option Execution) → C ≤ c →
-          IfSome o (IsBetween D C) →
-          IfSome o (λ y. y.broadcast < c)
+      sent_by : (D C : ℕ) (o : Option Execution) → C ≤ c → IfSome o (IsBetween D C) → IfSome o (λ y. y.broadcast < c)
       sent_by D C None le k = tt
       sent_by D C (Some x) le k = omega (arith, le, k.2)
 

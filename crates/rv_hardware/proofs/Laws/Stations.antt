@@ -1,8 +1,8 @@
 -- The stations of a kind hold no more instructions than they have room for.
-use Rattle.rv_hardware.proofs.Words.{◌≡◌, ℕ, ◌<◌, true, List, is_none, IfSome, nat_lt, Option, arith}
-use Rattle.rv_hardware.proofs.Words.{ltb-true, le-leb, leb-true, and_from, lt-leb, at_kind, Kind, Values, Hardware}
-use Rattle.rv_hardware.proofs.Words.{NeverMoreThan, stations_of, is_stationed_in, passes, rows_of, Execution, Step}
-use Rattle.rv_hardware.proofs.Words.{and_first, and_second, IsBetween}
+use Rattle.rv_hardware.proofs.Words.{◌≡◌, ℕ, ◌<◌, true, List, is_none, IfSome, nat_lt, Option, arith, ltb-true, le-leb}
+use Rattle.rv_hardware.proofs.Words.{leb-true, and_from, lt-leb, at_kind, Kind, Values, Hardware, NeverMoreThan}
+use Rattle.rv_hardware.proofs.Words.{stations_of, is_stationed_in, passes, rows_of, Execution, Step, and_first}
+use Rattle.rv_hardware.proofs.Words.{and_second, IsBetween}
 use Rattle.rv_hardware.proofs.Marks.Cited.{is_stationed_mark, Shows, counted_law, History, start_until}
 use Rattle.rv_hardware.proofs.Marks.Cited.{start_of_execution, until_by, history_is_orderly}
 
@@ -10,8 +10,7 @@ issued_after : (c : ℕ) (x : Option Execution) → passes (λ y. nat_lt c y.iss
     is_none (start_until c (start_of_execution x)) ≡ true
 issued_after c x h = grind (arith, lt-leb, ltb-true)
 
-retired_after : (c D C : ℕ) (x : Option Execution) →
-    IfSome x (IsBetween D C) →
+retired_after : (c D C : ℕ) (x : Option Execution) → IfSome x (IsBetween D C) →
     passes (λ y. nat_lt c y.issued) x ≡ true → c < C
 retired_after c D C x h is = grind (arith, ltb-true)
 

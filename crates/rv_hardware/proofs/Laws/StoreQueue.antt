@@ -83,9 +83,8 @@ module _ (v : Values) (now : ℕ) (earlier : List Step) (is_stale : set.FinSet n
       rw (pushed c (Retired row))
       (queue_retires ok row c.hardware.rob.retired message.store (tells ∙ sym same) (omega (arith, p.basics.cycle)))
 
-  commit_queue : (c : Committing) (t : Turn Committing) → CommitTurn is_stale c t →
-      InCommit v now earlier is_stale c → Queues c →
-      Leads Queues Queues t
+  commit_queue : (c : Committing) (t : Turn Committing) → CommitTurn is_stale c t → InCommit v now earlier is_stale c →
+      Queues c → Leads Queues Queues t
   commit_queue c _ (fence_writes e es head is drained dirty) p ok =
       queue_later ok (written_back c).hardware.port_free (omega (arith, drained_idle _ c.hardware drained))
   commit_queue c _ (fence_retires e es written next head is drained) p ok =
@@ -244,8 +243,7 @@ row_is_queued c sound h = grind (arith, and_first, leb-true, and_second, and_fro
 
 -- after the last cycle no more rows are counted than in it
 still_queued : {v : Values} (c now : ℕ) {row : Row} → now ≤ c → SoundRow v (now + 1) row →
-    is_queued_in v.cache.hit c row ≡ true →
-    is_queued_in v.cache.hit now row ≡ true
+    is_queued_in v.cache.hit c row ≡ true → is_queued_in v.cache.hit now row ≡ true
 still_queued c now le sound h = grind (arith, and_first, ltb-true, and_second, and_from, le-leb, lt-ltb)
 
 module _ {v : Values} {steps : List Step} {h : Hardware} (history : History v steps h) where

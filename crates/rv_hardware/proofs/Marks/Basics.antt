@@ -27,8 +27,7 @@ is_waiting_is st h = grind arith
 
 -- an instruction that starts to execute stays sound
 pub started_sound : {v : Values} {now b : ℕ} (k : Kind) {e : Entry} (cost : ℕ) (message : Message) →
-    SoundEntry v now (now + 1) b e →
-    is_of_kind k (kind_of_word e.instruction) ≡ true →
+    SoundEntry v now (now + 1) b e → is_of_kind k (kind_of_word e.instruction) ≡ true →
     SoundCost v e.instruction (start_of_issue (record { cycle = now; cost = cost }) message) →
     SoundEntry v now (now + 1) b (started (record { cycle = now; cost = cost }) message e)
 started_sound k cost message sound kind costs = grind (arith, some_kind)

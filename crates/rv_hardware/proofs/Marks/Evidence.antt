@@ -1,8 +1,8 @@
 -- Where an instruction starts, is broadcast or enters, the marks of older ones show its operands, turn and room.
-use Rattle.rv_hardware.proofs.Words.{◌≡◌, ℕ, ◌+◌, ◌≤◌, Bool, true, false, cond, not, ◌&&◌, List, [], ◌∷◌, ◌++◌}
-use Rattle.rv_hardware.proofs.Words.{map, length, is_some, is_none, IfSome, nat_le, Some, None, filter, Option, sym}
-use Rattle.rv_hardware.proofs.Words.{refl, ◌∙◌, true≢false, arith, leb-false, length-filter, list_all, is_of_kind}
-use Rattle.rv_hardware.proofs.Words.{is_store, kind_of_word, Message, Instr, Issue, Kind, Values, Each}
+use Rattle.rv_hardware.proofs.Words.{◌≡◌, ℕ, ◌+◌, ◌≤◌, Bool, true, false, cond, not, ◌&&◌, List, [], ◌∷◌, ◌++◌, map}
+use Rattle.rv_hardware.proofs.Words.{length, is_some, is_none, IfSome, nat_le, Some, None, filter, Option, sym, refl}
+use Rattle.rv_hardware.proofs.Words.{◌∙◌, true≢false, arith, leb-false, length-filter, list_all, is_of_kind, is_store}
+use Rattle.rv_hardware.proofs.Words.{kind_of_word, Message, Instr, Issue, Kind, Values, Each}
 use Rattle.rv_hardware.proofs.Words.{is_known as is_known_store, Store as QueuedStore, Entry, Stage, has_result}
 use Rattle.rv_hardware.proofs.Words.{result_at, is_stationed, broadcast_of, is_known_from, is_waiting}
 use Rattle.rv_hardware.proofs.Words.{store_of_broadcast, stores_of, writes, has_operands, last_from, last_that}
@@ -39,9 +39,8 @@ last_from-Each P found test (x ∷ xs) h are =
 -- rows are known
 
 row_known_by : (now C : ℕ) (i : Option Instr) (x : Option Execution) (D : ℕ) → C ≤ now →
-    is_some x ≡ is_some (kind_of_word i) →
-    IfSome x (IsBetween D C) →
-    is_some (kind_of_word i) ≡ true → IsBefore now (broadcast_of_execution x)
+    is_some x ≡ is_some (kind_of_word i) → IfSome x (IsBetween D C) → is_some (kind_of_word i) ≡ true →
+    IsBefore now (broadcast_of_execution x)
 row_known_by now C i x D le same h some = grind arith
 
 pub row_known : {v : Values} (now : ℕ) (row : Row) → SoundRow v (now + 1) row → IsKnownMark now (mark_of_row row)
@@ -50,8 +49,7 @@ row_known now row sound some = grind (arith, row_known_by)
 store_has_unit : (i : Option Instr) → is_store i ≡ true → is_some (kind_of_word i) ≡ true
 store_has_unit i h = grind arith
 
-row_sent_by : (now C D : ℕ) (x : Option Execution) → C ≤ now →
-    IfSome x (IsBetween D C) →
+row_sent_by : (now C D : ℕ) (x : Option Execution) → C ≤ now → IfSome x (IsBetween D C) →
     IfSome (start_of_execution x) (λ s. s.cycle + s.cost ≤ now → IsBefore (now + 1) (broadcast_of_execution x))
 row_sent_by now C D x le h = grind arith
 
@@ -104,8 +102,7 @@ module _ (v : Values) (d a now : ℕ) where
 
     -- where an instruction has its operands, the marks of their producers are known
     pub operands_known : (older : List Entry) (sources : List (Option ℕ)) → Each (SoundEntry v d a now) older →
-        has_operands older sources ≡ true →
-        OperandsKnown now (map mark_of_row rows ++ map mark_of_entry older) sources
+        has_operands older sources ≡ true → OperandsKnown now (map mark_of_row rows ++ map mark_of_entry older) sources
     operands_known older [] sound h = tt
     operands_known older (None ∷ sources) sound h = (tt, operands_known older sources sound h)
     operands_known older (Some register ∷ sources) sound h =
@@ -151,8 +148,7 @@ module _ (v : Values) (d a now : ℕ) where
 -- no older result waits
 
 stage_sent_by : (b : Bool) (now : ℕ) (issue : Issue) (message : Message) → nat_le (issue.cycle + issue.cost) now ≡ b →
-    not (is_none (cond b (Some message) None)) ≡ false →
-    issue.cycle + issue.cost ≤ now → ⊥
+    not (is_none (cond b (Some message) None)) ≡ false → issue.cycle + issue.cost ≤ now → ⊥
 stage_sent_by b now issue message is given ready = grind (arith, leb-false)
 
 stage_sent : (v : Values) (i : Option Instr) (D a now : ℕ) (st : Stage) → SoundStage v i D a (now + 1) st →
@@ -176,8 +172,7 @@ rows_sent v now rows sound = each_image _ (row_sent now) _ sound
 
 -- where nothing older has a result for the bus, each older mark that was ready was broadcast
 pub none_waits : (v : Values) (d a now : ℕ) (rows : List Row) (older : List Entry) → Each (SoundRow v (now + 1)) rows →
-    Each (SoundEntry v d a (now + 1)) older →
-    EveryAfter (λ before e. has_result now before e ≡ false) [] older →
+    Each (SoundEntry v d a (now + 1)) older → EveryAfter (λ before e. has_result now before e ≡ false) [] older →
     Each (IsSentIfReady now) (map mark_of_row rows ++ map mark_of_entry older)
 none_waits v d a now rows older sound_rows sound none =
     Each-append _ _ _ (each_image _ (row_sent now) _ sound_rows) (entries_sent v d a now [] older sound none)

@@ -186,8 +186,7 @@ history_is_sound {v} (went_on {earlier} {old} {new} {lines} {report} before is) 
 
 -- each phase of a cycle after a history keeps what is basic
 pub history_passes : (v : Values) {earlier : List Step} {old new : Hardware} {lines : Lines} {report : Report} →
-    History v earlier old →
-    IsCycle any_prediction lines old report new → Passed v Anything earlier lines old report new
+    History v earlier old → IsCycle any_prediction lines old report new → Passed v Anything earlier lines old report new
 history_passes v {earlier} {old} {new} {lines} {report} before is =
     cycle_passes (history_is_legal before) lines new report (anything_is_kept v old.cycle)
     (history_is_sound before) tt is

@@ -4,9 +4,10 @@ use Rattle.rv_hardware.proofs.Words.{is_none, IfSome, Some, None, Option, sym, r
 use Rattle.rv_hardware.proofs.Words.{and_right, is_of_kind, kind_of_word, at_kind, Kind, Values, Each, Fetched}
 use Rattle.rv_hardware.proofs.Words.{Hardware, Step, and_second, never_both, Each-left, Each-set, Each-place}
 use Rattle.rv_hardware.proofs.Words.{Each-weaker, Each-all, Each-both, Each-map, EveryPair, count, Across}
-use Rattle.rv_hardware.proofs.Words.{EveryPair-append, EveryPair-left, EveryPair-right, EveryPair-across, EveryPair-set}
+use Rattle.rv_hardware.proofs.Words.{EveryPair-append, EveryPair-right, EveryPair-across, EveryPair-set}
 use Rattle.rv_hardware.proofs.Words.{count-append, count-none, count-map, count-length, count-set-same, count-set-less}
 use Rattle.rv_hardware.proofs.Words.{count-push-most, count-left, Each-images, each_image, each_then, Each-append}
+use Rattle.rv_hardware.proofs.Words.{pair_moves, each_moves}
 use Rattle.rv_hardware.proofs.Marks.Advance.{IsBefore, Advances, mark_retires, mark_starts, mark_is_sent, mark_enters}
 use Rattle.rv_hardware.proofs.Marks.Advance.{Enters, is_in_flight_mark, is_stationed_mark}
 use Rattle.rv_hardware.proofs.Marks.History.{NewWords, is_buffered_mark, KeptMarks, History, marks_of_history}
@@ -32,8 +33,8 @@ module _ (v : Values) (now : ℕ) (xs ys : List Mark) (m n : Mark) where
   -- where its dispatch stays
   stays : n.fetched ≡ m.fetched → n.dispatched ≡ m.dispatched →
       (is_in_flight_mark n ≡ true → is_in_flight_mark m ≡ true) →
-      ((k : Kind) → is_stationed_mark k n ≡ true → is_stationed_mark k m ≡ true) →
-      Orderly v now (xs ++ m ∷ ys) → Orderly v now (xs ++ n ∷ ys)
+      ((k : Kind) → is_stationed_mark k n ≡ true → is_stationed_mark k m ≡ true) → Orderly v now (xs ++ m ∷ ys) →
+      Orderly v now (xs ++ n ∷ ys)
   stays fetched dispatched flight station o = record {
     fetched = EveryPair-set _ xs ys m n (λ z w. omega (arith, w, fetched)) (λ z w. omega (arith, w, fetched)) o.fetched;
     dispatched = EveryPair-set _ xs ys m n
@@ -81,18 +82,7 @@ module _ (v : Values) (now : ℕ) (xs ys : List Mark) (m n : Mark) where
 
     entered_pairs : EveryPair IsDispatchedFirst (xs ++ n ∷ ys)
     entered_pairs =
-        grind (
-          arith,
-          EveryPair-append,
-          EveryPair-left,
-          Each-weaker,
-          younger,
-          pairs,
-          Each-both,
-          n_dispatched,
-          across,
-          olders,
-        )
+        grind (arith, pair_moves, Each-weaker, younger, pairs, Each-both, n_dispatched, across, olders)
 
     not_in_flight : count is_in_flight_mark ys ≡ 0
     not_in_flight = count-none is_in_flight_mark ys (each_then (λ y none. rw none refl) _ younger)
@@ -145,7 +135,7 @@ orderly_set {v} {now} xs ys m n (mark_is_sent a) o =
 orderly_set {v} {now} xs ys m n (mark_enters a) o = entered v now xs ys m n a o
 
 orderly_cut : {v : Values} {now : ℕ} (xs ys : List Mark) → Orderly v now (xs ++ ys) → Orderly v now xs
-orderly_cut xs ys o = grind (arith, EveryPair-left, Each-left, count-left)
+orderly_cut xs ys o = grind (arith, pair_moves, each_moves, count-left)
 
 not_there : (p : Mark → Bool) (ms : List Mark) (fs : List Fetched) → ((f : Fetched) → p (mark_of_fetched f) ≡ false) →
     count p (ms ++ map mark_of_fetched fs) ≡ count p ms

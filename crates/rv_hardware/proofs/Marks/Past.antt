@@ -29,8 +29,7 @@ pub as_of_now : (now : ℕ) (ms : List Mark) → Each (Settled now) ms → as_of
 as_of_now now [] settled = refl
 as_of_now now (m ∷ ms) settled = settled_keep now m ms settled.0 (as_of_now now ms settled.1)
 
-execution_settled : (now D C : ℕ) (x : Option Execution) → C ≤ now →
-    IfSome x (IsBetween D C) →
+execution_settled : (now D C : ℕ) (x : Option Execution) → C ≤ now → IfSome x (IsBetween D C) →
     (start_until now (start_of_execution x) ≡ start_of_execution x) ×
     (until now (broadcast_of_execution x) ≡ broadcast_of_execution x)
 execution_settled now D C x le h = grind (arith, start_past, until_by)
@@ -52,9 +51,8 @@ fetched_settled now f sound = (omega (arith, sound.0), refl)
 
 -- between two cycles nothing of a mark is later than the last
 pub marks_settled : (v : Values) (now : ℕ) (steps : List Step) (es : List Entry) (fs : List Fetched) →
-    Each (SoundRow v (now + 1)) (rows_of steps) →
-    Each (SoundEntry v (now + 1) (now + 1) (now + 1)) es → Each (SoundFetched (now + 1)) fs →
-    Each (Settled now) (marks steps es fs)
+    Each (SoundRow v (now + 1)) (rows_of steps) → Each (SoundEntry v (now + 1) (now + 1) (now + 1)) es →
+    Each (SoundFetched (now + 1)) fs → Each (Settled now) (marks steps es fs)
 marks_settled v now steps es fs rows entries words =
     Each-append _ _ _ (each_image _ (row_settled now) _ rows)
     (Each-append _ _ _ (each_image _ (entry_settled now) _ entries) (each_image _ (fetched_settled now) _ words))
@@ -75,7 +73,8 @@ module _ (v : Values) (P : ℕ → List Mark → Type 0) (closed : IsKeptByBegin
       let next : new.cycle ≡ old.cycle + 1 = ap (λ (h : Hardware). h.cycle) passed.others_stay in
       let ends = subst (λ n. Basics v n n n n n n (earlier ++ report.steps) new) next passed.ends in
       let d : Hardware = (dispatching lines old).hardware in
-      let words = each_image _ (λ f w. omega (arith, w.0)) _ passed.fetches.are_new in
+      let words : Each (λ m. old.cycle ≤ m.fetched) (map mark_of_fetched passed.fetches.added) =
+      each_image _ (λ f w. omega (arith, w.0)) _ passed.fetches.are_new in
       let goes = subst (Extends old.cycle (marks_in earlier old)) (sym passed.new_marks)
       (Extends-trans (marks_in earlier old) (marks_in (earlier ++ report.steps) d)
       (marks_in (earlier ++ report.steps) d ++ map mark_of_fetched passed.fetches.added) passed.dispatches.marks

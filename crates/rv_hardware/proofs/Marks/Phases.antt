@@ -46,8 +46,7 @@ pub record Goes (v : Values) (now dispatch_bound issue_bound stage_bound fetch_b
 marks_from : (R : List Mark → Type 0) (steps further : List Step) (g h : Hardware) {es : List Entry}
     {fs : List Fetched} →
     g.rob.entries ≡ es → g.front.entries ≡ fs → R (marks_in steps h) →
-    (R (marks_in steps h) → R (marks further es fs)) →
-    R (marks_in further g)
+    (R (marks_in steps h) → R (marks further es fs)) → R (marks_in further g)
 marks_from R steps further g h at at' went goes = rw (at, at') (goes went)
 
 module _ {v : Values} {now : ℕ} {R : List Mark → Type 0} (kept : Kept v now R) (earlier : List Step)
@@ -61,8 +60,7 @@ module _ {v : Values} {now : ℕ} {R : List Mark → Type 0} (kept : Kept v now 
 
   -- everything is flushed after a step
   after_step : (c : Committing) {g : Hardware} (s : Step) {es : List Entry} {fs : List Fetched} → Commits c →
-      IsSoundFor v g →
-      g.cycle ≡ c.hardware.cycle → g.rob.entries ≡ es → g.front.entries ≡ fs →
+      IsSoundFor v g → g.cycle ≡ c.hardware.cycle → g.rob.entries ≡ es → g.front.entries ≡ fs →
       Each (SoundEntry v now now now) es → Each (SoundFetched now) fs → Each (SoundRow v (now + 1)) (rows_of (s ∷ [])) →
       (R (marks_in (earlier ++ c.steps) c.hardware) → R (marks ((earlier ++ c.steps) ++ s ∷ []) es fs)) →
       Goes v now now now now now (now + 1) R (earlier ++ (c.steps ++ s ∷ [])) g
@@ -70,8 +68,7 @@ module _ {v : Values} {now : ℕ} {R : List Mark → Type 0} (kept : Kept v now 
       grind (arith, push, rows_append, Each-append, marks_from)
 
   squash_marks : (steps : List Step) (older younger : List Entry) (fs : List Fetched) →
-      R (marks steps (older ++ younger) fs) →
-      R (marks steps older [])
+      R (marks steps (older ++ younger) fs) → R (marks steps older [])
   squash_marks steps older younger fs r =
       let left = marks_squashed steps older younger fs in kept.cut (marks steps older []) left.0 (subst R left.1 r)
 
@@ -197,11 +194,9 @@ module _ {v : Values} {now : ℕ} (bound : ℕ) {R : List Mark → Type 0} (kept
 
   -- one instruction changes
   change : {g h : Hardware} (older younger : List Entry) (e : Entry) {x : Entry} →
-      h.rob.entries ≡ older ++ e ∷ younger →
-      g.rob.entries ≡ older ++ x ∷ younger → g.front.entries ≡ h.front.entries → g.cycle ≡ h.cycle → IsSoundFor v g →
-      SoundEntry v now (now + 1) bound x →
-      Advances v now (older_marks steps older) (mark_of_entry e) (mark_of_entry x) →
-      Executes h → Executes g
+      h.rob.entries ≡ older ++ e ∷ younger → g.rob.entries ≡ older ++ x ∷ younger → g.front.entries ≡ h.front.entries →
+      g.cycle ≡ h.cycle → IsSoundFor v g → SoundEntry v now (now + 1) bound x →
+      Advances v now (older_marks steps older) (mark_of_entry e) (mark_of_entry x) → Executes h → Executes g
   change {g} {h} older younger e {x} at at' front cycle always sound agree p = record {
     basics = record {
       cycle = cycle ∙ p.basics.cycle;
@@ -221,9 +216,8 @@ module _ {v : Values} {now : ℕ} (bound : ℕ) {R : List Mark → Type 0} (kept
         (map mark_of_entry younger ++ map mark_of_fetched h.front.entries) (mark_of_entry e) (mark_of_entry x) agree));
   }
 
-  entry_sound : (h : Hardware) (older younger : List Entry) (e : Entry) →
-      h.rob.entries ≡ older ++ e ∷ younger → Executes h →
-      SoundEntry v now (now + 1) bound e
+  entry_sound : (h : Hardware) (older younger : List Entry) (e : Entry) → h.rob.entries ≡ older ++ e ∷ younger →
+      Executes h → SoundEntry v now (now + 1) bound e
   entry_sound h older younger e at p =
       Each-place _ older younger e (subst (Each (SoundEntry v now (now + 1) bound)) at p.basics.entries)
 
@@ -232,8 +226,7 @@ load_waits_by : {b : Bool} (c d : Bool) → b ≡ true → (not b || (c && d)) �
 load_waits_by c d is h = grind arith
 
 load_waits : (h : Hardware) (older : List Entry) (e : Entry) → is_load e.instruction ≡ true →
-    may_load h older e ≡ true →
-    list_all is_known_store (stores_after h older) ≡ true
+    may_load h older e ≡ true → list_all is_known_store (stores_after h older) ≡ true
 load_waits h older e load may =
     load_waits_by (list_all is_known_store (stores_after h older)) (has_port h (path h older e)) load may
 
@@ -324,8 +317,7 @@ module _ {v : Values} {now : ℕ} {R : List Mark → Type 0} (kept : Kept v now 
   squash : (r g : Hardware) (older younger : List Entry) (x y : Entry) → g.rob.entries ≡ older ++ x ∷ younger →
       r.rob.entries ≡ older ++ y ∷ [] → r.front.entries ≡ [] → r.cycle ≡ g.cycle → IsSoundFor v r →
       (SoundEntry v now (now + 1) (now + 1) x → SoundEntry v now (now + 1) (now + 1) y) →
-      mark_of_entry x ≡ mark_of_entry y →
-      Broadcasts g → Broadcasts r
+      mark_of_entry x ≡ mark_of_entry y → Broadcasts g → Broadcasts r
   squash r g older younger x y at at' none cycle always sound same q =
       let entries = subst (Each (SoundEntry v now (now + 1) (now + 1))) at q.basics.entries in
       record {

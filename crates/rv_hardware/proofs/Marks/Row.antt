@@ -1,7 +1,7 @@
 -- A sound instruction in flight that retires leaves a row with stamps in order, and its mark goes on.
-use Rattle.rv_hardware.proofs.Words.{◌≡◌, ℕ, ◌+◌, ◌<◌, true, false, ◌⊎◌, is_some, IfSome, None, Option, unwrap_or}
-use Rattle.rv_hardware.proofs.Words.{ap, inr, arith, is_load, is_serialising, kind_of_word, Message, Instr, Issue}
-use Rattle.rv_hardware.proofs.Words.{Values, instruction_of, Entry, Stage, Finished, HasCost, HasOrderedStamps, IsCost}
+use Rattle.rv_hardware.proofs.Words.{◌≡◌, ℕ, ◌+◌, ◌<◌, true, false, ◌⊎◌, is_some, IfSome, None, Option, unwrap_or, ap}
+use Rattle.rv_hardware.proofs.Words.{inr, arith, is_load, is_serialising, kind_of_word, Message, Instr, Issue, Values}
+use Rattle.rv_hardware.proofs.Words.{instruction_of, Entry, Stage, Finished, HasCost, HasOrderedStamps, IsCost}
 use Rattle.rv_hardware.proofs.Words.{execution_of, Row, not_both, IsBetween}
 use Rattle.rv_hardware.proofs.Marks.Advance.{IsKnownMark, Retires}
 use Rattle.rv_hardware.proofs.Marks.List.{Start, mark_of_row, mark_of_entry, start_of_execution, broadcast_of_execution}
@@ -64,8 +64,8 @@ serial_execution v i D now st sound serial =
 
 finished_execution : (v : Values) (i : Option Instr) (D now : ℕ) (issue : Option Issue) (cycle : ℕ)
     (message : Message) →
-    SoundStage v i D now now (Finished issue cycle message) →
-    message.fault ≡ None → SoundExecution v i D now (Finished issue cycle message)
+    SoundStage v i D now now (Finished issue cycle message) → message.fault ≡ None →
+    SoundExecution v i D now (Finished issue cycle message)
 finished_execution v i D now issue cycle message sound given =
     grind (arith, no_fault, sound_cost, no_fault_is, no_instruction_has_kind)
 

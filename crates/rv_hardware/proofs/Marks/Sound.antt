@@ -39,8 +39,7 @@ abbrev pub SoundFetched : ℕ → Fetched → Type 0
 SoundFetched bound f = (f.cycle < bound) × (f.instruction ≡ option_and_then instruction_of f.word)
 
 stage_later : (v : Values) (i : Option Instr) (D a b a' b' : ℕ) (st : Stage) → a ≤ a' → b ≤ b' →
-    SoundStage v i D a b st →
-    SoundStage v i D a' b' st
+    SoundStage v i D a b st → SoundStage v i D a' b' st
 stage_later v i D a b a' b' st le le' h = grind arith
 
 -- an instruction that is sound below some bounds is so below later ones

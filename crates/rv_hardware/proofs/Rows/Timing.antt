@@ -35,18 +35,16 @@ dependent_instruction_waits = refl
 younger_result_comes_first : steps_of
     (record machine { kinds = record machine.kinds { div = record machine.kinds.div { latency = 8 } } })
     (0x020042b3 ∷ 0x00100313 ∷ ebreak ∷ []) 13 ≡
-    executed 0x80000000 0x020042b3 (Some (5, 4294967295)) 0 1 2 8 10 11 ∷
-    executed 0x80000004 0x00100313 (Some (6, 1)) 0 1 2 1 3 11 ∷
-    breakpoint 0x80000008 12
+    executed 0x80000000 0x020042b3 (Some (5, 4294967295)) 0 1 2 8 10 11 ∷ executed 0x80000004 0x00100313
+    (Some (6, 1)) 0 1 2 1 3 11 ∷ breakpoint 0x80000008 12
 unfolding instruction_of table
 younger_result_comes_first = refl
 
 -- two results on a bus of width 1
 narrow_bus_sends_the_older_result_first : steps_of (record machine { bus_width = 1 })
     (0x00100093 ∷ 0x00200113 ∷ ebreak ∷ []) 6 ≡
-    executed 0x80000000 0x00100093 (Some (1, 1)) 0 1 2 1 3 4 ∷
-    executed 0x80000004 0x00200113 (Some (2, 2)) 0 1 2 1 4 5 ∷
-    breakpoint 0x80000008 5
+    executed 0x80000000 0x00100093 (Some (1, 1)) 0 1 2 1 3 4 ∷ executed 0x80000004 0x00200113
+    (Some (2, 2)) 0 1 2 1 4 5 ∷ breakpoint 0x80000008 5
 unfolding instruction_of table
 narrow_bus_sends_the_older_result_first = refl
 
@@ -62,10 +60,9 @@ load_misses_and_the_next_one_hits = refl
 -- a load leaves its line clean: in a cache of one line the next line costs no write-back
 load_drops_a_clean_line : steps_of (record machine { cache = record machine.cache { sets = 1; ways = 1 } })
     (0x800012b7 ∷ 0x0002a383 ∷ 0x0402a403 ∷ ebreak ∷ []) 28 ≡
-    executed 0x80000000 0x800012b7 (Some (5, 2147487744)) 0 1 2 1 3 4 ∷
-    executed 0x80000004 0x0002a383 (Some (7, 0)) 0 1 4 11 15 16 ∷
-    executed 0x80000008 0x0402a403 (Some (8, 0)) 1 2 15 11 26 27 ∷
-    breakpoint 0x8000000c 27
+    executed 0x80000000 0x800012b7 (Some (5, 2147487744)) 0 1 2 1 3 4 ∷ executed 0x80000004 0x0002a383
+    (Some (7, 0)) 0 1 4 11 15 16 ∷ executed 0x80000008 0x0402a403
+    (Some (8, 0)) 1 2 15 11 26 27 ∷ breakpoint 0x8000000c 27
 unfolding instruction_of table
 load_drops_a_clean_line = refl
 
@@ -73,9 +70,8 @@ load_drops_a_clean_line = refl
 load_outside_memory_costs_the_latency : steps_of
     (record machine { forward = 3; kinds = record machine.kinds { mem = record machine.kinds.mem { latency = 7 } } })
     (0x800102b7 ∷ 0x0002a383 ∷ ebreak ∷ []) 13 ≡
-    executed 0x80000000 0x800102b7 (Some (5, 0x80010000)) 0 1 2 1 3 4 ∷
-    Trap 0x80000004 LoadAccessFault 0x80010000 12 ∷
-    []
+    executed 0x80000000 0x800102b7
+    (Some (5, 0x80010000)) 0 1 2 1 3 4 ∷ Trap 0x80000004 LoadAccessFault 0x80010000 12 ∷ []
 unfolding instruction_of table
 load_outside_memory_costs_the_latency = refl
 
@@ -99,17 +95,15 @@ wrong_prediction_is_mended_at_retirement = refl
 -- the same with early recovery
 wrong_prediction_is_mended_at_broadcast : steps_of (record machine { recovery = Early })
     (0x00000463 ∷ 0 ∷ ebreak ∷ []) 6 ≡
-    executed 0x80000000 0x00000463 None 0 1 2 1 3 4 ∷
-    breakpoint 0x80000008 5
+    executed 0x80000000 0x00000463 None 0 1 2 1 3 4 ∷ breakpoint 0x80000008 5
 unfolding instruction_of table
 wrong_prediction_is_mended_at_broadcast = refl
 
 -- lui x5,0x80000 and jalr x0,12(x5), whose target is known at its broadcast
 jump_to_a_register_is_mended_at_broadcast : steps_of (record machine { recovery = Early })
     (0x800002b7 ∷ 0x00c28067 ∷ 0 ∷ ebreak ∷ []) 8 ≡
-    executed 0x80000000 0x800002b7 (Some (5, 0x80000000)) 0 1 2 1 3 4 ∷
-    executed 0x80000004 0x00c28067 None 0 1 4 1 5 6 ∷
-    breakpoint 0x8000000c 7
+    executed 0x80000000 0x800002b7
+    (Some (5, 0x80000000)) 0 1 2 1 3 4 ∷ executed 0x80000004 0x00c28067 None 0 1 4 1 5 6 ∷ breakpoint 0x8000000c 7
 unfolding instruction_of table
 jump_to_a_register_is_mended_at_broadcast = refl
 
@@ -149,34 +143,27 @@ branch_beside_a_division = refl
 -- or, with early recovery, when its result is broadcast
 branch_beside_a_division_mended_early : steps_of (record machine { recovery = Early })
     (0x020042b3 ∷ 0x00000463 ∷ 0 ∷ ebreak ∷ []) 21 ≡
-    executed 0x80000000 0x020042b3 (Some (5, 4294967295)) 0 1 2 16 18 19 ∷
-    executed 0x80000004 0x00000463 None 0 1 2 1 3 19 ∷
-    breakpoint 0x8000000c 20
+    executed 0x80000000 0x020042b3
+    (Some (5, 4294967295)) 0 1 2 16 18 19 ∷ executed 0x80000004 0x00000463 None 0 1 2 1 3 19 ∷ breakpoint 0x8000000c 20
 unfolding instruction_of table
 branch_beside_a_division_mended_early = refl
 
 -- two stores into two lines, and FENCE.I, which waits for both and then for the write-back of both lines
 fence_waits_for_stores_and_write_back : steps_of machine
     (0x80000437 ∷ 0x02040413 ∷ 0x00842023 ∷ 0x04842023 ∷ 0x0000100f ∷ 0x00042483 ∷ ebreak ∷ []) 56 ≡
-    executed 0x80000000 0x80000437 (Some (8, 0x80000000)) 0 1 2 1 3 4 ∷
-    executed 0x80000004 0x02040413 (Some (8, 0x80000020)) 0 1 4 1 5 6 ∷
-    executed 0x80000008 0x00842023 None 1 2 6 1 7 8 ∷
-    executed 0x8000000c 0x04842023 None 1 2 7 1 8 9 ∷
-    serialised 0x80000010 0x0000100f None 2 3 51 ∷
-    executed 0x80000014 0x00042483 (Some (9, 0x80000020)) 51 52 53 1 54 55 ∷
-    breakpoint 0x80000018 55
+    executed 0x80000000 0x80000437 (Some (8, 0x80000000)) 0 1 2 1 3 4 ∷ executed 0x80000004 0x02040413
+    (Some (8, 0x80000020)) 0 1 4 1 5 6 ∷ executed 0x80000008 0x00842023 None 1 2 6 1 7 8 ∷ executed 0x8000000c
+    0x04842023 None 1 2 7 1 8 9 ∷ serialised 0x80000010 0x0000100f None 2 3 51 ∷ executed 0x80000014 0x00042483
+    (Some (9, 0x80000020)) 51 52 53 1 54 55 ∷ breakpoint 0x80000018 55
 unfolding instruction_of table
 fence_waits_for_stores_and_write_back = refl
 
 -- a store queue with one place: the next store is dispatched when the one before it has left the cache's port
 store_queue_of_one : steps_of (record machine { store_queue = 1 })
     (0x80000437 ∷ 0x02040413 ∷ 0x00842023 ∷ 0x00842223 ∷ 0x00842423 ∷ ebreak ∷ []) 27 ≡
-    executed 0x80000000 0x80000437 (Some (8, 0x80000000)) 0 1 2 1 3 4 ∷
-    executed 0x80000004 0x02040413 (Some (8, 0x80000020)) 0 1 4 1 5 6 ∷
-    executed 0x80000008 0x00842023 None 1 2 6 1 7 8 ∷
-    executed 0x8000000c 0x00842223 None 1 19 20 1 21 22 ∷
-    executed 0x80000010 0x00842423 None 2 23 24 1 25 26 ∷
-    breakpoint 0x80000014 26
+    executed 0x80000000 0x80000437 (Some (8, 0x80000000)) 0 1 2 1 3 4 ∷ executed 0x80000004 0x02040413
+    (Some (8, 0x80000020)) 0 1 4 1 5 6 ∷ executed 0x80000008 0x00842023 None 1 2 6 1 7 8 ∷ executed 0x8000000c
+    0x00842223 None 1 19 20 1 21 22 ∷ executed 0x80000010 0x00842423 None 2 23 24 1 25 26 ∷ breakpoint 0x80000014 26
 unfolding instruction_of table
 store_queue_of_one = refl
 
@@ -184,8 +171,7 @@ store_queue_of_one = refl
 store_that_faults_costs_the_latency : steps_of
     (record machine { kinds = record machine.kinds { mem = record machine.kinds.mem { latency = 5 } } })
     (0x00502123 ∷ []) 9 ≡
-    Trap 0x80000000 StoreAddressMisaligned 2 8 ∷
-    []
+    Trap 0x80000000 StoreAddressMisaligned 2 8 ∷ []
 unfolding instruction_of table
 store_that_faults_costs_the_latency = refl
 
@@ -194,13 +180,12 @@ load_holds_its_unit_for_its_cost : steps_of
     (record machine
     { kinds = record machine.kinds { mem = record machine.kinds.mem { latency = 8; pipelined = false } } })
     (0x00000417 ∷ 0x02040413 ∷ 0x0252c3b3 ∷ 0x00542023 ∷ 0x00042303 ∷ 0x00042383 ∷ ebreak ∷ []) 23 ≡
-    executed 0x80000000 0x00000417 (Some (8, 0x80000000)) 0 1 2 1 3 4 ∷
-    executed 0x80000004 0x02040413 (Some (8, 0x80000020)) 0 1 4 1 5 6 ∷
-    executed 0x80000008 0x0252c3b3 (Some (7, 4294967295)) 1 2 3 16 19 20 ∷
-    executed 0x8000000c 0x00542023 None 1 2 6 8 14 20 ∷
-    executed 0x80000010 0x00042303 (Some (6, 0)) 2 3 15 1 16 21 ∷
-    executed 0x80000014 0x00042383 (Some (7, 0)) 2 3 16 1 17 21 ∷
-    breakpoint 0x80000018 22
+    executed 0x80000000 0x00000417 (Some (8, 0x80000000)) 0 1 2 1 3 4 ∷ executed 0x80000004 0x02040413
+    (Some (8, 0x80000020)) 0 1 4 1 5 6 ∷ executed 0x80000008 0x0252c3b3
+    (Some (7, 4294967295)) 1 2 3 16 19 20 ∷ executed 0x8000000c 0x00542023 None 1 2 6 8 14 20 ∷ executed
+    0x80000010 0x00042303
+    (Some (6, 0)) 2 3 15 1 16 21 ∷ executed 0x80000014 0x00042383
+    (Some (7, 0)) 2 3 16 1 17 21 ∷ breakpoint 0x80000018 22
 unfolding instruction_of table
 load_holds_its_unit_for_its_cost = refl
 

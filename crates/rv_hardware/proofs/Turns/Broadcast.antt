@@ -16,8 +16,8 @@ pub record HasResult (cycle : ℕ) (st : Stage) : Type 0 where
   pub result : result_at cycle st ≡ Some message
 
 running_result : (b : Bool) (cycle : ℕ) (issue : Issue) (message : Message) →
-    nat_le (issue.cycle + issue.cost) cycle ≡ b →
-    not (is_none (cond b (Some message) None)) ≡ true → HasResult cycle (Running issue message)
+    nat_le (issue.cycle + issue.cost) cycle ≡ b → not (is_none (cond b (Some message) None)) ≡ true →
+    HasResult cycle (Running issue message)
 running_result b cycle issue message is some = grind (arith, leb-true)
 
 pub result_cases : (cycle : ℕ) (st : Stage) → not (is_none (result_at cycle st)) ≡ true → HasResult cycle st

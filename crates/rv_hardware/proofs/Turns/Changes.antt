@@ -15,20 +15,17 @@ pub data Change (h : Hardware) : Hardware → Type 0 where
   new_levels : (levels : Lines) → Change h (with_lines levels h)
   all_squashed : (s : State) (retired : ℕ) → Change h (emptied s retired h)
   head_retires : (e : Entry) (es : List Entry) (s : State) (message : Message) → h.rob.entries ≡ e ∷ es →
-      broadcast_of e.stage ≡ Some message →
-      message.fault ≡ None → Change h (without_head s message.store es h)
+      broadcast_of e.stage ≡ Some message → message.fault ≡ None → Change h (without_head s message.store es h)
   cache_written : is_drained h ≡ true → Change h (with_write_back h)
   store_drained : nat_le h.port_free h.cycle ≡ true → Change h (end_drain h)
   store_drains : (access : StoreAccess) → nat_le h.port_free h.cycle ≡ true →
-      oldest_to_drain h.committed ≡ Some access →
-      Change h (with_drained access h)
+      oldest_to_drain h.committed ≡ Some access → Change h (with_drained access h)
   load_accesses : (k : Kind) (older younger : List Entry) (e : Entry) (address : ℕ) →
-      h.rob.entries ≡ older ++ e ∷ younger →
-      is_ready h k older e ≡ true → path h older e ≡ FromCache address → Change h (with_access (FromCache address) h)
+      h.rob.entries ≡ older ++ e ∷ younger → is_ready h k older e ≡ true → path h older e ≡ FromCache address →
+      Change h (with_access (FromCache address) h)
   one_starts : (k : Kind) (older younger : List Entry) (e : Entry) (cost : ℕ) (message : Message) →
-      h.rob.entries ≡ older ++ e ∷ younger →
-      is_waiting e.stage ≡ true → is_of_kind k (kind_of_word e.instruction) ≡ true →
-      IsResultOfWord e.word e.instruction message →
+      h.rob.entries ≡ older ++ e ∷ younger → is_waiting e.stage ≡ true →
+      is_of_kind k (kind_of_word e.instruction) ≡ true → IsResultOfWord e.word e.instruction message →
       cost ≤ longest_execution h → Change h (with_started k cost message older e younger h)
   one_sent : (older younger : List Entry) (e : Entry) (message : Message) → h.rob.entries ≡ older ++ e ∷ younger →
       HasRun h.cycle e.stage message → Change h (with_entries (older ++ finished message h.cycle e ∷ younger) h)

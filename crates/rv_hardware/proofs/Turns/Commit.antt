@@ -72,13 +72,11 @@ module _ (is_stale : set.FinSet nat_cmp → ℕ → Bool) where
         Head is_stale c e es → is_serialising e.instruction ≡ false → e.stage ≡ Finished issue cycle message →
         message.fault ≡ Some fault → CommitTurn c (Ends (with_fault e fault.cause fault.value c))
     retires : (e : Entry) (es : List Entry) (issue : Option Issue) (cycle : ℕ) (message : Message) →
-        Head is_stale c e es →
-        is_serialising e.instruction ≡ false → e.stage ≡ Finished issue cycle message → message.fault ≡ None →
-        CommitTurn c (GoesOn (retired_with e message c))
+        Head is_stale c e es → is_serialising e.instruction ≡ false → e.stage ≡ Finished issue cycle message →
+        message.fault ≡ None → CommitTurn c (GoesOn (retired_with e message c))
     retires_last : (e : Entry) (es : List Entry) (issue : Option Issue) (cycle : ℕ) (message : Message) →
-        Head is_stale c e es →
-        is_serialising e.instruction ≡ false → e.stage ≡ Finished issue cycle message → message.fault ≡ None →
-        CommitTurn c (Ends (retired_and_flushed e message c))
+        Head is_stale c e es → is_serialising e.instruction ≡ false → e.stage ≡ Finished issue cycle message →
+        message.fault ≡ None → CommitTurn c (Ends (retired_and_flushed e message c))
 
   module _ {c : Committing} {e : Entry} {es : List Entry} (head : Head is_stale c e es) where
     by_effect : is_serialising e.instruction ≡ true → (result : Effect) → CommitTurn c (Ends (take_effect e result c))

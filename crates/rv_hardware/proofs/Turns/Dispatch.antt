@@ -38,8 +38,7 @@ pub data WaitsFor (h : Hardware) (f : Fetched) : Type 0 where
 pub data DispatchTurn (d : Dispatching) : Turn Dispatching → Type 0 where
   buffer_empty : d.hardware.front.entries ≡ [] → DispatchTurn d (Ends (record d { waits_for = Some stall.Fetch }))
   waits : (f : Fetched) (fs : List Fetched) (reason : Stall) → d.hardware.front.entries ≡ f ∷ fs →
-      WaitsFor d.hardware f →
-      DispatchTurn d (Ends (record d { waits_for = Some reason }))
+      WaitsFor d.hardware f → DispatchTurn d (Ends (record d { waits_for = Some reason }))
   dispatches : (f : Fetched) (fs : List Fetched) → d.hardware.front.entries ≡ f ∷ fs → WaitsForNothing d.hardware f →
       DispatchTurn d (GoesOn (record d { hardware = with_dispatched f fs d.hardware; dispatched = d.dispatched + 1 }))
 

@@ -15,8 +15,8 @@ module _ (P : Hardware → Type 0) where
   pub record IsKeptByCommit : Type 0 where
     pub empties : (h : Hardware) (s : State) (retired : ℕ) → P h → P (emptied s retired h)
     pub retires : (h : Hardware) (e : Entry) (es : List Entry) (s : State) (message : Message) → P h →
-        h.rob.entries ≡ e ∷ es →
-        broadcast_of e.stage ≡ Some message → message.fault ≡ None → P (without_head s message.store es h)
+        h.rob.entries ≡ e ∷ es → broadcast_of e.stage ≡ Some message → message.fault ≡ None →
+        P (without_head s message.store es h)
     pub writes_back : (h : Hardware) → P h → is_drained h ≡ true → P (with_write_back h)
 
 module _ {P : Hardware → Type 0} (kept : IsKeptByCommit P) where

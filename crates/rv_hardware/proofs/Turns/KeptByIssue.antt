@@ -30,9 +30,8 @@ module _ (P : Hardware → Type 0) (k : Kind) where
         P (with_access (FromCache address) h)
     pub starts : (h : Hardware) (older younger : List Entry) (e : Entry) (cost : ℕ) (message : Message) → P h →
         h.rob.entries ≡ older ++ e ∷ younger → is_waiting e.stage ≡ true →
-        is_of_kind k (kind_of_word e.instruction) ≡ true →
-        IsResultOfWord e.word e.instruction message → cost ≤ longest_execution h →
-        P (with_started k cost message older e younger h)
+        is_of_kind k (kind_of_word e.instruction) ≡ true → IsResultOfWord e.word e.instruction message →
+        cost ≤ longest_execution h → P (with_started k cost message older e younger h)
 
 -- the start of the oldest instruction that is ready, where a unit is free, keeps the property
 abbrev pub KeepsStarts : (Hardware → Type 0) → Kind → Type 0
@@ -43,9 +42,8 @@ KeepsStarts P k =
 module _ {P : Hardware → Type 0} {k : Kind} (kept : IsKeptByIssue P k) where
   begins : (h : Hardware) (older younger : List Entry) (e : Entry) (cost : ℕ) (message : Message) → P h →
       h.rob.entries ≡ older ++ e ∷ younger → is_waiting e.stage ≡ true →
-      is_of_kind k (kind_of_word e.instruction) ≡ true →
-      IsResultOfWord e.word e.instruction message → cost ≤ longest_execution h →
-      P (with_start k (h.rob.retired + length older) cost message h)
+      is_of_kind k (kind_of_word e.instruction) ≡ true → IsResultOfWord e.word e.instruction message →
+      cost ≤ longest_execution h → P (with_start k (h.rob.retired + length older) cost message h)
   begins h older younger e cost message holds split given of_kind result costs = grind (arith, with_entry-at)
 
   begins_by : (h : Hardware) (older younger : List Entry) (e : Entry) (p : Path) → path h older e ≡ p → P h →

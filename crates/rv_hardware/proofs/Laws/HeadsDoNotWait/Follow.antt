@@ -101,14 +101,13 @@ module _ {v : Values} {now s : ℕ} {store_waits : Bool} {stale : set.FinSet nat
       (fault : Fault) →
       SoundStage v i D now now (Finished issue cycle message) → IsShaped word i (Finished issue cycle message) →
       message.fault ≡ Some fault → needs_no_unit fault.cause ≡ true →
-      ((store_waits && is_store i) ≡ false → D ≤ s + 1) → IsKnownSince now i D (Finished issue cycle message) →
-      now ≤ s + 2
+      ((store_waits && is_store i) ≡ false → D ≤ s + 1) →
+      IsKnownSince now i D (Finished issue cycle message) → now ≤ s + 2
   trapped_by_stage word i D issue cycle message fault held found is needs soon since = grind (arith, no_store, not_both)
 
   trap_follows : {issue : Option Issue} {cycle : ℕ} {message : Message} {fault : Fault} →
-      is_serialising e.instruction ≡ false →
-      e.stage ≡ Finished issue cycle message → message.fault ≡ Some fault → Shaped e →
-      Follows s store_waits (Trap e.pc fault.cause fault.value now)
+      is_serialising e.instruction ≡ false → e.stage ≡ Finished issue cycle message → message.fault ≡ Some fault →
+      Shaped e → Follows s store_waits (Trap e.pc fault.cause fault.value now)
   trap_follows plain given is found = grind (arith, not_both, fence_serialises, trapped_by_stage)
 
   serial_by_stage : (i : Option Instr) (D : ℕ) (st : Stage) → is_serialising i ≡ true → SoundStage v i D now now st →
@@ -116,8 +115,7 @@ module _ {v : Values} {now s : ℕ} {store_waits : Bool} {stale : set.FinSet nat
   serial_by_stage i D st serial held since = grind (arith, not_both, kind_is_plain)
 
   serial_follows : (cause : Cause) (value : ℕ) → is_serialising e.instruction ≡ true →
-      (is_fence_i e.instruction ≡ true → ⊥) →
-      Follows s store_waits (Trap e.pc cause value now)
+      (is_fence_i e.instruction ≡ true → ⊥) → Follows s store_waits (Trap e.pc cause value now)
   serial_follows cause value serial other = grind (arith, not_both, serial_by_stage, no_store, serial_has_no_kind)
 
 -- ---- a FENCE.I that executes does not trap
@@ -145,8 +143,8 @@ no_trap steps left pc cause value cycle (inr (row, same)) is =
     last_from-append None (λ s. true) steps (Retired row ∷ [])))
 
 fence_does_not_trap : (c : Committing) (e : Entry) (es : List Entry) (cause : Cause) (value : ℕ) →
-    Head set.contains c e es →
-    is_fence_i e.instruction ≡ true → Ends (with_fault e cause value c) ≡ commit_turn set.contains c → ⊥
+    Head set.contains c e es → is_fence_i e.instruction ≡ true →
+    Ends (with_fault e cause value c) ≡ commit_turn set.contains c → ⊥
 fence_does_not_trap c e es cause value head fence is = grind (arith, is_fence, no_trap, fence_leaves)
 
 -- ---- the commit phase of cycle `now`, after the steps of earlier cycles
@@ -242,8 +240,7 @@ module _ (v : Values) (now : ℕ) (earlier : List Step) where
     retired_follows written may = rw q.basics.cycle (row_follows head_sound head_next head.fresh written may)
 
     fence_stands : is_fence_i e.instruction ≡ true → (x : Entry) (rest : List Entry) →
-        c.hardware.rob.entries ≡ x ∷ rest →
-        HasReason (now + 1) (last_stamp (earlier ++ c.steps)) c.hardware.stale x
+        c.hardware.rob.entries ≡ x ∷ rest → HasReason (now + 1) (last_stamp (earlier ++ c.steps)) c.hardware.stale x
     fence_stands fence x rest at =
         inr (inr (inl
         (subst (λ (y : Entry). is_fence_i y.instruction ≡ true) (same_head e x es rest head.place at) fence)))

@@ -53,13 +53,11 @@ module _ (now s : ℕ) (store_waits : Bool) where
   HasNext h = (h.cycle ≡ now) × Next (now + 1) now s store_waits h.stale h.rob.entries h.front.entries
 
   known_now : {cycle : ℕ} (D : ℕ) (i : Option Instr) {message : Message} {st : Stage} → cycle ≡ now →
-      HasRun cycle st message →
-      IsKnownSince (now + 1) i D (Finished (issue_of st) cycle message)
+      HasRun cycle st message → IsKnownSince (now + 1) i D (Finished (issue_of st) cycle message)
   known_now D i at gives = rw (ap issue_of gives.runs) (omega (arith, at))
 
   known_at_dispatch : (cycle : ℕ) (i : Option Instr) (message : Message) (kind : Option Kind) (serial : Bool) →
-      cycle ≡ now →
-      IsKnownSince (now + 1) i cycle (stage_by kind serial (Finished None cycle message))
+      cycle ≡ now → IsKnownSince (now + 1) i cycle (stage_by kind serial (Finished None cycle message))
   known_at_dispatch cycle i message kind serial given = grind arith
 
   -- what comes next, where these are in flight

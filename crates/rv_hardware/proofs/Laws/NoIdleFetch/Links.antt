@@ -97,8 +97,7 @@ module _ (v : Values) (now : ℕ) (halted : Bool) where
   open_more held more m le given = grind (arith, filled_more)
 
   joint_more : (held more : ℕ → ℕ) (m : Mark) (ms : List Mark) → AtLeast held more →
-      Joint v now (IsOpen v halted now) held m ms →
-      Joint v now (IsOpen v halted now) more m ms
+      Joint v now (IsOpen v halted now) held m ms → Joint v now (IsOpen v halted now) more m ms
   joint_more held more m ms le h = grind (arith, open_more, followed_more)
 
   linked_more : (held more : ℕ → ℕ) (ms : List Mark) → AtLeast held more → Linked v now (IsOpen v halted now) held ms →
@@ -188,8 +187,7 @@ module _ (v : Values) (now : ℕ) (last next : (ℕ → ℕ) → Mark → Type 0
   -- where nothing is fetched, linked marks stay linked in the next cycle
   pub linked_stays : (held : ℕ → ℕ) (ms : List Mark) →
       ((h : ℕ → ℕ) (x : Mark) → with_word h x now ≡ held_after held ms now → last h x → next h x) →
-      Linked v now last held ms →
-      Linked v (now + 1) next held ms
+      Linked v now last held ms → Linked v (now + 1) next held ms
   linked_stays held [] f h = tt
   linked_stays held (m ∷ ms) f h = (joint_stays held m ms f h.0, linked_stays (with_word held m) ms f h.1)
 
@@ -208,8 +206,7 @@ module _ (v : Values) (now : ℕ) (last next : (ℕ → ℕ) → Mark → Type 0
 -- where the last of some marks is known, what came after may be cut
 module _ (v : Values) (now : ℕ) (last : (ℕ → ℕ) → Mark → Type 0) (P : Mark → Type 0) where
   joint_cut : (held : ℕ → ℕ) (m : Mark) (ms rest : List Mark) → LastIs P (m ∷ ms) →
-      Joint v now last held m (ms ++ rest) →
-      Joint v now (λ h x. P x) held m ms
+      Joint v now last held m (ms ++ rest) → Joint v now (λ h x. P x) held m ms
   joint_cut held m ms rest is h = grind arith
 
   -- the first of linked marks are linked

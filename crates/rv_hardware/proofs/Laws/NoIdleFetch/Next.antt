@@ -59,8 +59,7 @@ coming now [] (f ∷ fs) = f.cycle
 coming now [] [] = now
 
 coming_same : (now : ℕ) (older younger others : List Entry) (e x : Entry) (fs gs : List Fetched) →
-    x.fetched ≡ e.fetched →
-    coming now (older ++ x ∷ others) gs ≡ coming now (older ++ e ∷ younger) fs
+    x.fetched ≡ e.fetched → coming now (older ++ x ∷ others) gs ≡ coming now (older ++ e ∷ younger) fs
 coming_same now [] younger others e x fs gs same = same
 coming_same now (o ∷ older) younger others e x fs gs same = refl
 
@@ -84,9 +83,8 @@ module _ (v : Values) (now : ℕ) (earlier : List Step) (is_stale : set.FinSet n
   Following c = AreFetchedNext now (earlier ++ c.steps) c.hardware
 
   one_more : (c : Committing) (s : Step) (h : Hardware) → stamp_of s ≡ now →
-      coming now h.rob.entries h.front.entries ≤ now →
-      LastIs (λ a. IsFetchedNext a s) (earlier ++ c.steps) → Following c →
-      AreFetchedNext now (earlier ++ (c.steps ++ s ∷ [])) h
+      coming now h.rob.entries h.front.entries ≤ now → LastIs (λ a. IsFetchedNext a s) (earlier ++ c.steps) →
+      Following c → AreFetchedNext now (earlier ++ (c.steps ++ s ∷ [])) h
   one_more c s h at by last p =
       rw (← append_assoc earlier c.steps (s ∷ [])) (
         EveryNext-push IsFetchedNext (earlier ++ c.steps) s last p.0,
@@ -95,8 +93,8 @@ module _ (v : Values) (now : ℕ) (earlier : List Step) (is_stale : set.FinSet n
       )
 
   head_next : (c : Committing) (e : Entry) (es : List Entry) (written : Option (ℕ × ℕ)) →
-      c.hardware.rob.entries ≡ e ∷ es →
-      Following c → LastIs (λ a. IsFetchedNext a (Retired (row_at e written c.hardware.cycle))) (earlier ++ c.steps)
+      c.hardware.rob.entries ≡ e ∷ es → Following c →
+      LastIs (λ a. IsFetchedNext a (Retired (row_at e written c.hardware.cycle))) (earlier ++ c.steps)
   head_next c e es written place p =
       subst (λ l. LastIs (λ s. coming now l c.hardware.front.entries ≤ stamp_of s) (earlier ++ c.steps)) place p.1
 
@@ -105,8 +103,7 @@ module _ (v : Values) (now : ℕ) (earlier : List Step) (is_stale : set.FinSet n
   no_row_next c s f p = last_weaker (λ a h. f a) (earlier ++ c.steps) p.1
 
   commit_follows : (c : Committing) (t : Turn Committing) → CommitTurn is_stale c t →
-      InCommit v now earlier is_stale c →
-      Following c → Leads Following Following t
+      InCommit v now earlier is_stale c → Following c → Leads Following Following t
   commit_follows c _ (fence_retires e es written next head is drained) q p =
       one_more c (Retired (row_at e written c.hardware.cycle))
       (executed e written next (written_back c)).hardware q.basics.cycle (omega arith)
@@ -182,9 +179,8 @@ coming_fetched now fs added new some = grind arith
 
 -- a fetch that goes on, into a buffer with room, leaves something there
 leaves_some : (entries : List Fetched) {added : List Fetched} {halted : Bool} {width capacity most room : ℕ} →
-    width ≡ most → capacity ≡ room → 1 ≤ most → 1 ≤ room →
-    (halted ≡ true → ⊥) → (added ≡ [] → (halted ≡ true) ⊎ ((width ≡ 0) ⊎ (capacity - length entries ≡ 0))) →
-    entries ++ added ≡ [] → ⊥
+    width ≡ most → capacity ≡ room → 1 ≤ most → 1 ≤ room → (halted ≡ true → ⊥) →
+    (added ≡ [] → (halted ≡ true) ⊎ ((width ≡ 0) ⊎ (capacity - length entries ≡ 0))) → entries ++ added ≡ [] → ⊥
 leaves_some [] same same' wide roomy runs goes_on none = grind arith
 leaves_some (f ∷ fs) same same' wide roomy runs goes_on none = absurd (cc)
 

@@ -9,7 +9,7 @@ use Rattle.rv_hardware.proofs.Marks.Cited.{fetch-cases, IsNew, count-as_of, Pass
 use Rattle.rv_hardware.proofs.Marks.Cited.{is_buffered_mark, buffered_words, committing, issued_all, dispatching}
 use Rattle.rv_hardware.proofs.Marks.Cited.{cycle_passes, history_is_legal, history_is_sound, Mark, mark_of_row}
 use Rattle.rv_hardware.proofs.Marks.Cited.{mark_of_entry, mark_of_fetched, marks_in, marks, marks_at_entry, as_of_now}
-use Rattle.rv_hardware.proofs.Marks.Cited.{marks_settled, SoundRow}
+use Rattle.rv_hardware.proofs.Marks.Cited.{marks_settled, SoundRow, SoundFetched}
 use Rattle.rv_hardware.proofs.Laws.NoIdleFetch.Links.{with_word, IsBy, Followed, IsOpen, Linked, LastIs, held_after}
 use Rattle.rv_hardware.proofs.Laws.NoIdleFetch.Links.{held_count, WasLinked, was_linked_kept, linked_stays, linked_on}
 use Rattle.rv_hardware.proofs.Laws.NoIdleFetch.Links.{linked_cut, linked_words, last_at}
@@ -32,8 +32,8 @@ no_rest xs (y ∷ ys) all one = absurd (let both = length-append xs (y ∷ ys) i
 
 -- a front that is halted stays
 pub stays_halted : {lines : Lines} {old new : Hardware} {report : Report} →
-    IsCycle any_prediction lines old report new →
-    (dispatching lines old).hardware.front.halted ≡ true → new.front ≡ (dispatching lines old).hardware.front
+    IsCycle any_prediction lines old report new → (dispatching lines old).hardware.front.halted ≡ true →
+    new.front ≡ (dispatching lines old).hardware.front
 stays_halted {lines} {old} {new} {report} is =
     let same : is.dispatching ≡ dispatching lines old =
     is.executes ∙ ap (λ (c : Committing). execute c.hardware) is.commits in
@@ -144,7 +144,8 @@ module _ (v : Values) {earlier : List Step} {old new : Hardware} {lines : Lines}
         v.fetch_buffer ≤ held_after (λ c. 0) (marks_in all d) old.cycle
     full_now full =
         let b = passed.dispatches.basics in
-        let words = each_then (λ f w. (omega (arith, w.0), w.1)) _ b.fetched in
+        let words : Each (SoundFetched (old.cycle + 1)) d.front.entries =
+        each_then (λ f w. (omega (arith, w.0), w.1)) _ b.fetched in
         let held = held_count (λ c. 0) (marks_in all d) old.cycle in
         let counts = count-as_of is_buffered_mark old.cycle (marks_in all d) in
         let settled = ap (count is_buffered_mark)
@@ -154,8 +155,7 @@ module _ (v : Values) {earlier : List Step} {old new : Hardware} {lines : Lines}
 
     stays_open : v.fetch_buffer ≤ held_after (λ c. 0) (marks_in all d) old.cycle → (h : ℕ → ℕ) (x : Mark) →
         with_word h x old.cycle ≡ held_after (λ c. 0) (marks_in all d) old.cycle →
-        IsOpen v old.front.halted old.cycle h x →
-        IsOpen v new.front.halted (old.cycle + 1) h x
+        IsOpen v old.front.halted old.cycle h x → IsOpen v new.front.halted (old.cycle + 1) h x
     stays_open full h x same (inl halted) =
         inl (ap (λ (r : FetchBuffer). r.halted) (stays_halted is (uncut.1 ∙ halted)) ∙ uncut.1 ∙ halted)
     stays_open full h x same (inr (inl over)) = inr (inl (by_later x.retired over))

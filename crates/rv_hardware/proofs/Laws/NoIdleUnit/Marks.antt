@@ -35,8 +35,8 @@ module _ (c : ℕ) (m n : Mark) (instruction : n.instruction ≡ m.instruction)
   either b z o p f h = grind arith
 
   last_more : (test : Mark → Bool) (mid : List Mark) (o p : Option Mark) →
-      (IfSome o (IsKnownMark c) → IfSome p (IsKnownMark c)) →
-      IfSome (last_from o test mid) (IsKnownMark c) → IfSome (last_from p test mid) (IsKnownMark c)
+      (IfSome o (IsKnownMark c) → IfSome p (IsKnownMark c)) → IfSome (last_from o test mid) (IsKnownMark c) →
+      IfSome (last_from p test mid) (IsKnownMark c)
   last_more test [] o p f h = f h
   last_more test (z ∷ mid) o p f h =
       last_more test mid (cond (test z) (Some z) o) (cond (test z) (Some z) p) (either (test z) z o p f) h
@@ -108,13 +108,11 @@ busy_units_are_kept k j v now = record {
 
 module _ (v : Values) (k : Kind) (now : ℕ) where
   waiting_by : (i : Option Instr) (D a b : ℕ) (st : Stage) → SoundStage v i D a b st →
-      is_of_kind k (kind_of_word i) ≡ true →
-      start_of_stage st ≡ None → is_waiting st ≡ true
+      is_of_kind k (kind_of_word i) ≡ true → start_of_stage st ≡ None → is_waiting st ≡ true
   waiting_by i D a b st sound kind given = grind (arith, is_of_kind_is)
 
   broadcast_by : (i : Option Instr) (D a b : ℕ) (st : Stage) → SoundStage v i D a b st →
-      IsBefore now (broadcast_of_stage st) →
-      is_some (broadcast_of st) ≡ true
+      IsBefore now (broadcast_of_stage st) → is_some (broadcast_of st) ≡ true
   broadcast_by i D a b st sound h = grind arith
 
   -- a writer that is known was broadcast
@@ -123,15 +121,15 @@ module _ (v : Values) (k : Kind) (now : ℕ) where
   writer_known d a b e register sound plain writes_it known = grind (arith, true≢false, writer_serialises, broadcast_by)
 
   known_either : {b : Bool} {d i j : ℕ} {e : Entry} (register : ℕ) {known : Bool} (found : Option Mark) →
-      writes e register ≡ b →
-      SoundEntry v d i j e → is_serialising e.instruction ≡ false → (IfSome found (IsKnownMark now) → known ≡ true) →
+      writes e register ≡ b → SoundEntry v d i j e → is_serialising e.instruction ≡ false →
+      (IfSome found (IsKnownMark now) → known ≡ true) →
       IfSome (cond b (Some (mark_of_entry e)) found) (IsKnownMark now) →
       cond b (is_some (broadcast_of e.stage)) known ≡ true
   known_either register found is sound plain before h = grind (arith, writer_known)
 
   known_from : (d i j register : ℕ) (known : Bool) (found : Option Mark) (es : List Entry) →
-      Each (SoundEntry v d i j) es →
-      Each (λ e. is_serialising e.instruction ≡ false) es → (IfSome found (IsKnownMark now) → known ≡ true) →
+      Each (SoundEntry v d i j) es → Each (λ e. is_serialising e.instruction ≡ false) es →
+      (IfSome found (IsKnownMark now) → known ≡ true) →
       IfSome (last_from found (writes_mark register) (map mark_of_entry es)) (IsKnownMark now) →
       is_known_from known es register ≡ true
   known_from d i j register known found [] sound plain before h = before h
@@ -145,8 +143,7 @@ module _ (v : Values) (k : Kind) (now : ℕ) where
       )
 
   operands_by : (d i j : ℕ) (rows : List Row) (older : List Entry) (sources : List (Option ℕ)) →
-      Each (SoundEntry v d i j) older →
-      Each (λ e. is_serialising e.instruction ≡ false) older →
+      Each (SoundEntry v d i j) older → Each (λ e. is_serialising e.instruction ≡ false) older →
       OperandsKnown now (map mark_of_row rows ++ map mark_of_entry older) sources → has_operands older sources ≡ true
   operands_by d i j rows older [] sound plain h = refl
   operands_by d i j rows older (None ∷ sources) sound plain h = operands_by d i j rows older sources sound plain h.1

@@ -194,8 +194,7 @@ module _ (v : Values) (legal : IsLegal v) (now : ℕ) (steps : List Step) (k : K
 
   -- of a start of some kind
   over_by : (j : Kind) (cost : ℕ) (u : PerKind Pool) → (at_kind k u).is_pipelined ≡ true →
-      Over (now + 1) (at_kind k u) →
-      Over (now + 1) (at_kind k (with_kind j (started_unit cost now (at_kind j u)) u))
+      Over (now + 1) (at_kind k u) → Over (now + 1) (at_kind k (with_kind j (started_unit cost now (at_kind j u)) u))
   over_by j cost u = grind (arith, with_kind-each, Each-append, Each-filter)
 
   timely_issue : (h : Hardware) → Timely h → Timely (issue h)
@@ -291,8 +290,7 @@ over_at_reset : (v : Values) (k : Kind) → Over 0 (at_kind k (for_each free_poo
 over_at_reset v k = rw (at_kind-for_each free_pool v.kinds k) tt
 
 pub over_of_history : {v : Values} (k : Kind) → (at_kind k v.kinds).pipelined ≡ true →
-    {steps : List Step} {h : Hardware} →
-    History v steps h → Over h.cycle (at_kind k h.units)
+    {steps : List Step} {h : Hardware} → History v steps h → Over h.cycle (at_kind k h.units)
 over_of_history {v} k line (began image start legal) = over_at_reset v k
 over_of_history {v} k line (went_on {earlier} {old} {new} {lines} {report} before is) =
     let legal = history_is_legal before in

@@ -100,8 +100,7 @@ pub bus_is_kept : (v : Values) → KeptMarks v BusOrder
 bus_is_kept v = record {
   at_reset = record { oldest_first = tt; by_now = tt };
   kept = λ now. record {
-    cut =
-        λ xs ys o. record { oldest_first = EveryPair-left _ xs ys o.oldest_first; by_now = Each-left _ xs ys o.by_now };
+    cut = λ xs ys o. grind (arith, EveryPair-left, Each-left);
     set = bus_set;
   };
   more = λ now ms fs words o. record {

@@ -44,8 +44,8 @@ module _ {m n : Mark} (goes : GoesOnWith m n) where
   either c b z o p f h = grind arith
 
   last_more : (c : ℕ) (test : Mark → Bool) (mid : List Mark) (o p : Option Mark) →
-      (IfSome o (IsKnownMark c) → IfSome p (IsKnownMark c)) →
-      IfSome (last_from o test mid) (IsKnownMark c) → IfSome (last_from p test mid) (IsKnownMark c)
+      (IfSome o (IsKnownMark c) → IfSome p (IsKnownMark c)) → IfSome (last_from o test mid) (IsKnownMark c) →
+      IfSome (last_from p test mid) (IsKnownMark c)
   last_more c test [] o p f h = f h
   last_more c test (z ∷ mid) o p f h =
       last_more c test mid (cond (test z) (Some z) o) (cond (test z) (Some z) p) (either c (test z) z o p f) h

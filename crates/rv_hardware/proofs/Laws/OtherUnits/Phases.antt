@@ -34,8 +34,7 @@ holds_between : (now c : ℕ) (s : Issue) → now ≤ c → s.cycle ≤ now → 
 holds_between now c s le given h = grind (arith, ltb-true, and_second, and_from, le-leb, lt-ltb)
 
 picks : {X : Type 0} (p q : X → Bool) (b : Bool) (x : X) (xs ys : List X) → (p x ≡ true → b ≡ true) →
-    count p xs ≤ count p ys →
-    count p (x ∷ xs) ≤ count p (cond b (x ∷ ys) ys)
+    count p xs ≤ count p ys → count p (x ∷ xs) ≤ count p (cond b (x ∷ ys) ys)
 picks p q b x xs ys f le = grind (arith, true≢false)
 
 filter_holds : {X : Type 0} (p q : X → Bool) (xs : List X) → Each (λ x. p x ≡ true → q x ≡ true) xs →
@@ -57,8 +56,7 @@ module _ (v : Values) (now : ℕ) (k : Kind) (pool : Pool) where
   -- one more start, on a free unit
   pub held_started : (older younger : List Entry) (e x : Entry) (cost : ℕ) →
       pool.is_pipelined ≡ (at_kind k v.kinds).pipelined → pool.units ≡ (at_kind k v.kinds).units →
-      is_free now pool ≡ true →
-      start_of_stage e.stage ≡ None →
+      is_free now pool ≡ true → start_of_stage e.stage ≡ None →
       ((c : ℕ) → holds_mark v k c (mark_of_entry x) ≡ true →
       holds_unit c (record { cycle = now; cost = held_for pool.is_pipelined cost }) ≡ true) →
       Held v now k pool (older ++ e ∷ younger) → Held v now k (started_unit cost now pool) (older ++ x ∷ younger)

@@ -1,7 +1,7 @@
 -- Of rows that hold a unit in a cycle there are at most as many as there are units.
-use Rattle.rv_hardware.proofs.Words.{◌≡◌, ℕ, ◌+◌, ◌≤◌, Bool, true, false, ◌&&◌, List, ◌++◌, ◌==◌, Some, None}
-use Rattle.rv_hardware.proofs.Words.{count_by, Option, arith, is_of_kind, kind_of_word, at_kind, Lines, Kind, Values}
-use Rattle.rv_hardware.proofs.Words.{Fetched, Hardware, Report, rows_of, Row, Step, Each-all, count, count-le}
+use Rattle.rv_hardware.proofs.Words.{◌≡◌, ℕ, ◌+◌, ◌≤◌, Bool, true, false, ◌&&◌, List, ◌++◌, ◌==◌, Some, None, count_by}
+use Rattle.rv_hardware.proofs.Words.{Option, arith, is_of_kind, kind_of_word, at_kind, Lines, Kind, Values, Fetched}
+use Rattle.rv_hardware.proofs.Words.{Hardware, Report, rows_of, Row, Step, Each-all, count, count-le}
 use Rattle.rv_hardware.proofs.Marks.Cited.{in_cycle, Shows, counted_law, History, Passed, dispatching, Mark, Start}
 use Rattle.rv_hardware.proofs.Marks.Cited.{mark_of_row, mark_of_entry, mark_of_fetched, marks_in, Extends, SoundRow}
 use Rattle.rv_hardware.proofs.Marks.Cited.{count_in_flight}

@@ -3,10 +3,10 @@ use Rattle.rv_hardware.proofs.Words.{◌≡◌, ℕ, ◌+◌, ◌<◌, ◌≤◌
 use Rattle.rv_hardware.proofs.Words.{IfSome, nat_le, None, Option, sym, refl, ap, ◌∙◌, subst, inl, inr, true≢false}
 use Rattle.rv_hardware.proofs.Words.{append_assoc, arith, leb-true, IsLegal, Instr, Kind, Values, Each, finished}
 use Rattle.rv_hardware.proofs.Words.{predicting, started, Entry, with_write_back, with_drained, Hardware, cost_of}
-use Rattle.rv_hardware.proofs.Words.{issued, path, with_access, and_first, and_second, Each-append, Each-left}
-use Rattle.rv_hardware.proofs.Words.{Each-right, Each-set, Each-place, Each-weaker, Each-all, Each-both, EveryPair}
+use Rattle.rv_hardware.proofs.Words.{issued, path, with_access, and_first, and_second, Each-left}
+use Rattle.rv_hardware.proofs.Words.{Each-right, Each-set, Each-place, Each-weaker, Each-both, EveryPair}
 use Rattle.rv_hardware.proofs.Words.{EveryPair-append, EveryPair-left, EveryPair-right, EveryPair-across, EveryPair-set}
-use Rattle.rv_hardware.proofs.Words.{each_then}
+use Rattle.rv_hardware.proofs.Words.{each_then, pair_moves, each_moves}
 use Rattle.rv_hardware.proofs.Marks.Cited.{with_entries, IsKeptByBroadcast, with_mended, IsKeptByCommit}
 use Rattle.rv_hardware.proofs.Marks.Cited.{IsKeptByDispatch, IsKeptByDrain, IsReady, ready-parts, InCycle}
 use Rattle.rv_hardware.proofs.Marks.Cited.{IsKeptInCycle, finished_mark, dispatched_mark, message_at, started_entries}
@@ -43,8 +43,7 @@ tied_over v c d m le h = used_weaker v m.instruction m.start (λ s k. omega (ari
 -- the same entries, or fewer
 
 pub port_same : {v : Values} {now : ℕ} (g : Hardware) {h : Hardware} → g.rob.entries ≡ h.rob.entries →
-    h.port_free ≤ g.port_free →
-    PortOk v now h → PortOk v now g
+    h.port_free ≤ g.port_free → PortOk v now h → PortOk v now g
 port_same g given le ok = grind (arith, Each-weaker, tied_later)
 
 -- where the port is found idle, it is free by now
@@ -151,13 +150,11 @@ same_tied : (v : Values) (c : ℕ) (m n : Mark) → n.instruction ≡ m.instruct
 same_tied v c m n instruction start h = rw (instruction, start) h
 
 same_first : (v : Values) (now : ℕ) (m n z : Mark) → n.instruction ≡ m.instruction → n.start ≡ m.start →
-    OneAtATime v now m z →
-    OneAtATime v now n z
+    OneAtATime v now m z → OneAtATime v now n z
 same_first v now m n z instruction start h = rw (instruction, start) h
 
 same_second : (v : Values) (now : ℕ) (m n z : Mark) → n.instruction ≡ m.instruction → n.start ≡ m.start →
-    OneAtATime v now z m →
-    OneAtATime v now z n
+    OneAtATime v now z m → OneAtATime v now z n
 same_second v now m n z instruction start h =
     turned v now n z (same_first v now m n z instruction start (turned v now z m h))
 
@@ -209,7 +206,7 @@ pub new_pair : (v : Values) (now : ℕ) (a n : Mark) → n.start ≡ None → On
 new_pair v now a n none = pair_with_new v now a n (inr (not_started v n (λ t. ⊥) none))
 
 port_dispatch : (v : Values) (now : ℕ) → IsKeptByDispatch (PortOk v now)
-port_dispatch v now = grind (arith, dispatched_mark, Each-append, not_started, EveryPair-append, Each-all, new_pair)
+port_dispatch v now = grind (arith, pair_moves, each_moves, dispatched_mark, not_started, new_pair)
 
 -- each phase of a cycle keeps it
 pub port_kept : {v : Values} → IsLegal v → (now : ℕ) → IsKeptInCycle v now (PortOk v now)

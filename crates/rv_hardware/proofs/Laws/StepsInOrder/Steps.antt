@@ -9,7 +9,7 @@ use Rattle.rv_hardware.proofs.Words.{flushes, rows_of, is_interrupt, stamp_of, R
 use Rattle.rv_hardware.proofs.Words.{Each-left, Each-right, Each-set, Each-place, Each-weaker, Each-all, Each-both}
 use Rattle.rv_hardware.proofs.Words.{Each-unmap, EveryPair, count, EveryPair-append, count-append, count-none}
 use Rattle.rv_hardware.proofs.Words.{count-length, Leads, leads_both, turns_within, Each-images, each_image, each_then}
-use Rattle.rv_hardware.proofs.Words.{Fetched}
+use Rattle.rv_hardware.proofs.Words.{Fetched, pair_moves, each_moves}
 use Rattle.std.specs.FinSet as set
 use Rattle.rv_hardware.proofs.Marks.Advance.{Kept, Advances}
 use Rattle.rv_hardware.proofs.Marks.List.{Mark, mark_of_row, mark_of_entry, mark_of_fetched, marks_in}
@@ -92,9 +92,7 @@ module _ (v : Values) (now : ℕ) (earlier : List Step) (before : Each (λ s. st
         (Each-right _ earlier _ anew)
 
     more_pairs : EveryPair InOrder (earlier ++ (c.steps ++ s ∷ []))
-    more_pairs =
-        rw regroup (EveryPair-append _ _ _ p.steps.pairs (tt, tt)
-        (each_then (λ a h. (h, tt)) _ (Each-append _ _ _ from_earlier from_now)))
+    more_pairs = grind (arith, pair_moves, each_moves, regroup, from_earlier, from_now)
 
     more_of_now : Each (λ a. stamp_of a ≡ now) (c.steps ++ s ∷ [])
     more_of_now = Each-append _ _ _ p.steps.of_now (at, tt)
