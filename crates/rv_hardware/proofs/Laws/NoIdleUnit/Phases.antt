@@ -9,7 +9,7 @@ use Rattle.rv_hardware.proofs.Words.{issue, issue_kind, issue_turn, issued, path
 use Rattle.rv_hardware.proofs.Words.{Each-append, Each-left, Each-all, Each-filter, EveryAfter, count}
 use Rattle.rv_hardware.proofs.Words.{count-set-one_more, EveryAfter-append, EveryAfter-right, EveryAfter-moved}
 use Rattle.rv_hardware.proofs.Words.{EveryAfter-all, EveryAfter-weaker, Leads, turns_within, length-filter}
-use Rattle.rv_hardware.proofs.Words.{count-count_by, count-length, each_then}
+use Rattle.rv_hardware.proofs.Words.{count-count_by, count-length, each_then, Bool}
 use Rattle.std.specs.FinSet as set
 use Rattle.rv_isa.specs.declared.operations.Kind.TheVariants as kind
 use Rattle.rv_units.specs.Pool.{started as started_unit}
@@ -22,7 +22,7 @@ use Rattle.rv_hardware.proofs.Marks.Cited.{started_entries, Mark, mark_of_row, m
 use Rattle.rv_hardware.proofs.Marks.Cited.{marks_in, marks_at_entry, Issues, issue_turn_keeps, issue_kind_keeps}
 use Rattle.rv_hardware.proofs.Marks.Cited.{start_is, with_marks, before_broadcast, before_dispatch, broadcast_keeps}
 use Rattle.rv_hardware.proofs.Marks.Cited.{dispatch_keeps, AreSerialLast, cut_serial, instructions_of, SoundEntry}
-use Rattle.rv_hardware.proofs.Marks.Cited.{older_marks}
+use Rattle.rv_hardware.proofs.Marks.Cited.{older_marks, IsKnownMark}
 use Rattle.rv_hardware.proofs.Laws.NoIdleUnit.Marks.{MayStart, BusyUnits, may_back, busy_units_are_kept}
 use Rattle.rv_hardware.proofs.Laws.NoIdleUnit.Marks.{rows_do_not_start, words_do_not_start, entries_do_not_start}
 use Rattle.rv_hardware.proofs.Laws.OtherUnits.Rows.{starts_at, begins_mark}
@@ -90,24 +90,55 @@ module _ {v : Values} (legal : IsLegal v) (now : ℕ) (steps : List Step) (k : K
     abbrev begun : Entry
     begun = started (record { cycle = h.cycle; cost = cost_of h k (path h older e) }) (message_at h older e) e
 
-    evidence : Starts v now (older_marks steps older) (mark_of_entry e) (mark_of_entry begun)
+    -- the marks before it, its mark, and its mark once it has begun
+    abbrev xs : List Mark
+    xs = older_marks steps older
+
+    abbrev m : Mark
+    m = mark_of_entry e
+
+    abbrev n : Mark
+    n = mark_of_entry begun
+
+    evidence : Starts v now xs m n
     evidence = start_is legal (anything_is_kept v now) steps k h older younger e at is p.0
+
+    has_begun : n.start ≡ None → ⊥
+    has_begun none' = absurd (cc)
+
+    is_known : IsKnownMark now n → IsKnownMark now m
+    is_known known some = subst (IsBefore now) (ap (λ x. x.broadcast) evidence.becomes) (known some)
+
+    -- what is younger and could start now could start before
+    may_before : (mid : List Mark) (z : Mark) → MayStart k now ((xs ++ n ∷ []) ++ mid) z →
+        MayStart k now ((xs ++ m ∷ []) ++ mid) z
+    may_before mid z may =
+        subst (λ l. MayStart k now l z) (sym (append_assoc xs (m ∷ []) mid))
+        (may_back now m n refl is_known k xs mid z
+        (subst (λ l. MayStart k now l z) (append_assoc xs (n ∷ []) mid) may))
+
+    -- and has one more before it that did
+    one_more : (mid : List Mark) →
+        count (begins_mark k now) ((xs ++ n ∷ []) ++ mid) ≡ suc (count (begins_mark k now) ((xs ++ m ∷ []) ++ mid))
+    one_more mid =
+        let of_kind : Bool = is_of_kind k (kind_of_word e.instruction) in
+        let begins = eq-eqb h.cycle now p.0.basics.cycle in
+        rw (append_assoc xs (n ∷ []) mid, append_assoc xs (m ∷ []) mid)
+        (count-set-one_more (begins_mark k now) xs mid m n
+        (and_right of_kind (starts_at now m.start) (ap (starts_at now) evidence.not_yet))
+        (and_from of_kind (starts_at now n.start) (ready-parts h k older e is).of_kind begins))
 
     after_start : AreBusy (suc j) (issued k h older e)
     after_start =
         let rows : List Mark = map mark_of_row (rows_of steps) in
-        let xs : List Mark = rows ++ map mark_of_entry older in
         let ys : List Mark = map mark_of_entry younger ++ map mark_of_fetched h.front.entries in
-        let m : Mark = mark_of_entry e in
-        let n : Mark = mark_of_entry begun in
         let front = ap (λ r. r.entries) (access_keeps (path h older e) h).front in
         let olders = Each-left _ older _ (subst (Each (SoundEntry v now (now + 1) now)) at p.0.basics.entries) in
-        let old = EveryAfter-right _ [] xs _
-        (subst (EveryAfter (BusyUnits k j now) [])
-        (ap (λ es. marks steps es h.front.entries) at ∙ marks_at_entry steps older younger e h.front.entries) p.1) in
+        let split = ap (λ es. marks steps es h.front.entries) at ∙
+        marks_at_entry steps older younger e h.front.entries in
+        let old = EveryAfter-right _ [] xs _ (subst (EveryAfter (BusyUnits k j now) []) split p.1) in
         let serial = cut_serial older (e ∷ younger)
         (subst (λ l. AreSerialLast (instructions_of l)) at p.0.basics.always.last) in
-        let same_start : n.start ≡ Some evidence.start = ap (λ x. x.start) evidence.becomes in
         rw (started_entries k h older younger e at, front, marks_at_entry steps older younger begun h.front.entries)
         (EveryAfter-append _ [] xs _
         (EveryAfter-append _ [] rows _
@@ -117,26 +148,8 @@ module _ {v : Values} (legal : IsLegal v) (now : ℕ) (steps : List Step) (k : K
         (entries_do_not_start v k now now (now + 1) now (rows_of steps) h [] older tt olders serial none)))) (
           (λ may. absurd (has_begun may.not_yet)),
           EveryAfter-moved _ _ _ _
-              (λ mid z busy may.
-              let here : MayStart k now (xs ++ m ∷ mid) z =
-              may_back now m n refl
-              (λ known some. subst (IsBefore now) (ap (λ x. x.broadcast) evidence.becomes) (known some)) k xs mid z
-              (subst (λ l. MayStart k now l z) (append_assoc xs (n ∷ []) mid) may) in
-              let before = busy (subst (λ l. MayStart k now l z) (sym (append_assoc xs (m ∷ []) mid)) here) in
-              let grown : count (begins_mark k now) ((xs ++ n ∷ []) ++ mid) ≡
-              suc (count (begins_mark k now) ((xs ++ m ∷ []) ++ mid)) =
-              rw (append_assoc xs (n ∷ []) mid, append_assoc xs (m ∷ []) mid)
-              (count-set-one_more (begins_mark k now) xs mid m n
-              (and_right (is_of_kind k (kind_of_word e.instruction)) (starts_at now m.start)
-              (ap (starts_at now) evidence.not_yet))
-              (and_from (is_of_kind k (kind_of_word e.instruction)) (starts_at now n.start)
-              (ready-parts h k older e is).of_kind (eq-eqb h.cycle now p.0.basics.cycle))) in
-              omega (arith, before, grown))
-              ys old.1,
+              (λ mid z busy may. omega (arith, busy (may_before mid z may), one_more mid)) ys old.1,
         ))
-      where
-        has_begun : (mark_of_entry begun).start ≡ None → ⊥
-        has_begun none' = absurd (cc)
 
   held_after : (j : ℕ) (h : Hardware) (older : List Entry) (e : Entry) → h.cycle ≡ now →
       length (holding now (at_kind k h.units).starts) ≤ j →

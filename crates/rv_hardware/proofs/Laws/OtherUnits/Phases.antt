@@ -23,6 +23,10 @@ start_holds pipelined c (Some s) = nat_le s.cycle c && nat_lt c (s.cycle + held_
 abbrev pub holds_mark : Values → Kind → ℕ → Mark → Bool
 holds_mark v k c m = is_of_kind k (kind_of_word m.instruction) && start_holds (at_kind k v.kinds).pipelined c m.start
 
+-- a start as a pool keeps it: with the time for which it holds its unit
+abbrev start_in : Pool → ℕ → ℕ → Issue
+start_in pool now cost = record { cycle = now; cost = held_for pool.is_pipelined cost }
+
 -- the starts of a pool that hold a unit are as many as those of some entries, and no more than there are units
 pub record Held (v : Values) (now : ℕ) (k : Kind) (pool : Pool) (es : List Entry) : Type 0 where
   pub tied : (c : ℕ) → now ≤ c → count (λ e. holds_mark v k c (mark_of_entry e)) es ≤ count (holds_unit c) pool.starts
@@ -58,10 +62,10 @@ module _ (v : Values) (now : ℕ) (k : Kind) (pool : Pool) where
       pool.is_pipelined ≡ (at_kind k v.kinds).pipelined → pool.units ≡ (at_kind k v.kinds).units →
       is_free now pool ≡ true → start_of_stage e.stage ≡ None →
       ((c : ℕ) → holds_mark v k c (mark_of_entry x) ≡ true →
-      holds_unit c (record { cycle = now; cost = held_for pool.is_pipelined cost }) ≡ true) →
+      holds_unit c (start_in pool now cost) ≡ true) →
       Held v now k pool (older ++ e ∷ younger) → Held v now k (started_unit cost now pool) (older ++ x ∷ younger)
   held_started older younger e x cost pipelined units free none holds h =
-      let fresh : Issue = record { cycle = now; cost = held_for pool.is_pipelined cost } in
+      let fresh : Issue = start_in pool now cost in
       let kept : List Issue = holding now pool.starts in
       let room = ltb-true (length kept) pool.units free in
       record {
@@ -76,8 +80,7 @@ module _ (v : Values) (now : ℕ) (k : Kind) (pool : Pool) where
     where
       tie : (c : ℕ) → now ≤ c → (fresh : Issue) (kept : List Issue) →
           count (λ z. holds_mark v k c (mark_of_entry z)) (older ++ x ∷ younger) ≤
-          count (holds_unit c)
-          (holding now pool.starts ++ record { cycle = now; cost = held_for pool.is_pipelined cost } ∷ [])
+          count (holds_unit c) (holding now pool.starts ++ start_in pool now cost ∷ [])
       tie c le fresh kept = by_test (holds_mark v k c (mark_of_entry x)) refl
         where
           old : count (holds_unit c) pool.starts ≤ count (holds_unit c) (holding now pool.starts)
@@ -86,21 +89,20 @@ module _ (v : Values) (now : ℕ) (k : Kind) (pool : Pool) where
 
           by_test : (b : Bool) → holds_mark v k c (mark_of_entry x) ≡ b →
               count (λ z. holds_mark v k c (mark_of_entry z)) (older ++ x ∷ younger) ≤
-              count (holds_unit c)
-              (holding now pool.starts ++ record { cycle = now; cost = held_for pool.is_pipelined cost } ∷ [])
+              count (holds_unit c) (holding now pool.starts ++ start_in pool now cost ∷ [])
           by_test true is =
               let before = h.tied c le in
               let more = count-set-more (λ z. holds_mark v k c (mark_of_entry z)) older younger e x in
               let all = count-append (holds_unit c) (holding now pool.starts)
-              (record { cycle = now; cost = held_for pool.is_pipelined cost } ∷ []) in
+              (start_in pool now cost ∷ []) in
               let one = count-yes (holds_unit c)
-              (record { cycle = now; cost = held_for pool.is_pipelined cost }) [] (holds c is) in
+              (start_in pool now cost) [] (holds c is) in
               omega (arith, before, more, all, one, old)
           by_test false is =
               let before = h.tied c le in
               let less = count-set-less (λ z. holds_mark v k c (mark_of_entry z)) older younger e x is in
               let all = count-append (holds_unit c) (holding now pool.starts)
-              (record { cycle = now; cost = held_for pool.is_pipelined cost } ∷ []) in
+              (start_in pool now cost ∷ []) in
               omega (arith, before, less, all, old)
 
 -- all kinds
@@ -140,23 +142,24 @@ module _ (v : Values) (now : ℕ) where
     abbrev begun_here : Entry
     begun_here = started (record { cycle = h.cycle; cost = cost_of h k (path h older e) }) (message_at h older e) e
 
-    same_kind : Held v now k (started_unit (cost_of h k (path h older e)) h.cycle (at_kind k h.units))
-        (older ++ begun_here ∷ younger)
+    -- where its mark holds a unit, its start in the pool does
+    holds_here : (c : ℕ) → holds_mark v k c (mark_of_entry begun_here) ≡ true →
+        holds_unit c (start_in (at_kind k h.units) now cost_here) ≡ true
+    holds_here c held =
+        let begins : Start = start_of_issue (record { cycle = h.cycle; cost = cost_here }) (message_at h older e) in
+        let of_start = and_second (is_of_kind k (kind_of_word e.instruction))
+        (start_holds (at_kind k v.kinds).pipelined c (Some begins)) held in
+        subst (λ n. holds_unit c (start_in (at_kind k h.units) n cost_here) ≡ true) p.0.1
+        (subst (λ b. holds_unit c (record { cycle = h.cycle; cost = held_for b cost_here }) ≡ true)
+        (sym (p.0.0.pipelined k)) of_start)
+
+    same_kind : Held v now k (started_unit cost_here h.cycle (at_kind k h.units)) (older ++ begun_here ∷ younger)
     same_kind =
         subst (λ n. Held v now k (started_unit cost_here n (at_kind k h.units)) (older ++ begun_here ∷ younger))
         (sym p.0.1)
         (held_started v now k (at_kind k h.units) older younger e begun_here cost_here (p.0.0.pipelined k)
         (p.0.0.units k) (subst (λ n. is_free n (at_kind k h.units) ≡ true) p.0.1 free)
-        (ap start_of_stage (is_waiting_is e.stage ready.waits))
-        (λ c held. subst
-        (λ n. holds_unit c (record { cycle = n; cost = held_for (at_kind k h.units).is_pipelined cost_here }) ≡ true)
-        p.0.1
-        (subst (λ b. holds_unit c (record { cycle = h.cycle; cost = held_for b cost_here }) ≡ true)
-        (sym (p.0.0.pipelined k))
-        (and_second (is_of_kind k (kind_of_word e.instruction))
-        (start_holds (at_kind k v.kinds).pipelined c
-        (Some (start_of_issue (record { cycle = h.cycle; cost = cost_here }) (message_at h older e))))
-        held)))
+        (ap start_of_stage (is_waiting_is e.stage ready.waits)) holds_here
         (subst (Held v now k (at_kind k h.units)) at (p.1 k)))
 
     other_kind : (j : Kind) → is_of_kind j (Some k) ≡ false →
