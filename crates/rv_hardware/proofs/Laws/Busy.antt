@@ -5,14 +5,13 @@ use Rattle.rv_hardware.proofs.Words.{append-nil, arith, ne_eqb, eqb-true, list_a
 use Rattle.rv_hardware.proofs.Words.{Values, Each, Entry, Fetched, IsCycle, any_prediction, Dispatching, dispatch}
 use Rattle.rv_hardware.proofs.Words.{dispatch_turn, Hardware, AreCounted, dispatch_cycles, Turn, Report, Cycles}
 use Rattle.rv_hardware.proofs.Words.{Reachable, busy_of, cycled, ended, stalls_of, steps_of, is_dispatched_in, rows_of}
-use Rattle.rv_hardware.proofs.Words.{Row, Step, Each-left, Each-set, Each-place, Each-all, Each-unmap, count}
-use Rattle.rv_hardware.proofs.Words.{count-count_by, count-le, Leads, kept_by_turns, Each-images, each_image, each_then}
-use Rattle.rv_hardware.proofs.Words.{Each-append}
+use Rattle.rv_hardware.proofs.Words.{Row, Step, Each-left, Each-all, Each-unmap, count, count-count_by, count-le, Leads}
+use Rattle.rv_hardware.proofs.Words.{kept_by_turns, Each-images, each_image, each_then, Each-append}
 use Rattle.rv_hardware.proofs.Headline.Reached.{cycles_counted}
 use Rattle.rv_hardware.proofs.Marks.Cited.{Advances, Kept, Anything, History, went_on, Passed, cycle_passes}
 use Rattle.rv_hardware.proofs.Marks.Cited.{dispatching, sent_all, history_is_legal, history_is_sound}
 use Rattle.rv_hardware.proofs.Marks.Cited.{reachable_has_history, history_passes, DispatchTurn, dispatch_turn_is, Mark}
-use Rattle.rv_hardware.proofs.Marks.Cited.{mark_of_row, mark_of_fetched, marks_in, rows_append}
+use Rattle.rv_hardware.proofs.Marks.Cited.{mark_of_row, mark_of_fetched, marks_in, rows_append, each_is_kept}
 use Rattle.rv_hardware.proofs.Laws.OfCycles.{counts_of_runs}
 
 -- it was not dispatched in cycle c
@@ -31,10 +30,7 @@ goes_elsewhere : (c : ℕ) {v : Values} {now : ℕ} {xs : List Mark} {m n : Mark
 goes_elsewhere c lt given h same = grind (arith, later_than)
 
 elsewhere_is_kept : (c : ℕ) (v : Values) (now : ℕ) → c < now → Kept v now (Each (IsElsewhere c))
-elsewhere_is_kept c v now lt = record {
-  cut = λ xs ys h. Each-left _ xs ys h;
-  set = λ xs ys m n a h. Each-set _ xs ys m n (goes_elsewhere c lt a (Each-place _ xs ys m h)) h;
-}
+elsewhere_is_kept c v now lt = each_is_kept (IsElsewhere c) (λ xs m n a. goes_elsewhere c lt a)
 
 words_elsewhere : (c : ℕ) (fs : List Fetched) → Each (IsElsewhere c) (map mark_of_fetched fs)
 words_elsewhere c fs = Each-images _ _ (λ f same. absurd (cc)) fs

@@ -16,7 +16,7 @@ use Rattle.rv_hardware.proofs.Marks.Cited.{mark_of_fetched, marks_in, as_of, as_
 use Rattle.rv_hardware.proofs.Marks.Cited.{start_of_execution, start_of_stage, rows_obey, SoundRow, SoundEntry}
 use Rattle.rv_hardware.proofs.Marks.Cited.{SoundStage}
 use Rattle.rv_hardware.proofs.Laws.Port.Loads.{uses_cache, WhereUsed, OverBy, OneAtATime}
-use Rattle.rv_hardware.proofs.Laws.Port.Phases.{PortOk, Tied, new_pair, port_kept}
+use Rattle.rv_hardware.proofs.Laws.Port.Phases.{PortOk, Tied, new_pair, port_kept, AreTied}
 
 -- at the start of a cycle nothing has begun in it
 
@@ -44,8 +44,7 @@ port_of_history {v} (went_on {earlier} {old} {new} {lines} {report} before is) =
     let ok = in_cycle (port_kept (history_is_legal before) old.cycle) passed (port_of_history before) in
     let d : Hardware = (dispatching lines old).hardware in
     record {
-      tie = subst (λ (g : Hardware). Each (λ e. Tied v g.port_free (mark_of_entry e)) g.rob.entries)
-          (sym passed.others_stay) ok.tie;
+      tie = subst (λ (g : Hardware). AreTied v g.port_free g.rob.entries) (sym passed.others_stay) ok.tie;
       pairs = fresh_pairs v new.cycle _ passed.ends.entries;
     }
 

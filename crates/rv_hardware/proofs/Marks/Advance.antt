@@ -1,7 +1,8 @@
 -- A mark goes on by a retirement, a start, a broadcast or a dispatch, and stays what it was in earlier cycles.
 use Rattle.rv_hardware.proofs.Words.{◌≡◌, ℕ, ◌+◌, ◌<◌, ◌≤◌, Bool, true, ◌&&◌, List, ◌∷◌, ◌++◌, is_some, is_none, IfSome}
 use Rattle.rv_hardware.proofs.Words.{Some, None, Option, arith, is_load, is_of_kind, is_store, is_target, kind_of_word}
-use Rattle.rv_hardware.proofs.Words.{sources_of_word, target_of_word, at_kind, Kind, Values, Each, last_that, count}
+use Rattle.rv_hardware.proofs.Words.{sources_of_word, target_of_word, at_kind, Kind, Values, Each, last_that, count, []}
+use Rattle.rv_hardware.proofs.Words.{Each-left, Each-set, Each-place, EveryAfter, EveryAfter-left, EveryAfter-set}
 use Rattle.rv_hardware.proofs.Marks.List.{Start, Mark, Agree, Extends, Extends-trans, Extends-cut, Extends-change}
 use Rattle.rv_hardware.proofs.Marks.List.{at_end, until_now, start_until_now}
 
@@ -96,6 +97,25 @@ pub data Advances (v : Values) (now : ℕ) (xs : List Mark) (m n : Mark) : Type 
 pub record Kept (v : Values) (now : ℕ) (R : List Mark → Type 0) : Type 0 where
   pub cut : (xs ys : List Mark) → R (xs ++ ys) → R xs
   pub set : (xs ys : List Mark) (m n : Mark) → Advances v now xs m n → R (xs ++ m ∷ ys) → R (xs ++ n ∷ ys)
+
+-- what holds of each mark, where a mark that goes on keeps it
+pub each_is_kept : {v : Values} {now : ℕ} (P : Mark → Type 0) →
+    ((xs : List Mark) (m n : Mark) → Advances v now xs m n → P m → P n) → Kept v now (Each P)
+each_is_kept P goes = record {
+  cut = λ xs ys h. Each-left P xs ys h;
+  set = λ xs ys m n a h. Each-set P xs ys m n (goes xs m n a (Each-place P xs ys m h)) h;
+}
+
+-- what holds of each mark behind others, where a mark that goes on keeps it, and keeps it of those behind it
+pub after_is_kept : {v : Values} {now : ℕ} (P : List Mark → Mark → Type 0) →
+    ((xs : List Mark) (m n : Mark) → Advances v now xs m n → P xs m → P xs n) →
+    ((xs : List Mark) (m n : Mark) → Advances v now xs m n → (mid : List Mark) (z : Mark) → P (xs ++ m ∷ mid) z →
+    P (xs ++ n ∷ mid) z) →
+    Kept v now (EveryAfter P [])
+after_is_kept P itself behind = record {
+  cut = λ xs ys h. EveryAfter-left P [] xs ys h;
+  set = λ xs ys m n a h. EveryAfter-set P xs ys m n (itself xs m n a) (behind xs m n a) h;
+}
 
 agree_by : (now : ℕ) (m n p : Mark) → n ≡ p →
     (m.fetched ≡ p.fetched) × ((c : ℕ) → c < now → at_end c m ≡ at_end c p) → Agree now m n

@@ -35,7 +35,7 @@ pub use Rattle.rv_hardware.proofs.Marks.List.{until_by, until_now, start_until_n
 pub use Rattle.rv_hardware.proofs.Marks.Advance.{IsBefore, writes_mark, IsKnownMark, OperandsKnown, IsSentIfReady}
 pub use Rattle.rv_hardware.proofs.Marks.Advance.{is_in_flight_mark, is_stationed_mark, Starts, IsSent, Advances}
 pub use Rattle.rv_hardware.proofs.Marks.Advance.{mark_retires, mark_starts, mark_is_sent, mark_enters, Kept}
-pub use Rattle.rv_hardware.proofs.Marks.Advance.{advances_agree}
+pub use Rattle.rv_hardware.proofs.Marks.Advance.{advances_agree, each_is_kept, after_is_kept}
 pub use Rattle.rv_hardware.proofs.Marks.Evidence.{last_from-append, last_from-Each, entries_sent, rows_sent}
 pub use Rattle.rv_hardware.proofs.Marks.Sound.{SoundStage, SoundEntry, SoundFetched, kind_is_plain, serial_has_no_kind}
 pub use Rattle.rv_hardware.proofs.Marks.Sound.{is_of_kind_is, some_kind, row_decodes, positive_cost}

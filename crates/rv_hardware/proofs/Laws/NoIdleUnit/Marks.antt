@@ -5,13 +5,13 @@ use Rattle.rv_hardware.proofs.Words.{arith, and_from, is_load, is_of_kind, is_se
 use Rattle.rv_hardware.proofs.Words.{sources_of_word, Instr, Kind, Values, Each, Entry, Stage, Fetched, Hardware}
 use Rattle.rv_hardware.proofs.Words.{broadcast_of, is_known_from, is_waiting, writes, has_operands, is_ready, last_from}
 use Rattle.rv_hardware.proofs.Words.{last_that, Execution, Row, never_both, EveryAfter, count, count-set-grows}
-use Rattle.rv_hardware.proofs.Words.{EveryAfter-left, EveryAfter-set, Each-append}
+use Rattle.rv_hardware.proofs.Words.{Each-append}
 use Rattle.rv_hardware.specs.InFlight.{is_known}
 use Rattle.rv_hardware.proofs.Marks.Cited.{IsBefore, writes_mark, IsKnownMark, OperandsKnown, Advances, mark_is_sent}
 use Rattle.rv_hardware.proofs.Marks.Cited.{Kept, last_from-append, Mark, mark_of_row, mark_of_entry, mark_of_fetched}
 use Rattle.rv_hardware.proofs.Marks.Cited.{broadcast_of_stage, marks_append, start_of_execution, start_of_stage}
 use Rattle.rv_hardware.proofs.Marks.Cited.{writer_serialises, SoundRow, AreSerialLast, older_plain, instructions_of}
-use Rattle.rv_hardware.proofs.Marks.Cited.{SoundEntry, SoundStage, is_of_kind_is}
+use Rattle.rv_hardware.proofs.Marks.Cited.{SoundEntry, SoundStage, is_of_kind_is, after_is_kept}
 use Rattle.rv_hardware.proofs.Laws.OtherUnits.Rows.{begins_mark}
 
 -- an instruction that could start in a cycle
@@ -92,17 +92,19 @@ still_begins : (k : Kind) {v : Values} {now : ℕ} {xs : List Mark} {m n : Mark}
     begins_mark k now m ≡ true → begins_mark k now n ≡ true
 still_begins k given h = grind (arith, never_both)
 
+-- and those behind it
+behind_it : (k : Kind) (j : ℕ) {v : Values} {now : ℕ} {xs : List Mark} {m n : Mark} → Advances v now xs m n →
+    (mid : List Mark) (z : Mark) → BusyUnits k j now (xs ++ m ∷ mid) z → BusyUnits k j now (xs ++ n ∷ mid) z
+behind_it k j {now = now} {xs} {m} {n} a mid z busy may =
+    let back = goes_back a in
+    let grown = count-set-grows (begins_mark k now) xs mid m n (still_begins k a) in
+    let before = busy (may_back now m n back.instruction back.known k xs mid z may) in
+    omega (arith, grown, before)
+
 -- marks that go on keep it that, where one could start but does not, so many that are older did
 pub busy_units_are_kept : (k : Kind) (j : ℕ) (v : Values) (now : ℕ) → Kept v now (EveryAfter (BusyUnits k j now) [])
-busy_units_are_kept k j v now = record {
-  cut = λ xs ys h. EveryAfter-left _ [] xs ys h;
-  set = λ xs ys m n a h. EveryAfter-set _ xs ys m n (itself k j a)
-      (λ mid z busy may.
-      let back = goes_back a in
-      let grown = count-set-grows (begins_mark k now) xs mid m n (still_begins k a) in
-      let before = busy (may_back now m n back.instruction back.known k xs mid z may) in
-      omega (arith, grown, before)) h;
-}
+busy_units_are_kept k j v now =
+    after_is_kept (BusyUnits k j now) (λ xs m n a. itself k j a) (λ xs m n a. behind_it k j a)
 
 -- an entry that may start is ready
 

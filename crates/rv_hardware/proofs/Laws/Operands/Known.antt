@@ -2,10 +2,9 @@
 use Rattle.rv_hardware.proofs.Words.{◌≡◌, ℕ, Bool, true, false, cond, List, [], ◌∷◌, ◌++◌, map, is_some, IfSome, Some}
 use Rattle.rv_hardware.proofs.Words.{None, Option, sym, ap, subst, is_load, is_store, is_target, kind_of_word}
 use Rattle.rv_hardware.proofs.Words.{sources_of_word, target_of_word, Instr, Values, Each, Fetched, Hardware, last_from}
-use Rattle.rv_hardware.proofs.Words.{last_that, Step, Each-set, Each-place, EveryAfter, EveryAfter-left}
-use Rattle.rv_hardware.proofs.Words.{EveryAfter-append, EveryAfter-set, arith}
+use Rattle.rv_hardware.proofs.Words.{last_that, Step, Each-set, Each-place, EveryAfter, EveryAfter-append, arith}
 use Rattle.rv_hardware.proofs.Marks.Advance.{IsBefore, Advances, Starts, writes_mark, IsKnownMark, OperandsKnown}
-use Rattle.rv_hardware.proofs.Marks.Advance.{IsKnownStore}
+use Rattle.rv_hardware.proofs.Marks.Advance.{IsKnownStore, after_is_kept}
 use Rattle.rv_hardware.proofs.Marks.History.{KeptMarks, History, marks_of_history}
 use Rattle.rv_hardware.proofs.Marks.Evidence.{last_from-append}
 use Rattle.rv_hardware.proofs.Marks.List.{Mark, mark_of_fetched, marks_in, Start}
@@ -106,11 +105,9 @@ new_have_not_started before (f ∷ fs) = (tt, new_have_not_started (before ++ ma
 pub starts_are_kept : (v : Values) → KeptMarks v (λ now ms. EveryAfter StartsAfter [] ms)
 starts_are_kept v = record {
   at_reset = tt;
-  kept = λ now. record {
-    cut = λ xs ys h. EveryAfter-left _ [] xs ys h;
-    set = λ xs ys m n a h.
-        EveryAfter-set _ xs ys m n (it_goes_on a) (λ mid z k. found_goes_on (goes_on a) xs mid z z.start k) h;
-  };
+  kept = λ now.
+      after_is_kept StartsAfter (λ xs m n a. it_goes_on a)
+      (λ xs m n a mid z k. found_goes_on (goes_on a) xs mid z z.start k);
   more = λ now ms fs words h. EveryAfter-append _ [] ms _ h (new_have_not_started ms fs);
 }
 

@@ -6,12 +6,11 @@ use Rattle.rv_hardware.proofs.Words.{IsLegal, is_serialising, Message, Issue, Li
 use Rattle.rv_hardware.proofs.Words.{Each, Entry, Finished, Committing, commit_turn, commit_unless, with_fault, IsCycle}
 use Rattle.rv_hardware.proofs.Words.{any_prediction, with_lines, Hardware, IsFetchedSince, Turn, Report, written_of}
 use Rattle.rv_hardware.proofs.Words.{flushes, rows_of, is_interrupt, stamp_of, Row, Step, Retired, Trap, Each-append}
-use Rattle.rv_hardware.proofs.Words.{Each-left, Each-right, Each-set, Each-place, Each-weaker, Each-all, Each-both}
-use Rattle.rv_hardware.proofs.Words.{Each-unmap, EveryPair, count, EveryPair-append, count-append, count-none}
-use Rattle.rv_hardware.proofs.Words.{count-length, Leads, leads_both, turns_within, Each-images, each_image, each_then}
-use Rattle.rv_hardware.proofs.Words.{Fetched, pair_moves, each_moves}
+use Rattle.rv_hardware.proofs.Words.{Each-left, Each-right, Each-weaker, Each-all, Each-both, Each-unmap, EveryPair}
+use Rattle.rv_hardware.proofs.Words.{count, EveryPair-append, count-append, count-none, count-length, Leads, leads_both}
+use Rattle.rv_hardware.proofs.Words.{turns_within, Each-images, each_image, each_then, Fetched, pair_moves, each_moves}
 use Rattle.std.specs.FinSet as set
-use Rattle.rv_hardware.proofs.Marks.Advance.{Kept, Advances}
+use Rattle.rv_hardware.proofs.Marks.Advance.{Kept, Advances, each_is_kept}
 use Rattle.rv_hardware.proofs.Marks.List.{Mark, mark_of_row, mark_of_entry, mark_of_fetched, marks_in}
 use Rattle.rv_hardware.proofs.Turns.Commit.{CommitTurn, stale_head, fence_writes, fence_retires, executes}
 use Rattle.rv_hardware.proofs.Turns.Commit.{serial_faults, traps, retires, retires_last, commit_turn_is}
@@ -265,10 +264,7 @@ anew_goes_on : (steps : List Step) {v : Values} {now : ℕ} {xs : List Mark} {m 
 anew_goes_on steps given h holds = grind (arith, some_is_none)
 
 anew_is_kept : (steps : List Step) (v : Values) (now : ℕ) → Kept v now (Each (FetchedAnew steps))
-anew_is_kept steps v now = record {
-  cut = λ xs ys h. Each-left _ xs ys h;
-  set = λ xs ys m n a h. Each-set _ xs ys m n (anew_goes_on steps a (Each-place _ xs ys m h)) h;
-}
+anew_is_kept steps v now = each_is_kept (FetchedAnew steps) (λ xs m n a. anew_goes_on steps a)
 
 rows_are_gone : (steps : List Step) (rows : List Row) → Each (FetchedAnew steps) (map mark_of_row rows)
 rows_are_gone steps rows = Each-images _ _ (λ row none. some_is_none none) rows
