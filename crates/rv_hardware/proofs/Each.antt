@@ -1,4 +1,4 @@
--- What holds of each element of a list holds of its parts, of two lists together, of images, and where one element changes.
+-- What holds of each element of a list holds of parts, of two lists together, of images, and where one changes.
 use Rattle.std.proofs.Common.{◌≡◌, Bool, cond, List, [], ◌∷◌, ◌++◌, map, All, filter, ap, arith}
 use Rattle.std.proofs.lemmas.List.Elements.{All-cons, All-head, All-nil, All-tail}
 use Rattle.rv_cache.specs.WriteBack.{Each}
@@ -88,6 +88,18 @@ module _ {X : Type 0} (P : X → Type 0) where
   pub Each-filter : (p : X → Bool) (xs : List X) → Each P xs → Each P (filter p xs)
   Each-filter p [] h = tt
   Each-filter p (x ∷ xs) h = Each-pick (p x) x (filter p xs) h.0 (Each-filter p xs h.1)
+
+-- what follows from a property of each element holds of each; a list and its property are known from what is given
+pub each_then : {X : Type 0} {P Q : X → Type 0} → ((x : X) → P x → Q x) → (xs : List X) → Each P xs → Each Q xs
+each_then {P = P} {Q = Q} f xs h = Each-weaker P Q f xs h
+
+-- what follows of the image from a property of each element holds of each image
+pub each_image : {X Y : Type 0} (P : X → Type 0) {Q : Y → Type 0} {f : Y → X} → ((y : Y) → Q y → P (f y)) →
+    (ys : List Y) → Each Q ys → Each P (map f ys)
+each_image P {Q} {f} g ys h = Each-map P f ys (Each-weaker Q (λ y. P (f y)) g ys h)
+
+-- of each element, and so of parts, of more, of images and of a list in which one is another now
+pub ruleset each_moves = (Each-append, Each-left, Each-right, Each-place, Each-set, Each-weaker, Each-map, Each-all)
 
 -- what a function takes from each element is the same where one of them is another one with the same
 pub map-change : {X Y : Type 0} (f : X → Y) (xs ys : List X) (old new : X) → f new ≡ f old →

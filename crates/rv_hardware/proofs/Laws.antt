@@ -1,4 +1,4 @@
--- The laws, of all cycles since a reset or of a run after them: a file for each field of `Laws`, in the order of the record, and then what they make of a run.
+-- The laws, of all cycles since a reset or of a run after them: a file for each field of `Laws`, then those of runs.
 pub mod Within
 pub mod StampsInOrder
 pub mod Costs

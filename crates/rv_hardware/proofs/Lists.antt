@@ -1,6 +1,8 @@
 -- Relations of pairs, counts and beginnings go over to parts of lists, to images, and where one element changes.
-use Rattle.rv_hardware.proofs.Each.{All-Each, Each-append, Each-left, Each-right, Each-place, Each-weaker, Each-map, Each-unmap}
-use Rattle.std.proofs.Common.{◌≡◌, ℕ, suc, ◌+◌, ◌≤◌, Bool, true, false, cond, List, [], ◌∷◌, ◌++◌, map, length, count_by, AllPairs, sym, refl, ap, ◌∙◌, append_assoc, append-nil, arith}
+use Rattle.rv_hardware.proofs.Each.{All-Each, Each-append, Each-left, Each-right, Each-place, Each-weaker, Each-map}
+use Rattle.rv_hardware.proofs.Each.{Each-unmap}
+use Rattle.std.proofs.Common.{◌≡◌, ℕ, suc, ◌+◌, ◌≤◌, Bool, true, false, cond, List, [], ◌∷◌, ◌++◌, map, length}
+use Rattle.std.proofs.Common.{count_by, AllPairs, sym, refl, ap, ◌∙◌, append_assoc, append-nil, arith}
 use Rattle.std.proofs.lemmas.List.{map-append}
 use Rattle.std.proofs.lemmas.List.Kept.{AllPairs-cons}
 use Rattle.std.proofs.lemmas.List.Recursion.{is_count_by}
@@ -57,30 +59,38 @@ module _ {X : Type 0} (R : X → X → Type 0) where
   EveryPair-across (x ∷ xs) ys h = (Each-right (R x) xs ys h.0, EveryPair-across xs ys h.1)
 
   -- what follows from a relation of each pair holds of each pair
-  pub EveryPair-weaker : {S : X → X → Type 0} → ((x y : X) → R x y → S x y) → (xs : List X) → EveryPair R xs → EveryPair S xs
+  pub EveryPair-weaker : {S : X → X → Type 0} → ((x y : X) → R x y → S x y) → (xs : List X) →
+      EveryPair R xs → EveryPair S xs
   EveryPair-weaker f [] h = tt
   EveryPair-weaker {S} f (x ∷ xs) h = (Each-weaker (R x) (S x) (f x) xs h.0, EveryPair-weaker f xs h.1)
 
   -- of the images of each pair, and so of each pair of images
-  pub EveryPair-map : {Y : Type 0} (f : Y → X) (ys : List Y) → EveryPair (λ x y. R (f x) (f y)) ys → EveryPair R (map f ys)
+  pub EveryPair-map : {Y : Type 0} (f : Y → X) (ys : List Y) → EveryPair (λ x y. R (f x) (f y)) ys →
+      EveryPair R (map f ys)
   EveryPair-map f [] h = tt
   EveryPair-map f (y ∷ ys) h = (Each-map (R (f y)) f ys h.0, EveryPair-map f ys h.1)
 
   -- of each pair of images, and so of the images of each pair
-  pub EveryPair-unmap : {Y : Type 0} (f : Y → X) (ys : List Y) → EveryPair R (map f ys) → EveryPair (λ x y. R (f x) (f y)) ys
+  pub EveryPair-unmap : {Y : Type 0} (f : Y → X) (ys : List Y) → EveryPair R (map f ys) →
+      EveryPair (λ x y. R (f x) (f y)) ys
   EveryPair-unmap f [] h = tt
   EveryPair-unmap f (y ∷ ys) h = (Each-unmap (R (f y)) f ys h.0, EveryPair-unmap f ys h.1)
 
   -- another element at a place
-  pub EveryPair-set : (xs ys : List X) (x y : X) → ((z : X) → R z x → R z y) → ((z : X) → R x z → R y z) → EveryPair R (xs ++ x ∷ ys) → EveryPair R (xs ++ y ∷ ys)
+  pub EveryPair-set : (xs ys : List X) (x y : X) → ((z : X) → R z x → R z y) → ((z : X) → R x z → R y z) →
+      EveryPair R (xs ++ x ∷ ys) → EveryPair R (xs ++ y ∷ ys)
   EveryPair-set [] ys x y f g h = (Each-weaker (R x) (R y) g ys h.0, h.1)
-  EveryPair-set (z ∷ xs) ys x y f g h =
-      (Each-append (R z) xs (y ∷ ys) (Each-left (R z) xs (x ∷ ys) h.0) (f z (Each-right (R z) xs (x ∷ ys) h.0).0, (Each-right (R z) xs (x ∷ ys) h.0).1), EveryPair-set xs ys x y f g h.1)
+  EveryPair-set (z ∷ xs) ys x y f g h = (
+    Each-append (R z) xs (y ∷ ys) (Each-left (R z) xs (x ∷ ys) h.0)
+        (f z (Each-right (R z) xs (x ∷ ys) h.0).0, (Each-right (R z) xs (x ∷ ys) h.0).1),
+    EveryPair-set xs ys x y f g h.1,
+  )
 
 module _ {X : Type 0} (p : X → Bool) where
   -- the count by recursion is std's
   pub count-count_by : (xs : List X) → count p xs ≡ count_by p xs
-  count-count_by xs = is_count_by (count p) p refl (λ y ys. ap (λ n. cond (p y) n (count p ys)) (suc_is (count p ys))) xs
+  count-count_by xs =
+      is_count_by (count p) p refl (λ y ys. ap (λ n. cond (p y) n (count p ys)) (suc_is (count p ys))) xs
     where
       suc_is : (n : ℕ) → suc n ≡ 1 + n
       suc_is n = omega arith
@@ -132,11 +142,13 @@ module _ {X : Type 0} (p : X → Bool) where
   count-set-more xs ys x y = grind (arith, count-append, cond-bounds)
 
   -- one that passes where the other did
-  pub count-set-grows : (xs ys : List X) (x y : X) → (p x ≡ true → p y ≡ true) → count p (xs ++ x ∷ ys) ≤ count p (xs ++ y ∷ ys)
+  pub count-set-grows : (xs ys : List X) (x y : X) → (p x ≡ true → p y ≡ true) →
+      count p (xs ++ x ∷ ys) ≤ count p (xs ++ y ∷ ys)
   count-set-grows xs ys x y f = grind (arith, count-append, cond-le)
 
   -- one that passes where the other did not
-  pub count-set-one_more : (xs ys : List X) (x y : X) → p x ≡ false → p y ≡ true → count p (xs ++ y ∷ ys) ≡ suc (count p (xs ++ x ∷ ys))
+  pub count-set-one_more : (xs ys : List X) (x y : X) → p x ≡ false → p y ≡ true →
+      count p (xs ++ y ∷ ys) ≡ suc (count p (xs ++ x ∷ ys))
   count-set-one_more xs ys x y no_more is = grind (arith, count-append)
 
   -- one that does not pass gives way
@@ -175,49 +187,65 @@ module _ {X : Type 0} where
   Beginning-count p xs ys f = rw (f.1, count-append p xs f.0) (omega arith)
 
   -- of both together, and so of the first
-  pub EveryAfter-left : (P : List X → X → Type 0) (before xs ys : List X) → EveryAfter P before (xs ++ ys) → EveryAfter P before xs
+  pub EveryAfter-left : (P : List X → X → Type 0) (before xs ys : List X) → EveryAfter P before (xs ++ ys) →
+      EveryAfter P before xs
   EveryAfter-left P before [] ys h = tt
   EveryAfter-left P before (x ∷ xs) ys h = (h.0, EveryAfter-left P (before ++ x ∷ []) xs ys h.1)
 
   -- of one list, and of another after it, and so of both together
-  pub EveryAfter-append : (P : List X → X → Type 0) (before xs ys : List X) → EveryAfter P before xs → EveryAfter P (before ++ xs) ys → EveryAfter P before (xs ++ ys)
+  pub EveryAfter-append : (P : List X → X → Type 0) (before xs ys : List X) → EveryAfter P before xs →
+      EveryAfter P (before ++ xs) ys → EveryAfter P before (xs ++ ys)
   EveryAfter-append P before [] ys h g = rw (append-nil before) at g
-  EveryAfter-append P before (x ∷ xs) ys h g = (h.0, EveryAfter-append P (before ++ x ∷ []) xs ys h.1 (rw (← append_assoc before (x ∷ []) xs) at g))
+  EveryAfter-append P before (x ∷ xs) ys h g =
+      (h.0, EveryAfter-append P (before ++ x ∷ []) xs ys h.1 (rw (← append_assoc before (x ∷ []) xs) at g))
 
   -- of both together, and so of the second after the first
-  pub EveryAfter-right : (P : List X → X → Type 0) (before xs ys : List X) → EveryAfter P before (xs ++ ys) → EveryAfter P (before ++ xs) ys
+  pub EveryAfter-right : (P : List X → X → Type 0) (before xs ys : List X) → EveryAfter P before (xs ++ ys) →
+      EveryAfter P (before ++ xs) ys
   EveryAfter-right P before [] ys h = rw (append-nil before) h
-  EveryAfter-right P before (x ∷ xs) ys h = rw (← append_assoc before (x ∷ []) xs) (EveryAfter-right P (before ++ x ∷ []) xs ys h.1)
+  EveryAfter-right P before (x ∷ xs) ys h =
+      rw (← append_assoc before (x ∷ []) xs) (EveryAfter-right P (before ++ x ∷ []) xs ys h.1)
 
   -- of the whole, and so of a beginning
-  pub Beginning-EveryAfter : (P : List X → X → Type 0) (xs ys : List X) → Beginning xs ys → EveryAfter P [] ys → EveryAfter P [] xs
+  pub Beginning-EveryAfter : (P : List X → X → Type 0) (xs ys : List X) → Beginning xs ys → EveryAfter P [] ys →
+      EveryAfter P [] xs
   Beginning-EveryAfter P xs ys f h = EveryAfter-left P [] xs f.0 (rw f.1 at h)
 
   -- after another beginning
-  moved : (P Q : List X → X → Type 0) (pre pre' : List X) → ((mid : List X) (z : X) → P (pre ++ mid) z → Q (pre' ++ mid) z) → (acc ys : List X) →
+  moved : (P Q : List X → X → Type 0) (pre pre' : List X) →
+      ((mid : List X) (z : X) → P (pre ++ mid) z → Q (pre' ++ mid) z) → (acc ys : List X) →
       EveryAfter P (pre ++ acc) ys → EveryAfter Q (pre' ++ acc) ys
   moved P Q pre pre' f acc [] h = tt
-  moved P Q pre pre' f acc (y ∷ ys) h = grind (arith, append_assoc, moved P Q pre pre' f (acc ++ y ∷ []) ys (rw (append_assoc pre acc (y ∷ [])) at h.1))
+  moved P Q pre pre' f acc (y ∷ ys) h =
+      grind (arith, append_assoc, moved P Q pre pre' f (acc ++ y ∷ []) ys (rw (append_assoc pre acc (y ∷ [])) at h.1))
 
   -- of a list behind another beginning
-  pub EveryAfter-moved : (P Q : List X → X → Type 0) (pre pre' : List X) → ((mid : List X) (z : X) → P (pre ++ mid) z → Q (pre' ++ mid) z) → (ys : List X) → EveryAfter P pre ys → EveryAfter Q pre' ys
+  pub EveryAfter-moved : (P Q : List X → X → Type 0) (pre pre' : List X) →
+      ((mid : List X) (z : X) → P (pre ++ mid) z → Q (pre' ++ mid) z) → (ys : List X) → EveryAfter P pre ys →
+      EveryAfter Q pre' ys
   EveryAfter-moved P Q pre pre' f ys h = rw (append-nil pre') at (moved P Q pre pre' f [] ys (rw (append-nil pre) (h)))
 
   -- where nothing is after it
-  pub EveryAfter-all : {Q : X → Type 0} {P : List X → X → Type 0} → ((before : List X) (x : X) → Q x → P before x) → (before xs : List X) → Each Q xs → EveryAfter P before xs
+  pub EveryAfter-all : {Q : X → Type 0} {P : List X → X → Type 0} → ((before : List X) (x : X) → Q x → P before x) →
+      (before xs : List X) → Each Q xs → EveryAfter P before xs
   EveryAfter-all f before [] h = tt
   EveryAfter-all {Q} {P} f before (x ∷ xs) h = (f before x h.0, EveryAfter-all f (before ++ x ∷ []) xs h.1)
 
   -- another element at a place
-  pub EveryAfter-set : (P : List X → X → Type 0) (xs ys : List X) (m n : X) → (P xs m → P xs n) → ((mid : List X) (z : X) → P (xs ++ m ∷ mid) z → P (xs ++ n ∷ mid) z) →
-      EveryAfter P [] (xs ++ m ∷ ys) → EveryAfter P [] (xs ++ n ∷ ys)
+  pub EveryAfter-set : (P : List X → X → Type 0) (xs ys : List X) (m n : X) → (P xs m → P xs n) →
+      ((mid : List X) (z : X) → P (xs ++ m ∷ mid) z → P (xs ++ n ∷ mid) z) → EveryAfter P [] (xs ++ m ∷ ys) →
+      EveryAfter P [] (xs ++ n ∷ ys)
   EveryAfter-set P xs ys m n f g h =
       let right = EveryAfter-right P [] xs (m ∷ ys) h in
-      let rest = moved P P (xs ++ m ∷ []) (xs ++ n ∷ []) (λ mid z is. rw (append_assoc xs (n ∷ []) mid) (g mid z (rw (append_assoc xs (m ∷ []) mid) at is))) [] ys (rw (append-nil (xs ++ m ∷ [])) (right.1)) in
-      EveryAfter-append P [] xs (n ∷ ys) (EveryAfter-left P [] xs (m ∷ ys) h) (f right.0, rw (append-nil (xs ++ n ∷ [])) at rest)
+      let rest = moved P P (xs ++ m ∷ []) (xs ++ n ∷ [])
+      (λ mid z is. rw (append_assoc xs (n ∷ []) mid) (g mid z (rw (append_assoc xs (m ∷ []) mid) at is))) [] ys
+      (rw (append-nil (xs ++ m ∷ [])) (right.1)) in
+      EveryAfter-append P [] xs (n ∷ ys) (EveryAfter-left P [] xs (m ∷ ys) h)
+      (f right.0, rw (append-nil (xs ++ n ∷ [])) at rest)
 
   -- at any place
-  pub EveryAfter-at : (P : List X → X → Type 0) (before after : List X) (x : X) → EveryAfter P [] (before ++ x ∷ after) → P before x
+  pub EveryAfter-at : (P : List X → X → Type 0) (before after : List X) (x : X) →
+      EveryAfter P [] (before ++ x ∷ after) → P before x
   EveryAfter-at P before after x h = (EveryAfter-right P [] before (x ∷ after) h).0
 
   -- each element that stands after some others
@@ -225,12 +253,16 @@ module _ {X : Type 0} where
   EachAfter-EveryAfter P xs h before after x at = EveryAfter-at P before after x (rw at at h)
 
 -- of each element of the image, and so of the image of each
-pub EveryAfter-unmap : {X Y : Type 0} (P : List X → X → Type 0) (f : Y → X) (before ys : List Y) → EveryAfter P (map f before) (map f ys) → EveryAfter (λ b y. P (map f b) (f y)) before ys
+pub EveryAfter-unmap : {X Y : Type 0} (P : List X → X → Type 0) (f : Y → X) (before ys : List Y) →
+    EveryAfter P (map f before) (map f ys) → EveryAfter (λ b y. P (map f b) (f y)) before ys
 EveryAfter-unmap P f before [] h = tt
-EveryAfter-unmap P f before (y ∷ ys) h = (h.0, EveryAfter-unmap P f (before ++ y ∷ []) ys (rw (map-append f before (y ∷ [])) (h.1)))
+EveryAfter-unmap P f before (y ∷ ys) h =
+    (h.0, EveryAfter-unmap P f (before ++ y ∷ []) ys (rw (map-append f before (y ∷ [])) (h.1)))
 
 -- what follows from what holds of each element behind others holds of each
-pub EveryAfter-weaker : {X : Type 0} {P Q : List X → X → Type 0} → ((before : List X) (x : X) → P before x → Q before x) → (before xs : List X) → EveryAfter P before xs → EveryAfter Q before xs
+pub EveryAfter-weaker : {X : Type 0} {P Q : List X → X → Type 0} →
+    ((before : List X) (x : X) → P before x → Q before x) → (before xs : List X) → EveryAfter P before xs →
+    EveryAfter Q before xs
 EveryAfter-weaker f before [] h = tt
 EveryAfter-weaker {P} {Q} f before (x ∷ xs) h = (f before x h.0, EveryAfter-weaker f (before ++ x ∷ []) xs h.1)
 
@@ -239,25 +271,39 @@ pub EveryAfter-both : {X : Type 0} {P : X → Type 0} {Q R : List X → X → Ty
     ((before : List X) (x : X) → P x → Q before x → R before x) → (before xs : List X) → Each P xs →
     EveryAfter Q before xs → EveryAfter R before xs
 EveryAfter-both f before [] g h = tt
-EveryAfter-both {P} {Q} {R} f before (x ∷ xs) g h = (f before x g.0 h.0, EveryAfter-both f (before ++ x ∷ []) xs g.1 h.1)
+EveryAfter-both {P} {Q} {R} f before (x ∷ xs) g h =
+    (f before x g.0 h.0, EveryAfter-both f (before ++ x ∷ []) xs g.1 h.1)
 
 -- pairs and what stands after
 
 module _ {X : Type 0} (R : X → X → Type 0) where
-  after_one : (before : List X) (x : X) (more ys : List X) → EveryAfter (λ b y. Each (λ a. R a y) b) (before ++ x ∷ more) ys → Each (R x) ys
+  after_one : (before : List X) (x : X) (more ys : List X) →
+      EveryAfter (λ b y. Each (λ a. R a y) b) (before ++ x ∷ more) ys → Each (R x) ys
   after_one before x more [] h = tt
-  after_one before x more (y ∷ ys) h =
-      (Each-place (λ a. R a y) before more x h.0, after_one before x (more ++ y ∷ []) ys (rw (append_assoc before (x ∷ more) (y ∷ [])) at h.1))
+  after_one before x more (y ∷ ys) h = (
+    Each-place (λ a. R a y) before more x h.0,
+    after_one before x (more ++ y ∷ []) ys (rw (append_assoc before (x ∷ more) (y ∷ [])) at h.1),
+  )
 
   -- a relation of each element to all before it is one of each pair
   pub EveryPair-EveryAfter : (before xs : List X) → EveryAfter (λ b y. Each (λ a. R a y) b) before xs → EveryPair R xs
   EveryPair-EveryAfter before [] h = tt
-  EveryPair-EveryAfter before (x ∷ xs) h = (after_one before x [] xs h.1, EveryPair-EveryAfter (before ++ x ∷ []) xs h.1)
+  EveryPair-EveryAfter before (x ∷ xs) h =
+      (after_one before x [] xs h.1, EveryPair-EveryAfter (before ++ x ∷ []) xs h.1)
 
   -- a relation of each pair is one of each element to all before it
-  pub EveryAfter-EveryPair : (before xs : List X) → Across R before xs → EveryPair R xs → EveryAfter (λ b y. Each (λ a. R a y) b) before xs
+  pub EveryAfter-EveryPair : (before xs : List X) → Across R before xs → EveryPair R xs →
+      EveryAfter (λ b y. Each (λ a. R a y) b) before xs
   EveryAfter-EveryPair before [] a h = tt
   EveryAfter-EveryPair before (x ∷ xs) a h = (
     Each-weaker (λ z. Each (R z) (x ∷ xs)) (λ z. R z x) (λ z w. w.0) before a,
-    EveryAfter-EveryPair (before ++ x ∷ []) xs (Each-append (λ z. Each (R z) xs) before (x ∷ []) (Each-weaker (λ z. Each (R z) (x ∷ xs)) (λ z. Each (R z) xs) (λ z w. w.1) before a) (h.0, tt)) h.1,
+    EveryAfter-EveryPair (before ++ x ∷ []) xs
+        (Each-append (λ z. Each (R z) xs) before (x ∷ [])
+        (Each-weaker (λ z. Each (R z) (x ∷ xs)) (λ z. Each (R z) xs) (λ z w. w.1) before a) (h.0, tt))
+        h.1,
   )
+
+-- of each pair, and of each element behind others, and so of parts, of more and of a list in which one is another now
+pub ruleset pair_moves = (EveryPair-append, EveryPair-left, EveryPair-right, EveryPair-across, EveryPair-set)
+
+pub ruleset after_moves = (EveryAfter-append, EveryAfter-left, EveryAfter-right, EveryAfter-moved, EveryAfter-set)

@@ -9,7 +9,8 @@ use Rattle.rv_hardware.proofs.Laws.OfRuns.{laws_of_runs}
 use Rattle.rv_hardware.proofs.LongestGap.{longest_gap_of_run}
 
 -- the cycles of a run from reachable hardware, of which only the last may stop, keep the promise
-pub promise_of_run : {arrivals : List Arrival} {old new : Hardware} {reports : List Report} → Reachable old → Cycles arrivals old reports new → OnlyLastStops reports →
+pub promise_of_run : {arrivals : List Arrival} {old new : Hardware} {reports : List Report} → Reachable old →
+    Cycles arrivals old reports new → OnlyLastStops reports →
     IsPromised old.values arrivals old.cycle new.cycle (seen old) (reported_of reports) (seen new)
 promise_of_run {arrivals} {old} {new} {reports} reached cycles only = record {
   runs = headline_of_run reached cycles;

@@ -29,7 +29,8 @@ pub left_by_the_rest : {S : Type 0} (P Q : S → Type 0) (rest : S → S) → ((
 left_by_the_rest P Q rest goes t left = grind arith
 
 module _ {S : Type 0} (total : ℕ) (P : ℕ → S → Type 0) (Q : S → Type 0) (turn : S → Turn S)
-    (leads : (k : ℕ) (s : S) → k < total → P k s → Leads (P (suc k)) Q (turn s)) (last : (s : S) → P total s → Q s) where
+    (leads : (k : ℕ) (s : S) → k < total → P k s → Leads (P (suc k)) Q (turn s))
+    (last : (s : S) → P total s → Q s) where
   -- where after k turns P k holds, until a turn ends in Q or so many were taken, the turns lead to Q
   pub turns_within : (width k : ℕ) (s : S) → width + k ≡ total → P k s → Q (repeated turn width s)
   turns_within zero k s all h = last s (let same : total ≡ k = omega (arith, all) in rw same h)
@@ -55,6 +56,7 @@ pub always : {P : Hardware → Type 0} →
     ((old new : Hardware) (lines : Lines) (report : Report) → Reachable old → P old → old.cycle < 2 ^ 40 →
     IsCycle any_prediction lines old report new → P new) →
     {h : Hardware} → Reachable h → P h
-always first next (at_reset {values} {base} {image} {start} legal loadable) = first values base image start legal loadable
+always first next (at_reset {values} {base} {image} {start} legal loadable) =
+    first values base image start legal loadable
 always {P} first next (by_cycle {old} {new} {lines} {report} reached counted cycles) =
     next old new lines report reached (always first next reached) counted cycles

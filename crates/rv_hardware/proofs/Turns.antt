@@ -1,4 +1,4 @@
--- What each phase does, turn by turn: one view of the outcomes of a turn, and what a property needs so that all turns keep it.
+-- What each phase does, turn by turn: the outcomes of a turn, and what a property needs so that all turns keep it.
 pub mod Forms
 pub mod Costs
 pub mod KeptByIssue

@@ -1,5 +1,5 @@
 -- The drain phase: retired stores go into the cache, one access at a time.
-use Rattle.std.specs.Prelude.{ℕ, ◌+◌, nat_le, true, if◌then◌else◌, Option, Some, None}
+use Rattle.std.specs.Prelude.{◌+◌, nat_le, true, if◌then◌else◌, Option, Some, None}
 use Rattle.rv_isa.specs.declared.broadcast.StoreAccess.{StoreAccess}
 use Rattle.rv_cache.specs.Cache.{access_cost, accessed_sets, memory_after, seen_after}
 use Rattle.rv_stores.specs.Queue.{oldest_to_drain, with_oldest_draining, without_drained}

@@ -1,6 +1,13 @@
--- An instruction in flight waits for a unit or to be the oldest, or its message tells no more, and no less, than it may.
-use Rattle.rv_hardware.proofs.Words.{◌≡◌, ℕ, Bool, true, ◌||◌, ◌∷◌, ◌++◌, is_some, Some, None, Option, option_and_then, sym, subst, is_of_kind, is_serialising, is_store, kind_of_word, Message, Instr, Lines, Kind, instruction_of, Layout, Effect, State, Each, issue_of, Entry, Stage, Finished, Running, Waiting, Fetched, any_prediction, entry_of_fetched, stage_by, Hardware, broadcast_of, is_waiting, access_of, effect_message, result_of_word, Each-append, Each-left, Each-right, Each-push, Each-change, Each-weaker, arith}
-use Rattle.rv_hardware.proofs.Turns.Cited.{fetch_phase, IsKept, phases-kept, IsKeptByChanges, all_squashed, head_retires, one_starts, one_sent, one_mended, one_enters, IsResultOfWord, HasRun}
+-- An instruction in flight waits for a unit or to be the oldest, or its message tells just what it may.
+use Rattle.rv_hardware.proofs.Words.{◌≡◌, ℕ, Bool, true, ◌||◌, ◌∷◌, ◌++◌, is_some, Some, None, Option, option_and_then}
+use Rattle.rv_hardware.proofs.Words.{sym, subst, is_of_kind, is_serialising, is_store, kind_of_word, Message, Instr}
+use Rattle.rv_hardware.proofs.Words.{Lines, Kind, instruction_of, Layout, Effect, State, Each, issue_of, Entry, Stage}
+use Rattle.rv_hardware.proofs.Words.{Finished, Running, Waiting, Fetched, any_prediction, entry_of_fetched, stage_by}
+use Rattle.rv_hardware.proofs.Words.{Hardware, broadcast_of, is_waiting, access_of, effect_message, result_of_word}
+use Rattle.rv_hardware.proofs.Words.{Each-left, Each-right, Each-push, Each-change, arith, each_then, Each-append}
+use Rattle.rv_hardware.proofs.Turns.Cited.{fetch_phase, IsKept, phases-kept, IsKeptByChanges, all_squashed}
+use Rattle.rv_hardware.proofs.Turns.Cited.{head_retires, one_starts, one_sent, one_mended, one_enters, IsResultOfWord}
+use Rattle.rv_hardware.proofs.Turns.Cited.{HasRun}
 use Rattle.rv_hardware.proofs.Always.Faults.{HasWordOr, IsUnitFault, by_result}
 use Rattle.rv_hardware.proofs.Marks.Sound.{some_kind}
 
@@ -19,7 +26,8 @@ IsShaped word instruction Waiting =
     HasWordOr None word × ((is_some (kind_of_word instruction) || is_serialising instruction) ≡ true)
 IsShaped word instruction (Running issue message) = Tells word instruction message × IsUnitFault message.fault
 IsShaped word instruction (Finished None cycle message) = Tells word instruction message
-IsShaped word instruction (Finished (Some issue) cycle message) = Tells word instruction message × IsUnitFault message.fault
+IsShaped word instruction (Finished (Some issue) cycle message) =
+    Tells word instruction message × IsUnitFault message.fault
 
 -- an instruction in flight is so
 abbrev pub Shaped : Entry → Type 0
@@ -84,7 +92,8 @@ word_for word instruction has given = grind arith
 or_true : (b : Bool) → (b || true) ≡ true
 or_true b = grind arith
 
-shaped_by : (word : Option ℕ) (instruction : Option Instr) (kind : Option Kind) (serialising : Bool) (cycle : ℕ) (message : Message) →
+shaped_by : (word : Option ℕ) (instruction : Option Instr) (kind : Option Kind) (serialising : Bool) (cycle : ℕ)
+    (message : Message) →
     kind_of_word instruction ≡ kind → is_serialising instruction ≡ serialising → HasWordFor word instruction →
     Tells word instruction message → IsShaped word instruction (stage_by kind serialising (Finished None cycle message))
 shaped_by word instruction kind serialising cycle message of_kind serial has told = grind (arith, word_for, or_true)
@@ -101,8 +110,14 @@ no_word word is = grind arith
 pub entries_changes : IsKeptByChanges AreShaped
 entries_changes h _ (all_squashed s retired) shape = (tt, tt)
 entries_changes h _ (head_retires e es s message split known faultless) shape = grind arith
-entries_changes h _ (one_starts k older younger e cost message split waits of_kind result costs) shape = (Each-change _ older younger e _ (begun_shape k e message waits of_kind result) (subst (Each Shaped) split shape.0), shape.1)
-entries_changes h _ (one_sent older younger e message split gives) shape = (Each-change _ older younger e _ (known_shape e.word e.instruction gives) (subst (Each Shaped) split shape.0), shape.1)
+entries_changes h _ (one_starts k older younger e cost message split waits of_kind result costs) shape = (
+  Each-change _ older younger e _ (begun_shape k e message waits of_kind result) (subst (Each Shaped) split shape.0),
+  shape.1,
+)
+entries_changes h _ (one_sent older younger e message split gives) shape = (
+  Each-change _ older younger e _ (known_shape e.word e.instruction gives) (subst (Each Shaped) split shape.0),
+  shape.1,
+)
 entries_changes h _ (one_mended older younger e next split) shape =
     let all : Each Shaped (older ++ e ∷ younger) = subst (Each Shaped) split shape.0 in
     (Each-push _ older _ (Each-right _ older _ all).0 (Each-left _ older _ all), tt)
@@ -115,6 +130,6 @@ entries-kept = record {
   phases = phases-kept entries_changes;
   fetch = λ ram cycle h front stop shape fetches.
       let phase = fetch_phase any_prediction ram cycle h.front front stop fetches in
-      let added = Each-weaker _ _ (λ f new. no_word f.word new.1) _ phase.are_new in
+      let added = each_then (λ f new. no_word f.word new.1) _ phase.are_new in
       (shape.0, subst (Each FetchedShape) (sym phase.entries) (Each-append _ _ _ shape.1 added));
 }

@@ -1,6 +1,9 @@
 -- An execution is over within the longest one's time.
-use Rattle.rv_hardware.proofs.Words.{ℕ, ◌+◌, ◌≤◌, Bool, ◌∷◌, ◌++◌, None, Option, subst, arith, Message, Kind, Each, Entry, Stage, Finished, Running, stage_by, Hardware, Each-left, Each-right, Each-push, Each-change, Each-weaker}
-use Rattle.rv_hardware.proofs.Turns.Cited.{IsKept, phases-kept, IsKeptByChanges, all_squashed, head_retires, one_starts, one_sent, one_mended, one_enters, longest_execution}
+use Rattle.rv_hardware.proofs.Words.{ℕ, ◌+◌, ◌≤◌, Bool, ◌∷◌, ◌++◌, None, Option, subst, arith, Message, Kind, Each}
+use Rattle.rv_hardware.proofs.Words.{Entry, Stage, Finished, Running, stage_by, Hardware, Each-left, Each-right}
+use Rattle.rv_hardware.proofs.Words.{Each-push, Each-change, each_then}
+use Rattle.rv_hardware.proofs.Turns.Cited.{IsKept, phases-kept, IsKeptByChanges, all_squashed, head_retires, one_starts}
+use Rattle.rv_hardware.proofs.Turns.Cited.{one_sent, one_mended, one_enters, longest_execution}
 
 -- where it executes, it is over by a cycle
 abbrev pub EndsBy : ℕ → Stage → Type 0
@@ -47,5 +50,5 @@ ending-kept = record {
       let limit : ℕ = h.cycle + longest_execution h in
       let more : ℕ = h.cycle + 1 + longest_execution h in
       let past : limit ≤ more = omega arith in
-      Each-weaker _ _ (λ e before. one_later limit more e.stage past before) _ ends;
+      each_then (λ e before. one_later limit more e.stage past before) _ ends;
 }

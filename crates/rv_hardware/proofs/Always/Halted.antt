@@ -1,6 +1,11 @@
 -- Where fetch is halted, the last word, fetched or in flight, is the one that was not there.
-use Rattle.rv_hardware.proofs.Words.{◌≡◌, ℕ, suc, ◌-◌, Bool, true, false, List, [], ◌∷◌, ◌++◌, map, length, Some, None, Option, MatchOption, sym, refl, ap, ◌∙◌, subst, append_assoc, map-append, Message, Memory, finished, started, Entry, FetchBuffer, Fetches, FetchesInto, is_halted, stop_after, stop_for, FetchStop, Halted, Fetched, any_prediction, entry_of_fetched, Hardware, map-change, arith}
-use Rattle.rv_hardware.proofs.Turns.Cited.{IsKept, phases-kept, IsKeptByChanges, all_squashed, head_retires, one_starts, one_sent, one_mended, one_enters, fetch-cases}
+use Rattle.rv_hardware.proofs.Words.{◌≡◌, ℕ, suc, ◌-◌, Bool, true, false, List, [], ◌∷◌, ◌++◌, map, length, Some, None}
+use Rattle.rv_hardware.proofs.Words.{Option, MatchOption, sym, refl, ap, ◌∙◌, subst, append_assoc, map-append, Message}
+use Rattle.rv_hardware.proofs.Words.{Memory, finished, started, Entry, FetchBuffer, Fetches, FetchesInto, is_halted}
+use Rattle.rv_hardware.proofs.Words.{stop_after, stop_for, FetchStop, Halted, Fetched, any_prediction, entry_of_fetched}
+use Rattle.rv_hardware.proofs.Words.{Hardware, map-change, arith}
+use Rattle.rv_hardware.proofs.Turns.Cited.{IsKept, phases-kept, IsKeptByChanges, all_squashed, head_retires, one_starts}
+use Rattle.rv_hardware.proofs.Turns.Cited.{one_sent, one_mended, one_enters, fetch-cases}
 use Rattle.rv_hardware.proofs.Always.Entries.{AreShaped, entries_changes, entries-kept, told_at_end}
 use Rattle.rv_hardware.proofs.Always.Faults.{HasWordOr}
 
@@ -37,11 +42,12 @@ last-append before [] ys = refl
 last-append before (x ∷ xs) ys = last-append x xs ys
 
 -- ---- a retirement
-has_word : (word : Option ℕ) (message : Message) → message.fault ≡ None → HasWordOr message.fault word → HasWordOr None word
+has_word : (word : Option ℕ) (message : Message) → message.fault ≡ None → HasWordOr message.fault word →
+    HasWordOr None word
 has_word word message faultless has = subst (λ fault. HasWordOr fault word) faultless has
 
-next_last : (halted : Bool) (word : Option ℕ) (ws : List (Option ℕ)) → HasWordOr None word → HaltsAfter halted (word ∷ ws) →
-    HaltsAfter halted ws
+next_last : (halted : Bool) (word : Option ℕ) (ws : List (Option ℕ)) → HasWordOr None word →
+    HaltsAfter halted (word ∷ ws) → HaltsAfter halted ws
 next_last false word ws has behind = tt
 next_last true None ws has behind = absurd has
 next_last true (Some word) [] has behind = absurd (cc)
@@ -59,15 +65,19 @@ moved_words : (entries : List Entry) (e : Entry) (f : Fetched) (rest : List Fetc
 moved_words entries e f rest same = grind (arith, map-append, append_assoc)
 
 -- ---- a fetch
-halted_for : (word : Option ℕ) (straight : Bool) (reason : FetchStop) → stop_for word straight ≡ Some reason → reason ≡ Halted →
-    word ≡ None
+halted_for : (word : Option ℕ) (straight : Bool) (reason : FetchStop) → stop_for word straight ≡ Some reason →
+    reason ≡ Halted → word ≡ None
 halted_for word straight reason is halted = grind arith
 
 module _ (ram : Memory) (cycle : ℕ) where
-  last_by : (width room : ℕ) (e : Fetched) (es : List Fetched) (next : ℕ) {stop : FetchStop} {behind : Option FetchStop} →
+  last_by : (width room : ℕ) (e : Fetched) (es : List Fetched) (next : ℕ) {stop : FetchStop}
+      {behind : Option FetchStop} →
       stop_after e ≡ behind → stop ≡ Halted →
-      (Fetches any_prediction ram cycle width room e.predicted es next stop → last_of e.word (map word_of_fetched es) ≡ None) →
-      MatchOption behind (Fetches any_prediction ram cycle width room e.predicted es next stop) (λ reason. (es ≡ []) × (next ≡ e.predicted) × (stop ≡ reason)) → last_of e.word (map word_of_fetched es) ≡ None
+      (Fetches any_prediction ram cycle width room e.predicted es next stop →
+      last_of e.word (map word_of_fetched es) ≡ None) →
+      MatchOption behind (Fetches any_prediction ram cycle width room e.predicted es next stop)
+      (λ reason. (es ≡ []) × (next ≡ e.predicted) × (stop ≡ reason)) →
+      last_of e.word (map word_of_fetched es) ≡ None
   last_by width room e es next is halted given rest = grind (arith, halted_for)
 
   last_added : (width room pc : ℕ) (added : List Fetched) (next : ℕ) (stop : FetchStop) →
@@ -75,7 +85,8 @@ module _ (ram : Memory) (cycle : ℕ) where
       last_of before (map word_of_fetched added) ≡ None
   last_added (suc width) (suc room) pc [] next stop words halted before = absurd words.0
   last_added (suc width) (suc room) pc (e ∷ es) next stop (at, rest) halted before =
-      last_by width room e es next refl halted (λ on. last_added width room e.predicted es next stop on halted e.word) rest
+      last_by width room e es next refl halted
+      (λ on. last_added width room e.predicted es next stop on halted e.word) rest
   last_added width room pc (e ∷ es) next stop words halted before = absurd words
   last_added width room pc [] next stop words halted before = absurd (cc (words.0, halted))
 
@@ -91,17 +102,23 @@ module _ (ram : Memory) (cycle : ℕ) where
 
 halted_changes : IsKeptByChanges IsHalted
 halted_changes h _ (all_squashed s retired) has = (entries_changes h _ (all_squashed s retired) has.0, tt)
-halted_changes h _ (head_retires e es s message split known none) has = grind (arith, entries_changes, next_last, has_word, told_at_end)
+halted_changes h _ (head_retires e es s message split known none) has =
+    grind (arith, entries_changes, next_last, has_word, told_at_end)
 halted_changes h _ (one_starts k older younger e cost message split waits of_kind result costs) has = (
   entries_changes h _ (one_starts k older younger e cost message split waits of_kind result costs) has.0,
   same_words h older younger e (started (record { cycle = h.cycle; cost = cost }) message e) refl split has.1,
 )
-halted_changes h _ (one_sent older younger e message split gives) has =
-    (entries_changes h _ (one_sent older younger e message split gives) has.0, same_words h older younger e (finished message h.cycle e) refl split has.1)
-halted_changes h _ (one_mended older younger e next split) has = (entries_changes h _ (one_mended older younger e next split) has.0, tt)
+halted_changes h _ (one_sent older younger e message split gives) has = (
+  entries_changes h _ (one_sent older younger e message split gives) has.0,
+  same_words h older younger e (finished message h.cycle e) refl split has.1,
+)
+halted_changes h _ (one_mended older younger e next split) has =
+    (entries_changes h _ (one_mended older younger e next split) has.0, tt)
 halted_changes h _ (one_enters f rest first none) has = (
   entries_changes h _ (one_enters f rest first none) has.0,
-  subst (HaltsAfter h.front.halted) (ap (λ l. words_of h.rob.entries l) first ∙ sym (moved_words h.rob.entries (entry_of_fetched h f) f rest refl)) has.1,
+  subst (HaltsAfter h.front.halted)
+      (ap (λ l. words_of h.rob.entries l) first ∙ sym (moved_words h.rob.entries (entry_of_fetched h f) f rest refl))
+      has.1,
 )
 halted_changes h _ _ has = has
 
@@ -109,6 +126,8 @@ halted_changes h _ _ has = has
 pub halted-kept : IsKept IsHalted
 halted-kept = record {
   phases = phases-kept halted_changes;
-  fetch = λ ram cycle h front stop has fetches.
-      (entries-kept.fetch ram cycle h front stop has.0 fetches, after_fetched ram cycle h.rob.entries h.front front stop fetches has.1);
+  fetch = λ ram cycle h front stop has fetches. (
+    entries-kept.fetch ram cycle h front stop has.0 fetches,
+    after_fetched ram cycle h.rob.entries h.front front stop fetches has.1,
+  );
 }

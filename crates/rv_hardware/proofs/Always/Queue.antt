@@ -1,5 +1,8 @@
 -- The stores that wait for the cache's port are retired ones, and only the oldest may have begun its access.
-use Rattle.rv_hardware.proofs.Words.{◌≡◌, ℕ, true, false, List, [], ◌∷◌, ◌++◌, Option, append-nil, StoreAccess, Each, with_oldest_draining, without_drained, draining, is_committed, is_committed_state, is_draining, Store, StoreState, Hardware, committed_store, by_test, Each-push, arith}
+use Rattle.rv_hardware.proofs.Words.{◌≡◌, ℕ, true, false, List, [], ◌∷◌, ◌++◌, Option, append-nil, StoreAccess, Each}
+use Rattle.rv_hardware.proofs.Words.{with_oldest_draining, without_drained, draining, is_committed, is_committed_state}
+use Rattle.rv_hardware.proofs.Words.{is_draining, Store, StoreState, Hardware, committed_store, by_test, Each-push}
+use Rattle.rv_hardware.proofs.Words.{arith}
 use Rattle.rv_hardware.proofs.Turns.Cited.{IsKept, phases-kept, IsKeptByChanges}
 
 -- retired, and its access has not begun

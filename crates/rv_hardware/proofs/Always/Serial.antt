@@ -1,5 +1,6 @@
 -- An instruction that waits to be the oldest is the youngest: nothing younger is in flight beside it.
-use Rattle.rv_hardware.proofs.Words.{◌≡◌, true, false, List, [], ◌∷◌, ◌++◌, Option, refl, or_parts, map-append, is_serialising, Instr, Each, Entry, Hardware, map-change, arith}
+use Rattle.rv_hardware.proofs.Words.{◌≡◌, true, false, List, [], ◌∷◌, ◌++◌, Option, refl, or_parts, map-append}
+use Rattle.rv_hardware.proofs.Words.{is_serialising, Instr, Each, Entry, Hardware, map-change, arith}
 use Rattle.rv_hardware.proofs.Turns.Cited.{IsKept, phases-kept, IsKeptByChanges, is_any_serialising}
 use Rattle.rv_hardware.proofs.Always.Stores.{instructions_of}
 
@@ -22,14 +23,16 @@ fewer_others : (claim : Type 0) (xs ys : List (Option Instr)) (x : Option Instr)
 fewer_others claim [] ys x given = given
 fewer_others claim (y ∷ xs) ys x given = given
 
-cut_last : (xs ys : List (Option Instr)) (x : Option Instr) → AreSerialLast (xs ++ x ∷ ys) → AreSerialLast (xs ++ x ∷ [])
+cut_last : (xs ys : List (Option Instr)) (x : Option Instr) → AreSerialLast (xs ++ x ∷ ys) →
+    AreSerialLast (xs ++ x ∷ [])
 cut_last [] ys x last = (tt, tt)
 cut_last (y ∷ xs) ys x last = (fewer_others (is_serialising y ≡ false) xs ys x last.0, cut_last xs ys x last.1)
 
 others : {claim : Type 0} (xs : List (Option Instr)) (x : Option Instr) → claim → WhereOthers (xs ++ x ∷ []) claim
 others xs x given = grind arith
 
-push_last : (es : List Entry) (x : Option Instr) → is_any_serialising es ≡ false → AreSerialLast (instructions_of es ++ x ∷ [])
+push_last : (es : List Entry) (x : Option Instr) → is_any_serialising es ≡ false →
+    AreSerialLast (instructions_of es ++ x ∷ [])
 push_last [] x none = (tt, tt)
 push_last (e ∷ es) x none =
     let parts = or_parts (is_serialising e.instruction) (is_any_serialising es) none in
@@ -37,7 +40,8 @@ push_last (e ∷ es) x none =
 
 -- one among them is another one with the same instruction
 changed_last : (es older younger : List Entry) (old new : Entry) → new.instruction ≡ old.instruction →
-    es ≡ older ++ old ∷ younger → AreSerialLast (instructions_of es) → AreSerialLast (instructions_of (older ++ new ∷ younger))
+    es ≡ older ++ old ∷ younger → AreSerialLast (instructions_of es) →
+    AreSerialLast (instructions_of (older ++ new ∷ younger))
 changed_last es older younger old new same split last = grind (arith, map-change)
 
 -- what is younger is gone
@@ -53,8 +57,8 @@ pub last-kept : IsKept IsSerialLast
 last-kept = record { phases = phases-kept last_changes; fetch = λ ram cycle h front stop last fetches. last }
 
 -- so one that is the oldest is alone
-pub alone : (e : Entry) (es : List Entry) → AreSerialLast (instructions_of (e ∷ es)) → is_serialising e.instruction ≡ true →
-    es ≡ []
+pub alone : (e : Entry) (es : List Entry) → AreSerialLast (instructions_of (e ∷ es)) →
+    is_serialising e.instruction ≡ true → es ≡ []
 alone e [] last serial = refl
 alone e (f ∷ es) last serial = absurd (cc (serial, last.0))
 

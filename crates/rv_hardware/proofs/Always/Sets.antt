@@ -1,9 +1,13 @@
 -- The cache holds no more lines than it has room for, so its write-back has a longest time.
-use Rattle.rv_hardware.proofs.Words.{◌≡◌, ℕ, ◌*◌, ◌%◌, ◌≤◌, Bool, true, false, cond, List, [], ◌∷◌, map, length, refl, arith, length-set, mul-le-mul_right, length-map, length-replicate, CacheValues, Values, Memory, Contents, accessed_sets, line_of, set_of, cleaned, dirty_count, dirty_total, Each, CacheLine, write_back_time, Hardware, reset_hardware}
+use Rattle.rv_hardware.proofs.Words.{◌≡◌, ℕ, ◌*◌, ◌%◌, ◌≤◌, Bool, true, false, cond, List, [], ◌∷◌, map, length, refl}
+use Rattle.rv_hardware.proofs.Words.{arith, length-set, mul-le-mul_right, length-map, length-replicate, CacheValues}
+use Rattle.rv_hardware.proofs.Words.{Values, Memory, Contents, accessed_sets, line_of, set_of, cleaned, dirty_count}
+use Rattle.rv_hardware.proofs.Words.{dirty_total, Each, CacheLine, write_back_time, Hardware, reset_hardware}
 use Rattle.rv_cache.proofs.Replacement.{length-accessed}
 use Rattle.rv_cache.proofs.Sets.{Each-at, Each-map, Each-replicate, Each-set}
 use Rattle.rv_cache.specs.Replacement.{accessed}
-use Rattle.rv_hardware.proofs.Turns.Cited.{IsKept, phases-kept, IsKeptByChanges, cache_written, store_drains, load_accesses, longest_write_back}
+use Rattle.rv_hardware.proofs.Turns.Cited.{IsKept, phases-kept, IsKeptByChanges, cache_written, store_drains}
+use Rattle.rv_hardware.proofs.Turns.Cited.{load_accesses, longest_write_back}
 
 abbrev Fits : ℕ → List CacheLine → Type 0
 Fits ways lines = length lines ≤ ways
@@ -23,10 +27,12 @@ pub accessed-fit : (cache : Contents Memory) (address : ℕ) (writes : Bool) →
     FitIn cache.values (accessed_sets cache address writes)
 accessed-fit cache address writes fits =
     let number : ℕ = line_of cache address in
-    let room = Each-at (Fits cache.values.ways) cache.sets (number % cache.values.sets) [] (empty_fits cache.values.ways) fits.1 in
+    let room = Each-at (Fits cache.values.ways) cache.sets (number % cache.values.sets) []
+    (empty_fits cache.values.ways) fits.1 in
     let lines : List CacheLine = accessed cache.values.ways number writes (set_of cache number) in (
       omega (arith, length-set cache.sets (number % cache.values.sets) lines, fits.0),
-      Each-set (Fits cache.values.ways) cache.sets (number % cache.values.sets) lines (length-accessed cache.values.ways number (set_of cache number) writes room) fits.1,
+      Each-set (Fits cache.values.ways) cache.sets (number % cache.values.sets) lines
+          (length-accessed cache.values.ways number (set_of cache number) writes room) fits.1,
     )
 
 cleaned_fits : (ways : ℕ) (lines : List CacheLine) → Fits ways lines → Fits ways (map cleaned lines)
@@ -44,7 +50,8 @@ count_at_most : (lines : List CacheLine) → dirty_count lines ≤ length lines
 count_at_most [] = omega arith
 count_at_most (line ∷ lines) = omega (arith, one_at_most line.dirty, count_at_most lines)
 
-total_at_most : (ways : ℕ) (sets : List (List CacheLine)) → Each (Fits ways) sets → dirty_total sets ≤ length sets * ways
+total_at_most : (ways : ℕ) (sets : List (List CacheLine)) → Each (Fits ways) sets →
+    dirty_total sets ≤ length sets * ways
 total_at_most ways [] fit = omega arith
 total_at_most ways (lines ∷ sets) fit = grind (arith, count_at_most, total_at_most ways sets fit.1)
 
@@ -76,5 +83,7 @@ room-kept = record { phases = phases-kept room_changes; fetch = λ ram cycle h f
 -- it holds at reset
 pub room-at_reset : (values : Values) (image : List ℕ) (start : ℕ) → HasRoom (reset_hardware values image start)
 room-at_reset values image start =
-    let none : List CacheLine = [] in
-    (omega (arith, length-replicate values.cache.sets none), Each-replicate (Fits values.cache.ways) values.cache.sets [] (empty_fits values.cache.ways))
+    let none : List CacheLine = [] in (
+      omega (arith, length-replicate values.cache.sets none),
+      Each-replicate (Fits values.cache.ways) values.cache.sets [] (empty_fits values.cache.ways),
+    )

@@ -1,10 +1,13 @@
 -- The sizes of the hardware are the described ones.
-use Rattle.rv_hardware.proofs.Words.{◌≡◌, ℕ, List, at_kind-for_each, with_kind-each, IsLegal, at_kind, with_kind, Kind, PerKind, CacheValues, Values, Pool, FetchBuffer, Hardware, reset_hardware, ◌+◌, any_prediction, arith}
+use Rattle.rv_hardware.proofs.Words.{◌≡◌, ℕ, List, at_kind-for_each, with_kind-each, IsLegal, at_kind, with_kind, Kind}
+use Rattle.rv_hardware.proofs.Words.{PerKind, CacheValues, Values, Pool, FetchBuffer, Hardware, reset_hardware, ◌+◌}
+use Rattle.rv_hardware.proofs.Words.{any_prediction, arith}
 use Rattle.rv_units.specs.Pool.{started as started_unit}
 use Rattle.rv_hardware.proofs.Turns.Cited.{IsKept, phases-kept, IsKeptByChanges, one_starts, fetch_phase}
 
 -- the description is legal, and its values, the cache's, and the rooms and units that they give, are the hardware's
-pub record AreSizes (v given : Values) (lines : CacheValues) (entries words most : ℕ) (pools : PerKind Pool) : Type 0 where
+pub record AreSizes (v given : Values) (lines : CacheValues) (entries words most : ℕ)
+    (pools : PerKind Pool) : Type 0 where
   pub legal : IsLegal v
   pub values : given ≡ v
   pub cache : lines ≡ v.cache
@@ -23,8 +26,8 @@ abbrev pub HasSizes : Hardware → Type 0
 HasSizes h = HasShape h.values h
 
 -- another front with the same room and width leaves it so
-pub with_front : (v : Values) (h : Hardware) (front : FetchBuffer) (cycle : ℕ) → front.capacity ≡ h.front.capacity → front.width ≡ h.front.width →
-    HasShape v h → HasShape v (record h { front = front; cycle = cycle })
+pub with_front : (v : Values) (h : Hardware) (front : FetchBuffer) (cycle : ℕ) → front.capacity ≡ h.front.capacity →
+    front.width ≡ h.front.width → HasShape v h → HasShape v (record h { front = front; cycle = cycle })
 with_front v h front cycle room width shape = grind arith
 
 -- of the description that the hardware's own stands for

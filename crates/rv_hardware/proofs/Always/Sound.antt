@@ -1,5 +1,6 @@
--- What every reachable hardware is: of its description, its queue, stores, executions, units, port, instructions and fetch within their bounds.
-use Rattle.rv_hardware.proofs.Words.{ℕ, List, sym, subst, IsLegal, Lines, Values, IsCycle, any_prediction, Hardware, Report, reset_hardware, Reachable, always}
+-- What every reachable hardware is: each part of it is of its description and within its bounds.
+use Rattle.rv_hardware.proofs.Words.{ℕ, List, sym, subst, IsLegal, Lines, Values, IsCycle, any_prediction, Hardware}
+use Rattle.rv_hardware.proofs.Words.{Report, reset_hardware, Reachable, always}
 use Rattle.rv_hardware.proofs.Turns.KeptByCycle.{IsKept, kept-together, both-kept, cycle-keeps}
 use Rattle.rv_hardware.proofs.Always.Halted.{IsHalted, halted-kept}
 use Rattle.rv_hardware.proofs.Always.Port.{HasPort, port-kept, port-at_reset}
@@ -34,11 +35,15 @@ always-kept v =
       port = rest.1.1.1.1.0;
       last = rest.1.1.1.1.1.0;
       halted = rest.1.1.1.1.1.1;
-    }) (λ h all. all.sizes) (λ h all. (all.queue, (all.stores, (all.ending, (all.held, (all.port, (all.last, all.halted))))))) (shape-kept v)
-    (both-kept queue-kept (both-kept stores-kept (both-kept ending-kept (both-kept held-kept (both-kept port-kept (both-kept last-kept halted-kept))))))
+    }) (λ h all. all.sizes)
+    (λ h all. (all.queue, (all.stores, (all.ending, (all.held, (all.port, (all.last, all.halted))))))) (shape-kept v)
+    (both-kept queue-kept
+    (both-kept stores-kept
+    (both-kept ending-kept (both-kept held-kept (both-kept port-kept (both-kept last-kept halted-kept))))))
 
 -- it holds at reset, where nothing is in flight and no store waits
-pub always-at_reset : {v : Values} (image : List ℕ) (start : ℕ) → IsLegal v → IsSoundFor v (reset_hardware v image start)
+pub always-at_reset : {v : Values} (image : List ℕ) (start : ℕ) → IsLegal v →
+    IsSoundFor v (reset_hardware v image start)
 always-at_reset {v} image start legal = record {
   sizes = shape-at_reset image start legal;
   queue = tt;

@@ -1,6 +1,13 @@
 -- There are no more stores, retired or in flight, than the queue holds.
-use Rattle.rv_hardware.proofs.Words.{◌≡◌, ℕ, ◌+◌, ◌≤◌, Bool, false, cond, ◌&&◌, List, [], ◌∷◌, ◌++◌, map, length, is_some, nat_le, Some, None, Option, refl, ap, ◌∙◌, subst, arith, length-append, leb-false, is_store, Message, StoreAccess, Instr, Values, with_oldest_draining, without_drained, Store, finished, predicting, started, Entry, Fetched, entry_of_fetched, Hardware, broadcast_of, stores_of, reset_hardware, committed_store, stores_after, by_test, map-change}
-use Rattle.rv_hardware.proofs.Turns.Cited.{IsKept, phases-kept, IsKeptByChanges, all_squashed, head_retires, store_drained, store_drains, one_starts, one_sent, one_mended, one_enters, WaitsForNothing}
+use Rattle.rv_hardware.proofs.Words.{◌≡◌, ℕ, ◌+◌, ◌≤◌, Bool, false, cond, ◌&&◌, List, [], ◌∷◌, ◌++◌, map, length}
+use Rattle.rv_hardware.proofs.Words.{is_some, nat_le, Some, None, Option, refl, ap, ◌∙◌, subst, arith, length-append}
+use Rattle.rv_hardware.proofs.Words.{leb-false, is_store, Message, StoreAccess, Instr, Values, with_oldest_draining}
+use Rattle.rv_hardware.proofs.Words.{without_drained, Store, finished, predicting, started, Entry, Fetched}
+use Rattle.rv_hardware.proofs.Words.{entry_of_fetched, Hardware, broadcast_of, stores_of, reset_hardware}
+use Rattle.rv_hardware.proofs.Words.{committed_store, stores_after, by_test, map-change}
+use Rattle.rv_hardware.proofs.Turns.Cited.{IsKept, phases-kept, IsKeptByChanges, all_squashed, head_retires}
+use Rattle.rv_hardware.proofs.Turns.Cited.{store_drained, store_drains, one_starts, one_sent, one_mended, one_enters}
+use Rattle.rv_hardware.proofs.Turns.Cited.{WaitsForNothing}
 use Rattle.rv_hardware.proofs.Always.Entries.{AreShaped, entries_changes, entries-kept, told_at_end}
 
 -- the instruction of an entry
@@ -25,7 +32,8 @@ one_store : (b : Bool) (s : Store) (ss : List Store) {rest : ℕ} → length ss 
     length (cond b (s ∷ ss) ss) ≡ cond b 1 0 + rest
 one_store b s ss is = grind arith
 
-length-stores : (seq : ℕ) (entries : List Entry) → length (stores_of seq entries) ≡ store_count (instructions_of entries)
+length-stores : (seq : ℕ) (entries : List Entry) →
+    length (stores_of seq entries) ≡ store_count (instructions_of entries)
 length-stores seq [] = refl
 length-stores seq (e ∷ es) = one_store (is_store e.instruction) _ (stores_of (seq + 1) es) (length-stores (seq + 1) es)
 
@@ -45,8 +53,8 @@ abbrev pub HasStores : Hardware → Type 0
 HasStores h = AreShaped h × FitQueue h h.committed h.rob.entries
 
 -- ---- a retirement
-one_committed : (instruction : Option Instr) (seq : ℕ) (access : Option StoreAccess) → is_some access ≡ is_store instruction →
-    length (committed_store seq access) ≤ cond (is_store instruction) 1 0
+one_committed : (instruction : Option Instr) (seq : ℕ) (access : Option StoreAccess) →
+    is_some access ≡ is_store instruction → length (committed_store seq access) ≤ cond (is_store instruction) 1 0
 one_committed instruction seq access tells = grind arith
 
 fits_retired : (h : Hardware) (e : Entry) (es : List Entry) (message : Message) → HasStores h → h.rob.entries ≡ e ∷ es →
@@ -67,8 +75,11 @@ same_count : (older younger : List Entry) (old new : Entry) → new.instruction 
 same_count older younger old new same = ap store_count (map-change instruction_of_entry older younger old new same)
 
 count_of : (older younger : List Entry) →
-    store_count (instructions_of (older ++ younger)) ≡ store_count (instructions_of older) + store_count (instructions_of younger)
-count_of older younger = ap store_count (instructions-append older younger) ∙ store_count-append (instructions_of older) (instructions_of younger)
+    store_count (instructions_of (older ++ younger)) ≡
+    store_count (instructions_of older) + store_count (instructions_of younger)
+count_of older younger =
+    ap store_count (instructions-append older younger) ∙
+    store_count-append (instructions_of older) (instructions_of younger)
 
 fits_one_more : (is_one : Bool) (count limit : ℕ) → (is_one && nat_le limit count) ≡ false → count ≤ limit →
     count + cond is_one 1 0 ≤ limit
@@ -82,13 +93,18 @@ fits_at : (h : Hardware) {es : List Entry} → HasStores h → h.rob.entries ≡
 fits_at h has split = subst (FitQueue h h.committed) split has.1
 
 stores_changes : IsKeptByChanges HasStores
-stores_changes h _ (all_squashed s retired) has = (entries_changes h _ (all_squashed s retired) has.0, omega (arith, has.1))
+stores_changes h _ (all_squashed s retired) has =
+    (entries_changes h _ (all_squashed s retired) has.0, omega (arith, has.1))
 stores_changes h _ (head_retires e es s message split known none) has = grind (arith, entries_changes, fits_retired)
 stores_changes h _ (store_drained idle) has = (has.0, omega (arith, length_without h.committed, has.1))
 stores_changes h _ (store_drains access idle is) has = (has.0, omega (arith, length_draining h.committed, has.1))
 stores_changes h _ (one_starts k older younger e cost message split waits of_kind result costs) has = (
   entries_changes h _ (one_starts k older younger e cost message split waits of_kind result costs) has.0,
-  omega (arith, same_count older younger e (started (record { cycle = h.cycle; cost = cost }) message e) refl, fits_at h has split),
+  omega (
+    arith,
+    same_count older younger e (started (record { cycle = h.cycle; cost = cost }) message e) refl,
+    fits_at h has split,
+  ),
 )
 stores_changes h _ (one_sent older younger e message split gives) has = (
   entries_changes h _ (one_sent older younger e message split gives) has.0,

@@ -1,5 +1,7 @@
 -- A unit is held no longer than for the longest execution.
-use Rattle.rv_hardware.proofs.Words.{ℕ, ◌+◌, ◌≤◌, Bool, List, arith, at_kind-for_each, with_kind-each, at_kind, with_kind, Issue, Kind, PerKind, Values, Each, Pool, free_pool, held_for, Hardware, reset_hardware, Each-push, Each-weaker, Each-filter}
+use Rattle.rv_hardware.proofs.Words.{ℕ, ◌+◌, ◌≤◌, Bool, List, arith, at_kind-for_each, with_kind-each, at_kind}
+use Rattle.rv_hardware.proofs.Words.{with_kind, Issue, Kind, PerKind, Values, Each, Pool, free_pool, held_for, Hardware}
+use Rattle.rv_hardware.proofs.Words.{reset_hardware, Each-push, Each-filter, each_then}
 use Rattle.rv_units.specs.Pool.{started as started_unit}
 use Rattle.rv_hardware.proofs.Turns.Cited.{IsKept, phases-kept, IsKeptByChanges, longest_execution}
 
@@ -32,9 +34,10 @@ held-kept = record {
       let limit : ℕ = h.cycle + longest_execution h in
       let more : ℕ = h.cycle + 1 + longest_execution h in
       let past : limit ≤ more = omega arith in
-      λ k. Each-weaker _ _ (λ start before. later start before past) _ (held k);
+      λ k. each_then (λ start before. later start before past) _ (held k);
 } where
-  later : {limit more : ℕ} (start : Issue) → start.cycle + start.cost ≤ limit → limit ≤ more → start.cycle + start.cost ≤ more
+  later : {limit more : ℕ} (start : Issue) → start.cycle + start.cost ≤ limit → limit ≤ more →
+      start.cycle + start.cost ≤ more
   later start before past = omega arith
 
 -- it holds at reset

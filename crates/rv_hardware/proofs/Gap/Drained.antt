@@ -1,6 +1,11 @@
 -- A cycle brings the port nearer to idle, and after the drain phase it is busy or no retired store waits for it.
-use Rattle.rv_hardware.proofs.Words.{◌≡◌, ℕ, ◌+◌, ◌-◌, ◌*◌, ◌<◌, ◌≤◌, true, false, cond, ◌⊎◌, List, [], ◌∷◌, length, None, Option, refl, inr, arith, leb-false, leb-true, StoreAccess, oldest_to_drain, without_drained, access_to_drain, draining, is_committed_state, is_draining, is_draining_state, state_to_drain, Store, StoreState, Filled, drain, start_drain, Hardware, by_test}
-use Rattle.rv_hardware.proofs.Marks.Cited.{access_cost-least, access_cost-most, longest_access, CanDrain, HasQueue, IsQueue, queue_of_all}
+use Rattle.rv_hardware.proofs.Words.{◌≡◌, ℕ, ◌+◌, ◌-◌, ◌*◌, ◌<◌, ◌≤◌, true, false, cond, ◌⊎◌, List, [], ◌∷◌, length}
+use Rattle.rv_hardware.proofs.Words.{None, Option, refl, inr, arith, leb-false, leb-true, StoreAccess, oldest_to_drain}
+use Rattle.rv_hardware.proofs.Words.{without_drained, access_to_drain, draining, is_committed_state, is_draining}
+use Rattle.rv_hardware.proofs.Words.{is_draining_state, state_to_drain, Store, StoreState, Filled, drain, start_drain}
+use Rattle.rv_hardware.proofs.Words.{Hardware, by_test}
+use Rattle.rv_hardware.proofs.Marks.Cited.{access_cost-least, access_cost-most, longest_access, CanDrain, HasQueue}
+use Rattle.rv_hardware.proofs.Marks.Cited.{IsQueue, queue_of_all}
 use Rattle.rv_hardware.proofs.Gap.Patience.{port_time, time_of_stores}
 use Rattle.rv_hardware.proofs.Gap.Bound.{time_of_stores-most}
 
@@ -17,16 +22,19 @@ begun : (state : StoreState) → is_committed_state state ≡ true → is_draini
 begun (Filled access phase) is = refl
 begun state is = absurd (cc)
 
-never : (state : StoreState) → is_committed_state state ≡ true → is_draining_state state ≡ false → state_to_drain state ≡ None → ⊥
+never : (state : StoreState) → is_committed_state state ≡ true → is_draining_state state ≡ false →
+    state_to_drain state ≡ None → ⊥
 never state is given holds = grind arith
 
 module _ (h : Hardware) (idle : h.port_free ≤ h.cycle) (costs : 1 ≤ h.cache.values.hit) where
   -- the oldest of some stores begins its access
-  begins : (s : Store) (ss : List Store) {access : Option StoreAccess} → CanDrain s → access_to_drain s ≡ access → 1 + longest_access h + length ss * longest_access h ≤ port_time h →
+  begins : (s : Store) (ss : List Store) {access : Option StoreAccess} → CanDrain s → access_to_drain s ≡ access →
+      1 + longest_access h + length ss * longest_access h ≤ port_time h →
       Drains h (start_drain access (record h { committed = s ∷ ss }))
   begins s ss can is time = grind (arith, never, access_cost-least, access_cost-most)
 
-  goes_on : (ss : List Store) → IsQueue ss → ((s : Store) (rest : List Store) → ss ≡ s ∷ rest → is_draining s ≡ false) → time_of_stores (longest_access h) ss ≤ port_time h →
+  goes_on : (ss : List Store) → IsQueue ss → ((s : Store) (rest : List Store) → ss ≡ s ∷ rest → is_draining s ≡ false) →
+      time_of_stores (longest_access h) ss ≤ port_time h →
       Drains h (start_drain (oldest_to_drain ss) (record h { committed = ss }))
   goes_on [] queue waits time = record { fall = omega arith; port = inr (refl, idle) }
   goes_on (s ∷ ss) queue waits time =
@@ -34,7 +42,9 @@ module _ (h : Hardware) (idle : h.port_free ≤ h.cycle) (costs : 1 ≤ h.cache.
       let whole : cond (is_draining s) 0 (longest_access h) ≡ longest_access h = rw is refl in
       begins s ss (queue.0, is) refl (omega (arith, whole, time))
 
-  leaves : (committed : List Store) → h.committed ≡ committed → IsQueue committed → Drains h (start_drain (oldest_to_drain (without_drained committed)) (record h { committed = without_drained committed }))
+  leaves : (committed : List Store) → h.committed ≡ committed → IsQueue committed →
+      Drains h (start_drain (oldest_to_drain (without_drained committed))
+      (record h { committed = without_drained committed }))
   leaves [] is queue = record { fall = omega arith; port = inr (refl, idle) }
   leaves (s ∷ ss) is queue = grind (arith, by_test, goes_on, queue_of_all, time_of_stores-most)
 

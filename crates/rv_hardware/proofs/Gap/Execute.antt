@@ -1,6 +1,11 @@
 -- No phase after commit changes what was described, and the stage of the oldest bounds the patience in the next cycle.
-use Rattle.rv_hardware.proofs.Words.{◌≡◌, ℕ, ◌+◌, ◌≤◌, false, List, ◌∷◌, Option, sym, refl, ap, ◌∙◌, subst, true≢false, arith, is_serialising, Message, Instr, Issue, Each, finished, issue_of, predicting, Entry, Stage, Finished, FetchBuffer, broadcast, broadcast_turn, execute, dispatch, drain, Hardware, is_waiting, issue, Leaves}
-use Rattle.rv_hardware.proofs.Marks.Cited.{drain-keeps, issue-keeps, HasRun, IsKeptByBroadcast, broadcast-keeps, broadcast_turn-keeps, SameAs, same-kept, execute-keeps, IsKeptByDispatch, dispatch-keeps, longest_execution, AreEnding, Ending, EndsBy}
+use Rattle.rv_hardware.proofs.Words.{◌≡◌, ℕ, ◌+◌, ◌≤◌, false, List, ◌∷◌, Option, sym, refl, ap, ◌∙◌, subst, true≢false}
+use Rattle.rv_hardware.proofs.Words.{arith, is_serialising, Message, Instr, Issue, Each, finished, issue_of, predicting}
+use Rattle.rv_hardware.proofs.Words.{Entry, Stage, Finished, FetchBuffer, broadcast, broadcast_turn, execute, dispatch}
+use Rattle.rv_hardware.proofs.Words.{drain, Hardware, is_waiting, issue, Leaves}
+use Rattle.rv_hardware.proofs.Marks.Cited.{drain-keeps, issue-keeps, HasRun, IsKeptByBroadcast, broadcast-keeps}
+use Rattle.rv_hardware.proofs.Marks.Cited.{broadcast_turn-keeps, SameAs, same-kept, execute-keeps, IsKeptByDispatch}
+use Rattle.rv_hardware.proofs.Marks.Cited.{dispatch-keeps, longest_execution, AreEnding, Ending, EndsBy}
 use Rattle.rv_hardware.proofs.Gap.Head.{HasBegun, HeadIs, Waits, head-change, head-cut, head-push, IsAnywhere}
 use Rattle.rv_hardware.proofs.Gap.Patience.{flight_time, head_time, patience, stage_time}
 
@@ -16,7 +21,8 @@ execute-same h = execute-keeps (same-kept h.values h.cache.values h.cycle) h (re
 pub issued-same : (h : Hardware) → SameAs h.values h.cache.values h.cycle (issue (drain h))
 issued-same h =
     let kept = same-kept h.values h.cache.values h.cycle in
-    issue-keeps (SameAs h.values h.cache.values h.cycle) kept.issue (drain h) (drain-keeps kept.drain h (refl, refl, refl))
+    issue-keeps (SameAs h.values h.cache.values h.cycle) kept.issue (drain h)
+    (drain-keeps kept.drain h (refl, refl, refl))
 
 -- nor does broadcast change the cycle's number
 broadcast-same : (h : Hardware) → (broadcast h).cycle ≡ h.cycle
@@ -29,7 +35,8 @@ same-longest h front = grind (arith, execute-same)
 
 -- ---- the oldest instruction in the phases after issue
 module _ (instruction : Option Instr) {R : Stage → Type 0} {cycle : ℕ}
-    (closed : (stage : Stage) (message : Message) (issue : Option Issue) → HasRun cycle stage message → R stage → R (Finished issue cycle message)) where
+    (closed : (stage : Stage) (message : Message) (issue : Option Issue) → HasRun cycle stage message → R stage →
+    R (Finished issue cycle message)) where
   abbrev HasHead : Hardware → Type 0
   HasHead h = HeadIs instruction R h.rob.entries × (h.cycle ≡ cycle)
 
@@ -43,8 +50,10 @@ module _ (instruction : Option Instr) {R : Stage → Type 0} {cycle : ℕ}
           (subst (HeadIs instruction R) split head.0),
       head.1,
     );
-    mends = λ h older younger e next head split.
-        (head-cut instruction R older younger e (predicting next e) refl refl (subst (HeadIs instruction R) split head.0), head.1);
+    mends = λ h older younger e next head split. (
+      head-cut instruction R older younger e (predicting next e) refl refl (subst (HeadIs instruction R) split head.0),
+      head.1,
+    );
   }
 
   head_dispatch : IsKeptByDispatch HasHead
@@ -81,7 +90,8 @@ plain_time : (h : Hardware) (instruction : Option Instr) (stage : Stage) → is_
 plain_time h instruction stage plain = grind arith
 
 module _ (h : Hardware) (instruction : Option Instr) (R : Stage → Type 0) (most limit : ℕ) where
-  head_in : (entries : List Entry) → ((stage : Stage) → R stage → EndsBy limit stage → head_time h instruction stage ≤ most) →
+  head_in : (entries : List Entry) →
+      ((stage : Stage) → R stage → EndsBy limit stage → head_time h instruction stage ≤ most) →
       HeadIs instruction R entries → Each (Ending limit) entries → flight_time h entries ≤ most
   head_in entries bound head ends = grind arith
 
@@ -97,8 +107,8 @@ module _ (h : Hardware) (instruction : Option Instr) (R : Stage → Type 0) (mos
   plain-patience plain bound head ends = grind (arith, head-patience, plain_time)
 
 -- the patience of hardware with a given oldest instruction
-pub plain-head : (h : Hardware) (e : Entry) (es : List Entry) → h.rob.entries ≡ e ∷ es → is_serialising e.instruction ≡ false →
-    patience h ≡ stage_time h e.instruction e.stage
+pub plain-head : (h : Hardware) (e : Entry) (es : List Entry) → h.rob.entries ≡ e ∷ es →
+    is_serialising e.instruction ≡ false → patience h ≡ stage_time h e.instruction e.stage
 plain-head h e es split plain = ap (flight_time h) split ∙ plain_time h e.instruction e.stage plain
 
 -- where it has begun, it is over within the longest execution
@@ -113,8 +123,8 @@ begun-patience h instruction plain head ends = grind (arith, plain-patience, beg
 
 -- ---- stages and results
 -- a result leaves any stage in one
-pub anywhere_closed : {cycle : ℕ} (stage : Stage) (message : Message) (issue : Option Issue) → HasRun cycle stage message →
-    IsAnywhere stage → IsAnywhere (Finished issue cycle message)
+pub anywhere_closed : {cycle : ℕ} (stage : Stage) (message : Message) (issue : Option Issue) →
+    HasRun cycle stage message → IsAnywhere stage → IsAnywhere (Finished issue cycle message)
 anywhere_closed stage message issue gives is = tt
 
 -- what has begun and gives a result has begun

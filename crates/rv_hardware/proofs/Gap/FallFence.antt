@@ -1,7 +1,14 @@
--- Where FENCE.I is the oldest instruction, a cycle brings the port, the retired stores and the dirty lines nearer to their end.
-use Rattle.rv_hardware.proofs.Words.{◌≡◌, ℕ, ◌+◌, ◌*◌, ◌≤◌, true, false, List, [], ◌∷◌, ◌++◌, nat_le, ◌==◌, Some, Option, sym, refl, ap, ◌∙◌, subst, arith, leb-false, eqb-false, false≢true, lt-leb, is_of_kind, kind_of_word, Instr, FenceI, Kind, Each, Store, Entry, FetchBuffer, broadcast, is_drained, with_write_back, write_back_time, execute, drain, Hardware, issue, by_test, Each-right}
+-- Where FENCE.I is the oldest, a cycle brings the port, the retired stores and the dirty lines nearer to their end.
+use Rattle.rv_hardware.proofs.Words.{◌≡◌, ℕ, ◌+◌, ◌*◌, ◌≤◌, true, false, List, [], ◌∷◌, ◌++◌, nat_le, ◌==◌, Some}
+use Rattle.rv_hardware.proofs.Words.{Option, sym, refl, ap, ◌∙◌, subst, arith, leb-false, eqb-false, false≢true, lt-leb}
+use Rattle.rv_hardware.proofs.Words.{is_of_kind, kind_of_word, Instr, FenceI, Kind, Each, Store, Entry, FetchBuffer}
+use Rattle.rv_hardware.proofs.Words.{broadcast, is_drained, with_write_back, write_back_time, execute, drain, Hardware}
+use Rattle.rv_hardware.proofs.Words.{issue, by_test, Each-right}
 use Rattle.rv_hardware.proofs.Gap.Bound.{dirty_time-most}
-use Rattle.rv_hardware.proofs.Marks.Cited.{IsKeptByBroadcast, broadcast-keeps, IsKeptByDispatch, dispatch-keeps, drain-keeps, SameButPort, drain-same, longest_access, longest_execution, longest_write_back, IsKeptByIssue, issue-keeps, ready-parts, AreEnding, HasRoom, clean-after, room-kept}
+use Rattle.rv_hardware.proofs.Marks.Cited.{IsKeptByBroadcast, broadcast-keeps, IsKeptByDispatch, dispatch-keeps}
+use Rattle.rv_hardware.proofs.Marks.Cited.{drain-keeps, SameButPort, drain-same, longest_access, longest_execution}
+use Rattle.rv_hardware.proofs.Marks.Cited.{longest_write_back, IsKeptByIssue, issue-keeps, ready-parts, AreEnding}
+use Rattle.rv_hardware.proofs.Marks.Cited.{HasRoom, clean-after, room-kept}
 use Rattle.rv_hardware.proofs.Gap.Drained.{Drains, next_port_time}
 use Rattle.rv_hardware.proofs.Gap.Execute.{head-patience, later, anywhere_closed, head-executed}
 use Rattle.rv_hardware.proofs.Gap.Head.{HeadIs, IsAnywhere}
@@ -13,7 +20,8 @@ fence = Some FenceI
 abbrev IsFence : Entry → Type 0
 IsFence e = e.instruction ≡ fence
 
-never_issued : (k : Kind) (older younger : List Entry) (e : Entry) (entries : List Entry) → Each IsFence entries → entries ≡ older ++ e ∷ younger → is_of_kind k (kind_of_word e.instruction) ≡ true → ⊥
+never_issued : (k : Kind) (older younger : List Entry) (e : Entry) (entries : List Entry) → Each IsFence entries →
+    entries ≡ older ++ e ∷ younger → is_of_kind k (kind_of_word e.instruction) ≡ true → ⊥
 never_issued k older younger e entries each split of_kind = grind (arith, Each-right, false≢true)
 
 -- ---- the phases after drain
@@ -39,7 +47,8 @@ module _ (h : Hardware) (front : FetchBuffer) (e : Entry) (split : h.rob.entries
   lasts_dispatch : (port dirty : ℕ) → IsKeptByDispatch (Lasts port dirty)
   lasts_dispatch port dirty = record { dispatches = λ g fetched rest lasts first none. lasts }
 
-  pub fence_patience : AreEnding new → patience new ≤ next_port_time (drain h) + dirty_time (drain h) (drain h).committed + 1
+  pub fence_patience : AreEnding new →
+      patience new ≤ next_port_time (drain h) + dirty_time (drain h) (drain h).committed + 1
   fence_patience ending =
       let port : ℕ = next_port_time (drain h) in
       let dirty : ℕ = dirty_time (drain h) (drain h).committed in
@@ -48,9 +57,11 @@ module _ (h : Hardware) (front : FetchBuffer) (e : Entry) (split : h.rob.entries
       (subst (Each IsFence) (sym same) (is, tt), subst (HeadIs fence IsAnywhere) (sym same) (is, tt), (refl, refl)) in
       let after : Alone port dirty issued = issue-keeps (Alone port dirty) (alone_issue port dirty) (drain h) before in
       let lasts : Lasts port dirty (execute h).hardware =
-      dispatch-keeps (lasts_dispatch port dirty) (broadcast issued) (broadcast-keeps (lasts_broadcast port dirty) issued after.2) in
+      dispatch-keeps (lasts_dispatch port dirty) (broadcast issued)
+      (broadcast-keeps (lasts_broadcast port dirty) issued after.2) in
       let there : HeadIs fence IsAnywhere new.rob.entries = head-executed fence h (anywhere_closed) after.1 in
-      head-patience new fence IsAnywhere (port + dirty + 1) (new.cycle + longest_execution new) (λ stage is ends. omega (arith, lasts.0, lasts.1)) there ending
+      head-patience new fence IsAnywhere (port + dirty + 1) (new.cycle + longest_execution new)
+      (λ stage is ends. omega (arith, lasts.0, lasts.1)) there ending
 
 -- ---- stores or the port are waited for
 same_lines : (h g : Hardware) → SameButPort h g → longest_write_back g ≡ longest_write_back h
@@ -62,24 +73,31 @@ not_drained_empty h given holds = grind arith
 busy_same : (h : Hardware) → nat_le h.port_free h.cycle ≡ false → drain h ≡ h
 busy_same h busy = grind (arith, by_test)
 
-fence_waits : (h : Hardware) (stores : List Store) → h.committed ≡ stores → Drains h (drain h) → HasRoom h → is_drained h ≡ false →
+fence_waits : (h : Hardware) (stores : List Store) → h.committed ≡ stores → Drains h (drain h) → HasRoom h →
+    is_drained h ≡ false →
     next_port_time (drain h) + dirty_time (drain h) (drain h).committed + 1 ≤ port_time h + dirty_time h h.committed
 fence_waits h [] none drains room waits = grind (arith, not_drained_empty, leb-false, busy_same)
-fence_waits h (s ∷ ss) stores drains room waits = grind (arith, drain-keeps, room-kept, dirty_time-most, same_lines, drain-same)
+fence_waits h (s ∷ ss) stores drains room waits =
+    grind (arith, drain-keeps, room-kept, dirty_time-most, same_lines, drain-same)
 
 -- where FENCE.I waits for the retired stores and the port, a cycle lowers the patience
-pub fall_fence_waits : (h : Hardware) (front : FetchBuffer) (e : Entry) → h.rob.entries ≡ e ∷ [] → e.instruction ≡ Some FenceI → Drains h (drain h) → HasRoom h → is_drained h ≡ false →
-    AreEnding (later front (execute h).hardware) → patience (later front (execute h).hardware) + 1 ≤ port_time h + dirty_time h h.committed + 1
+pub fall_fence_waits : (h : Hardware) (front : FetchBuffer) (e : Entry) → h.rob.entries ≡ e ∷ [] →
+    e.instruction ≡ Some FenceI → Drains h (drain h) → HasRoom h → is_drained h ≡ false →
+    AreEnding (later front (execute h).hardware) →
+    patience (later front (execute h).hardware) + 1 ≤ port_time h + dirty_time h h.committed + 1
 fall_fence_waits h front e split is drains room waits ending =
     omega (arith, fence_patience h front e split is ending, fence_waits h h.committed refl drains room waits)
 
 -- ---- its write-back begins
-drained_none : (h : Hardware) {stores : List Store} → h.committed ≡ stores → is_drained (record h { committed = stores }) ≡ true → h.committed ≡ []
+drained_none : (h : Hardware) {stores : List Store} → h.committed ≡ stores →
+    is_drained (record h { committed = stores }) ≡ true → h.committed ≡ []
 drained_none h is drained = grind arith
 
 -- a cycle in which FENCE.I's write-back begins lowers the patience
-pub fall_write_back : (h : Hardware) (front : FetchBuffer) (e : Entry) → h.rob.entries ≡ e ∷ [] → e.instruction ≡ Some FenceI → is_drained h ≡ true → (write_back_time h == 0) ≡ false →
-    AreEnding (later front (execute (with_write_back h)).hardware) → patience (later front (execute (with_write_back h)).hardware) + 1 ≤ port_time h + dirty_time h h.committed + 1
+pub fall_write_back : (h : Hardware) (front : FetchBuffer) (e : Entry) → h.rob.entries ≡ e ∷ [] →
+    e.instruction ≡ Some FenceI → is_drained h ≡ true → (write_back_time h == 0) ≡ false →
+    AreEnding (later front (execute (with_write_back h)).hardware) →
+    patience (later front (execute (with_write_back h)).hardware) + 1 ≤ port_time h + dirty_time h h.committed + 1
 fall_write_back h front e split is drained dirty ending =
     let g : Hardware = with_write_back h in
     let none : h.committed ≡ [] = drained_none h refl drained in
@@ -87,7 +105,9 @@ fall_write_back h front e split is drained dirty ending =
     let still : drain g ≡ g = busy_same g (lt-leb (h.cycle + write_back_time h) h.cycle (omega (arith, some))) in
     let stores : time_of_stores (longest_access g) g.committed ≡ 0 = ap (time_of_stores (longest_access g)) none in
     let port : next_port_time (drain g) ≡ next_port_time g = ap next_port_time still in
-    let lines : dirty_time (drain g) (drain g).committed ≡ dirty_time g [] = ap (λ x. dirty_time x x.committed) still ∙ ap (dirty_time g) none in
-    let clean : dirty_time g [] ≡ 0 * h.values.cache.write_back = ap (λ n. n * h.values.cache.write_back) (clean-after h.cache.sets) in
+    let lines : dirty_time (drain g) (drain g).committed ≡ dirty_time g [] =
+    ap (λ x. dirty_time x x.committed) still ∙ ap (dirty_time g) none in
+    let clean : dirty_time g [] ≡ 0 * h.values.cache.write_back =
+    ap (λ n. n * h.values.cache.write_back) (clean-after h.cache.sets) in
     let before : dirty_time h h.committed ≡ write_back_time h = ap (dirty_time h) none in
     omega (arith, fence_patience g front e split is ending, port, lines, clean, stores, before, some)

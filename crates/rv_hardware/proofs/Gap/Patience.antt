@@ -1,5 +1,8 @@
--- How many cycles without a step the hardware can still have, by what the oldest instruction waits for, counted with slack.
-use Rattle.rv_hardware.proofs.Words.{ℕ, zero, suc, ◌+◌, ◌-◌, ◌*◌, max, Bool, cond, List, [], ◌∷◌, length, Some, None, Option, is_load, kind_of_word, at_kind, Instr, FenceI, Issue, Kind, is_draining, Store, Entry, Stage, Finished, Running, Waiting, Fetched, write_back_time, Hardware}
+-- How many cycles without a step there can still be, by what the oldest instruction waits for, with slack.
+use Rattle.rv_hardware.proofs.Words.{ℕ, zero, suc, ◌+◌, ◌-◌, ◌*◌, max, Bool, cond, List, [], ◌∷◌, length, Some, None}
+use Rattle.rv_hardware.proofs.Words.{Option, is_load, kind_of_word, at_kind, Instr, FenceI, Issue, Kind, is_draining}
+use Rattle.rv_hardware.proofs.Words.{Store, Entry, Stage, Finished, Running, Waiting, Fetched, write_back_time}
+use Rattle.rv_hardware.proofs.Words.{Hardware}
 use Rattle.rv_hardware.proofs.Turns.Forms.{longest_access, longest_execution, longest_write_back}
 
 -- the accesses of the stores that have not begun theirs, and the cycle in which the last leaves
@@ -30,7 +33,8 @@ free_time (suc port) unit longest = suc port + longest
 abbrev pub waiting_time : Hardware → Bool → Option Kind → ℕ
 waiting_time h load None = 0
 waiting_time h load (Some k) =
-    free_time (cond load (port_time h) 0) (unit_time h.cycle (at_kind k h.units).starts) (longest_execution h) + longest_execution h + 2
+    free_time (cond load (port_time h) 0) (unit_time h.cycle (at_kind k h.units).starts)
+    (longest_execution h) + longest_execution h + 2
 
 -- until an instruction that is not the oldest FENCE.I is over, by its stage
 abbrev pub stage_time : Hardware → Option Instr → Stage → ℕ

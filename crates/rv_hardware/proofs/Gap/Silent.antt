@@ -1,7 +1,12 @@
 -- A commit phase that reports no step and does not stop leaves its oldest instruction waiting.
-use Rattle.rv_hardware.proofs.Words.{◌≡◌, ℕ, suc, ◌-◌, ◌≤◌, Bool, true, false, ◌⊎◌, List, [], ◌∷◌, ◌++◌, ◌==◌, Some, None, Option, nat_cmp, sym, refl, subst, inl, arith, is_serialising, Instr, Csr, FenceI, Mret, due, Entry, Stage, Committing, commit, commit_turn, commit_unless, is_drained, with_write_back, write_back_time, Hardware, broadcast_of, Ends, GoesOn, Turn, followed_by, repeated, Step, Leaves, kept_by_turns}
+use Rattle.rv_hardware.proofs.Words.{◌≡◌, ℕ, suc, ◌-◌, ◌≤◌, Bool, true, false, ◌⊎◌, List, [], ◌∷◌, ◌++◌, ◌==◌, Some}
+use Rattle.rv_hardware.proofs.Words.{None, Option, nat_cmp, sym, refl, subst, inl, arith, is_serialising, Instr, Csr}
+use Rattle.rv_hardware.proofs.Words.{FenceI, Mret, due, Entry, Stage, Committing, commit, commit_turn, commit_unless}
+use Rattle.rv_hardware.proofs.Words.{is_drained, with_write_back, write_back_time, Hardware, broadcast_of, Ends, GoesOn}
+use Rattle.rv_hardware.proofs.Words.{Turn, followed_by, repeated, Step, Leaves, kept_by_turns}
 use Rattle.std.specs.FinSet as set
-use Rattle.rv_hardware.proofs.Turns.Commit.{CommitTurn, no_head, stale_head, unfinished, fence_waits, fence_writes, retires, commit_turn_is}
+use Rattle.rv_hardware.proofs.Turns.Commit.{CommitTurn, no_head, stale_head, unfinished, fence_waits, fence_writes}
+use Rattle.rv_hardware.proofs.Turns.Commit.{retires, commit_turn_is}
 
 -- ---- a step that was reported stays reported
 abbrev IsSome : List Step → Type 0
@@ -18,7 +23,8 @@ HasStep c = IsSome c.steps
 -- ---- what a silent commit leaves
 abbrev pub SilentFence : Hardware → Hardware → Type 0
 SilentFence h after =
-    ((is_drained h ≡ false) × (after ≡ h)) ⊎ ((is_drained h ≡ true) × ((write_back_time h == 0) ≡ false) × (after ≡ with_write_back h))
+    ((is_drained h ≡ false) × (after ≡ h)) ⊎
+    ((is_drained h ≡ true) × ((write_back_time h == 0) ≡ false) × (after ≡ with_write_back h))
 
 -- by the oldest instruction, nothing changed, or FENCE.I waits or wrote back
 abbrev pub SilentHead : Option Instr → Stage → Hardware → Hardware → Type 0
@@ -48,7 +54,8 @@ module _ (is_stale : set.FinSet nat_cmp → ℕ → Bool) where
     LeftSilent after = SilentAt h.rob.entries h after
 
     abbrev Outcome : Turn Committing → Type 0
-    Outcome t = (followed_by rest t).steps ≡ [] → (followed_by rest t).stop ≡ None → LeftSilent (followed_by rest t).hardware
+    Outcome t =
+        (followed_by rest t).steps ≡ [] → (followed_by rest t).stop ≡ None → LeftSilent (followed_by rest t).hardware
 
     none_reported : {steps : List Step} → IsSome steps → steps ≡ [] → ⊥
     none_reported some given = grind arith
@@ -56,7 +63,8 @@ module _ (is_stale : set.FinSet nat_cmp → ℕ → Bool) where
     -- a turn that reports is not silent
     reports : (t : Turn Committing) → Leaves HasStep t → Outcome t
     reports (GoesOn c) some silent going =
-        let still = kept_by_turns HasStep (commit_turn is_stale) (λ d was. turn_steps (commit_turn_is is_stale d) was) width c some in
+        let still = kept_by_turns HasStep (commit_turn is_stale)
+        (λ d was. turn_steps (commit_turn_is is_stale d) was) width c some in
         absurd (none_reported still silent)
     reports (Ends c) some silent going = absurd (none_reported some silent)
 
@@ -69,7 +77,8 @@ module _ (is_stale : set.FinSet nat_cmp → ℕ → Bool) where
 
     at_fence : (e : Entry) (es : List Entry) (after : Hardware) → h.rob.entries ≡ e ∷ es → e.instruction ≡ Some FenceI →
         SilentFence h after → LeftSilent after
-    at_fence e es after split is silent = at_head e es after split (subst (λ i. SilentHead i e.stage h after) (sym is) silent)
+    at_fence e es after split is silent =
+        at_head e es after split (subst (λ i. SilentHead i e.stage h after) (sym is) silent)
 
     first_outcome : {t : Turn Committing} → CommitTurn is_stale start t → Outcome t
     first_outcome (no_head none) = λ silent going. subst (λ l. SilentAt l h h) (sym none) refl
@@ -80,13 +89,16 @@ module _ (is_stale : set.FinSet nat_cmp → ℕ → Bool) where
     first_outcome (retires e es issue cycle message head plain at none) = reports (GoesOn _) tt
     first_outcome _ = reports (Ends _) tt
 
-  unless_silent : (code : Option ℕ) (h : Hardware) → 1 ≤ h.values.commit_width → (commit_unless is_stale code h).steps ≡ [] →
-      (commit_unless is_stale code h).stop ≡ None → SilentAt h.rob.entries h (commit_unless is_stale code h).hardware
+  unless_silent : (code : Option ℕ) (h : Hardware) → 1 ≤ h.values.commit_width →
+      (commit_unless is_stale code h).steps ≡ [] → (commit_unless is_stale code h).stop ≡ None →
+      SilentAt h.rob.entries h (commit_unless is_stale code h).hardware
   unless_silent (Some code) h wide silent going = absurd (cc)
   unless_silent None h wide silent going =
       let width : h.values.commit_width ≡ suc (h.values.commit_width - 1) = omega arith in
       let first : Committing = record { hardware = h; steps = []; stop = None } in
-      subst (λ w. (repeated (commit_turn is_stale) w first).steps ≡ [] → (repeated (commit_turn is_stale) w first).stop ≡ None → SilentAt h.rob.entries h (repeated (commit_turn is_stale) w first).hardware)
+      subst (λ w. (repeated (commit_turn is_stale) w first).steps ≡ [] →
+      (repeated (commit_turn is_stale) w first).stop ≡ None →
+      SilentAt h.rob.entries h (repeated (commit_turn is_stale) w first).hardware)
       (sym width) (first_outcome h (h.values.commit_width - 1) (commit_turn_is is_stale first)) silent going
 
   -- a commit phase that reports no step and does not stop leaves its oldest waiting

@@ -1,5 +1,10 @@
 -- A byte after stores is that of the youngest which covers it, else memory's.
-use Rattle.rv_hardware.proofs.Words.{◌≡◌, ℕ, ◌+◌, ◌<◌, ◌-◌, ◌≤◌, List, [], ◌∷◌, length, nat_le, slice_get, slice_index_or as get_or, Some, None, Option, unwrap_or, sym, refl, ap, ◌∙◌, inl, inr, arith, le-leb, cases_lt, cond-false, cond-true, option_or, StoreAccess, overwritten, Layout, get_or-overwritten_above, get_or-overwritten_below, get_or-overwritten_in, Each, youngest_byte, byte_of_state, written_at, Store as QueuedStore, StoreState, Filled, bytes_after, with_store}
+use Rattle.rv_hardware.proofs.Words.{◌≡◌, ℕ, ◌+◌, ◌<◌, ◌-◌, ◌≤◌, List, [], ◌∷◌, length, nat_le, slice_get}
+use Rattle.rv_hardware.proofs.Words.{slice_index_or as get_or, Some, None, Option, unwrap_or, sym, refl, ap, ◌∙◌, inl}
+use Rattle.rv_hardware.proofs.Words.{inr, arith, le-leb, cases_lt, cond-false, cond-true, option_or, StoreAccess}
+use Rattle.rv_hardware.proofs.Words.{overwritten, Layout, get_or-overwritten_above, get_or-overwritten_below}
+use Rattle.rv_hardware.proofs.Words.{get_or-overwritten_in, Each, youngest_byte, byte_of_state, written_at}
+use Rattle.rv_hardware.proofs.Words.{Store as QueuedStore, StoreState, Filled, bytes_after, with_store}
 use Rattle.std.proofs.lemmas.Option.{slice_get-get_or, slice_get_past}
 use Rattle.rv_hardware.proofs.Headline.Retires.{IsStoreAccess}
 use Rattle.rv_hardware.proofs.Headline.Words.{length-stored}
@@ -17,7 +22,8 @@ unwrap_or-or : (a b : Option ℕ) (d : ℕ) → unwrap_or (option_or a b) d ≡ 
 unwrap_or-or a b d = grind arith
 
 module _ (layout : Layout) where
-  module _ {access : StoreAccess} (legal : IsStoreAccess layout access) (xs : List ℕ) (size : length xs ≡ layout.size) (i : ℕ) where
+  module _ {access : StoreAccess} (legal : IsStoreAccess layout access) (xs : List ℕ)
+      (size : length xs ≡ layout.size) (i : ℕ) where
     abbrev at : ℕ
     at = access.address - layout.base
 
@@ -47,10 +53,13 @@ module _ (layout : Layout) where
 
     one_after : get_or (overwritten xs at access.bytes) i 0 ≡ unwrap_or (written_at place access) (get_or xs i 0)
     one_after = elim (cases_lt i at) [
-      | inl below ↦ get_or-overwritten_below xs access.bytes at fits i below ∙ sym (ap (λ (o : Option ℕ). unwrap_or o (get_or xs i 0)) (before below))
+      | inl below ↦ get_or-overwritten_below xs access.bytes at fits i below ∙
+          sym (ap (λ (o : Option ℕ). unwrap_or o (get_or xs i 0)) (before below))
       | inr from ↦ elim (cases_lt i (at + length access.bytes)) [
-        | inl here ↦ get_or-overwritten_in xs access.bytes at fits i from here ∙ sym (ap (λ (o : Option ℕ). unwrap_or o (get_or xs i 0)) (covered from here))
-        | inr above ↦ get_or-overwritten_above xs access.bytes at fits i above ∙ sym (ap (λ (o : Option ℕ). unwrap_or o (get_or xs i 0)) (after above))
+        | inl here ↦ get_or-overwritten_in xs access.bytes at fits i from here ∙
+            sym (ap (λ (o : Option ℕ). unwrap_or o (get_or xs i 0)) (covered from here))
+        | inr above ↦ get_or-overwritten_above xs access.bytes at fits i above ∙
+            sym (ap (λ (o : Option ℕ). unwrap_or o (get_or xs i 0)) (after above))
       ]
     ]
 
@@ -59,11 +68,19 @@ module _ (layout : Layout) where
       get_or (with_store layout.base state xs) i 0 ≡ unwrap_or (byte_of_state (layout.base + i) state) (get_or xs i 0)
   byte_after_one state xs i inside size = grind (arith, one_after)
 
-  length-after_one : (state : StoreState) (xs : List ℕ) → IsStateInside layout state → length xs ≡ layout.size → length (with_store layout.base state xs) ≡ layout.size
+  length-after_one : (state : StoreState) (xs : List ℕ) → IsStateInside layout state → length xs ≡ layout.size →
+      length (with_store layout.base state xs) ≡ layout.size
   length-after_one state xs inside size = grind (arith, length-stored)
 
   -- after all of them
   pub byte_after : (ss : List QueuedStore) (xs : List ℕ) (i : ℕ) → Each (IsInside layout) ss → length xs ≡ layout.size →
       get_or (bytes_after layout.base ss xs) i 0 ≡ unwrap_or (youngest_byte (layout.base + i) ss) (get_or xs i 0)
   byte_after [] xs i inside size = refl
-  byte_after (s ∷ ss) xs i inside size = grind (arith, length-after_one, byte_after_one, unwrap_or-or, byte_after ss (with_store layout.base s.state xs) i inside.1 (length-after_one s.state xs inside.0 size))
+  byte_after (s ∷ ss) xs i inside size =
+      grind (
+        arith,
+        length-after_one,
+        byte_after_one,
+        unwrap_or-or,
+        byte_after ss (with_store layout.base s.state xs) i inside.1 (length-after_one s.state xs inside.0 size),
+      )

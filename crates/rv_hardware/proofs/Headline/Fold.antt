@@ -1,5 +1,8 @@
 -- The state after instructions in flight, each executed in order, is what the one-at-a-time machine will see there.
-use Rattle.rv_hardware.proofs.Words.{◌≡◌, ℕ, ◌%◌, false, List, [], ◌∷◌, Some, Option, option_and_then, no_lines, target_of_word, Message, instruction_of, Layout, fetched_word, word_of, State, Entry, Stage, Finished, Running, Waiting, Fetched, store_of_message, with_store, with_value, result_of_word, stale_after}
+use Rattle.rv_hardware.proofs.Words.{◌≡◌, ℕ, ◌%◌, false, List, [], ◌∷◌, Some, Option, option_and_then, no_lines}
+use Rattle.rv_hardware.proofs.Words.{target_of_word, Message, instruction_of, Layout, fetched_word, word_of, State}
+use Rattle.rv_hardware.proofs.Words.{Entry, Stage, Finished, Running, Waiting, Fetched, store_of_message, with_store}
+use Rattle.rv_hardware.proofs.Words.{with_value, result_of_word, stale_after}
 use Rattle.std.specs.FinSet as set
 
 -- what an instruction in flight gives in a state; no instruction with a result looks at the lines
@@ -16,7 +19,7 @@ with_message base e message next s = record {
   stale = stale_after message.store s.stale;
 }
 
--- the state after an instruction that goes on where predicted; a fault of it is no trap here, since nothing after it retires
+-- the state after an instruction that goes on where predicted; its fault is no trap, since nothing after it retires
 abbrev pub executed : Layout → Entry → State → State
 executed layout e s = with_message layout.base e (result_at layout s e) e.predicted_next s
 

@@ -1,5 +1,9 @@
 -- What always holds of the hardware, so that its steps are the one-at-a-time machine's.
-use Rattle.rv_hardware.proofs.Words.{◌≡◌, ℕ, ◌+◌, ◌*◌, ◌%◌, true, false, List, [], ◌∷◌, length, slice_index_or as get_or, nat_cmp, PerKind, Values, Layout, Memory, is_in_ram, word_of, State, Contents, IsConsistent, Each, is_draining, Store as QueuedStore, Pool, ReorderBuffer, Entry, FetchBuffer, Hardware, bytes_after, with_store, layout_of, seen, arith}
+use Rattle.rv_hardware.proofs.Words.{◌≡◌, ℕ, ◌+◌, ◌*◌, ◌%◌, true, false, List, [], ◌∷◌, length}
+use Rattle.rv_hardware.proofs.Words.{slice_index_or as get_or, nat_cmp, PerKind, Values, Layout, Memory, is_in_ram}
+use Rattle.rv_hardware.proofs.Words.{word_of, State, Contents, IsConsistent, Each, is_draining, Store as QueuedStore}
+use Rattle.rv_hardware.proofs.Words.{Pool, ReorderBuffer, Entry, FetchBuffer, Hardware, bytes_after, with_store}
+use Rattle.rv_hardware.proofs.Words.{layout_of, seen, arith}
 use Rattle.std.specs.FinSet as set
 use Rattle.rv_hardware.proofs.Headline.Fold.{behind, AreInFlight, AreInBuffer}
 use Rattle.rv_hardware.proofs.Headline.Words.{IsRetiredStore}
@@ -7,11 +11,13 @@ use Rattle.rv_hardware.proofs.Headline.Words.{IsRetiredStore}
 -- only the oldest store's access may be under way, and the cache has its bytes then
 abbrev pub DrainInOrder : ℕ → List ℕ → List QueuedStore → Type 0
 DrainInOrder base bytes [] = Unit {0}
-DrainInOrder base bytes (s ∷ ss) = (is_draining s ≡ true → with_store base s.state bytes ≡ bytes) × Each (λ t. is_draining t ≡ false) ss
+DrainInOrder base bytes (s ∷ ss) =
+    (is_draining s ≡ true → with_store base s.state bytes ≡ bytes) × Each (λ t. is_draining t ≡ false) ss
 
 -- where a word is not stale, RAM has the bytes that programs see
 abbrev pub IsFreshInRam : ℕ → set.FinSet nat_cmp → List ℕ → List ℕ → Type 0
-IsFreshInRam base stale memory bytes = (i : ℕ) → set.contains stale (word_of (base + i)) ≡ false → get_or memory i 0 ≡ get_or bytes i 0
+IsFreshInRam base stale memory bytes =
+    (i : ℕ) → set.contains stale (word_of (base + i)) ≡ false → get_or memory i 0 ≡ get_or bytes i 0
 
 -- RAM and the cache over it begin where they should, in whole words
 pub record IsPlaced (values : Values) (ram : Layout) (base : ℕ) : Type 0 where
@@ -21,7 +27,8 @@ pub record IsPlaced (values : Values) (ram : Layout) (base : ℕ) : Type 0 where
   pub cache_base : base ≡ values.ram_base
 
 -- memory, the cache over it, and the retired stores
-pub record HoldsMemory (values : Values) (stale : set.FinSet nat_cmp) (cache : Contents Memory) (committed : List QueuedStore) : Type 0 where
+pub record HoldsMemory (values : Values) (stale : set.FinSet nat_cmp) (cache : Contents Memory)
+    (committed : List QueuedStore) : Type 0 where
   pub place : IsPlaced values cache.backing.layout cache.base
   pub cache_size : length cache.bytes ≡ values.ram_size
   -- RAM lacks only what dirty lines hold
@@ -52,6 +59,8 @@ pub record IsSoundAt (values : Values) (cycle : ℕ) (s : State) (h : Hardware) 
   pub sound : IsSound h
 
 -- the hardware with other instructions in flight
-pub with_other_program : {values : Values} {cycle : ℕ} {s : State} {h : Hardware} → IsSoundAt values cycle s h → (units : PerKind Pool) (rob : ReorderBuffer) {front : FetchBuffer} →
-    FollowsProgram (layout_of h.values) (seen h) rob.entries front → IsSoundAt values cycle s (record h { units = units; rob = rob; front = front })
+pub with_other_program : {values : Values} {cycle : ℕ} {s : State} {h : Hardware} → IsSoundAt values cycle s h →
+    (units : PerKind Pool) (rob : ReorderBuffer) {front : FetchBuffer} →
+    FollowsProgram (layout_of h.values) (seen h) rob.entries front →
+    IsSoundAt values cycle s (record h { units = units; rob = rob; front = front })
 with_other_program is units rob given = grind arith

@@ -1,18 +1,25 @@
 -- At reset programs see the one-at-a-time machine's reset.
-use Rattle.rv_hardware.proofs.Words.{◌≡◌, ℕ, ◌%◌, ◌<◌, ◌≤◌, List, [], length, replicate, nat_cmp, sym, refl, ap, ◌∙◌, arith, length-append, false≢true, length-replicate, IsLegal, Values, reset, consistent_new, IsConsistent, IsLoadable, memory_at_reset, reset_hardware, layout_of, seen}
+use Rattle.rv_hardware.proofs.Words.{◌≡◌, ℕ, ◌%◌, ◌<◌, ◌≤◌, List, [], length, replicate, nat_cmp, sym, refl, ap, ◌∙◌}
+use Rattle.rv_hardware.proofs.Words.{arith, length-append, false≢true, length-replicate, IsLegal, Values, reset}
+use Rattle.rv_hardware.proofs.Words.{consistent_new, IsConsistent, IsLoadable, memory_at_reset, reset_hardware}
+use Rattle.rv_hardware.proofs.Words.{layout_of, seen}
 use Rattle.std.specs.FinSet as set
 use Rattle.rv_cache.proofs.Divided.{base_divides, line_divides}
 use Rattle.rv_hardware.proofs.Headline.Invariant.{IsSound}
 
-pub seen_at_reset : (values : Values) (image : List ℕ) (start : ℕ) → seen (reset_hardware values image start) ≡ reset (layout_of values) image start
+pub seen_at_reset : (values : Values) (image : List ℕ) (start : ℕ) →
+    seen (reset_hardware values image start) ≡ reset (layout_of values) image start
 seen_at_reset values image start = refl
 
-length-memory_at_reset : (values : Values) (image : List ℕ) → length image ≤ values.ram_size → length (memory_at_reset values image) ≡ values.ram_size
+length-memory_at_reset : (values : Values) (image : List ℕ) → length image ≤ values.ram_size →
+    length (memory_at_reset values image) ≡ values.ram_size
 length-memory_at_reset values image fits = grind (arith, length-replicate, length-append)
 
 -- whole lines fill RAM, and none is held
-consistent_at_reset : (values : Values) (image : List ℕ) → IsLegal values → length (memory_at_reset values image) ≡ values.ram_size →
-    IsConsistent values.ram_base values.cache (memory_at_reset values image) (replicate values.cache.sets []) (memory_at_reset values image)
+consistent_at_reset : (values : Values) (image : List ℕ) → IsLegal values →
+    length (memory_at_reset values image) ≡ values.ram_size →
+    IsConsistent values.ram_base values.cache (memory_at_reset values image) (replicate values.cache.sets [])
+    (memory_at_reset values image)
 consistent_at_reset values image legal size =
     let shape = legal.cache.0 in
     let line = values.cache.line in
@@ -27,7 +34,8 @@ consistent_at_reset values image legal size =
     })
 
 -- hardware that was just reset is sound
-pub reset_sound : (values : Values) (base : ℕ) (image : List ℕ) (start : ℕ) → IsLegal values → IsLoadable values base image start → IsSound (reset_hardware values image start)
+pub reset_sound : (values : Values) (base : ℕ) (image : List ℕ) (start : ℕ) → IsLegal values →
+    IsLoadable values base image start → IsSound (reset_hardware values image start)
 reset_sound values base image start legal loadable =
     let size = length-memory_at_reset values image loadable.fits in
     record {

@@ -1,5 +1,10 @@
 -- What the cycles of a run report leads from what programs saw before it to what they see after it.
-use Rattle.rv_hardware.proofs.Words.{◌≡◌, ℕ, ◌+◌, ◌<◌, ◌≤◌, false, List, [], ◌∷◌, ◌++◌, map, length, All, AllPairs, sym, ap, subst, arith, All-append, All-head, All-nil, All-tail, All-weaker, AllPairs-cons, lines_at, IsLegal, Arrival, Values, Layout, reset, Run, is_stale, stepped, State, Hardware, ComesBefore, EndAtTraps, IsTrueCycle, IsTrueRun, Lead, nowhere, onwards, reference_step, Report, IsLoadable, reset_hardware, Cycles, Reachable, at_reset, cycled, steps_of, layout_of, seen, stamp_of, Step}
+use Rattle.rv_hardware.proofs.Words.{◌≡◌, ℕ, ◌+◌, ◌<◌, ◌≤◌, false, List, [], ◌∷◌, ◌++◌, map, length, All, AllPairs, sym}
+use Rattle.rv_hardware.proofs.Words.{ap, subst, arith, All-append, All-head, All-nil, All-tail, All-weaker}
+use Rattle.rv_hardware.proofs.Words.{AllPairs-cons, lines_at, IsLegal, Arrival, Values, Layout, reset, Run, is_stale}
+use Rattle.rv_hardware.proofs.Words.{stepped, State, Hardware, ComesBefore, EndAtTraps, IsTrueCycle, IsTrueRun, Lead}
+use Rattle.rv_hardware.proofs.Words.{nowhere, onwards, reference_step, Report, IsLoadable, reset_hardware, Cycles}
+use Rattle.rv_hardware.proofs.Words.{Reachable, at_reset, cycled, steps_of, layout_of, seen, stamp_of, Step}
 use Rattle.rv_arch.specs.Run.{ended}
 use Rattle.rv_arch.specs.Step.{Step as MachineStep}
 use Rattle.rv_hardware.specs.Run as run
@@ -10,19 +15,25 @@ use Rattle.rv_hardware.proofs.Headline.Invariant.{IsSound}
 pub data TrueCycles (layout : Layout) (arrivals : List Arrival) : State → ℕ → List Report → State → ℕ → Type 0 where
   none : {s : State} {n : ℕ} → TrueCycles layout arrivals s n [] s n
   one_more : {s t u : State} {n m : ℕ} {report : Report} {reports : List Report} →
-      IsTrueCycle layout (lines_at arrivals n) n s report.steps report.stop t → TrueCycles layout arrivals t (n + 1) reports u m →
-      TrueCycles layout arrivals s n (report ∷ reports) u m
+      IsTrueCycle layout (lines_at arrivals n) n s report.steps report.stop t →
+      TrueCycles layout arrivals t (n + 1) reports u m → TrueCycles layout arrivals s n (report ∷ reports) u m
 
 -- the cycles of a run of sound hardware are true, one after another
 pub cycles_true : {arrivals : List Arrival} {old new : Hardware} {reports : List Report} → IsSound old →
-    Cycles arrivals old reports new → TrueCycles (layout_of old.values) arrivals (seen old) old.cycle reports (seen new) new.cycle
+    Cycles arrivals old reports new →
+    TrueCycles (layout_of old.values) arrivals (seen old) old.cycle reports (seen new) new.cycle
 cycles_true is run.ended = none
-cycles_true {arrivals = arrivals} {old = old} {new = new} is (cycled {middle = middle} {report = report} {reports = reports} cycle rest) =
-    let now : GoesOnTrue (lines_at arrivals old.cycle) old report middle = cycle_true (lines_at arrivals old.cycle) old report middle is cycle in
-    let later : TrueCycles (layout_of middle.values) arrivals (seen middle) middle.cycle reports (seen new) new.cycle = cycles_true now.sound rest in
+cycles_true {arrivals = arrivals} {old = old} {new = new} is
+    (cycled {middle = middle} {report = report} {reports = reports} cycle rest) =
+    let now : GoesOnTrue (lines_at arrivals old.cycle) old report middle =
+    cycle_true (lines_at arrivals old.cycle) old report middle is cycle in
+    let later : TrueCycles (layout_of middle.values) arrivals (seen middle) middle.cycle reports (seen new) new.cycle =
+    cycles_true now.sound rest in
     one_more now.true_cycle
-    (subst (λ (n : ℕ). TrueCycles (layout_of old.values) arrivals (seen middle) n reports (seen new) new.cycle) now.cycle_is
-    (subst (λ (v : Values). TrueCycles (layout_of v) arrivals (seen middle) middle.cycle reports (seen new) new.cycle) now.values_are later))
+    (subst (λ (n : ℕ). TrueCycles (layout_of old.values) arrivals (seen middle) n reports (seen new) new.cycle)
+    now.cycle_is
+    (subst (λ (v : Values). TrueCycles (layout_of v) arrivals (seen middle) middle.cycle reports (seen new) new.cycle)
+    now.values_are later))
 
 never_stale : (x : Step) → is_stale (reference_step x) ≡ false
 never_stale x = grind arith
@@ -39,13 +50,15 @@ module _ (layout : Layout) (arrivals : List Arrival) where
     by_lead nowhere stamped rest = rest
     by_lead (onwards {s = s} {t = t} {first = first} {steps = steps} takes more) stamped rest =
         let at : stamp_of first ≡ n = All-head (λ x. stamp_of x ≡ n) first steps stamped in
-        stepped (subst (λ k. MachineStep layout s (lines_at arrivals k) (reference_step first) t) (sym at) takes) (never_stale first)
+        stepped (subst (λ k. MachineStep layout s (lines_at arrivals k) (reference_step first) t) (sym at) takes)
+        (never_stale first)
         (by_lead more (All-tail (λ x. stamp_of x ≡ n) first steps stamped) rest)
 
   pub true_run_runs : {s u : State} {n m : ℕ} {reports : List Report} → TrueCycles layout arrivals s n reports u m →
       Run layout arrivals s (map stamp_of (steps_of reports)) (map reference_step (steps_of reports)) u
   true_run_runs none = ended
-  true_run_runs (one_more {s = s} {t = t} {u = u} {n = n} {report = report} {reports = reports} cycle rest) = grind (arith, lead_runs, true_run_runs rest)
+  true_run_runs (one_more {s = s} {t = t} {u = u} {n = n} {report = report} {reports = reports} cycle rest) =
+      grind (arith, lead_runs, true_run_runs rest)
 
   -- ---- stamps
   pub counts_cycles : {s u : State} {n m : ℕ} {reports : List Report} → TrueCycles layout arrivals s n reports u m →
@@ -63,11 +76,13 @@ module _ (layout : Layout) (arrivals : List Arrival) where
   true_run_within {n = n} {m = m} (one_more {report = report} {reports = reports} cycle rest) =
       let count = counts_cycles rest in
       All-append (IsWithin n m) report.steps (steps_of reports)
-      (All-weaker (λ x. stamp_of x ≡ n) (IsWithin n m) (λ x at. (omega arith, omega (arith, count))) report.steps cycle.stamped)
-      (All-weaker (IsWithin (n + 1) m) (IsWithin n m) (λ x within. (omega (arith, within.0), within.1)) (steps_of reports) (true_run_within rest))
+      (All-weaker (λ x. stamp_of x ≡ n) (IsWithin n m)
+      (λ x at. (omega arith, omega (arith, count))) report.steps cycle.stamped)
+      (All-weaker (IsWithin (n + 1) m) (IsWithin n m) (λ x within. (omega (arith, within.0), within.1))
+      (steps_of reports) (true_run_within rest))
 
-  ordered : (n : ℕ) (xs ys : List Step) → EndAtTraps xs → All (λ x. stamp_of x ≡ n) xs → All (λ y. n + 1 ≤ stamp_of y) ys →
-      AllPairs ComesBefore ys → AllPairs ComesBefore (xs ++ ys)
+  ordered : (n : ℕ) (xs ys : List Step) → EndAtTraps xs → All (λ x. stamp_of x ≡ n) xs →
+      All (λ y. n + 1 ≤ stamp_of y) ys → AllPairs ComesBefore ys → AllPairs ComesBefore (xs ++ ys)
   ordered n [] ys precise stamped later rest = rest
   ordered n (x ∷ xs) ys precise stamped later rest =
       let at : stamp_of x ≡ n = All-head (λ z. stamp_of z ≡ n) x xs stamped in
@@ -89,22 +104,28 @@ module _ (layout : Layout) (arrivals : List Arrival) where
   true_run_in_order none = λ i j d below within. absurd (omega arith)
   true_run_in_order {n = n} {m = m} (one_more {report = report} {reports = reports} cycle rest) =
       ordered n _ _ cycle.precise cycle.stamped
-      (All-weaker (IsWithin (n + 1) m) (λ y. n + 1 ≤ stamp_of y) (λ y within. within.0) (steps_of reports) (true_run_within rest)) (true_run_in_order rest)
+      (All-weaker (IsWithin (n + 1) m) (λ y. n + 1 ≤ stamp_of y) (λ y within. within.0) (steps_of reports)
+      (true_run_within rest))
+      (true_run_in_order rest)
 
   pub true_run : {s u : State} {n m : ℕ} {reports : List Report} → TrueCycles layout arrivals s n reports u m →
       IsTrueRun layout arrivals n m s (steps_of reports) u
-  true_run cycles = record { runs = true_run_runs cycles; within = true_run_within cycles; in_order = true_run_in_order cycles }
+  true_run cycles =
+      record { runs = true_run_runs cycles; within = true_run_within cycles; in_order = true_run_in_order cycles }
 
 -- The theorem for the cycles of a run.
 pub headline_of_run : {arrivals : List Arrival} {old new : Hardware} {reports : List Report} → Reachable old →
     Cycles arrivals old reports new →
     IsTrueRun (layout_of old.values) arrivals old.cycle new.cycle (seen old) (steps_of reports) (seen new)
-headline_of_run {arrivals} {old} reached cycles = true_run (layout_of old.values) arrivals (cycles_true (always_sound reached) cycles)
+headline_of_run {arrivals} {old} reached cycles =
+    true_run (layout_of old.values) arrivals (cycles_true (always_sound reached) cycles)
 
 -- ... and for those of new hardware, which start at the machine's reset.
-pub headline_from_reset : (arrivals : List Arrival) (values : Values) (base : ℕ) (image : List ℕ) (start : ℕ) (new : Hardware) (reports : List Report) →
+pub headline_from_reset : (arrivals : List Arrival) (values : Values) (base : ℕ) (image : List ℕ) (start : ℕ)
+    (new : Hardware) (reports : List Report) →
     IsLegal values → IsLoadable values base image start →
     Cycles arrivals (reset_hardware values image start) reports new →
-    IsTrueRun (layout_of values) arrivals 0 new.cycle (reset (layout_of values) image start) (steps_of reports) (seen new)
+    IsTrueRun (layout_of values) arrivals 0 new.cycle (reset (layout_of values) image start)
+    (steps_of reports) (seen new)
 headline_from_reset arrivals values base image start new reports legal loadable cycles =
     headline_of_run (at_reset legal loadable) cycles

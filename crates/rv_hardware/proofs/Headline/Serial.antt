@@ -1,5 +1,10 @@
 -- A serialising instruction takes its effect in the state that programs see.
-use Rattle.rv_hardware.proofs.Words.{◌≡◌, ℕ, ◌%◌, Bool, true, List, [], IfSome, if◌then◌else◌, slice_index_or as get_or, None, Option, option_map, nat_cmp, sym, refl, ap, ◌∙◌, subst, arith, false≢true, Csr, FenceI, Mret, Lines, Kept, access_csr, Effect, Faults, Retires, accesses, effect, State, consistent_cleaned, memory_written, memory_written_back, Each, Store as QueuedStore, is_drained, with_write_back, Hardware, bytes_after, layout_of, seen}
+use Rattle.rv_hardware.proofs.Words.{◌≡◌, ℕ, ◌%◌, Bool, true, List, [], IfSome, if◌then◌else◌, slice_index_or as get_or}
+use Rattle.rv_hardware.proofs.Words.{None, Option, option_map, nat_cmp, sym, refl, ap, ◌∙◌, subst, arith, false≢true}
+use Rattle.rv_hardware.proofs.Words.{Csr, FenceI, Mret, Lines, Kept, access_csr, Effect, Faults, Retires, accesses}
+use Rattle.rv_hardware.proofs.Words.{effect, State, consistent_cleaned, memory_written, memory_written_back, Each}
+use Rattle.rv_hardware.proofs.Words.{Store as QueuedStore, is_drained, with_write_back, Hardware, bytes_after}
+use Rattle.rv_hardware.proofs.Words.{layout_of, seen}
 use Rattle.std.specs.FinSet as set
 use Rattle.rv_isa.specs.declared.instructions.CsrSource.{CsrSource}
 use Rattle.rv_isa.specs.declared.operations.CsrOp.{CsrOp}
@@ -23,36 +28,43 @@ IsSerialEffect h (Retires register next) = IsSerial h next
 IsSerialEffect h (Faults cause value) = Unit {0}
 
 -- mepc is a multiple of 4, whatever is written
-mepc_written : (kept : Kept) (register : Register) (word : ℕ) → kept.mepc % 4 ≡ 0 → (written kept register word).mepc % 4 ≡ 0
+mepc_written : (kept : Kept) (register : Register) (word : ℕ) → kept.mepc % 4 ≡ 0 →
+    (written kept register word).mepc % 4 ≡ 0
 mepc_written kept csr.Mepc word aligned = omega arith
 mepc_written kept _ word aligned = aligned
 
-mepc_by : (writes : Bool) (kept new : Kept) → kept.mepc % 4 ≡ 0 → new.mepc % 4 ≡ 0 → (if writes then new else kept).mepc % 4 ≡ 0
+mepc_by : (writes : Bool) (kept new : Kept) → kept.mepc % 4 ≡ 0 → new.mepc % 4 ≡ 0 →
+    (if writes then new else kept).mepc % 4 ≡ 0
 mepc_by writes kept new aligned given = grind arith
 
 module _ {h : Hardware} (is : IsSound h) where
-  csr_done : (rd : ℕ) (word : ℕ) (found : Option (ℕ × Kept)) → IfSome found (λ f. f.1.mepc % 4 ≡ 0) → IsSerialEffect h (accesses (seen h) word rd found)
+  csr_done : (rd : ℕ) (word : ℕ) (found : Option (ℕ × Kept)) → IfSome found (λ f. f.1.mepc % 4 ≡ 0) →
+      IsSerialEffect h (accesses (seen h) word rd found)
   csr_done rd word found aligned = grind (arith, aligned_next)
 
   found_aligned : (lines : Lines) (op : CsrOp) (zero_field : Bool) (value : ℕ) (register : Option Register) →
       IfSome (option_map (access_csr h.csrs lines op zero_field value) register) (λ f. f.1.mepc % 4 ≡ 0)
   found_aligned lines op zero_field value register = grind (arith, mepc_by, mepc_written)
 
-  access_by : (b : Bool) (found : Option (ℕ × Kept)) → IfSome found (λ f. f.1.mepc % 4 ≡ 0) → IfSome (if b then None else found) (λ f. f.1.mepc % 4 ≡ 0)
+  access_by : (b : Bool) (found : Option (ℕ × Kept)) → IfSome found (λ f. f.1.mepc % 4 ≡ 0) →
+      IfSome (if b then None else found) (λ f. f.1.mepc % 4 ≡ 0)
   access_by b found aligned = grind arith
 
   -- the effect of a CSR instruction is such a one
-  pub csr_serial : (lines : Lines) (word : ℕ) (op : CsrOp) (rd address : ℕ) (source : CsrSource) → IsSerialEffect h (effect (layout_of h.values) (seen h) lines word (Csr op rd address source))
+  pub csr_serial : (lines : Lines) (word : ℕ) (op : CsrOp) (rd address : ℕ) (source : CsrSource) →
+      IsSerialEffect h (effect (layout_of h.values) (seen h) lines word (Csr op rd address source))
   csr_serial lines word op rd address source = grind (arith, csr_done, access_by, found_aligned)
 
   -- the effect of MRET is such a one
   pub mret_serial : (lines : Lines) (word : ℕ) → IsSerialEffect h (effect (layout_of h.values) (seen h) lines word Mret)
-  mret_serial lines word = record { ram_is = refl; pc_aligned = is.mepc_aligned; mepc_aligned = is.mepc_aligned; memory = is.memory }
+  mret_serial lines word =
+      record { ram_is = refl; pc_aligned = is.mepc_aligned; mepc_aligned = is.mepc_aligned; memory = is.memory }
 
   -- ---- FENCE.I
   -- once every dirty line is written, RAM has all bytes that the cache has
   all_written : memory_written_back h.cache h.cache.backing.bytes ≡ h.cache.bytes
-  all_written = memory_written h.cache.base h.cache.values h.cache.bytes h.cache.backing.bytes h.cache.sets is.memory.consistent
+  all_written =
+      memory_written h.cache.base h.cache.values h.cache.bytes h.cache.backing.bytes h.cache.sets is.memory.consistent
 
   -- hardware whose cache was written back is sound
   pub written_back_sound : IsSound (with_write_back h)
@@ -64,10 +76,13 @@ module _ {h : Hardware} (is : IsSound h) where
         memory = record {
           place = was.place;
           cache_size = was.cache_size;
-          consistent = consistent_cleaned h.cache.base h.cache.values h.cache.bytes h.cache.backing.bytes h.cache.sets was.consistent _ all_written;
+          consistent = consistent_cleaned h.cache.base h.cache.values h.cache.bytes h.cache.backing.bytes h.cache.sets
+              was.consistent _ all_written;
           retired = was.retired;
           drains = was.drains;
-          fresh = λ i fresh. ap (λ (xs : List ℕ). get_or xs i 0) all_written ∙ sym (bytes_after-fresh (layout_of h.values) h.stale h.committed h.cache.bytes was.retired was.cache_size i fresh);
+          fresh = λ i fresh. ap (λ (xs : List ℕ). get_or xs i 0) all_written ∙
+              sym (bytes_after-fresh
+              (layout_of h.values) h.stale h.committed h.cache.bytes was.retired was.cache_size i fresh);
           inside = was.inside;
         };
         program = is.program;
@@ -77,11 +92,13 @@ module _ {h : Hardware} (is : IsSound h) where
   none_left stores drained = grind (arith, false≢true)
 
   -- the effect of FENCE.I is such a one, once the queue is drained and the cache written back
-  pub fence_serial : is_drained h ≡ true → (lines : Lines) (word : ℕ) → IsSerialEffect (with_write_back h) (effect (layout_of h.values) (seen h) lines word FenceI)
+  pub fence_serial : is_drained h ≡ true → (lines : Lines) (word : ℕ) →
+      IsSerialEffect (with_write_back h) (effect (layout_of h.values) (seen h) lines word FenceI)
   fence_serial drained lines word =
       let was = is.memory in
       let none = none_left h.committed drained in
-      let same : bytes_after h.values.ram_base h.committed h.cache.bytes ≡ h.cache.bytes = ap (λ (ss : List QueuedStore). bytes_after h.values.ram_base ss h.cache.bytes) none in
+      let same : bytes_after h.values.ram_base h.committed h.cache.bytes ≡ h.cache.bytes =
+      ap (λ (ss : List QueuedStore). bytes_after h.values.ram_base ss h.cache.bytes) none in
       record {
         ram_is = refl;
         pc_aligned = aligned_next h.pc is.pc_aligned;
@@ -89,7 +106,8 @@ module _ {h : Hardware} (is : IsSound h) where
         memory = record {
           place = was.place;
           cache_size = was.cache_size;
-          consistent = consistent_cleaned h.cache.base h.cache.values h.cache.bytes h.cache.backing.bytes h.cache.sets was.consistent _ all_written;
+          consistent = consistent_cleaned h.cache.base h.cache.values h.cache.bytes h.cache.backing.bytes h.cache.sets
+              was.consistent _ all_written;
           retired = subst (Each (IsRetiredStore (layout_of h.values) set.empty)) (sym none) tt;
           drains = was.drains;
           fresh = λ i fresh. ap (λ (xs : List ℕ). get_or xs i 0) (all_written ∙ sym same);

@@ -1,12 +1,18 @@
 -- What an access makes of RAM: each byte stays, or becomes the one that the cache has.
-use Rattle.rv_hardware.proofs.Words.{◌≡◌, ℕ, ◌+◌, ◌-◌, ◌<◌, ◌≤◌, min, Bool, true, false, cond, ◌⊎◌, List, length, drop, slice_index_or as get_or, slice_range, Some, None, Option, refl, ap, ◌∙◌, inl, inr, append-nil, arith, length-drop, length-take, get_or-drop, take_all, get_or-take, cases_lt, drop_all, overwritten, get_or-overwritten_above, get_or-overwritten_below, get_or-overwritten_in, length-overwritten, Contents, evicted, memory_after, offset_of, victim_written, CacheLine}
+use Rattle.rv_hardware.proofs.Words.{◌≡◌, ℕ, ◌+◌, ◌-◌, ◌<◌, ◌≤◌, min, Bool, true, false, cond, ◌⊎◌, List, length, drop}
+use Rattle.rv_hardware.proofs.Words.{slice_index_or as get_or, slice_range, Some, None, Option, refl, ap, ◌∙◌, inl, inr}
+use Rattle.rv_hardware.proofs.Words.{append-nil, arith, length-drop, length-take, get_or-drop, take_all, get_or-take}
+use Rattle.rv_hardware.proofs.Words.{cases_lt, drop_all, overwritten, get_or-overwritten_above}
+use Rattle.rv_hardware.proofs.Words.{get_or-overwritten_below, get_or-overwritten_in, length-overwritten, Contents}
+use Rattle.rv_hardware.proofs.Words.{evicted, memory_after, offset_of, victim_written, CacheLine}
 
 -- each byte is the old one's or the cache's
 pub record IsMixed (bytes memory now : List ℕ) : Type 0 where
   pub size : length now ≡ length bytes
   pub either : (i : ℕ) → (get_or now i 0 ≡ get_or memory i 0) ⊎ (get_or now i 0 ≡ get_or bytes i 0)
 
-mixed_same : (bytes : List ℕ) {memory now : List ℕ} → length memory ≡ length bytes → now ≡ memory → IsMixed bytes memory now
+mixed_same : (bytes : List ℕ) {memory now : List ℕ} → length memory ≡ length bytes → now ≡ memory →
+    IsMixed bytes memory now
 mixed_same bytes size same = grind arith
 
 -- a piece of the cache's bytes, however far it reaches
@@ -46,10 +52,14 @@ line_mixed : (dirty : Bool) (bytes memory : List ℕ) (off n : ℕ) → length m
 line_mixed true bytes memory off n size = piece_mixed bytes memory size off n
 line_mixed false bytes memory off n size = mixed_same bytes size refl
 
-victim_mixed : (base line : ℕ) (bytes memory : List ℕ) (victim : Option CacheLine) → length memory ≡ length bytes → IsMixed bytes memory (victim_written base line bytes victim memory)
+victim_mixed : (base line : ℕ) (bytes memory : List ℕ) (victim : Option CacheLine) → length memory ≡ length bytes →
+    IsMixed bytes memory (victim_written base line bytes victim memory)
 victim_mixed base line bytes memory None size = mixed_same bytes size refl
-victim_mixed base line bytes memory (Some v) size = line_mixed v.dirty bytes memory (offset_of base line v.number) line size
+victim_mixed base line bytes memory (Some v) size =
+    line_mixed v.dirty bytes memory (offset_of base line v.number) line size
 
 -- after an access each byte of RAM is as it was or as the cache has it
-pub access_mixed : {M : Type 0} (cache : Contents M) (address : ℕ) (memory : List ℕ) → length memory ≡ length cache.bytes → IsMixed cache.bytes memory (memory_after cache address memory)
-access_mixed cache address memory size = victim_mixed cache.base cache.values.line cache.bytes memory (evicted cache address) size
+pub access_mixed : {M : Type 0} (cache : Contents M) (address : ℕ) (memory : List ℕ) →
+    length memory ≡ length cache.bytes → IsMixed cache.bytes memory (memory_after cache address memory)
+access_mixed cache address memory size =
+    victim_mixed cache.base cache.values.line cache.bytes memory (evicted cache address) size

@@ -4,6 +4,8 @@ use Rattle.rv_hardware.proofs.Marks.History.{History}
 use Rattle.rv_hardware.proofs.Laws.StepsInOrder.Steps.{history_has_steps}
 
 -- the field `commit_width` of `Laws`, over every history
-pub law_of_commit_width : {v : Values} {steps : List Step} {h : Hardware} → History v steps h → NeverMoreThan v.commit_width (λ c step. stamp_of step == c) steps
+pub law_of_commit_width : {v : Values} {steps : List Step} {h : Hardware} → History v steps h →
+    NeverMoreThan v.commit_width (λ c step. stamp_of step == c) steps
 law_of_commit_width {v} {steps} history c =
-    let same = count-count_by (λ step. stamp_of step == c) steps in let le = (history_has_steps history).width c in omega (arith, same, le)
+    let same = count-count_by (λ step. stamp_of step == c) steps in let le = (history_has_steps history).width c in
+    omega (arith, same, le)

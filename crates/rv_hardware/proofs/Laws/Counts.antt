@@ -1,5 +1,9 @@
 -- The busy cycles and the stalls of a run make its cycles.
-use Rattle.rv_hardware.proofs.Words.{◌≡◌, ℕ, suc, ◌+◌, ◌<◌, ◌≤◌, Bool, true, false, cond, not, List, [], ◌∷◌, length, ◌==◌, Some, None, Option, refl, arith, ne_eqb, Dispatching, dispatch, dispatch_turn, stall_of, Hardware, stall_cycles, Turn, Report, counted, busy_of, counted_stall, stalls_from, stalls_of, Stall, count, count-count_by, Leads, turns_within}
+use Rattle.rv_hardware.proofs.Words.{◌≡◌, ℕ, suc, ◌+◌, ◌<◌, ◌≤◌, Bool, true, false, cond, not, List, [], ◌∷◌, length}
+use Rattle.rv_hardware.proofs.Words.{◌==◌, Some, None, Option, refl, arith, ne_eqb, Dispatching, dispatch}
+use Rattle.rv_hardware.proofs.Words.{dispatch_turn, stall_of, Hardware, stall_cycles, Turn, Report, counted, busy_of}
+use Rattle.rv_hardware.proofs.Words.{counted_stall, stalls_from, stalls_of, Stall, count, count-count_by, Leads}
+use Rattle.rv_hardware.proofs.Words.{turns_within}
 use Rattle.rv_hardware.specs.declared.report.StallCounts.{StallCounts}
 use Rattle.rv_hardware.proofs.Turns.Dispatch.{DispatchTurn, dispatch_turn_is}
 
@@ -21,14 +25,17 @@ tells_some b reason = grind arith
 tells_more : (n : ℕ) (o : Option Stall) → 0 < n → IsCounted (n == 0) (cond (n == 0) o None)
 tells_more n o lt = rw (ne_eqb n 0 (omega arith)) tt
 
-dispatch_tells_turn : (k : ℕ) {d : Dispatching} {t : Turn Dispatching} → DispatchTurn d t → Counts k d → Leads (Counts (suc k)) Tells t
+dispatch_tells_turn : (k : ℕ) {d : Dispatching} {t : Turn Dispatching} → DispatchTurn d t → Counts k d →
+    Leads (Counts (suc k)) Tells t
 dispatch_tells_turn k given p = grind (arith, tells_some)
 
 -- the dispatch phase dispatches something or gives a reason for its stall
 pub dispatch_tells : (h : Hardware) → 1 ≤ h.values.dispatch_width → Tells (dispatch h)
 dispatch_tells h le =
-    turns_within h.values.dispatch_width Counts Tells dispatch_turn (λ k d lt p. dispatch_tells_turn k (dispatch_turn_is d) p)
-    (λ d p. tells_more d.dispatched d.waits_for (omega (arith, p, le))) h.values.dispatch_width 0 (record { hardware = h; dispatched = 0; waits_for = None }) (omega arith) refl
+    turns_within h.values.dispatch_width Counts Tells dispatch_turn
+    (λ k d lt p. dispatch_tells_turn k (dispatch_turn_is d) p)
+    (λ d p. tells_more d.dispatched d.waits_for (omega (arith, p, le))) h.values.dispatch_width 0
+    (record { hardware = h; dispatched = 0; waits_for = None }) (omega arith) refl
 
 -- over all cycles
 
@@ -40,14 +47,18 @@ abbrev pub AllTell : List Report → Type 0
 AllTell [] = Unit {0}
 AllTell (report ∷ reports) = IsCounted (report.dispatched == 0) report.stall × AllTell reports
 
-counts_by : (b : Bool) (o : Option Stall) (counts : StallCounts) (n : ℕ) → IsCounted b o → cond (not b) (suc n) n + stall_cycles (counted_stall o counts) ≡ suc (n + stall_cycles counts)
+counts_by : (b : Bool) (o : Option Stall) (counts : StallCounts) (n : ℕ) → IsCounted b o →
+    cond (not b) (suc n) n + stall_cycles (counted_stall o counts) ≡ suc (n + stall_cycles counts)
 counts_by b o counts n h = grind (arith, one_more)
 
 counts_from : (counts : StallCounts) (reports : List Report) → AllTell reports →
-    count (λ report. not (report.dispatched == 0)) reports + stall_cycles (stalls_from counts reports) ≡ length reports + stall_cycles counts
+    count (λ report. not (report.dispatched == 0)) reports + stall_cycles (stalls_from counts reports) ≡
+    length reports + stall_cycles counts
 counts_from counts [] h = refl
-counts_from counts (report ∷ reports) h = grind (arith, counts_by, counts_from (counted_stall report.stall counts) reports h.1)
+counts_from counts (report ∷ reports) h =
+    grind (arith, counts_by, counts_from (counted_stall report.stall counts) reports h.1)
 
 -- busy and stalls make the cycles
-pub busy_and_stalls : (reports : List Report) → AllTell reports → busy_of reports + stall_cycles (stalls_of reports) ≡ length reports
+pub busy_and_stalls : (reports : List Report) → AllTell reports →
+    busy_of reports + stall_cycles (stalls_of reports) ≡ length reports
 busy_and_stalls reports h = grind (arith, counts_from, count-count_by)

@@ -8,5 +8,6 @@ by_step : (c : ℕ) (x : Step) → IsAhead c true x → IsFetchedAhead c x
 by_step c x h = grind arith
 
 -- the field `fetched_ahead` of `Laws`, over every history
-pub law_of_fetched_ahead : {v : Values} {steps : List Step} {h : Hardware} → History v steps h → EachNext (λ a b. IsFetchedAhead (stamp_of a) b) steps
+pub law_of_fetched_ahead : {v : Values} {steps : List Step} {h : Hardware} → History v steps h →
+    EachNext (λ a b. IsFetchedAhead (stamp_of a) b) steps
 law_of_fetched_ahead {v} history first rest a b at = by_step (stamp_of a) b (follows history first rest a b at).ahead

@@ -7,5 +7,6 @@ use Rattle.rv_hardware.proofs.Marks.History.{History}
 use Rattle.rv_hardware.proofs.Laws.HeadsDoNotWait.Ahead.{follows}
 
 -- the field `heads_do_not_wait` of `Laws`, over every history
-pub law_of_heads_do_not_wait : {v : Values} {steps : List Step} {h : Hardware} → History v steps h → EachNext (λ a b. DoesNotWait (stamp_of a) b) steps
+pub law_of_heads_do_not_wait : {v : Values} {steps : List Step} {h : Hardware} → History v steps h →
+    EachNext (λ a b. DoesNotWait (stamp_of a) b) steps
 law_of_heads_do_not_wait {v} history first rest a b at = (follows history first rest a b at).waits

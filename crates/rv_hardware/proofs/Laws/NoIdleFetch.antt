@@ -3,12 +3,18 @@ pub mod Links
 pub mod Phases
 pub mod Rows
 pub mod Next
-use Rattle.rv_hardware.proofs.Words.{◌≡◌, ℕ, ◌≤◌, true, List, [], ◌∷◌, ◌++◌, map, is_none, nat_lt, nat_le, Some, None, count_by, Option, MatchOption, sym, refl, ap, ◌∙◌, subst, inl, inr, append_assoc, arith, and_from, map-append, Values, Hardware, IsFetchedAfter, EachNext, is_buffered_in, rows_of, Execution, Row, Step, Interrupt, Retired, Trap, and_first, and_second, Each-all, count-count_by, count-append, count-map, count-le}
-use Rattle.rv_hardware.proofs.Marks.Cited.{History, Mark, mark_of_row, mark_of_entry, mark_of_fetched, until, broadcast_of_execution, rows_append}
+use Rattle.rv_hardware.proofs.Words.{◌≡◌, ℕ, ◌≤◌, true, List, [], ◌∷◌, ◌++◌, map, is_none, nat_lt, nat_le, Some, None}
+use Rattle.rv_hardware.proofs.Words.{count_by, Option, MatchOption, sym, refl, ap, ◌∙◌, subst, inl, inr, append_assoc}
+use Rattle.rv_hardware.proofs.Words.{arith, and_from, map-append, Values, Hardware, IsFetchedAfter, EachNext}
+use Rattle.rv_hardware.proofs.Words.{is_buffered_in, rows_of, Execution, Row, Step, Interrupt, Retired, Trap, and_first}
+use Rattle.rv_hardware.proofs.Words.{and_second, Each-all, count-count_by, count-append, count-map, count-le}
+use Rattle.rv_hardware.proofs.Marks.Cited.{History, Mark, mark_of_row, mark_of_entry, mark_of_fetched, until}
+use Rattle.rv_hardware.proofs.Marks.Cited.{broadcast_of_execution, rows_append}
 use Rattle.rv_hardware.proofs.Laws.FetchBuffer.{buffered_shows}
 use Rattle.rv_hardware.proofs.Laws.RunsOn.{RunsOn, rows_of_all, none_earlier}
 use Rattle.rv_hardware.proofs.Laws.NoIdleDispatch.{none_until}
-use Rattle.rv_hardware.proofs.Laws.NoIdleFetch.Links.{is_word, with_word, Followed, IsOpen, Linked, held_after, held_count}
+use Rattle.rv_hardware.proofs.Laws.NoIdleFetch.Links.{is_word, with_word, Followed, IsOpen, Linked, held_after}
+use Rattle.rv_hardware.proofs.Laws.NoIdleFetch.Links.{held_count}
 use Rattle.rv_hardware.proofs.Laws.NoIdleFetch.Rows.{marks_are_linked}
 use Rattle.rv_hardware.proofs.Laws.NoIdleFetch.Next.{next_was_fetched}
 
@@ -22,16 +28,19 @@ word_is_buffered : (c : ℕ) (row : Row) → is_word c (mark_of_row row) ≡ tru
 word_is_buffered c row is = grind (arith, and_from, and_first, none_until, and_second)
 
 -- they are no more than all
-held_rows : (c : ℕ) (before after : List Row) → held_after (λ n. 0) (map mark_of_row before) c ≤ count_by (is_buffered_in c) (before ++ after)
+held_rows : (c : ℕ) (before after : List Row) →
+    held_after (λ n. 0) (map mark_of_row before) c ≤ count_by (is_buffered_in c) (before ++ after)
 held_rows c before after =
     let held = held_count (λ n. 0) (map mark_of_row before) c in
     let marks = count-map (is_word c) mark_of_row before in
-    let fewer = count-le (λ row. is_word c (mark_of_row row)) (is_buffered_in c) before (Each-all _ (word_is_buffered c) before) in
+    let fewer = count-le (λ row. is_word c (mark_of_row row)) (is_buffered_in c) before
+    (Each-all _ (word_is_buffered c) before) in
     let both = count-append (is_buffered_in c) before after in
     let all = count-count_by (is_buffered_in c) (before ++ after) in
     omega (arith, held, marks, fewer, both, all)
 
-after_one : (held : ℕ → ℕ) (xs : List Mark) (m : Mark) (c : ℕ) → held_after held (xs ++ m ∷ []) c ≡ with_word (held_after held xs) m c
+after_one : (held : ℕ → ℕ) (xs : List Mark) (m : Mark) (c : ℕ) →
+    held_after held (xs ++ m ∷ []) c ≡ with_word (held_after held xs) m c
 after_one held [] m c = refl
 after_one held (x ∷ xs) m c = after_one (with_word held x) xs m c
 
@@ -39,21 +48,30 @@ sent_at : (o : Option Execution) {t : ℕ} → broadcast_of_execution o ≡ Some
 sent_at o is = grind arith
 
 module _ {v : Values} {earlier steps : List Step} {old h : Hardware} (run : RunsOn v earlier steps old h) where
-  rows_at : (before after : List Step) (a b : Row) → earlier ++ steps ≡ before ++ Retired a ∷ Retired b ∷ after → rows_of (earlier ++ steps) ≡ rows_of before ++ a ∷ b ∷ rows_of after
+  rows_at : (before after : List Step) (a b : Row) → earlier ++ steps ≡ before ++ Retired a ∷ Retired b ∷ after →
+      rows_of (earlier ++ steps) ≡ rows_of before ++ a ∷ b ∷ rows_of after
   rows_at before after a b at = ap rows_of at ∙ rows_append before (Retired a ∷ Retired b ∷ after)
+
+  -- the marks after those of the rows
+  abbrev after_rows : List Mark
+  after_rows = map mark_of_entry h.rob.entries ++ map mark_of_fetched h.front.entries
 
   followed_rows : (before after : List Row) (a b : Row) → rows_of (earlier ++ steps) ≡ before ++ a ∷ b ∷ after →
       Followed v h.cycle (held_after (λ c. 0) (map mark_of_row before)) (mark_of_row a) (mark_of_row b)
   followed_rows before after a b at =
-      linked_at v h.cycle (IsOpen v h.front.halted h.cycle) (λ c. 0) (map mark_of_row before) (map mark_of_row after ++ (map mark_of_entry h.rob.entries ++ map mark_of_fetched h.front.entries)) (mark_of_row a) (mark_of_row b)
+      linked_at v h.cycle (IsOpen v h.front.halted h.cycle) (λ c. 0) (map mark_of_row before)
+      (map mark_of_row after ++ after_rows) (mark_of_row a) (mark_of_row b)
       (subst (Linked v h.cycle (IsOpen v h.front.halted h.cycle) (λ c. 0))
-      (ap (λ l. map mark_of_row l ++ (map mark_of_entry h.rob.entries ++ map mark_of_fetched h.front.entries)) at ∙
-      ap (λ l. l ++ (map mark_of_entry h.rob.entries ++ map mark_of_fetched h.front.entries)) (map-append mark_of_row before (a ∷ b ∷ after)) ∙
-      append_assoc (map mark_of_row before) (map mark_of_row (a ∷ b ∷ after)) (map mark_of_entry h.rob.entries ++ map mark_of_fetched h.front.entries))
+      (ap (λ l. map mark_of_row l ++ after_rows) at ∙
+      ap (λ l. l ++ after_rows) (map-append mark_of_row before (a ∷ b ∷ after)) ∙
+      append_assoc (map mark_of_row before) (map mark_of_row (a ∷ b ∷ after)) after_rows)
       (marks_are_linked run.all))
 
-  module _ (before after : List Row) (a b : Row) (at : rows_of (earlier ++ steps) ≡ before ++ a ∷ b ∷ after) (by : b.fetched ≤ a.retired) where
-    filled_rows : (c : ℕ) → old.cycle ≤ c → v.fetch_buffer ≤ with_word (held_after (λ n. 0) (map mark_of_row before)) (mark_of_row a) c → v.fetch_buffer ≤ count_by (is_buffered_in c) (rows_of steps)
+  module _ (before after : List Row) (a b : Row) (at : rows_of (earlier ++ steps) ≡ before ++ a ∷ b ∷ after)
+      (by : b.fetched ≤ a.retired) where
+    filled_rows : (c : ℕ) → old.cycle ≤ c →
+        v.fetch_buffer ≤ with_word (held_after (λ n. 0) (map mark_of_row before)) (mark_of_row a) c →
+        v.fetch_buffer ≤ count_by (is_buffered_in c) (rows_of steps)
     filled_rows c from full =
         let one = after_one (λ n. 0) (map mark_of_row before) (mark_of_row a) c in
         let same = ap (λ l. held_after (λ n. 0) l c) (map-append mark_of_row before (a ∷ [])) in
@@ -63,18 +81,22 @@ module _ {v : Values} {earlier steps : List Step} {old h : Hardware} (run : Runs
         let none = none_earlier run (buffered_shows v) c from (rows_of steps) in
         omega (arith, full, one, same, fewer, whole, all, none)
 
-    by_cases : Followed v h.cycle (held_after (λ c. 0) (map mark_of_row before)) (mark_of_row a) (mark_of_row b) → IsFetchedAfter v old.cycle (rows_of steps) (Retired a) (Retired b)
+    by_cases : Followed v h.cycle (held_after (λ c. 0) (map mark_of_row before)) (mark_of_row a) (mark_of_row b) →
+        IsFetchedAfter v old.cycle (rows_of steps) (Retired a) (Retired b)
     by_cases (now, inl over) = inl (omega (arith, over, by))
     by_cases (now, inr (inl early)) = inr (inl (early.0, sent_at a.execution early.1))
     by_cases (now, inr (inr full)) = inr (inr (λ c from later sooner. filled_rows c from (full c later sooner)))
 
-  next_rows : (before after : List Step) (s t : Step) → earlier ++ steps ≡ before ++ s ∷ t ∷ after → IsFetchedAfter v old.cycle (rows_of steps) s t
+  next_rows : (before after : List Step) (s t : Step) → earlier ++ steps ≡ before ++ s ∷ t ∷ after →
+      IsFetchedAfter v old.cycle (rows_of steps) s t
   next_rows before after (Retired a) (Retired b) at =
-      by_cases (rows_of before) (rows_of after) a b (rows_at before after a b at) (next_was_fetched run.all before after (Retired a) (Retired b) at)
+      by_cases (rows_of before) (rows_of after) a b (rows_at before after a b at)
+      (next_was_fetched run.all before after (Retired a) (Retired b) at)
       (followed_rows (rows_of before) (rows_of after) a b (rows_at before after a b at))
   next_rows before after s t at = tt
 
   -- the field `no_idle_fetch` of `Laws`, of every run
   pub law_of_no_idle_fetch : EachNext (IsFetchedAfter v old.cycle (rows_of steps)) steps
   law_of_no_idle_fetch before after s t at =
-      next_rows (earlier ++ before) after s t (ap (λ l. earlier ++ l) at ∙ sym (append_assoc earlier before (s ∷ t ∷ after)))
+      next_rows (earlier ++ before) after s t
+      (ap (λ l. earlier ++ l) at ∙ sym (append_assoc earlier before (s ∷ t ∷ after)))

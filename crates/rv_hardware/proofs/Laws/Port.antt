@@ -1,23 +1,38 @@
 -- Of two loads that use the cache's port one is over when the other begins.
 pub mod Loads
 pub mod Phases
-use Rattle.rv_hardware.proofs.Words.{◌≡◌, ℕ, ◌+◌, ◌<◌, ◌≤◌, Bool, true, false, cond, not, ◌⊎◌, List, [], ◌∷◌, ◌++◌, map, IfSome, nat_le, ◌==◌, Some, None, Option, AllPairs, sym, refl, ap, ◌∙◌, subst, inl, inr, true≢false, append_assoc, arith, le-leb, and_from, cases_lt, Instr, Values, Each, Entry, Stage, Finished, Running, Waiting, Fetched, Hardware, AreApartAtPort, EachAfter, instruction_of_row, is_load_row, passes, rows_of, uses_port, Execution, Row, Step, and_first, and_second, Each-left, Each-place, Each-weaker, Each-all, Each-both, Each-map, EveryPair, EveryAfter, AllPairs-EveryPair, EveryPair-append, EveryPair-map, Beginning-EveryAfter, EveryPair-EveryAfter, EveryAfter-EveryPair, Each-images}
-use Rattle.rv_hardware.proofs.Marks.Cited.{in_cycle, after_law, History, began, went_on, dispatching, history_is_legal, history_is_sound, history_passes, Mark, Start, mark_of_row, mark_of_entry, mark_of_fetched, marks_in, as_of, as_of-cons, at_end, start_until, start_of_execution, start_of_stage, rows_obey, SoundRow, SoundEntry, SoundStage}
+use Rattle.rv_hardware.proofs.Words.{◌≡◌, ℕ, ◌+◌, ◌<◌, ◌≤◌, Bool, true, false, cond, not, ◌⊎◌, List, [], ◌∷◌, ◌++◌, map}
+use Rattle.rv_hardware.proofs.Words.{IfSome, nat_le, ◌==◌, Some, None, Option, AllPairs, sym, refl, ap, ◌∙◌, subst, inl}
+use Rattle.rv_hardware.proofs.Words.{inr, true≢false, append_assoc, arith, le-leb, and_from, cases_lt, Instr, Values}
+use Rattle.rv_hardware.proofs.Words.{Each, Entry, Stage, Finished, Running, Waiting, Fetched, Hardware, AreApartAtPort}
+use Rattle.rv_hardware.proofs.Words.{EachAfter, instruction_of_row, is_load_row, passes, rows_of, uses_port, Execution}
+use Rattle.rv_hardware.proofs.Words.{Row, Step, and_first, and_second, Each-left, Each-place, Each-all, Each-both}
+use Rattle.rv_hardware.proofs.Words.{EveryPair, EveryAfter, AllPairs-EveryPair, EveryPair-append, EveryPair-map}
+use Rattle.rv_hardware.proofs.Words.{Beginning-EveryAfter, EveryPair-EveryAfter, EveryAfter-EveryPair, Each-images}
+use Rattle.rv_hardware.proofs.Words.{IsBetween, each_then}
+use Rattle.rv_hardware.proofs.Marks.Cited.{in_cycle, after_law, History, began, went_on, dispatching, history_is_legal}
+use Rattle.rv_hardware.proofs.Marks.Cited.{history_is_sound, history_passes, Mark, Start, mark_of_row, mark_of_entry}
+use Rattle.rv_hardware.proofs.Marks.Cited.{mark_of_fetched, marks_in, as_of, as_of-cons, at_end, start_until}
+use Rattle.rv_hardware.proofs.Marks.Cited.{start_of_execution, start_of_stage, rows_obey, SoundRow, SoundEntry}
+use Rattle.rv_hardware.proofs.Marks.Cited.{SoundStage}
 use Rattle.rv_hardware.proofs.Laws.Port.Loads.{uses_cache, WhereUsed, OverBy, OneAtATime}
-use Rattle.rv_hardware.proofs.Laws.Port.Phases.{PortOk, Tied, new_pair, port_kept}
+use Rattle.rv_hardware.proofs.Laws.Port.Phases.{PortOk, Tied, new_pair, port_kept, AreTied}
 
 -- at the start of a cycle nothing has begun in it
 
-not_begun_stage : (v : Values) (i : Option Instr) (D now : ℕ) (st : Stage) (P : Start → Type 0) → SoundStage v i D now now st →
-    IfSome (start_of_stage st) (λ s. uses_cache v i s ≡ true → s.cycle ≡ now → P s)
+not_begun_stage : (v : Values) (i : Option Instr) (D now : ℕ) (st : Stage) (P : Start → Type 0) →
+    SoundStage v i D now now st → IfSome (start_of_stage st) (λ s. uses_cache v i s ≡ true → s.cycle ≡ now → P s)
 not_begun_stage v i D now st P h = grind arith
 
 fresh_pairs : (v : Values) (now : ℕ) (es : List Entry) → Each (SoundEntry v now now now) es →
     EveryPair (λ a b. OneAtATime v now (mark_of_entry a) (mark_of_entry b)) es
 fresh_pairs v now [] sound = tt
 fresh_pairs v now (e ∷ es) sound = (
-  Each-weaker _ _
-      (λ b w. (not_begun_stage v e.instruction e.dispatched now e.stage (λ s. OverBy v now (mark_of_entry b)) sound.0.stage, not_begun_stage v b.instruction b.dispatched now b.stage (λ s. OverBy v now (mark_of_entry e)) w.stage)) es sound.1,
+  each_then (λ b w. (
+    not_begun_stage v e.instruction e.dispatched now e.stage (λ s. OverBy v now (mark_of_entry b)) sound.0.stage,
+    not_begun_stage v b.instruction b.dispatched now b.stage (λ s. OverBy v now (mark_of_entry e)) w.stage,
+  )) _
+      sound.1,
   fresh_pairs v now es sound.1,
 )
 
@@ -29,26 +44,27 @@ port_of_history {v} (went_on {earlier} {old} {new} {lines} {report} before is) =
     let ok = in_cycle (port_kept (history_is_legal before) old.cycle) passed (port_of_history before) in
     let d : Hardware = (dispatching lines old).hardware in
     record {
-      tie = subst (λ (g : Hardware). Each (λ e. Tied v g.port_free (mark_of_entry e)) g.rob.entries) (sym passed.others_stay) ok.tie;
+      tie = subst (λ (g : Hardware). AreTied v g.port_free g.rob.entries) (sym passed.others_stay) ok.tie;
       pairs = fresh_pairs v new.cycle _ passed.ends.entries;
     }
 
 -- rows were over before the cycle
 
 row_over : (v : Values) (now D C : ℕ) (i : Option Instr) (x : Option Execution) → C ≤ now →
-    IfSome x (λ x. (D < x.issued) × (x.issued + x.cost ≤ x.broadcast) × (x.broadcast < C)) →
+    IfSome x (IsBetween D C) →
     IfSome (start_of_execution x) (λ s. uses_cache v i s ≡ true → s.cycle + s.cost ≤ now)
 row_over v now D C i x le h = grind arith
 
 row_not_begun : (v : Values) (now D C : ℕ) (i : Option Instr) (x : Option Execution) (P : Start → Type 0) → C ≤ now →
-    IfSome x (λ x. (D < x.issued) × (x.issued + x.cost ≤ x.broadcast) × (x.broadcast < C)) →
-    IfSome (start_of_execution x) (λ s. uses_cache v i s ≡ true → s.cycle ≡ now → P s)
+    IfSome x (IsBetween D C) → IfSome (start_of_execution x) (λ s. uses_cache v i s ≡ true → s.cycle ≡ now → P s)
 row_not_begun v now D C i x P le h = grind arith
 
-over_whenever : (v : Values) (now : ℕ) (m n : Mark) → OverBy v now m → WhereUsed v n (λ s. s.cycle ≡ now → OverBy v now m)
+over_whenever : (v : Values) (now : ℕ) (m n : Mark) → OverBy v now m →
+    WhereUsed v n (λ s. s.cycle ≡ now → OverBy v now m)
 over_whenever v now m n over = grind arith
 
-row_pair : (v : Values) (now : ℕ) (row : Row) (n : Mark) → SoundRow v (now + 1) row → OneAtATime v now (mark_of_row row) n
+row_pair : (v : Values) (now : ℕ) (row : Row) (n : Mark) → SoundRow v (now + 1) row →
+    OneAtATime v now (mark_of_row row) n
 row_pair v now row n sound = grind (arith, row_not_begun, over_whenever, row_over)
 
 rows_first : (v : Values) (now : ℕ) (rows : List Row) (ms : List Mark) → Each (SoundRow v (now + 1)) rows →
@@ -80,7 +96,8 @@ port_marks {v} history =
     let ok = in_cycle (port_kept (history_is_legal before) old.cycle) passed (port_of_history before) in
     let es = EveryPair-map _ _ _ ok.pairs in
     rw (passed.new_marks) (EveryAfter-EveryPair _ [] _ tt
-    (words_last v now _ passed.fetches.added (rows_first v now _ _ passed.dispatches.basics.rows (words_last v now _ d.front.entries es)))))
+    (words_last v now _ passed.fetches.added
+    (rows_first v now _ _ passed.dispatches.basics.rows (words_last v now _ d.front.entries es)))))
     history
 
 -- so of two rows
@@ -88,7 +105,9 @@ port_marks {v} history =
 of_rows : (P : Mark → Type 0) (c : ℕ) (rows : List Row) → Each P (as_of c (map mark_of_row rows)) →
     Each (λ a. a.fetched ≤ c → P (at_end c (mark_of_row a))) rows
 of_rows P c [] h = tt
-of_rows P c (row ∷ rows) h = by_stamp (nat_le row.fetched c) refl (subst (Each P) (as_of-cons c (mark_of_row row) (map mark_of_row rows)) h) (λ k. of_rows P c rows k)
+of_rows P c (row ∷ rows) h =
+    by_stamp (nat_le row.fetched c) refl (subst (Each P) (as_of-cons c (mark_of_row row) (map mark_of_row rows)) h)
+    (λ k. of_rows P c rows k)
   where
     by_stamp : (b : Bool) → nat_le row.fetched c ≡ b →
         Each P (cond b (at_end c (mark_of_row row) ∷ as_of c (map mark_of_row rows)) (as_of c (map mark_of_row rows))) →
@@ -113,8 +132,8 @@ row_uses : (v : Values) (a : Row) (x : Execution) → a.execution ≡ Some x →
     uses_cache v (instruction_of_row a) (start_of x) ≡ true
 row_uses v a x given used = grind (arith, and_from, and_first, and_second)
 
-over_row : (v : Values) (c : ℕ) (a : Row) (x : Execution) → a.execution ≡ Some x → x.issued ≤ c → uses_port v.forward a ≡ true →
-    OverBy v c (at_end c (mark_of_row a)) → x.issued + x.cost ≤ c
+over_row : (v : Values) (c : ℕ) (a : Row) (x : Execution) → a.execution ≡ Some x → x.issued ≤ c →
+    uses_port v.forward a ≡ true → OverBy v c (at_end c (mark_of_row a)) → x.issued + x.cost ≤ c
 over_row v c a x given le used over = grind (arith, begun_by, row_uses)
 
 when_row : (v : Values) (c : ℕ) (a : Row) (x : Execution) (P : Start → Type 0) → a.execution ≡ Some x → x.issued ≤ c →
@@ -122,23 +141,38 @@ when_row : (v : Values) (c : ℕ) (a : Row) (x : Execution) (P : Start → Type 
 when_row v c a x P given le used h = grind (arith, begun_by, row_uses)
 
 abbrev PortApart : Values → Row → Row → Type 0
-PortApart v a b = uses_port v.forward a ≡ true → uses_port v.forward b ≡ true → IfSome a.execution (λ x. IfSome b.execution (λ y. (x.issued + x.cost ≤ y.issued) ⊎ (y.issued + y.cost ≤ x.issued)))
+PortApart v a b =
+    uses_port v.forward a ≡ true → uses_port v.forward b ≡ true →
+    IfSome a.execution (λ x. IfSome b.execution (λ y. (x.issued + x.cost ≤ y.issued) ⊎ (y.issued + y.cost ≤ x.issued)))
 
 module _ {v : Values} {bound : ℕ} {a b : Row} (sound_a : SoundRow v bound a) (sound_b : SoundRow v bound b)
-    (pair : (c : ℕ) → (c < bound) × (b.fetched ≤ c) → a.fetched ≤ c → OneAtATime v c (at_end c (mark_of_row a)) (at_end c (mark_of_row b))) where
+    (pair : (c : ℕ) → (c < bound) × (b.fetched ≤ c) → a.fetched ≤ c →
+    OneAtATime v c (at_end c (mark_of_row a)) (at_end c (mark_of_row b))) where
   two_apart : (x y : Execution) → a.execution ≡ Some x → b.execution ≡ Some y → uses_port v.forward a ≡ true →
       uses_port v.forward b ≡ true → (x.issued + x.cost ≤ y.issued) ⊎ (y.issued + y.cost ≤ x.issued)
   two_apart x y at at' used used' =
-      let between_a = subst (λ o. IfSome o (λ x. (a.dispatched < x.issued) × (x.issued + x.cost ≤ x.broadcast) × (x.broadcast < a.retired))) at sound_a.stamps.executed_between in
-      let between_b = subst (λ o. IfSome o (λ x. (b.dispatched < x.issued) × (x.issued + x.cost ≤ x.broadcast) × (x.broadcast < b.retired))) at' sound_b.stamps.executed_between in
+      let between_a = subst (λ o. IfSome o (IsBetween a.dispatched a.retired)) at sound_a.stamps.executed_between in
+      let between_b = subst (λ o. IfSome o (IsBetween b.dispatched b.retired)) at' sound_b.stamps.executed_between in
       elim (cases_lt y.issued x.issued) [
         | inl later ↦
-            let both = pair x.issued (omega (arith, between_a.1, between_a.2, sound_a.below), omega (arith, later, between_b.0, sound_b.stamps.dispatched_after_fetch)) (omega (arith, between_a.0, sound_a.stamps.dispatched_after_fetch)) in
-            let over = when_row v x.issued a x (λ s. s.cycle ≡ x.issued → OverBy v x.issued (at_end x.issued (mark_of_row b))) at (omega arith) used both.0 refl in
+            let both = pair x.issued (
+              omega (arith, between_a.1, between_a.2, sound_a.below),
+              omega (arith, later, between_b.0, sound_b.stamps.dispatched_after_fetch),
+            )
+            (omega (arith, between_a.0, sound_a.stamps.dispatched_after_fetch)) in
+            let over = when_row v x.issued a x
+            (λ s. s.cycle ≡ x.issued → OverBy v x.issued (at_end x.issued (mark_of_row b))) at
+            (omega arith) used both.0 refl in
             inr (over_row v x.issued b y at' (omega (arith, later)) used' over)
         | inr before ↦
-            let both = pair y.issued (omega (arith, between_b.1, between_b.2, sound_b.below), omega (arith, between_b.0, sound_b.stamps.dispatched_after_fetch)) (omega (arith, before, between_a.0, sound_a.stamps.dispatched_after_fetch)) in
-            let over = when_row v y.issued b y (λ s. s.cycle ≡ y.issued → OverBy v y.issued (at_end y.issued (mark_of_row a))) at' (omega arith) used' both.1 refl in
+            let both = pair y.issued (
+              omega (arith, between_b.1, between_b.2, sound_b.below),
+              omega (arith, between_b.0, sound_b.stamps.dispatched_after_fetch),
+            )
+            (omega (arith, before, between_a.0, sound_a.stamps.dispatched_after_fetch)) in
+            let over = when_row v y.issued b y
+            (λ s. s.cycle ≡ y.issued → OverBy v y.issued (at_end y.issued (mark_of_row a))) at'
+            (omega arith) used' both.1 refl in
             inl (over_row v y.issued a x at (omega (arith, before)) used over)
       ]
 
@@ -160,11 +194,14 @@ rows_apart {v} {steps} {h} history before after b at =
 each_after : {X : Type 0} (P : List X → X → Type 0) (before xs all : List X) → all ≡ before ++ xs → EachAfter P all →
     EveryAfter P before xs
 each_after P before [] all at h = tt
-each_after P before (x ∷ xs) all at h = (h before xs x at, each_after P (before ++ x ∷ []) xs all (at ∙ sym (append_assoc before (x ∷ []) xs)) h)
+each_after P before (x ∷ xs) all at h =
+    (h before xs x at, each_after P (before ++ x ∷ []) xs all (at ∙ sym (append_assoc before (x ∷ []) xs)) h)
 
 -- the field `port` of `Laws`, over every history
 pub law_of_port : {v : Values} {steps : List Step} {h : Hardware} → History v steps h →
     AllPairs (AreApartAtPort v.forward) (rows_of steps)
 law_of_port {v} {steps} history =
     AllPairs-EveryPair _ _
-    (EveryPair-EveryAfter _ [] _ (each_after (λ before b. Each (λ a. PortApart v a b) before) [] (rows_of steps) (rows_of steps) refl (rows_apart history)))
+    (EveryPair-EveryAfter _ [] _
+    (each_after (λ before b. Each (λ a. PortApart v a b) before) [] (rows_of steps) (rows_of steps) refl
+    (rows_apart history)))

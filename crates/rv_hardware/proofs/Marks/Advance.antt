@@ -1,6 +1,10 @@
--- A mark goes on in a cycle by a retirement, a start, a broadcast or a dispatch, and stays what it was in earlier cycles.
-use Rattle.rv_hardware.proofs.Words.{◌≡◌, ℕ, ◌+◌, ◌<◌, ◌≤◌, Bool, true, ◌&&◌, List, ◌∷◌, ◌++◌, is_some, is_none, IfSome, Some, None, Option, arith, is_load, is_of_kind, is_store, is_target, kind_of_word, sources_of_word, target_of_word, at_kind, Kind, Values, Each, last_that, count}
-use Rattle.rv_hardware.proofs.Marks.List.{Start, Mark, Agree, Extends, Extends-trans, Extends-cut, Extends-change, at_end, until_now, start_until_now}
+-- A mark goes on by a retirement, a start, a broadcast or a dispatch, and stays what it was in earlier cycles.
+use Rattle.rv_hardware.proofs.Words.{◌≡◌, ℕ, ◌+◌, ◌<◌, ◌≤◌, Bool, true, ◌&&◌, List, ◌∷◌, ◌++◌, is_some, is_none, IfSome}
+use Rattle.rv_hardware.proofs.Words.{Some, None, Option, arith, is_load, is_of_kind, is_store, is_target, kind_of_word}
+use Rattle.rv_hardware.proofs.Words.{sources_of_word, target_of_word, at_kind, Kind, Values, Each, last_that, count, []}
+use Rattle.rv_hardware.proofs.Words.{Each-left, Each-set, Each-place, EveryAfter, EveryAfter-left, EveryAfter-set}
+use Rattle.rv_hardware.proofs.Marks.List.{Start, Mark, Agree, Extends, Extends-trans, Extends-cut, Extends-change}
+use Rattle.rv_hardware.proofs.Marks.List.{at_end, until_now, start_until_now}
 
 -- it was so before a cycle
 abbrev pub IsBefore : ℕ → Option ℕ → Type 0
@@ -17,7 +21,8 @@ IsKnownMark now m = is_some (kind_of_word m.instruction) ≡ true → IsBefore n
 
 -- the producers of some sources are known
 abbrev pub OperandsKnown : ℕ → List Mark → List (Option ℕ) → Type 0
-OperandsKnown now xs sources = Each (λ source. IfSome source (λ register. IfSome (last_that (writes_mark register) xs) (IsKnownMark now))) sources
+OperandsKnown now xs sources =
+    Each (λ source. IfSome source (λ register. IfSome (last_that (writes_mark register) xs) (IsKnownMark now))) sources
 
 -- a store was broadcast before a cycle
 abbrev pub IsKnownStore : ℕ → Mark → Type 0
@@ -78,7 +83,8 @@ pub record Enters (v : Values) (now : ℕ) (xs : List Mark) (m n : Mark) : Type 
   pub before : m.fetched < now
   pub in_order : Each (λ x. is_some x.dispatched ≡ true) xs
   pub room : count is_in_flight_mark xs < v.rob
-  pub stations : (k : Kind) → is_of_kind k (kind_of_word m.instruction) ≡ true → count (is_stationed_mark k) xs < (at_kind k v.kinds).stations
+  pub stations : (k : Kind) → is_of_kind k (kind_of_word m.instruction) ≡ true →
+      count (is_stationed_mark k) xs < (at_kind k v.kinds).stations
 
 -- a mark goes on in one of four ways: it retires, starts, is broadcast or is dispatched
 pub data Advances (v : Values) (now : ℕ) (xs : List Mark) (m n : Mark) : Type 0 where
@@ -92,7 +98,27 @@ pub record Kept (v : Values) (now : ℕ) (R : List Mark → Type 0) : Type 0 whe
   pub cut : (xs ys : List Mark) → R (xs ++ ys) → R xs
   pub set : (xs ys : List Mark) (m n : Mark) → Advances v now xs m n → R (xs ++ m ∷ ys) → R (xs ++ n ∷ ys)
 
-agree_by : (now : ℕ) (m n p : Mark) → n ≡ p → (m.fetched ≡ p.fetched) × ((c : ℕ) → c < now → at_end c m ≡ at_end c p) → Agree now m n
+-- what holds of each mark, where a mark that goes on keeps it
+pub each_is_kept : {v : Values} {now : ℕ} (P : Mark → Type 0) →
+    ((xs : List Mark) (m n : Mark) → Advances v now xs m n → P m → P n) → Kept v now (Each P)
+each_is_kept P goes = record {
+  cut = λ xs ys h. Each-left P xs ys h;
+  set = λ xs ys m n a h. Each-set P xs ys m n (goes xs m n a (Each-place P xs ys m h)) h;
+}
+
+-- what holds of each mark behind others, where a mark that goes on keeps it, and keeps it of those behind it
+pub after_is_kept : {v : Values} {now : ℕ} (P : List Mark → Mark → Type 0) →
+    ((xs : List Mark) (m n : Mark) → Advances v now xs m n → P xs m → P xs n) →
+    ((xs : List Mark) (m n : Mark) → Advances v now xs m n → (mid : List Mark) (z : Mark) → P (xs ++ m ∷ mid) z →
+    P (xs ++ n ∷ mid) z) →
+    Kept v now (EveryAfter P [])
+after_is_kept P itself behind = record {
+  cut = λ xs ys h. EveryAfter-left P [] xs ys h;
+  set = λ xs ys m n a h. EveryAfter-set P xs ys m n (itself xs m n a) (behind xs m n a) h;
+}
+
+agree_by : (now : ℕ) (m n p : Mark) → n ≡ p →
+    (m.fetched ≡ p.fetched) × ((c : ℕ) → c < now → at_end c m ≡ at_end c p) → Agree now m n
 agree_by now m n p is agree = rw is agree
 
 -- a mark that goes on was the same at the end of every earlier cycle
@@ -104,5 +130,6 @@ advances_agree given = grind (arith, agree_by, until_now)
 pub extends_kept : (v : Values) (now : ℕ) (from : List Mark) → Kept v now (Extends now from)
 extends_kept v now from = record {
   cut = λ xs ys went. Extends-trans from (xs ++ ys) xs went (Extends-cut now xs ys);
-  set = λ xs ys m n a went. Extends-trans from (xs ++ m ∷ ys) (xs ++ n ∷ ys) went (Extends-change now xs ys m n (advances_agree a));
+  set = λ xs ys m n a went.
+      Extends-trans from (xs ++ m ∷ ys) (xs ++ n ∷ ys) went (Extends-change now xs ys m n (advances_agree a));
 }

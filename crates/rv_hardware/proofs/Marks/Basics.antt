@@ -1,12 +1,18 @@
 -- An instruction that starts, is broadcast or is dispatched stays sound, and its mark goes on.
-use Rattle.rv_hardware.proofs.Words.{◌≡◌, ℕ, ◌+◌, ◌≤◌, Bool, true, List, is_some, Some, None, Option, option_and_then, arith, is_of_kind, is_serialising, kind_of_word, Message, Instr, Issue, Lines, Kind, Values, instruction_of, Layout, State, Each, finished, issue_of, predicting, started, Entry, Stage, Finished, Running, Waiting, Fetched, entry_of_fetched, stage_by, Hardware, is_waiting, result_of_word, rows_of, Step}
-use Rattle.rv_hardware.proofs.Marks.List.{mark_of_entry, mark_of_fetched, start_of_issue, start_of_stage, broadcast_of_stage}
+use Rattle.rv_hardware.proofs.Words.{◌≡◌, ℕ, ◌+◌, ◌≤◌, Bool, true, List, is_some, Some, None, Option, option_and_then}
+use Rattle.rv_hardware.proofs.Words.{arith, is_of_kind, is_serialising, kind_of_word, Message, Instr, Issue, Lines}
+use Rattle.rv_hardware.proofs.Words.{Kind, Values, instruction_of, Layout, State, Each, finished, issue_of, predicting}
+use Rattle.rv_hardware.proofs.Words.{started, Entry, Stage, Finished, Running, Waiting, Fetched, entry_of_fetched}
+use Rattle.rv_hardware.proofs.Words.{stage_by, Hardware, is_waiting, result_of_word, rows_of, Step}
+use Rattle.rv_hardware.proofs.Marks.List.{mark_of_entry, mark_of_fetched, start_of_issue, start_of_stage}
+use Rattle.rv_hardware.proofs.Marks.List.{broadcast_of_stage}
 use Rattle.rv_hardware.proofs.Marks.Row.{SoundRow}
 use Rattle.rv_hardware.proofs.Always.Sound.{IsSoundFor}
 use Rattle.rv_hardware.proofs.Marks.Sound.{SoundCost, SoundEntry, SoundStage, SoundFetched, some_kind}
 
 -- in cycle `now`: dispatches, executions, fetches and retirements lie below bounds
-pub record Basics (v : Values) (now dispatch_bound issue_bound stage_bound fetch_bound row_bound : ℕ) (steps : List Step) (h : Hardware) : Type 0 where
+pub record Basics (v : Values) (now dispatch_bound issue_bound stage_bound fetch_bound row_bound : ℕ)
+    (steps : List Step) (h : Hardware) : Type 0 where
   pub cycle : h.cycle ≡ now
   pub always : IsSoundFor v h
   pub rows : Each (SoundRow v row_bound) (rows_of steps)
@@ -20,8 +26,9 @@ is_waiting_is st h = grind arith
 -- the entries of each phase are sound
 
 -- an instruction that starts to execute stays sound
-pub started_sound : {v : Values} {now b : ℕ} (k : Kind) {e : Entry} (cost : ℕ) (message : Message) → SoundEntry v now (now + 1) b e →
-    is_of_kind k (kind_of_word e.instruction) ≡ true → SoundCost v e.instruction (start_of_issue (record { cycle = now; cost = cost }) message) →
+pub started_sound : {v : Values} {now b : ℕ} (k : Kind) {e : Entry} (cost : ℕ) (message : Message) →
+    SoundEntry v now (now + 1) b e → is_of_kind k (kind_of_word e.instruction) ≡ true →
+    SoundCost v e.instruction (start_of_issue (record { cycle = now; cost = cost }) message) →
     SoundEntry v now (now + 1) b (started (record { cycle = now; cost = cost }) message e)
 started_sound k cost message sound kind costs = grind (arith, some_kind)
 
@@ -37,8 +44,10 @@ pub finished_sound : {v : Values} {now : ℕ} {e : Entry} {issue : Issue} {messa
 finished_sound sound given over = grind (arith, finished_stage)
 
 -- another predicted pc leaves an instruction sound
-pub predicting_sound : {v : Values} {d a b : ℕ} (next : ℕ) {e : Entry} → SoundEntry v d a b e → SoundEntry v d a b (predicting next e)
-predicting_sound next sound = record { decoded = sound.decoded; after_fetch = sound.after_fetch; by_now = sound.by_now; stage = sound.stage }
+pub predicting_sound : {v : Values} {d a b : ℕ} (next : ℕ) {e : Entry} → SoundEntry v d a b e →
+    SoundEntry v d a b (predicting next e)
+predicting_sound next sound =
+    record { decoded = sound.decoded; after_fetch = sound.after_fetch; by_now = sound.by_now; stage = sound.stage }
 
 -- the mark of an instruction whose result is broadcast is stamped with the cycle
 pub finished_mark : (now : ℕ) (e : Entry) {issue : Issue} {message : Message} → e.stage ≡ Running issue message →
@@ -51,7 +60,8 @@ no_word_faults : (layout : Layout) (s : State) (lines : Lines) (word : Option �
     i ≡ option_and_then instruction_of word → i ≡ None → is_some (result_of_word layout s lines word i).fault ≡ true
 no_word_faults layout s lines word i decoded given = grind arith
 
-first_stage_sound : (v : Values) (D bound : ℕ) (i : Option Instr) (message : Message) (o : Option Kind) (serial : Bool) →
+first_stage_sound : (v : Values) (D bound : ℕ) (i : Option Instr) (message : Message) (o : Option Kind)
+    (serial : Bool) →
     kind_of_word i ≡ o → is_serialising i ≡ serial → (i ≡ None → is_some message.fault ≡ true) →
     SoundStage v i D bound bound (stage_by o serial (Finished None D message))
 first_stage_sound v D bound i message o serial kind is faults = grind arith
@@ -70,5 +80,6 @@ first_broadcast : (D : ℕ) (o : Option Kind) (serial : Bool) (message : Message
 first_broadcast D o serial message = grind arith
 
 -- the mark of a word that is dispatched is stamped with the cycle
-pub dispatched_mark : (h : Hardware) (f : Fetched) → mark_of_entry (entry_of_fetched h f) ≡ record (mark_of_fetched f) { dispatched = Some h.cycle }
+pub dispatched_mark : (h : Hardware) (f : Fetched) →
+    mark_of_entry (entry_of_fetched h f) ≡ record (mark_of_fetched f) { dispatched = Some h.cycle }
 dispatched_mark h f = grind (arith, first_start, first_broadcast)

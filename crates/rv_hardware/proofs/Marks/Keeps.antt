@@ -1,10 +1,15 @@
 -- What each turn of the commit phase keeps all its turns keep, and what each phase keeps the phases of a cycle keep.
-use Rattle.rv_hardware.proofs.Words.{◌≡◌, ℕ, Bool, true, List, ◌∷◌, ◌++◌, nat_cmp, at_kind, Lines, Kind, Values, is_free, Entry, Committing, commit_turn, with_lines, Hardware, is_ready, issued, Turn, repeated, Report, Step, Leads, leads_both, left_by_turns, arith}
+use Rattle.rv_hardware.proofs.Words.{◌≡◌, ℕ, Bool, true, List, ◌∷◌, ◌++◌, nat_cmp, at_kind, Lines, Kind, Values}
+use Rattle.rv_hardware.proofs.Words.{is_free, Entry, Committing, commit_turn, with_lines, Hardware, is_ready, issued}
+use Rattle.rv_hardware.proofs.Words.{Turn, repeated, Report, Step, Leads, leads_both, left_by_turns, arith}
 use Rattle.std.specs.FinSet as set
-use Rattle.rv_hardware.proofs.Turns.Cited.{access_keeps, IsKeptByBroadcast, broadcast-keeps, IsKeptByCommit, commit-keeps, IsKeptByDispatch, dispatch-keeps, IsKeptByDrain, drain-keeps, KeepsStarts, starts-keep, issue-by, CommitTurn, commit_turn_is}
+use Rattle.rv_hardware.proofs.Turns.Cited.{access_keeps, IsKeptByBroadcast, broadcast-keeps, IsKeptByCommit}
+use Rattle.rv_hardware.proofs.Turns.Cited.{commit-keeps, IsKeptByDispatch, dispatch-keeps, IsKeptByDrain, drain-keeps}
+use Rattle.rv_hardware.proofs.Turns.Cited.{KeepsStarts, starts-keep, issue-by, CommitTurn, commit_turn_is}
 use Rattle.rv_hardware.proofs.Always.Sizes.{HasShape, shape-kept}
 use Rattle.rv_hardware.proofs.Marks.List.{Mark}
-use Rattle.rv_hardware.proofs.Marks.History.{anything_is_kept, Passed, committing, drained, issued_all, sent_all, dispatching}
+use Rattle.rv_hardware.proofs.Marks.History.{anything_is_kept, Passed, committing, drained, issued_all, sent_all}
+use Rattle.rv_hardware.proofs.Marks.History.{dispatching}
 use Rattle.rv_hardware.proofs.Marks.Phases.{Commits, commit_turn_keeps}
 
 module _ (v : Values) (now : ℕ) (earlier : List Step) (is_stale : set.FinSet nat_cmp → ℕ → Bool) where
@@ -12,14 +17,18 @@ module _ (v : Values) (now : ℕ) (earlier : List Step) (is_stale : set.FinSet n
   abbrev pub InCommit : Committing → Type 0
   InCommit c = Commits (anything_is_kept v now) earlier is_stale c
 
-  module _ {Q : Committing → Type 0} (keeps : (c : Committing) (t : Turn Committing) → CommitTurn is_stale c t → InCommit c → Q c → Leads Q Q t) where
+  module _ {Q : Committing → Type 0}
+      (keeps : (c : Committing) (t : Turn Committing) → CommitTurn is_stale c t → InCommit c → Q c → Leads Q Q t) where
     turn_keeps : (c : Committing) → InCommit c × Q c → Leads (λ c. InCommit c × Q c) Q (commit_turn is_stale c)
     turn_keeps c p =
         let is = commit_turn_is is_stale c in
-        leads_both InCommit Q Q (commit_turn is_stale c) (commit_turn_keeps (anything_is_kept v now) earlier is_stale is p.0) (keeps c (commit_turn is_stale c) is p.0 p.1)
+        leads_both InCommit Q Q (commit_turn is_stale c)
+        (commit_turn_keeps (anything_is_kept v now) earlier is_stale is p.0)
+        (keeps c (commit_turn is_stale c) is p.0 p.1)
 
     -- what each turn of the commit phase keeps, where what is basic holds, all turns keep
-    pub commit_turns_keep : (width : ℕ) {c : Committing} → InCommit c → Q c → Q (repeated (commit_turn is_stale) width c)
+    pub commit_turns_keep : (width : ℕ) {c : Committing} → InCommit c → Q c →
+        Q (repeated (commit_turn is_stale) width c)
     commit_turns_keep width {c} p q = left_by_turns (commit_turn is_stale) turn_keeps (λ c p. p.1) width c (p, q)
 
 -- the hardware is of a description, in a cycle
@@ -42,7 +51,8 @@ pub record IsKeptInCycle (v : Values) (now : ℕ) (P : Hardware → Type 0) : Ty
   pub dispatch : IsKeptByDispatch P
 
 -- so the phases of a cycle up to dispatch keep it
-pub in_cycle : {v : Values} {R : List Mark → Type 0} {earlier : List Step} {lines : Lines} {old new : Hardware} {report : Report} {P : Hardware → Type 0} →
+pub in_cycle : {v : Values} {R : List Mark → Type 0} {earlier : List Step} {lines : Lines} {old new : Hardware}
+    {report : Report} {P : Hardware → Type 0} →
     IsKeptInCycle v old.cycle P → Passed v R earlier lines old report new → P old → P (dispatching lines old).hardware
 in_cycle {v} {R} {earlier} {lines} {old} {new} {report} {P} kept passed holds =
     let now : ℕ = old.cycle in

@@ -1,5 +1,10 @@
--- The marks of rows, instructions in flight and fetched words go on, and stand as they stood at the end of each earlier cycle.
-use Rattle.rv_hardware.proofs.Words.{◌≡◌, ℕ, ◌<◌, ◌≤◌, Bool, false, cond, List, [], ◌∷◌, ◌++◌, map, is_some, if◌then◌else◌, nat_le, Some, None, filter, Option, sym, refl, ap, ◌∙◌, append_assoc, append-nil, arith, le-leb, lt-leb, map-append, filter-append, Message, Instr, Issue, instruction_of, Each, Entry, Stage, Finished, Running, Waiting, Fetched, Hardware, rows_of, Execution, Row, Step, Retired, Each-weaker, Beginning, Beginning-self, Beginning-trans}
+-- The marks of rows, instructions and words go on, and stand as they stood at the end of each earlier cycle.
+use Rattle.rv_hardware.proofs.Words.{◌≡◌, ℕ, ◌<◌, ◌≤◌, Bool, false, cond, List, [], ◌∷◌, ◌++◌, map, is_some}
+use Rattle.rv_hardware.proofs.Words.{if◌then◌else◌, nat_le, Some, None, filter, Option, sym, refl, ap, ◌∙◌}
+use Rattle.rv_hardware.proofs.Words.{append_assoc, append-nil, arith, le-leb, lt-leb, map-append, filter-append}
+use Rattle.rv_hardware.proofs.Words.{Message, Instr, Issue, instruction_of, Each, Entry, Stage, Finished, Running}
+use Rattle.rv_hardware.proofs.Words.{Waiting, Fetched, Hardware, rows_of, Execution, Row, Step, Retired, Each-weaker}
+use Rattle.rv_hardware.proofs.Words.{Beginning, Beginning-self, Beginning-trans}
 
 -- the start of an execution, and whether what it gives is a fault
 pub record Start : Type 0 where
@@ -79,6 +84,10 @@ mark_of_fetched f = record {
 abbrev pub marks : List Step → List Entry → List Fetched → List Mark
 marks steps es fs = map mark_of_row (rows_of steps) ++ (map mark_of_entry es ++ map mark_of_fetched fs)
 
+-- the marks before an instruction in flight: of the rows, and of what is older
+abbrev pub older_marks : List Step → List Entry → List Mark
+older_marks steps older = map mark_of_row (rows_of steps) ++ map mark_of_entry older
+
 -- the marks after some steps: of their rows, and of what the hardware holds
 abbrev pub marks_in : List Step → Hardware → List Mark
 marks_in steps h = marks steps h.rob.entries h.front.entries
@@ -128,7 +137,8 @@ Extends-trans xs ys zs f g c lt = Beginning-trans (as_of c zs) (as_of c ys) (as_
 pub marks_append : (xs ys : List Entry) → map mark_of_entry (xs ++ ys) ≡ map mark_of_entry xs ++ map mark_of_entry ys
 marks_append xs ys = map-append mark_of_entry xs ys
 
-pub fetched_append : (xs ys : List Fetched) → map mark_of_fetched (xs ++ ys) ≡ map mark_of_fetched xs ++ map mark_of_fetched ys
+pub fetched_append : (xs ys : List Fetched) →
+    map mark_of_fetched (xs ++ ys) ≡ map mark_of_fetched xs ++ map mark_of_fetched ys
 fetched_append xs ys = map-append mark_of_fetched xs ys
 
 -- the rows of steps in two parts
@@ -137,12 +147,15 @@ rows_append [] ys = refl
 rows_append (Retired row ∷ xs) ys = ap (λ l. row ∷ l) (rows_append xs ys)
 rows_append (step ∷ xs) ys = rows_append xs ys
 
-pub row_marks_append : (xs ys : List Step) → map mark_of_row (rows_of (xs ++ ys)) ≡ map mark_of_row (rows_of xs) ++ map mark_of_row (rows_of ys)
+pub row_marks_append : (xs ys : List Step) →
+    map mark_of_row (rows_of (xs ++ ys)) ≡ map mark_of_row (rows_of xs) ++ map mark_of_row (rows_of ys)
 row_marks_append xs ys = ap (map mark_of_row) (rows_append xs ys) ∙ map-append mark_of_row (rows_of xs) (rows_of ys)
 
 -- marks in two parts, as they stood at the end of a cycle
 pub as_of-append : (c : ℕ) (xs ys : List Mark) → as_of c (xs ++ ys) ≡ as_of c xs ++ as_of c ys
-as_of-append c xs ys = ap (map (at_end c)) (filter-append (was_fetched c) xs ys) ∙ map-append (at_end c) (filter (was_fetched c) xs) (filter (was_fetched c) ys)
+as_of-append c xs ys =
+    ap (map (at_end c)) (filter-append (was_fetched c) xs ys) ∙
+    map-append (at_end c) (filter (was_fetched c) xs) (filter (was_fetched c) ys)
 
 -- a mark that was not fetched by then
 pub as_of-later : (c : ℕ) (ms : List Mark) → Each (λ m. c < m.fetched) ms → as_of c ms ≡ []
@@ -153,11 +166,13 @@ as_of-later c (m ∷ ms) later = rw (lt-leb m.fetched c later.0) (as_of-later c 
 abbrev pub Agree : ℕ → Mark → Mark → Type 0
 Agree now m n = (m.fetched ≡ n.fetched) × ((c : ℕ) → c < now → at_end c m ≡ at_end c n)
 
-picked : (b : Bool) (c : ℕ) (m : Mark) (ms : List Mark) → map (at_end c) (cond b (m ∷ ms) ms) ≡ cond b (at_end c m ∷ map (at_end c) ms) (map (at_end c) ms)
+picked : (b : Bool) (c : ℕ) (m : Mark) (ms : List Mark) →
+    map (at_end c) (cond b (m ∷ ms) ms) ≡ cond b (at_end c m ∷ map (at_end c) ms) (map (at_end c) ms)
 picked b c m ms = grind arith
 
 -- a mark before others, as they stood at the end of a cycle: it is there if its word was fetched by then
-pub as_of-cons : (c : ℕ) (m : Mark) (ms : List Mark) → as_of c (m ∷ ms) ≡ cond (nat_le m.fetched c) (at_end c m ∷ as_of c ms) (as_of c ms)
+pub as_of-cons : (c : ℕ) (m : Mark) (ms : List Mark) →
+    as_of c (m ∷ ms) ≡ cond (nat_le m.fetched c) (at_end c m ∷ as_of c ms) (as_of c ms)
 as_of-cons c m ms = picked (nat_le m.fetched c) c m (filter (was_fetched c) ms)
 
 as_of-agree : (now c : ℕ) (m n : Mark) (ms : List Mark) → c < now → Agree now m n → as_of c (m ∷ ms) ≡ as_of c (n ∷ ms)
@@ -170,7 +185,8 @@ pub Extends-cut : (now : ℕ) (new rest : List Mark) → Extends now (new ++ res
 Extends-cut now new rest c lt = (as_of c rest, as_of-append c new rest)
 
 -- a mark goes on to one that was the same at the end of every earlier cycle
-pub Extends-change : (now : ℕ) (before after : List Mark) (m n : Mark) → Agree now m n → Extends now (before ++ m ∷ after) (before ++ n ∷ after)
+pub Extends-change : (now : ℕ) (before after : List Mark) (m n : Mark) → Agree now m n →
+    Extends now (before ++ m ∷ after) (before ++ n ∷ after)
 Extends-change now before after m n agree c lt = grind (arith, as_of-append, as_of-agree, append-nil)
 
 -- words of the present cycle come after the marks
@@ -193,18 +209,23 @@ start_until_now c s lt = rw (lt-leb s.cycle c lt) refl
 
 -- the mark of an instruction in flight stands between those of the older and those of the younger
 pub marks_at_entry : (steps : List Step) (older younger : List Entry) (e : Entry) (fs : List Fetched) →
-    marks steps (older ++ e ∷ younger) fs ≡ (map mark_of_row (rows_of steps) ++ map mark_of_entry older) ++ mark_of_entry e ∷ (map mark_of_entry younger ++ map mark_of_fetched fs)
+    marks steps (older ++ e ∷ younger) fs ≡
+    (map mark_of_row (rows_of steps) ++ map mark_of_entry older) ++ mark_of_entry
+    e ∷ (map mark_of_entry younger ++ map mark_of_fetched fs)
 marks_at_entry steps older younger e fs = grind (arith, marks_append, append_assoc)
 
 -- the mark of a row that just retired stands before those of what is in flight
 pub marks_retired : (steps : List Step) (row : Row) (es : List Entry) (fs : List Fetched) →
-    marks (steps ++ Retired row ∷ []) es fs ≡ map mark_of_row (rows_of steps) ++ mark_of_row row ∷ (map mark_of_entry es ++ map mark_of_fetched fs)
+    marks (steps ++ Retired row ∷ []) es fs ≡
+    map mark_of_row (rows_of steps) ++ mark_of_row row ∷ (map mark_of_entry es ++ map mark_of_fetched fs)
 marks_retired steps row es fs = grind (arith, row_marks_append, append_assoc)
 
 -- the mark of the oldest fetched word stands behind those of what is in flight
 pub marks_dispatched : (steps : List Step) (es : List Entry) (f : Fetched) (fs : List Fetched) →
-    marks steps es (f ∷ fs) ≡ (map mark_of_row (rows_of steps) ++ map mark_of_entry es) ++ mark_of_fetched f ∷ map mark_of_fetched fs
-marks_dispatched steps es f fs = sym (append_assoc (map mark_of_row (rows_of steps)) (map mark_of_entry es) (map mark_of_fetched (f ∷ fs)))
+    marks steps es (f ∷ fs) ≡
+    (map mark_of_row (rows_of steps) ++ map mark_of_entry es) ++ mark_of_fetched f ∷ map mark_of_fetched fs
+marks_dispatched steps es f fs =
+    sym (append_assoc (map mark_of_row (rows_of steps)) (map mark_of_entry es) (map mark_of_fetched (f ∷ fs)))
 
 -- the marks of further words stand at the end
 pub marks_fetched : (steps : List Step) (es : List Entry) (fs more : List Fetched) →
@@ -217,7 +238,10 @@ pub marks_squashed : (steps : List Step) (older younger : List Entry) (fs : List
 marks_squashed steps older younger fs = (
   map mark_of_entry younger ++ map mark_of_fetched fs,
   ap (λ l. map mark_of_row (rows_of steps) ++ (l ++ map mark_of_fetched fs)) (marks_append older younger) ∙
-      ap (λ l. map mark_of_row (rows_of steps) ++ l) (append_assoc (map mark_of_entry older) (map mark_of_entry younger) (map mark_of_fetched fs)) ∙
-      sym (append_assoc (map mark_of_row (rows_of steps)) (map mark_of_entry older) (map mark_of_entry younger ++ map mark_of_fetched fs)) ∙
-      ap (λ l. l ++ (map mark_of_entry younger ++ map mark_of_fetched fs)) (ap (λ l. map mark_of_row (rows_of steps) ++ l) (sym (append-nil (map mark_of_entry older)))),
+      ap (λ l. map mark_of_row (rows_of steps) ++ l)
+      (append_assoc (map mark_of_entry older) (map mark_of_entry younger) (map mark_of_fetched fs)) ∙
+      sym (append_assoc (map mark_of_row (rows_of steps)) (map mark_of_entry older)
+      (map mark_of_entry younger ++ map mark_of_fetched fs)) ∙
+      ap (λ l. l ++ (map mark_of_entry younger ++ map mark_of_fetched fs))
+      (ap (λ l. map mark_of_row (rows_of steps) ++ l) (sym (append-nil (map mark_of_entry older)))),
 )

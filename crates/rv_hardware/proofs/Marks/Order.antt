@@ -1,6 +1,15 @@
--- Instructions are fetched and dispatched in order, and the reorder buffer and the stations hold no more than they have room for.
-use Rattle.rv_hardware.proofs.Words.{◌≡◌, ℕ, ◌+◌, ◌≤◌, Bool, true, false, ◌&&◌, List, [], ◌∷◌, ◌++◌, map, is_some, is_none, IfSome, Some, None, Option, sym, refl, ap, ◌∙◌, subst, arith, and_left, and_right, is_of_kind, kind_of_word, at_kind, Kind, Values, Each, Fetched, Hardware, Step, and_second, never_both, Each-append, Each-left, Each-set, Each-place, Each-weaker, Each-all, Each-both, Each-map, EveryPair, count, Across, EveryPair-append, EveryPair-left, EveryPair-right, EveryPair-across, EveryPair-set, count-append, count-none, count-map, count-length, count-set-same, count-set-less, count-push-most, count-left, Each-images}
-use Rattle.rv_hardware.proofs.Marks.Advance.{IsBefore, Advances, mark_retires, mark_starts, mark_is_sent, mark_enters, Enters, is_in_flight_mark, is_stationed_mark}
+-- Instructions are fetched and dispatched in order, and buffer and stations hold no more than they have room for.
+use Rattle.rv_hardware.proofs.Words.{◌≡◌, ℕ, ◌+◌, ◌≤◌, Bool, true, false, ◌&&◌, List, [], ◌∷◌, ◌++◌, map, is_some}
+use Rattle.rv_hardware.proofs.Words.{is_none, IfSome, Some, None, Option, sym, refl, ap, ◌∙◌, subst, arith, and_left}
+use Rattle.rv_hardware.proofs.Words.{and_right, is_of_kind, kind_of_word, at_kind, Kind, Values, Each, Fetched}
+use Rattle.rv_hardware.proofs.Words.{Hardware, Step, and_second, never_both, Each-left, Each-set, Each-place}
+use Rattle.rv_hardware.proofs.Words.{Each-weaker, Each-all, Each-both, Each-map, EveryPair, count, Across}
+use Rattle.rv_hardware.proofs.Words.{EveryPair-append, EveryPair-right, EveryPair-across, EveryPair-set}
+use Rattle.rv_hardware.proofs.Words.{count-append, count-none, count-map, count-length, count-set-same, count-set-less}
+use Rattle.rv_hardware.proofs.Words.{count-push-most, count-left, Each-images, each_image, each_then, Each-append}
+use Rattle.rv_hardware.proofs.Words.{pair_moves, each_moves}
+use Rattle.rv_hardware.proofs.Marks.Advance.{IsBefore, Advances, mark_retires, mark_starts, mark_is_sent, mark_enters}
+use Rattle.rv_hardware.proofs.Marks.Advance.{Enters, is_in_flight_mark, is_stationed_mark}
 use Rattle.rv_hardware.proofs.Marks.History.{NewWords, is_buffered_mark, KeptMarks, History, marks_of_history}
 use Rattle.rv_hardware.proofs.Turns.Fetch.{IsNew}
 use Rattle.rv_hardware.proofs.Marks.List.{Mark, mark_of_fetched, marks_in}
@@ -22,21 +31,28 @@ pub record Orderly (v : Values) (now : ℕ) (ms : List Mark) : Type 0 where
 
 module _ (v : Values) (now : ℕ) (xs ys : List Mark) (m n : Mark) where
   -- where its dispatch stays
-  stays : n.fetched ≡ m.fetched → n.dispatched ≡ m.dispatched → (is_in_flight_mark n ≡ true → is_in_flight_mark m ≡ true) → ((k : Kind) → is_stationed_mark k n ≡ true → is_stationed_mark k m ≡ true) →
-      Orderly v now (xs ++ m ∷ ys) → Orderly v now (xs ++ n ∷ ys)
+  stays : n.fetched ≡ m.fetched → n.dispatched ≡ m.dispatched →
+      (is_in_flight_mark n ≡ true → is_in_flight_mark m ≡ true) →
+      ((k : Kind) → is_stationed_mark k n ≡ true → is_stationed_mark k m ≡ true) → Orderly v now (xs ++ m ∷ ys) →
+      Orderly v now (xs ++ n ∷ ys)
   stays fetched dispatched flight station o = record {
     fetched = EveryPair-set _ xs ys m n (λ z w. omega (arith, w, fetched)) (λ z w. omega (arith, w, fetched)) o.fetched;
-    dispatched = EveryPair-set _ xs ys m n (λ z w. subst (λ x. IfSome x (λ d. IsBefore (d + 1) z.dispatched)) (sym dispatched) w) (λ z w. subst (λ x. IfSome z.dispatched (λ d. IsBefore (d + 1) x)) (sym dispatched) w) o.dispatched;
-    by_now = Each-set _ xs ys m n (subst (λ x. IfSome x (λ d. d ≤ now)) (sym dispatched) (Each-place _ xs ys m o.by_now)) o.by_now;
+    dispatched = EveryPair-set _ xs ys m n
+        (λ z w. subst (λ x. IfSome x (λ d. IsBefore (d + 1) z.dispatched)) (sym dispatched) w)
+        (λ z w. subst (λ x. IfSome z.dispatched (λ d. IsBefore (d + 1) x)) (sym dispatched) w) o.dispatched;
+    by_now = Each-set _ xs ys m n
+        (subst (λ x. IfSome x (λ d. d ≤ now)) (sym dispatched) (Each-place _ xs ys m o.by_now)) o.by_now;
     buffer = fewer is_in_flight_mark flight v.rob o.buffer;
     words = fewer is_buffered_mark (λ h. rw (dispatched) at h) v.fetch_buffer o.words;
     stations = λ k. fewer (is_stationed_mark k) (station k) (at_kind k v.kinds).stations (o.stations k);
   } where
-    by_test : (p : Mark → Bool) (b : Bool) → p n ≡ b → (p n ≡ true → p m ≡ true) → count p (xs ++ n ∷ ys) ≤ count p (xs ++ m ∷ ys)
+    by_test : (p : Mark → Bool) (b : Bool) → p n ≡ b → (p n ≡ true → p m ≡ true) →
+        count p (xs ++ n ∷ ys) ≤ count p (xs ++ m ∷ ys)
     by_test p true is f = let same = count-set-same p xs ys m n (f is ∙ sym is) in omega (arith, same)
     by_test p false is f = count-set-less p xs ys m n is
 
-    fewer : (p : Mark → Bool) → (p n ≡ true → p m ≡ true) → (bound : ℕ) → count p (xs ++ m ∷ ys) ≤ bound → count p (xs ++ n ∷ ys) ≤ bound
+    fewer : (p : Mark → Bool) → (p n ≡ true → p m ≡ true) → (bound : ℕ) → count p (xs ++ m ∷ ys) ≤ bound →
+        count p (xs ++ n ∷ ys) ≤ bound
     fewer p f bound le = let less = by_test p (p n) refl f in omega (arith, less)
 
   -- where it is dispatched, what is younger is not
@@ -54,7 +70,9 @@ module _ (v : Values) (now : ℕ) (xs ys : List Mark) (m n : Mark) where
     across = EveryPair-across _ xs _ o.dispatched
 
     younger : Each (λ y. y.dispatched ≡ None) ys
-    younger = Each-weaker _ _ (λ y w. none_before y.dispatched (subst (λ x. IfSome y.dispatched (λ d. IsBefore (d + 1) x)) a.not_yet w)) ys (pairs).0
+    younger = each_then
+        (λ y w. none_before y.dispatched (subst (λ x. IfSome y.dispatched (λ d. IsBefore (d + 1) x)) a.not_yet w)) _
+        (pairs).0
 
     n_dispatched : n.dispatched ≡ Some now
     n_dispatched = ap (λ x. x.dispatched) a.becomes
@@ -63,18 +81,25 @@ module _ (v : Values) (now : ℕ) (xs ys : List Mark) (m n : Mark) where
     olders = Each-both _ (λ x is le. some_before x.dispatched is le) xs a.in_order (Each-left _ xs _ o.by_now)
 
     entered_pairs : EveryPair IsDispatchedFirst (xs ++ n ∷ ys)
-    entered_pairs = grind (arith, EveryPair-append, EveryPair-left, Each-weaker, younger, pairs, Each-both, n_dispatched, across, olders)
+    entered_pairs =
+        grind (arith, pair_moves, Each-weaker, younger, pairs, Each-both, n_dispatched, across, olders)
 
     not_in_flight : count is_in_flight_mark ys ≡ 0
-    not_in_flight = count-none is_in_flight_mark ys (Each-weaker _ _ (λ y none. rw none refl) ys younger)
+    not_in_flight = count-none is_in_flight_mark ys (each_then (λ y none. rw none refl) _ younger)
 
     not_stationed : (k : Kind) → count (is_stationed_mark k) ys ≡ 0
-    not_stationed k = count-none (is_stationed_mark k) ys (Each-weaker _ _ (λ y none. rw none (and_right (is_of_kind k (kind_of_word y.instruction)) false refl)) ys younger)
+    not_stationed k =
+        count-none (is_stationed_mark k) ys
+        (each_then (λ y none. rw none (and_right (is_of_kind k (kind_of_word y.instruction)) false refl)) _ younger)
 
-    station_by : (k : Kind) (b : Bool) → is_of_kind k (kind_of_word m.instruction) ≡ b → count (is_stationed_mark k) (xs ++ n ∷ ys) ≤ (at_kind k v.kinds).stations
-    station_by k true is = omega (arith, count-push-most (is_stationed_mark k) xs ys n, not_stationed k, a.stations k is)
+    station_by : (k : Kind) (b : Bool) → is_of_kind k (kind_of_word m.instruction) ≡ b →
+        count (is_stationed_mark k) (xs ++ n ∷ ys) ≤ (at_kind k v.kinds).stations
+    station_by k true is =
+        omega (arith, count-push-most (is_stationed_mark k) xs ys n, not_stationed k, a.stations k is)
     station_by k false is =
-        let less = count-set-less (is_stationed_mark k) xs ys m n (and_left (is_of_kind k (kind_of_word n.instruction)) (is_some n.dispatched && is_none n.start) (ap (λ x. is_of_kind k (kind_of_word x.instruction)) a.becomes ∙ is)) in
+        let less = count-set-less (is_stationed_mark k) xs ys m n
+        (and_left (is_of_kind k (kind_of_word n.instruction)) (is_some n.dispatched && is_none n.start)
+        (ap (λ x. is_of_kind k (kind_of_word x.instruction)) a.becomes ∙ is)) in
         omega (arith, less, o.stations k)
 
     entered : Orderly v now (xs ++ n ∷ ys)
@@ -84,13 +109,16 @@ module _ (v : Values) (now : ℕ) (xs ys : List Mark) (m n : Mark) where
         record {
           fetched = EveryPair-set _ xs ys m n (λ z w. omega (arith, w, same)) (λ z w. omega (arith, w, same)) o.fetched;
           dispatched = entered_pairs;
-          by_now = Each-set _ xs ys m n (subst (λ x. IfSome x (λ d. d ≤ now)) (sym n_dispatched) (omega arith)) o.by_now;
+          by_now =
+              Each-set _ xs ys m n (subst (λ x. IfSome x (λ d. d ≤ now)) (sym n_dispatched) (omega arith)) o.by_now;
           buffer = omega (arith, more, not_in_flight, a.room);
-          words = let less = count-set-less is_buffered_mark xs ys m n (ap is_none n_dispatched) in omega (arith, less, o.words);
+          words = let less = count-set-less is_buffered_mark xs ys m n (ap is_none n_dispatched) in
+              omega (arith, less, o.words);
           stations = λ k. station_by k (is_of_kind k (kind_of_word m.instruction)) refl;
         }
 
-orderly_set : {v : Values} {now : ℕ} (xs ys : List Mark) (m n : Mark) → Advances v now xs m n → Orderly v now (xs ++ m ∷ ys) → Orderly v now (xs ++ n ∷ ys)
+orderly_set : {v : Values} {now : ℕ} (xs ys : List Mark) (m n : Mark) → Advances v now xs m n →
+    Orderly v now (xs ++ m ∷ ys) → Orderly v now (xs ++ n ∷ ys)
 orderly_set {v} {now} xs ys m n (mark_retires a) o =
     stays v now xs ys m n (ap (λ x. x.fetched) a.becomes) (ap (λ x. x.dispatched) a.becomes)
     (λ h. never_both (is_some m.dispatched) (rw (a.becomes) at h)) (λ k h. rw (a.becomes) at h) o
@@ -99,18 +127,22 @@ orderly_set {v} {now} xs ys m n (mark_starts a) o =
     (λ h. rw (a.becomes) at h) (λ k h. absurd (started k (rw (a.becomes) at h))) o
   where
     started : (k : Kind) → (is_of_kind k (kind_of_word m.instruction) && (is_some m.dispatched && false)) ≡ true → ⊥
-    started k h = never_both (is_some m.dispatched) (and_second (is_of_kind k (kind_of_word m.instruction)) (is_some m.dispatched && false) h)
+    started k h = never_both (is_some m.dispatched)
+        (and_second (is_of_kind k (kind_of_word m.instruction)) (is_some m.dispatched && false) h)
 orderly_set {v} {now} xs ys m n (mark_is_sent a) o =
-    stays v now xs ys m n (ap (λ x. x.fetched) a.becomes) (ap (λ x. x.dispatched) a.becomes) (λ h. rw (a.becomes) at h) (λ k h. rw (a.becomes) at h) o
+    stays v now xs ys m n (ap (λ x. x.fetched) a.becomes) (ap (λ x. x.dispatched) a.becomes) (λ h. rw (a.becomes) at h)
+    (λ k h. rw (a.becomes) at h) o
 orderly_set {v} {now} xs ys m n (mark_enters a) o = entered v now xs ys m n a o
 
 orderly_cut : {v : Values} {now : ℕ} (xs ys : List Mark) → Orderly v now (xs ++ ys) → Orderly v now xs
-orderly_cut xs ys o = grind (arith, EveryPair-left, Each-left, count-left)
+orderly_cut xs ys o = grind (arith, pair_moves, each_moves, count-left)
 
-not_there : (p : Mark → Bool) (ms : List Mark) (fs : List Fetched) → ((f : Fetched) → p (mark_of_fetched f) ≡ false) → count p (ms ++ map mark_of_fetched fs) ≡ count p ms
+not_there : (p : Mark → Bool) (ms : List Mark) (fs : List Fetched) → ((f : Fetched) → p (mark_of_fetched f) ≡ false) →
+    count p (ms ++ map mark_of_fetched fs) ≡ count p ms
 not_there p ms fs given = grind (arith, count-append, count-map, count-none, Each-all)
 
-new_in_order : (now : ℕ) (fs : List Fetched) → Each (IsNew now) fs → EveryPair (λ x y. x.fetched ≤ y.fetched) (map mark_of_fetched fs)
+new_in_order : (now : ℕ) (fs : List Fetched) → Each (IsNew now) fs →
+    EveryPair (λ x y. x.fetched ≤ y.fetched) (map mark_of_fetched fs)
 new_in_order now [] are = tt
 new_in_order now (f ∷ fs) are = grind (arith, Each-map, Each-weaker, new_in_order now fs are.1)
 
@@ -118,21 +150,24 @@ none_dispatched : (fs : List Fetched) → EveryPair IsDispatchedFirst (map mark_
 none_dispatched [] = tt
 none_dispatched (f ∷ fs) = (Each-images _ _ (λ g. tt) fs, none_dispatched fs)
 
-orderly_more : {v : Values} (now : ℕ) (ms : List Mark) (fs : List Fetched) → NewWords v now ms fs → Orderly v now ms → Orderly v (now + 1) (ms ++ map mark_of_fetched fs)
+orderly_more : {v : Values} (now : ℕ) (ms : List Mark) (fs : List Fetched) → NewWords v now ms fs → Orderly v now ms →
+    Orderly v (now + 1) (ms ++ map mark_of_fetched fs)
 orderly_more now ms fs words o = record {
   fetched = EveryPair-append _ ms _ o.fetched (new_in_order now fs words.are_new)
-      (Each-weaker _ _ (λ m le. Each-map _ _ fs (Each-weaker _ _ (λ g w. omega (arith, w.0, le)) fs words.are_new)) ms words.by_now);
+      (each_then (λ m le. each_image _ (λ g w. omega (arith, w.0, le)) _ words.are_new) _ words.by_now);
   dispatched = EveryPair-append _ ms _ o.dispatched (none_dispatched fs)
       (Each-all _ (λ m. Each-images _ _ (λ g. tt) fs) ms);
-  by_now = Each-append _ ms _ (Each-weaker _ _ (λ m w. later m.dispatched w) ms o.by_now)
-      (Each-images _ _ (λ f. tt) fs);
+  by_now = Each-append _ _ _ (each_then (λ m w. later m.dispatched w) _ o.by_now) (Each-images _ _ (λ f. tt) fs);
   buffer = let same = not_there is_in_flight_mark ms fs (λ f. refl) in omega (arith, same, o.buffer);
   words =
       let all = count-append is_buffered_mark ms (map mark_of_fetched fs) in
       let more = count-map is_buffered_mark mark_of_fetched fs in
       let most = count-length (λ f. is_buffered_mark (mark_of_fetched f)) fs in
       omega (arith, all, more, most, words.within_room, o.words);
-  stations = λ k. let same = not_there (is_stationed_mark k) ms fs (λ f. and_right (is_of_kind k (kind_of_word f.instruction)) false refl) in omega (arith, same, o.stations k);
+  stations = λ k.
+      let same = not_there (is_stationed_mark k) ms fs
+      (λ f. and_right (is_of_kind k (kind_of_word f.instruction)) false refl) in
+      omega (arith, same, o.stations k);
 } where
   later : (x : Option ℕ) → IfSome x (λ d. d ≤ now) → IfSome x (λ d. d ≤ now + 1)
   later None h = tt
@@ -140,11 +175,19 @@ orderly_more now ms fs words o = record {
 
 pub orderly_is_kept : (v : Values) → KeptMarks v (Orderly v)
 orderly_is_kept v = record {
-  at_reset = record { fetched = tt; dispatched = tt; by_now = tt; buffer = omega arith; words = omega arith; stations = λ k. omega arith };
+  at_reset = record {
+    fetched = tt;
+    dispatched = tt;
+    by_now = tt;
+    buffer = omega arith;
+    words = omega arith;
+    stations = λ k. omega arith;
+  };
   kept = λ now. record { cut = orderly_cut; set = orderly_set };
   more = orderly_more;
 }
 
 -- in every history marks are in order and within the room
-pub history_is_orderly : {v : Values} {steps : List Step} {h : Hardware} → History v steps h → Orderly v h.cycle (marks_in steps h)
+pub history_is_orderly : {v : Values} {steps : List Step} {h : Hardware} → History v steps h →
+    Orderly v h.cycle (marks_in steps h)
 history_is_orderly {v} history = marks_of_history (orderly_is_kept v) history

@@ -1,5 +1,12 @@
 -- Each instruction in flight has stamps in order, and executes for its cost.
-use Rattle.rv_hardware.proofs.Words.{◌≡◌, ℕ, ◌+◌, ◌<◌, ◌≤◌, Bool, true, false, cond, ◌⊎◌, List, ℤ, is_some, IfSome, Some, None, Option, option_and_then, unwrap_or, ap, arith, is_same-true, IsLegal, is_load, is_of_kind, is_serialising, kind_of_word, bytes_of, width_of, at_kind, modulo_word, sum, Instr, Load, Kind, LoadForm, CacheValues, Values, instruction_of, is_aligned, is_in_ram, State, register_of, cost_of_access, eviction_cost, CacheLine, Entry, Stage, Finished, Running, Waiting, Fetched, Hardware, FromCache, FromStores, Path, cost_of, path, path_of, IsCost, IsLoadCost, result_of_word, layout_of, state_after, refl, inr}
+use Rattle.rv_hardware.proofs.Words.{◌≡◌, ℕ, ◌+◌, ◌<◌, ◌≤◌, Bool, true, false, cond, ◌⊎◌, List, ℤ, is_some, IfSome}
+use Rattle.rv_hardware.proofs.Words.{Some, None, Option, option_and_then, unwrap_or, ap, arith, is_same-true, IsLegal}
+use Rattle.rv_hardware.proofs.Words.{is_load, is_of_kind, is_serialising, kind_of_word, bytes_of, width_of, at_kind}
+use Rattle.rv_hardware.proofs.Words.{modulo_word, sum, Instr, Load, Kind, LoadForm, CacheValues, Values, instruction_of}
+use Rattle.rv_hardware.proofs.Words.{is_aligned, is_in_ram, State, register_of, cost_of_access, eviction_cost}
+use Rattle.rv_hardware.proofs.Words.{CacheLine, Entry, Stage, Finished, Running, Waiting, Fetched, Hardware, FromCache}
+use Rattle.rv_hardware.proofs.Words.{FromStores, Path, cost_of, path, path_of, IsCost, IsLoadCost, result_of_word}
+use Rattle.rv_hardware.proofs.Words.{layout_of, state_after, refl, inr}
 use Rattle.rv_hardware.proofs.Turns.Issue.{message_at}
 use Rattle.rv_hardware.proofs.Marks.List.{Start, start_of_issue}
 use Rattle.rv_hardware.proofs.Always.Sizes.{HasShape}
@@ -12,9 +19,11 @@ SoundCost v i s = (s.faults ≡ true) ⊎ IfSome (kind_of_word i) (λ k. IsCost 
 abbrev pub SoundStage : Values → Option Instr → ℕ → ℕ → ℕ → Stage → Type 0
 SoundStage v i D issue_bound bound Waiting = (is_some (kind_of_word i) ≡ true) ⊎ (is_serialising i ≡ true)
 SoundStage v i D issue_bound bound (Running issue message) =
-    (is_some (kind_of_word i) ≡ true) × (D < issue.cycle) × (issue.cycle < issue_bound) × SoundCost v i (start_of_issue issue message)
+    (is_some (kind_of_word i) ≡ true) × (D < issue.cycle) × (issue.cycle < issue_bound) ×
+    SoundCost v i (start_of_issue issue message)
 SoundStage v i D issue_bound bound (Finished (Some issue) cycle message) =
-    (is_some (kind_of_word i) ≡ true) × (D < issue.cycle) × (issue.cycle + issue.cost ≤ cycle) × (cycle < bound) × SoundCost v i (start_of_issue issue message)
+    (is_some (kind_of_word i) ≡ true) × (D < issue.cycle) × (issue.cycle + issue.cost ≤ cycle) × (cycle < bound) ×
+    SoundCost v i (start_of_issue issue message)
 SoundStage v i D issue_bound bound (Finished None cycle message) =
     (kind_of_word i ≡ None) × (is_serialising i ≡ false) × (cycle ≡ D) × (i ≡ None → is_some message.fault ≡ true)
 
@@ -29,8 +38,8 @@ pub record SoundEntry (v : Values) (dispatched_below issue_bound bound : ℕ) (e
 abbrev pub SoundFetched : ℕ → Fetched → Type 0
 SoundFetched bound f = (f.cycle < bound) × (f.instruction ≡ option_and_then instruction_of f.word)
 
-stage_later : (v : Values) (i : Option Instr) (D a b a' b' : ℕ) (st : Stage) → a ≤ a' → b ≤ b' → SoundStage v i D a b st →
-    SoundStage v i D a' b' st
+stage_later : (v : Values) (i : Option Instr) (D a b a' b' : ℕ) (st : Stage) → a ≤ a' → b ≤ b' →
+    SoundStage v i D a b st → SoundStage v i D a' b' st
 stage_later v i D a b a' b' st le le' h = grind arith
 
 -- an instruction that is sound below some bounds is so below later ones
@@ -77,21 +86,24 @@ access_costs c forward hit dropped = grind (arith, evicts)
 -- what an instruction costs that starts; a load that takes no bytes faults
 module _ (v : Values) (h : Hardware) (shape : HasShape v h) (older : List Entry) (s : State) (word : Option ℕ) where
   abbrev Costs : Kind → Option Instr → Type 0
-  Costs k i = (is_some (result_of_word (layout_of h.values) s h.lines word i).fault ≡ true) ⊎ IfSome (kind_of_word i) (λ j. IsCost v (is_load i) j (cost_of h k (path_of h older s i)))
+  Costs k i = (is_some (result_of_word (layout_of h.values) s h.lines word i).fault ≡ true) ⊎
+      IfSome (kind_of_word i) (λ j. IsCost v (is_load i) j (cost_of h k (path_of h older s i)))
 
   latency_of_kind : (k : Kind) (o : Option Kind) → is_of_kind k o ≡ true →
       IfSome o (λ j. (at_kind k h.values.kinds).latency ≡ (at_kind j v.kinds).latency)
   latency_of_kind k o is = rw (is_of_kind_is k o is) (ap (λ (w : Values). (at_kind k w.kinds).latency) shape.values)
 
   module _ (k : Kind) (address count : ℕ) where
-    from_stores_or_cache : (b : Bool) → IsLoadCost v.forward v.cache (cost_of h k (cond b FromStores (FromCache address)))
+    from_stores_or_cache : (b : Bool) →
+        IsLoadCost v.forward v.cache (cost_of h k (cond b FromStores (FromCache address)))
     from_stores_or_cache b = grind (arith, access_costs)
 
   load_faults : (form : LoadForm) (rd rs1 : ℕ) (offset : ℤ) (a b : Bool) (k : Kind) →
       is_aligned (sum (register_of s rs1) (modulo_word offset)) (bytes_of (width_of form)) ≡ a →
       is_in_ram (layout_of h.values) (sum (register_of s rs1) (modulo_word offset)) (bytes_of (width_of form)) ≡ b →
       (w : Option ℕ) →
-      (is_some (result_of_word (layout_of h.values) s h.lines w (Some (Load form rd rs1 offset))).fault ≡ true) ⊎ IsLoadCost v.forward v.cache (cost_of h k (path_of h older s (Some (Load form rd rs1 offset))))
+      (is_some (result_of_word (layout_of h.values) s h.lines w (Some (Load form rd rs1 offset))).fault ≡ true) ⊎
+      IsLoadCost v.forward v.cache (cost_of h k (path_of h older s (Some (Load form rd rs1 offset))))
   load_faults form rd rs1 offset a b k aligned inside w = grind (arith, from_stores_or_cache)
 
   pub costs_of : (k : Kind) (i : Option Instr) → is_of_kind k (kind_of_word i) ≡ true → Costs k i
@@ -100,8 +112,10 @@ module _ (v : Values) (h : Hardware) (shape : HasShape v h) (older : List Entry)
   costs_of k i is = inr (latency_of_kind k (kind_of_word i) is)
 
 -- an instruction that starts executes for its cost, unless it gives a fault
-pub issued_cost : (v : Values) (h : Hardware) → HasShape v h → (older : List Entry) (e : Entry) (k : Kind) → is_of_kind k (kind_of_word e.instruction) ≡ true →
-    SoundCost v e.instruction (start_of_issue (record { cycle = h.cycle; cost = cost_of h k (path h older e) }) (message_at h older e))
+pub issued_cost : (v : Values) (h : Hardware) → HasShape v h → (older : List Entry) (e : Entry) (k : Kind) →
+    is_of_kind k (kind_of_word e.instruction) ≡ true →
+    SoundCost v e.instruction
+    (start_of_issue (record { cycle = h.cycle; cost = cost_of h k (path h older e) }) (message_at h older e))
 issued_cost v h shape older e k is = costs_of v h shape older (state_after h older e.pc) e.word k e.instruction is
 
 -- every cost is at least one cycle

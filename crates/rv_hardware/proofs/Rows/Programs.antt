@@ -1,5 +1,9 @@
--- The steps of a program, and why its cycles stall, as functions of the definition: straight ahead, or by what a described predictor answers.
-use Rattle.rv_hardware.proofs.Words.{ℕ, zero, suc, ◌+◌, ◌*◌, ◌/◌, ◌==◌, nat_lt, false, if◌then◌else◌, List, [], ◌∷◌, ◌++◌, length, Option, Some, None, is_none, option_and_then, bytes_of_number, pc_plus_4, Values, no_lines, Memory, fetched_word, FetchBuffer, Fetched, Committing, commit_with, execute, Dispatching, stall_of, Hardware, reset_hardware, Stall, Step, Retired, Trap, Execution}
+-- The steps of a program, and why its cycles stall, by the definition: straight ahead, or as a predictor answers.
+use Rattle.rv_hardware.proofs.Words.{ℕ, zero, suc, ◌+◌, ◌*◌, ◌/◌, ◌==◌, nat_lt, false, if◌then◌else◌, List, [], ◌∷◌}
+use Rattle.rv_hardware.proofs.Words.{◌++◌, length, Option, Some, None, is_none, option_and_then, bytes_of_number}
+use Rattle.rv_hardware.proofs.Words.{pc_plus_4, Values, no_lines, Memory, fetched_word, FetchBuffer, Fetched}
+use Rattle.rv_hardware.proofs.Words.{Committing, commit_with, execute, Dispatching, stall_of, Hardware, reset_hardware}
+use Rattle.rv_hardware.proofs.Words.{Stall, Step, Retired, Trap, Execution}
 use Rattle.std.specs.List.{fold}
 use Rattle.rv_isa.specs.Standard.{standard_values}
 use Rattle.rv_isa.specs.declared.causes.Cause.TheVariants.{Breakpoint}
@@ -13,7 +17,13 @@ use Rattle.rv_hardware.specs.Lessons.{lessons_of}
 -- a fetched word that is predicted to go on at the next address
 abbrev pub fetched_at : ℕ → ℕ → Option ℕ → Fetched
 fetched_at cycle pc word =
-    record { pc = pc; word = word; instruction = option_and_then instruction_of word; predicted = pc_plus_4 pc; cycle = cycle }
+    record {
+      pc = pc;
+      word = word;
+      instruction = option_and_then instruction_of word;
+      predicted = pc_plus_4 pc;
+      cycle = cycle;
+    }
 
 -- the buffer with one more word
 abbrev pub with_word : FetchBuffer → Fetched → FetchBuffer
@@ -26,7 +36,8 @@ with_words ram cycle zero front = front
 with_words ram cycle (suc width) front =
     if front.halted then front
     else (if nat_lt (length front.entries) front.capacity
-    then with_words ram cycle width (with_word front (fetched_at cycle front.next_pc (fetched_word ram.layout ram.bytes front.next_pc)))
+    then with_words ram cycle width
+    (with_word front (fetched_at cycle front.next_pc (fetched_word ram.layout ram.bytes front.next_pc)))
     else front)
 
 -- the hardware after dispatch, once its words were fetched
@@ -103,7 +114,13 @@ prediction_of predictor pc (Some word) = answer predictor pc (flow_at pc word) /
 -- the word that is fetched at a pc, with this prediction
 abbrev pub guided_word : ℕ → ℕ → Option ℕ → ℕ → Fetched
 guided_word cycle pc word predicted =
-    record { pc = pc; word = word; instruction = option_and_then instruction_of word; predicted = predicted; cycle = cycle }
+    record {
+      pc = pc;
+      word = word;
+      instruction = option_and_then instruction_of word;
+      predicted = predicted;
+      cycle = cycle;
+    }
 
 -- so many words more, while there is room, along the predictions: one that leads elsewhere is the last
 abbrev pub guided_words : DescribedPredictor → Memory → ℕ → ℕ → FetchBuffer → FetchBuffer
@@ -125,7 +142,9 @@ guided_steps_from (suc cycles) predictor h =
     let done : Hardware = (execute committing.hardware).hardware in
     let wiser : DescribedPredictor = fold taught predictor (lessons_of committing.steps done.pc) in
     committing.steps ++
-    guided_steps_from cycles wiser (record done { front = guided_words wiser done.cache.backing h.cycle done.front.width done.front; cycle = h.cycle + 1 })
+    guided_steps_from cycles wiser
+    (record done
+    { front = guided_words wiser done.cache.backing h.cycle done.front.width done.front; cycle = h.cycle + 1 })
 
 -- the same of a program, by a bimodal predictor of one entry
 abbrev pub steps_by_one_counter : Values → List ℕ → ℕ → ℕ → List Step

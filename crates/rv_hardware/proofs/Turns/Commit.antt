@@ -1,5 +1,12 @@
--- A turn of the commit phase finds no head, leaves it waiting, retires it, executes it, takes its trap, or stops at a stale word.
-use Rattle.rv_hardware.proofs.Words.{◌≡◌, ℕ, Bool, true, false, cond, List, [], ◌∷◌, ◌++◌, ◌==◌, Some, None, Option, nat_cmp, unwrap_or, refl, ap, is_serialising, pc_plus_4, Message, Cause, Fault, Instr, Csr, FenceI, Mret, Issue, word_of, Effect, Faults, Retires, effect, State, ReorderBuffer, after_head, head_retired, Entry, Stage, Finished, Committing, commit_turn, commit_turn_of, execute_head, finish_broadcast, finish_head, head_turn, is_drained, take_effect, with_fault, with_write_back, write_back_time, broadcast_of, Ends, GoesOn, Turn, row_of, with_result, written_of, layout_of, seen, with_state, flushed, arith}
+-- A turn of commit finds no head, leaves it waiting, retires it, executes it, traps, or stops at a stale word.
+use Rattle.rv_hardware.proofs.Words.{◌≡◌, ℕ, Bool, true, false, cond, List, [], ◌∷◌, ◌++◌, ◌==◌, Some, None, Option}
+use Rattle.rv_hardware.proofs.Words.{nat_cmp, unwrap_or, refl, ap, is_serialising, pc_plus_4, Message, Cause, Fault}
+use Rattle.rv_hardware.proofs.Words.{Instr, Csr, FenceI, Mret, Issue, word_of, Effect, Faults, Retires, effect, State}
+use Rattle.rv_hardware.proofs.Words.{ReorderBuffer, after_head, head_retired, Entry, Stage, Finished, Committing}
+use Rattle.rv_hardware.proofs.Words.{commit_turn, commit_turn_of, execute_head, finish_broadcast, finish_head}
+use Rattle.rv_hardware.proofs.Words.{head_turn, is_drained, take_effect, with_fault, with_write_back, write_back_time}
+use Rattle.rv_hardware.proofs.Words.{broadcast_of, Ends, GoesOn, Turn, row_of, with_result, written_of, layout_of, seen}
+use Rattle.rv_hardware.proofs.Words.{with_state, flushed, arith}
 use Rattle.std.specs.FinSet as set
 use Rattle.rv_arch.specs.declared.outcome.Stop.TheVariants as stop
 
@@ -37,14 +44,16 @@ entries_after : (r : ReorderBuffer) (e : Entry) (es fs : List Entry) → fs ≡ 
 entries_after r e es fs given = grind arith
 
 -- after a retirement the entries are those after the head
-pub head_retired_entries : (r : ReorderBuffer) (e : Entry) (es : List Entry) → r.entries ≡ e ∷ es → (head_retired r).entries ≡ es
+pub head_retired_entries : (r : ReorderBuffer) (e : Entry) (es : List Entry) → r.entries ≡ e ∷ es →
+    (head_retired r).entries ≡ es
 head_retired_entries r e es at = entries_after r e es r.entries at
 
 module _ (is_stale : set.FinSet nat_cmp → ℕ → Bool) where
   -- nothing is in flight; the head is stale, unfinished or a FENCE.I that waits; it retires, executes or traps
   pub data CommitTurn (c : Committing) : Turn Committing → Type 0 where
     no_head : c.hardware.rob.entries ≡ [] → CommitTurn c (Ends c)
-    stale_head : (e : Entry) (es : List Entry) → c.hardware.rob.entries ≡ e ∷ es → is_stale c.hardware.stale (word_of e.pc) ≡ true →
+    stale_head : (e : Entry) (es : List Entry) → c.hardware.rob.entries ≡ e ∷ es →
+        is_stale c.hardware.stale (word_of e.pc) ≡ true →
         CommitTurn c (Ends (record c { stop = Some (stop.Stale e.pc) }))
     unfinished : (e : Entry) (es : List Entry) → Head is_stale c e es → is_serialising e.instruction ≡ false →
         broadcast_of e.stage ≡ None → CommitTurn c (Ends c)
@@ -62,12 +71,12 @@ module _ (is_stale : set.FinSet nat_cmp → ℕ → Bool) where
     traps : (e : Entry) (es : List Entry) (issue : Option Issue) (cycle : ℕ) (message : Message) (fault : Fault) →
         Head is_stale c e es → is_serialising e.instruction ≡ false → e.stage ≡ Finished issue cycle message →
         message.fault ≡ Some fault → CommitTurn c (Ends (with_fault e fault.cause fault.value c))
-    retires : (e : Entry) (es : List Entry) (issue : Option Issue) (cycle : ℕ) (message : Message) → Head is_stale c e es →
-        is_serialising e.instruction ≡ false → e.stage ≡ Finished issue cycle message → message.fault ≡ None →
-        CommitTurn c (GoesOn (retired_with e message c))
-    retires_last : (e : Entry) (es : List Entry) (issue : Option Issue) (cycle : ℕ) (message : Message) → Head is_stale c e es →
-        is_serialising e.instruction ≡ false → e.stage ≡ Finished issue cycle message → message.fault ≡ None →
-        CommitTurn c (Ends (retired_and_flushed e message c))
+    retires : (e : Entry) (es : List Entry) (issue : Option Issue) (cycle : ℕ) (message : Message) →
+        Head is_stale c e es → is_serialising e.instruction ≡ false → e.stage ≡ Finished issue cycle message →
+        message.fault ≡ None → CommitTurn c (GoesOn (retired_with e message c))
+    retires_last : (e : Entry) (es : List Entry) (issue : Option Issue) (cycle : ℕ) (message : Message) →
+        Head is_stale c e es → is_serialising e.instruction ≡ false → e.stage ≡ Finished issue cycle message →
+        message.fault ≡ None → CommitTurn c (Ends (retired_and_flushed e message c))
 
   module _ {c : Committing} {e : Entry} {es : List Entry} (head : Head is_stale c e es) where
     by_effect : is_serialising e.instruction ≡ true → (result : Effect) → CommitTurn c (Ends (take_effect e result c))
@@ -83,7 +92,9 @@ module _ (is_stale : set.FinSet nat_cmp → ℕ → Bool) where
     by_write_back is drained false dirty = fence_writes e es head is drained dirty
 
     by_drained : e.instruction ≡ Some FenceI → (b : Bool) → is_drained c.hardware ≡ b →
-        CommitTurn c (Ends (cond b (cond (write_back_time c.hardware == 0) (execute_head e FenceI (written_back c)) (written_back c)) c))
+        CommitTurn c
+        (Ends (cond b
+        (cond (write_back_time c.hardware == 0) (execute_head e FenceI (written_back c)) (written_back c)) c))
     by_drained is true drained = by_write_back is drained (write_back_time c.hardware == 0) refl
     by_drained is false busy = fence_waits e es head is busy
 
@@ -91,12 +102,14 @@ module _ (is_stale : set.FinSet nat_cmp → ℕ → Bool) where
         e.stage ≡ Finished issue cycle message → message.fault ≡ None → (b : Bool) →
         CommitTurn c (cond b (GoesOn (retired_with e message c)) (Ends (retired_and_flushed e message c)))
     by_prediction {issue} {cycle} {message} plain at none true = retires e es issue cycle message head plain at none
-    by_prediction {issue} {cycle} {message} plain at none false = retires_last e es issue cycle message head plain at none
+    by_prediction {issue} {cycle} {message} plain at none false =
+        retires_last e es issue cycle message head plain at none
 
     by_fault : {issue : Option Issue} {cycle : ℕ} {message : Message} → is_serialising e.instruction ≡ false →
         e.stage ≡ Finished issue cycle message → (fault : Option Fault) → message.fault ≡ fault →
         CommitTurn c (finish_head e message fault c)
-    by_fault {issue} {cycle} {message} plain at None is = by_prediction plain at is (message.next_pc == e.predicted_next)
+    by_fault {issue} {cycle} {message} plain at None is =
+        by_prediction plain at is (message.next_pc == e.predicted_next)
     by_fault {issue} {cycle} {message} plain at (Some fault) is = traps e es issue cycle message fault head plain at is
 
     by_stage : is_serialising e.instruction ≡ false → (st : Stage) → e.stage ≡ st →
@@ -108,15 +121,18 @@ module _ (is_stale : set.FinSet nat_cmp → ℕ → Bool) where
     by_instruction (Some FenceI) is = by_drained is (is_drained c.hardware) refl
     by_instruction (Some (Csr op rd csr source)) is = grind (arith, by_effect)
     by_instruction (Some Mret) is =
-        by_effect (ap is_serialising is) (effect (layout_of c.hardware.values) (seen c.hardware) c.hardware.lines (unwrap_or e.word 0) Mret)
+        by_effect (ap is_serialising is)
+        (effect (layout_of c.hardware.values) (seen c.hardware) c.hardware.lines (unwrap_or e.word 0) Mret)
     by_instruction i is = by_stage (ap is_serialising is) e.stage refl
 
-  by_stale : (c : Committing) (e : Entry) (es : List Entry) (b : Bool) → c.hardware.rob.entries ≡ e ∷ es → is_stale c.hardware.stale (word_of e.pc) ≡ b →
+  by_stale : (c : Committing) (e : Entry) (es : List Entry) (b : Bool) → c.hardware.rob.entries ≡ e ∷ es →
+      is_stale c.hardware.stale (word_of e.pc) ≡ b →
       CommitTurn c (cond b (Ends (record c { stop = Some (stop.Stale e.pc) })) (head_turn e e.instruction c))
   by_stale c e es true at is = stale_head e es at is
   by_stale c e es false at is = by_instruction (record { place = at; fresh = is }) e.instruction refl
 
-  turn_of : (c : Committing) (es : List Entry) → c.hardware.rob.entries ≡ es → CommitTurn c (commit_turn_of is_stale es c)
+  turn_of : (c : Committing) (es : List Entry) → c.hardware.rob.entries ≡ es →
+      CommitTurn c (commit_turn_of is_stale es c)
   turn_of c [] at = no_head at
   turn_of c (e ∷ es) at = by_stale c e es (is_stale c.hardware.stale (word_of e.pc)) at refl
 

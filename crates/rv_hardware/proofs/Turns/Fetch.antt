@@ -1,5 +1,8 @@
 -- A fetch adds new words at the end of the fetch buffer, within its width and its room, or leaves it as it was.
-use Rattle.rv_hardware.proofs.Words.{◌≡◌, ℕ, suc, ◌-◌, ◌≤◌, Bool, true, false, ◌⊎◌, List, [], ◌∷◌, ◌++◌, length, MatchBool, Option, MatchOption, option_and_then, refl, append-nil, arith, instruction_of, Memory, Each, Answers, EndsFor, FetchBuffer, Fetches, FetchesInto, is_halted, stop_after, FetchStop, Halted, Fetched}
+use Rattle.rv_hardware.proofs.Words.{◌≡◌, ℕ, suc, ◌-◌, ◌≤◌, Bool, true, false, ◌⊎◌, List, [], ◌∷◌, ◌++◌, length}
+use Rattle.rv_hardware.proofs.Words.{MatchBool, Option, MatchOption, option_and_then, refl, append-nil, arith}
+use Rattle.rv_hardware.proofs.Words.{instruction_of, Memory, Each, Answers, EndsFor, FetchBuffer, Fetches, FetchesInto}
+use Rattle.rv_hardware.proofs.Words.{is_halted, stop_after, FetchStop, Halted, Fetched}
 
 -- what a fetch adds where the front was not halted
 pub record Adds (answers : Answers) (ram : Memory) (cycle : ℕ) (old new : FetchBuffer) (stop : FetchStop) : Type 0 where
@@ -42,13 +45,15 @@ only_one : (cycle width room : ℕ) (f : Fetched) (fs : List Fetched) → IsNew 
     Added cycle (suc width) (suc room) (f ∷ fs)
 only_one cycle width room f fs new given = grind arith
 
-by_stop : {cycle width room : ℕ} {f : Fetched} {fs : List Fetched} (stop : FetchStop) (next : ℕ) (o : Option FetchStop) {Rest : Type 0} →
+by_stop : {cycle width room : ℕ} {f : Fetched} {fs : List Fetched} (stop : FetchStop) (next : ℕ) (o : Option FetchStop)
+    {Rest : Type 0} →
     IsNew cycle f → (Rest → Added cycle width room fs) →
     MatchOption o Rest (λ reason. (fs ≡ []) × (next ≡ f.predicted) × (stop ≡ reason)) →
     Added cycle (suc width) (suc room) (f ∷ fs)
 by_stop stop next o new rest h = grind (arith, one_more, only_one)
 
-fetches_add : (answers : Answers) (ram : Memory) (cycle width room pc : ℕ) (fs : List Fetched) (next : ℕ) (stop : FetchStop) →
+fetches_add : (answers : Answers) (ram : Memory) (cycle width room pc : ℕ) (fs : List Fetched) (next : ℕ)
+    (stop : FetchStop) →
     Fetches answers ram cycle width room pc fs next stop → Added cycle width room fs
 fetches_add answers ram cycle width room pc [] next stop h = ends_with_none cycle width room stop h.0
 fetches_add answers ram cycle (suc width) (suc room) pc (f ∷ fs) next stop h =

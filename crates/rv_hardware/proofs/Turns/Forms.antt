@@ -1,5 +1,7 @@
--- The forms that the hardware takes from turn to turn, and the longest times of an access, an execution and a write-back.
-use Rattle.rv_hardware.proofs.Words.{◌≡◌, ℕ, ◌+◌, ◌*◌, List, [], ◌∷◌, ◌++◌, Option, greatest_access, greatest_latency, at_kind, with_kind, Message, StoreAccess, Instr, Lines, Kind, Layout, State, started, Entry, Hardware, result_of_word, committed_store, redirected}
+-- The forms of the hardware from turn to turn, and the longest times of an access, an execution and a write-back.
+use Rattle.rv_hardware.proofs.Words.{◌≡◌, ℕ, ◌+◌, ◌*◌, List, [], ◌∷◌, ◌++◌, Option, greatest_access, greatest_latency}
+use Rattle.rv_hardware.proofs.Words.{at_kind, with_kind, Message, StoreAccess, Instr, Lines, Kind, Layout, State}
+use Rattle.rv_hardware.proofs.Words.{started, Entry, Hardware, result_of_word, committed_store, redirected}
 use Rattle.rv_units.specs.Pool.{started as started_unit}
 
 -- these instructions are in flight
@@ -34,7 +36,8 @@ with_unit kind cost h = record h { units = with_kind kind (started_unit cost h.c
 -- an instruction among the others begins its execution
 abbrev pub with_started : Kind → ℕ → Message → List Entry → Entry → List Entry → Hardware → Hardware
 with_started kind cost message older e younger h =
-    with_entries (older ++ started (record { cycle = h.cycle; cost = cost }) message e ∷ younger) (with_unit kind cost h)
+    with_entries (older ++ started (record { cycle = h.cycle; cost = cost }) message e ∷ younger)
+    (with_unit kind cost h)
 
 -- what an access to the cache costs at most
 abbrev pub longest_access : Hardware → ℕ

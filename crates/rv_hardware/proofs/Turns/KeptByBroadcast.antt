@@ -1,6 +1,9 @@
 -- The broadcast phase keeps what a result on the bus and the mending of a wrong prediction keep.
-use Rattle.rv_hardware.proofs.Words.{◌≡◌, ℕ, ◌+◌, List, [], ◌∷◌, ◌++◌, length, sym, refl, subst, Message, Issue, finished, predicting, Entry, broadcast, broadcast_turn, with_broadcast, with_recovery, Hardware, Turn, redirected, Leaves, kept_by_turns, arith}
-use Rattle.rv_hardware.proofs.Turns.Broadcast.{BroadcastTurn, Sends, HasRun, broadcast_turn_is, sent_entries, mended_entries}
+use Rattle.rv_hardware.proofs.Words.{◌≡◌, ℕ, ◌+◌, List, [], ◌∷◌, ◌++◌, length, sym, refl, subst, Message, Issue}
+use Rattle.rv_hardware.proofs.Words.{finished, predicting, Entry, broadcast, broadcast_turn, with_broadcast}
+use Rattle.rv_hardware.proofs.Words.{with_recovery, Hardware, Turn, redirected, Leaves, kept_by_turns, arith}
+use Rattle.rv_hardware.proofs.Turns.Broadcast.{BroadcastTurn, Sends, HasRun, broadcast_turn_is, sent_entries}
+use Rattle.rv_hardware.proofs.Turns.Broadcast.{mended_entries}
 use Rattle.rv_hardware.proofs.Turns.Forms.{with_entries}
 
 -- only what is older than an instruction, and the instruction, are in flight, and fetch begins anew at a pc
@@ -28,7 +31,8 @@ module _ {P : Hardware → List Entry → Entry → Type 0} {Q : Hardware → Ty
     seq = h.rob.retired + length older
 
     known : Q (with_entries (older ++ finished message h.cycle e ∷ younger) h)
-    known = made.broadcasts h older younger e message holds sent.place (record { issue = issue; runs = sent.runs; over = sent.over })
+    known = made.broadcasts h older younger e message holds sent.place
+        (record { issue = issue; runs = sent.runs; over = sent.over })
 
     -- a result on the bus leads from P to Q
     pub sends-makes : Q (with_broadcast seq message h)

@@ -1,22 +1,30 @@
 -- The commit phase keeps what a retirement, FENCE.I's write-back and a squash of everything in flight keep.
-use Rattle.rv_hardware.proofs.Words.{◌≡◌, ℕ, Bool, true, List, [], ◌∷◌, ◌++◌, Some, None, Option, nat_cmp, sym, ap, subst, code_of, target_of_word, Message, Cause, due, State, trap_taken, interrupt_cause, after_head, Entry, Committing, commit, commit_turn, commit_unless, is_drained, with_fault, with_write_back, Hardware, broadcast_of, with_value, Turn, committed_store, stale_after, with_result, seen, with_state, flushed, Leaves, kept_by_turns, arith}
+use Rattle.rv_hardware.proofs.Words.{◌≡◌, ℕ, Bool, true, List, [], ◌∷◌, ◌++◌, Some, None, Option, nat_cmp, sym, ap}
+use Rattle.rv_hardware.proofs.Words.{subst, code_of, target_of_word, Message, Cause, due, State, trap_taken}
+use Rattle.rv_hardware.proofs.Words.{interrupt_cause, after_head, Entry, Committing, commit, commit_turn, commit_unless}
+use Rattle.rv_hardware.proofs.Words.{is_drained, with_fault, with_write_back, Hardware, broadcast_of, with_value, Turn}
+use Rattle.rv_hardware.proofs.Words.{committed_store, stale_after, with_result, seen, with_state, flushed, Leaves}
+use Rattle.rv_hardware.proofs.Words.{kept_by_turns, arith}
 use Rattle.std.specs.FinSet as set
-use Rattle.rv_hardware.proofs.Turns.Commit.{CommitTurn, fence_writes, fence_retires, executes, serial_faults, traps, retires as retired, retires_last, executed, written_back, commit_turn_is}
+use Rattle.rv_hardware.proofs.Turns.Commit.{CommitTurn, fence_writes, fence_retires, executes, serial_faults, traps}
+use Rattle.rv_hardware.proofs.Turns.Commit.{retires as retired, retires_last, executed, written_back, commit_turn_is}
 use Rattle.rv_hardware.proofs.Turns.Forms.{emptied, without_head}
 
 module _ (P : Hardware → Type 0) where
   -- a squash of everything, a retirement and FENCE.I's write-back keep the property
   pub record IsKeptByCommit : Type 0 where
     pub empties : (h : Hardware) (s : State) (retired : ℕ) → P h → P (emptied s retired h)
-    pub retires : (h : Hardware) (e : Entry) (es : List Entry) (s : State) (message : Message) → P h → h.rob.entries ≡ e ∷ es →
-        broadcast_of e.stage ≡ Some message → message.fault ≡ None → P (without_head s message.store es h)
+    pub retires : (h : Hardware) (e : Entry) (es : List Entry) (s : State) (message : Message) → P h →
+        h.rob.entries ≡ e ∷ es → broadcast_of e.stage ≡ Some message → message.fault ≡ None →
+        P (without_head s message.store es h)
     pub writes_back : (h : Hardware) → P h → is_drained h ≡ true → P (with_write_back h)
 
 module _ {P : Hardware → Type 0} (kept : IsKeptByCommit P) where
   abbrev Holds : Committing → Type 0
   Holds c = P c.hardware
 
-  left : (h : Hardware) (es : List Entry) (next : State) → P h → P (flushed (with_state next (record h { rob = after_head h.rob es })))
+  left : (h : Hardware) (es : List Entry) (next : State) → P h →
+      P (flushed (with_state next (record h { rob = after_head h.rob es })))
   left h es next holds = grind arith
 
   took_effect : (e : Entry) (written : Option (ℕ × ℕ)) (next : State) (c : Committing) → Holds c →
@@ -47,18 +55,21 @@ module _ {P : Hardware → Type 0} (kept : IsKeptByCommit P) where
 
   module _ (is_stale : set.FinSet nat_cmp → ℕ → Bool) where
     -- each outcome of a turn keeps it
-    pub commit_outcome-keeps : {c : Committing} {t : Turn Committing} → CommitTurn is_stale c t → Holds c → Leaves Holds t
+    pub commit_outcome-keeps : {c : Committing} {t : Turn Committing} → CommitTurn is_stale c t →
+        Holds c → Leaves Holds t
     commit_outcome-keeps {c} (fence_writes e es head is drained dirty) holds = kept.writes_back c.hardware holds drained
     commit_outcome-keeps {c} (fence_retires e es written next head is drained) holds =
         took_effect e written next (written_back c) (kept.writes_back c.hardware holds drained)
     commit_outcome-keeps {c} (executes e es written next head serial) holds = took_effect e written next c holds
     commit_outcome-keeps {c} (serial_faults e es cause value head serial) holds = faulted e cause value c holds
-    commit_outcome-keeps {c} (traps e es issue cycle message fault head plain at is) holds = faulted e fault.cause fault.value c holds
+    commit_outcome-keeps {c} (traps e es issue cycle message fault head plain at is) holds =
+        faulted e fault.cause fault.value c holds
     commit_outcome-keeps {c} (retired e es issue cycle message head plain at none) holds =
         result_retired c.hardware e es holds head.place (ap broadcast_of at) none
     commit_outcome-keeps {c} (retires_last e es issue cycle message head plain at none) holds =
         let h : Hardware = with_result e message c.hardware in
-        kept.empties h (seen h) h.rob.retired (result_retired c.hardware e es holds head.place (ap broadcast_of at) none)
+        kept.empties h (seen h) h.rob.retired
+        (result_retired c.hardware e es holds head.place (ap broadcast_of at) none)
     commit_outcome-keeps _ holds = holds
 
     -- a turn of the commit phase keeps it
@@ -67,7 +78,8 @@ module _ {P : Hardware → Type 0} (kept : IsKeptByCommit P) where
 
     -- an interrupt or the turns keep it
     pub unless-keeps : (code : Option ℕ) (h : Hardware) → P h → P (commit_unless is_stale code h).hardware
-    unless-keeps None h holds = kept_by_turns Holds (commit_turn is_stale) commit_turn-keeps h.values.commit_width _ holds
+    unless-keeps None h holds =
+        kept_by_turns Holds (commit_turn is_stale) commit_turn-keeps h.values.commit_width _ holds
     unless-keeps (Some code) h holds = kept.empties h (trap_taken (seen h) (interrupt_cause code) 0) h.rob.retired holds
 
     -- so the commit phase keeps it

@@ -1,7 +1,11 @@
 -- A whole cycle keeps what its phases and its fetch keep.
-use Rattle.rv_hardware.proofs.Words.{◌≡◌, ℕ, ◌+◌, sym, refl, ap, ◌∙◌, subst, Lines, Kind, CacheValues, Values, Memory, Answers, FetchBuffer, FetchesInto, FetchStop, IsCycle, any_prediction, execute, with_lines, Hardware, Report, arith}
+use Rattle.rv_hardware.proofs.Words.{◌≡◌, ℕ, ◌+◌, sym, refl, ap, ◌∙◌, subst, Lines, Kind, CacheValues, Values, Memory}
+use Rattle.rv_hardware.proofs.Words.{Answers, FetchBuffer, FetchesInto, FetchStop, IsCycle, any_prediction, execute}
+use Rattle.rv_hardware.proofs.Words.{with_lines, Hardware, Report, arith}
 use Rattle.std.specs.FinSet as set
-use Rattle.rv_hardware.proofs.Turns.Changes.{IsKeptByChanges, new_levels, all_squashed, head_retires, cache_written, store_drained, store_drains, load_accesses, one_starts, one_sent, one_mended, one_enters}
+use Rattle.rv_hardware.proofs.Turns.Changes.{IsKeptByChanges, new_levels, all_squashed, head_retires, cache_written}
+use Rattle.rv_hardware.proofs.Turns.Changes.{store_drained, store_drains, load_accesses, one_starts, one_sent}
+use Rattle.rv_hardware.proofs.Turns.Changes.{one_mended, one_enters}
 use Rattle.rv_hardware.proofs.Turns.KeptByBroadcast.{IsKeptByBroadcast, broadcast-keeps}
 use Rattle.rv_hardware.proofs.Turns.KeptByCommit.{IsKeptByCommit, commit-keeps}
 use Rattle.rv_hardware.proofs.Turns.KeptByDispatch.{IsKeptByDispatch, dispatch-keeps}
@@ -43,7 +47,8 @@ phases-kept kept = record {
     drains = λ h access p idle is. kept h _ (store_drains access idle is) p;
   };
   issue = λ k. record {
-    accesses = λ h older younger e address p split ready by. kept h _ (load_accesses k older younger e address split ready by) p;
+    accesses = λ h older younger e address p split ready by.
+        kept h _ (load_accesses k older younger e address split ready by) p;
     starts = λ h older younger e cost message p split waits of_kind result costs.
         kept h _ (one_starts k older younger e cost message split waits of_kind result costs) p;
   };
@@ -58,14 +63,17 @@ phases-kept kept = record {
 pub changes-kept : {P : Hardware → Type 0} → IsKeptByPhases P → IsKeptByChanges P
 changes-kept kept h _ (new_levels levels) p = kept.lines h levels p
 changes-kept kept h _ (all_squashed s retired) p = kept.commit.empties h s retired p
-changes-kept kept h _ (head_retires e es s message split known none) p = kept.commit.retires h e es s message p split known none
+changes-kept kept h _ (head_retires e es s message split known none) p =
+    kept.commit.retires h e es s message p split known none
 changes-kept kept h _ (cache_written drained) p = kept.commit.writes_back h p drained
 changes-kept kept h _ (store_drained idle) p = kept.drain.leaves h p idle
 changes-kept kept h _ (store_drains access idle is) p = kept.drain.drains h access p idle is
-changes-kept kept h _ (load_accesses k older younger e address split ready by) p = (kept.issue k).accesses h older younger e address p split ready by
+changes-kept kept h _ (load_accesses k older younger e address split ready by) p =
+    (kept.issue k).accesses h older younger e address p split ready by
 changes-kept kept h _ (one_starts k older younger e cost message split waits of_kind result costs) p =
     (kept.issue k).starts h older younger e cost message p split waits of_kind result costs
-changes-kept kept h _ (one_sent older younger e message split gives) p = kept.broadcast.broadcasts h older younger e message p split gives
+changes-kept kept h _ (one_sent older younger e message split gives) p =
+    kept.broadcast.broadcasts h older younger e message p split gives
 changes-kept kept h _ (one_mended older younger e next split) p = kept.broadcast.mends h older younger e next p split
 changes-kept kept h _ (one_enters f rest first none) p = kept.dispatch.dispatches h f rest p first none
 
@@ -87,13 +95,17 @@ module _ {P : Hardware → Type 0} (kept : IsKeptByPhases P) where
   -- so the phases from drain to dispatch keep it
   pub execute-keeps : (h : Hardware) → P h → P (execute h).hardware
   execute-keeps h holds =
-      dispatch-keeps kept.dispatch _ (broadcast-keeps kept.broadcast _ (issue-keeps P kept.issue _ (drain-keeps kept.drain h holds)))
+      dispatch-keeps kept.dispatch _
+      (broadcast-keeps kept.broadcast _ (issue-keeps P kept.issue _ (drain-keeps kept.drain h holds)))
 
   -- and so do those of a cycle up to its dispatch
-  pub phases-keep : {answers : Answers} {lines : Lines} {old new : Hardware} {report : Report} (cycle : IsCycle answers lines old report new) → P old → P cycle.dispatching.hardware
+  pub phases-keep : {answers : Answers} {lines : Lines} {old new : Hardware} {report : Report}
+      (cycle : IsCycle answers lines old report new) →
+      P old → P cycle.dispatching.hardware
   phases-keep {lines = lines} {old = old} cycle holds =
       let committed : P cycle.committing.hardware =
-      subst (λ c. P c.hardware) (sym cycle.commits) (commit-keeps kept.commit set.contains (with_lines lines old) (kept.lines old lines holds)) in
+      subst (λ c. P c.hardware) (sym cycle.commits)
+      (commit-keeps kept.commit set.contains (with_lines lines old) (kept.lines old lines holds)) in
       subst (λ d. P d.hardware) (sym cycle.executes) (execute-keeps cycle.committing.hardware committed)
 
 -- what was described, and the cycle's number
@@ -113,6 +125,7 @@ pub cycle-keeps : {P : Hardware → Type 0} {lines : Lines} {old new : Hardware}
 cycle-keeps {P} {lines} {old} {new} kept cycle holds =
     let after = phases-keep kept.phases cycle holds in
     let d : Hardware = cycle.dispatching.hardware in
-    let number : d.cycle ≡ old.cycle = (phases-keep (same-kept old.values old.cache.values old.cycle) cycle (refl, refl, refl)).2 in
+    let number : d.cycle ≡ old.cycle =
+    (phases-keep (same-kept old.values old.cache.values old.cycle) cycle (refl, refl, refl)).2 in
     let fetched = kept.fetch d.cache.backing old.cycle d new.front cycle.fetch_stop after cycle.fetches in
     subst P (ap (λ n. record d { front = new.front; cycle = n + 1 }) number ∙ sym cycle.others_stay) fetched

@@ -1,5 +1,6 @@
 -- The dispatch phase keeps what the dispatch of one fetched word keeps.
-use Rattle.rv_hardware.proofs.Words.{◌≡◌, ℕ, List, ◌∷◌, Fetched, Dispatching, dispatch, dispatch_turn, with_dispatched, Hardware, Turn, repeated, Leaves, kept_by_turns}
+use Rattle.rv_hardware.proofs.Words.{◌≡◌, ℕ, List, ◌∷◌, Fetched, Dispatching, dispatch, dispatch_turn, with_dispatched}
+use Rattle.rv_hardware.proofs.Words.{Hardware, Turn, repeated, Leaves, kept_by_turns}
 use Rattle.rv_hardware.proofs.Turns.Dispatch.{DispatchTurn, WaitsForNothing, dispatches as dispatched, dispatch_turn_is}
 
 module _ (P : Hardware → Type 0) where

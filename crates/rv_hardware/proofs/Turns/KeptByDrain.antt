@@ -1,5 +1,7 @@
 -- The drain phase keeps what the end of a store's access and the start of another's keep.
-use Rattle.rv_hardware.proofs.Words.{◌≡◌, ℕ, true, nat_le, Some, Option, StoreAccess, PerKind, CacheValues, Values, oldest_to_drain, Pool, ReorderBuffer, FetchBuffer, drain, end_drain, start_drain, with_drained, Hardware, by_test, arith}
+use Rattle.rv_hardware.proofs.Words.{◌≡◌, ℕ, true, nat_le, Some, Option, StoreAccess, PerKind, CacheValues, Values}
+use Rattle.rv_hardware.proofs.Words.{oldest_to_drain, Pool, ReorderBuffer, FetchBuffer, drain, end_drain, start_drain}
+use Rattle.rv_hardware.proofs.Words.{with_drained, Hardware, by_test, arith}
 
 module _ (P : Hardware → Type 0) where
   -- the end of a store's access and the start of another's keep the property

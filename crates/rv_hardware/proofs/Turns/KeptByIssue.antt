@@ -1,5 +1,9 @@
 -- The issue phase keeps what a load's access to the cache and the start of an execution keep.
-use Rattle.rv_hardware.proofs.Words.{◌≡◌, ℕ, ◌+◌, ◌≤◌, true, List, ◌∷◌, ◌++◌, length, refl, and_parts, is_of_kind, kind_of_word, sources_of_word, at_kind, Message, Kind, is_free, Entry, Hardware, is_waiting, FromCache, FromStores, Path, Without, cost_of, has_operands, is_ready, issue, issue_kind, issue_turn, issued, may_load, path, with_access, with_start, Turn, result_of_word, layout_of, state_after, Leaves, kept_by_turns, arith}
+use Rattle.rv_hardware.proofs.Words.{◌≡◌, ℕ, ◌+◌, ◌≤◌, true, List, ◌∷◌, ◌++◌, length, refl, and_parts, is_of_kind}
+use Rattle.rv_hardware.proofs.Words.{kind_of_word, sources_of_word, at_kind, Message, Kind, is_free, Entry, Hardware}
+use Rattle.rv_hardware.proofs.Words.{is_waiting, FromCache, FromStores, Path, Without, cost_of, has_operands, is_ready}
+use Rattle.rv_hardware.proofs.Words.{issue, issue_kind, issue_turn, issued, may_load, path, with_access, with_start}
+use Rattle.rv_hardware.proofs.Words.{Turn, result_of_word, layout_of, state_after, Leaves, kept_by_turns, arith}
 use Rattle.rv_isa.specs.declared.operations.Kind.TheVariants as kind
 use Rattle.rv_hardware.proofs.Turns.Costs.{cost_of-most}
 use Rattle.rv_hardware.proofs.Turns.Forms.{with_started, longest_execution, IsResultOfWord}
@@ -14,7 +18,8 @@ pub record IsReady (h : Hardware) (k : Kind) (older : List Entry) (e : Entry) : 
   pub loads : may_load h older e ≡ true
 
 -- an instruction that is ready waits, is of the kind, has its operands and may load
-pub ready-parts : (h : Hardware) (k : Kind) (older : List Entry) (e : Entry) → is_ready h k older e ≡ true → IsReady h k older e
+pub ready-parts : (h : Hardware) (k : Kind) (older : List Entry) (e : Entry) → is_ready h k older e ≡ true →
+    IsReady h k older e
 ready-parts h k older e ready = grind (arith, and_parts)
 
 module _ (P : Hardware → Type 0) (k : Kind) where
@@ -24,9 +29,9 @@ module _ (P : Hardware → Type 0) (k : Kind) where
         h.rob.entries ≡ older ++ e ∷ younger → is_ready h k older e ≡ true → path h older e ≡ FromCache address →
         P (with_access (FromCache address) h)
     pub starts : (h : Hardware) (older younger : List Entry) (e : Entry) (cost : ℕ) (message : Message) → P h →
-        h.rob.entries ≡ older ++ e ∷ younger → is_waiting e.stage ≡ true → is_of_kind k (kind_of_word e.instruction) ≡ true →
-        IsResultOfWord e.word e.instruction message → cost ≤ longest_execution h →
-        P (with_started k cost message older e younger h)
+        h.rob.entries ≡ older ++ e ∷ younger → is_waiting e.stage ≡ true →
+        is_of_kind k (kind_of_word e.instruction) ≡ true → IsResultOfWord e.word e.instruction message →
+        cost ≤ longest_execution h → P (with_started k cost message older e younger h)
 
 -- the start of the oldest instruction that is ready, where a unit is free, keeps the property
 abbrev pub KeepsStarts : (Hardware → Type 0) → Kind → Type 0
@@ -36,25 +41,29 @@ KeepsStarts P k =
 
 module _ {P : Hardware → Type 0} {k : Kind} (kept : IsKeptByIssue P k) where
   begins : (h : Hardware) (older younger : List Entry) (e : Entry) (cost : ℕ) (message : Message) → P h →
-      h.rob.entries ≡ older ++ e ∷ younger → is_waiting e.stage ≡ true → is_of_kind k (kind_of_word e.instruction) ≡ true →
-      IsResultOfWord e.word e.instruction message → cost ≤ longest_execution h →
-      P (with_start k (h.rob.retired + length older) cost message h)
+      h.rob.entries ≡ older ++ e ∷ younger → is_waiting e.stage ≡ true →
+      is_of_kind k (kind_of_word e.instruction) ≡ true → IsResultOfWord e.word e.instruction message →
+      cost ≤ longest_execution h → P (with_start k (h.rob.retired + length older) cost message h)
   begins h older younger e cost message holds split given of_kind result costs = grind (arith, with_entry-at)
 
   begins_by : (h : Hardware) (older younger : List Entry) (e : Entry) (p : Path) → path h older e ≡ p → P h →
       h.rob.entries ≡ older ++ e ∷ younger → is_ready h k older e ≡ true → is_waiting e.stage ≡ true →
       is_of_kind k (kind_of_word e.instruction) ≡ true →
-      P (with_start k (h.rob.retired + length older) (cost_of h k p) (result_of_word (layout_of h.values) (state_after h older e.pc) h.lines e.word e.instruction) (with_access p h))
+      P (with_start k (h.rob.retired + length older) (cost_of h k p)
+      (result_of_word (layout_of h.values) (state_after h older e.pc) h.lines e.word e.instruction) (with_access p h))
   begins_by h older younger e Without by holds split ready waits of_kind =
       begins h older younger e (cost_of h k Without) _ holds split waits of_kind
-      (record { layout = layout_of h.values; state = state_after h older e.pc; lines = h.lines; is = refl }) (cost_of-most h k Without)
+      (record { layout = layout_of h.values; state = state_after h older e.pc; lines = h.lines; is = refl })
+      (cost_of-most h k Without)
   begins_by h older younger e FromStores by holds split ready waits of_kind =
       begins h older younger e (cost_of h k FromStores) _ holds split waits of_kind
-      (record { layout = layout_of h.values; state = state_after h older e.pc; lines = h.lines; is = refl }) (cost_of-most h k FromStores)
+      (record { layout = layout_of h.values; state = state_after h older e.pc; lines = h.lines; is = refl })
+      (cost_of-most h k FromStores)
   begins_by h older younger e (FromCache address) by holds split ready waits of_kind =
       begins (with_access (FromCache address) h) older younger e (cost_of h k (FromCache address)) _
       (kept.accesses h older younger e address holds split ready by) split waits of_kind
-      (record { layout = layout_of h.values; state = state_after h older e.pc; lines = h.lines; is = refl }) (cost_of-most h k (FromCache address))
+      (record { layout = layout_of h.values; state = state_after h older e.pc; lines = h.lines; is = refl })
+      (cost_of-most h k (FromCache address))
 
   -- its access and its start keep it, so the whole does
   pub starts-keep : KeepsStarts P k

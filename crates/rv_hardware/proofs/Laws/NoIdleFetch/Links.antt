@@ -1,5 +1,7 @@
 -- Marks of which each tells why the next was not fetched earlier go on to do so.
-use Rattle.rv_hardware.proofs.Words.{◌≡◌, ℕ, suc, ◌+◌, ◌<◌, ◌≤◌, Bool, true, cond, ◌&&◌, ◌⊎◌, List, [], ◌∷◌, ◌++◌, length, Some, None, Option, sym, ap, ◌∙◌, subst, append_assoc, arith, length-append, Early, Values, Each, count, inl, inr}
+use Rattle.rv_hardware.proofs.Words.{◌≡◌, ℕ, suc, ◌+◌, ◌<◌, ◌≤◌, Bool, true, cond, ◌&&◌, ◌⊎◌, List, [], ◌∷◌, ◌++◌}
+use Rattle.rv_hardware.proofs.Words.{length, Some, None, Option, sym, ap, ◌∙◌, subst, append_assoc, arith}
+use Rattle.rv_hardware.proofs.Words.{length-append, Early, Values, Each, count, inl, inr}
 use Rattle.rv_hardware.proofs.Marks.Cited.{Advances, Kept, advances_agree, is_buffered_mark, Mark, at_end, was_fetched}
 
 -- at the end of a cycle the word is in the fetch buffer
@@ -66,7 +68,8 @@ held_more b h n is = grind arith
 -- the buffer held as many words as before, and those of the marks that are words
 pub held_count : (held : ℕ → ℕ) (ms : List Mark) (c : ℕ) → held_after held ms c ≡ held c + count (is_word c) ms
 held_count held [] c = omega arith
-held_count held (m ∷ ms) c = held_more (is_word c m) (held c) (count (is_word c) ms) (held_count (with_word held m) ms c)
+held_count held (m ∷ ms) c =
+    held_more (is_word c m) (held c) (count (is_word c) ms) (held_count (with_word held m) ms c)
 
 -- one that goes on
 
@@ -81,23 +84,29 @@ module _ (v : Values) (now : ℕ) (halted : Bool) where
   with_more : (held more : ℕ → ℕ) (m : Mark) → AtLeast held more → AtLeast (with_word held m) (with_word more m)
   with_more held more m le c lt = counted_by (is_word c m) (held c) (more c) (le c lt)
 
-  filled_more : (held more : ℕ → ℕ) (m : Mark) (t : ℕ) → t ≤ now → AtLeast held more → Filled v held m t → Filled v more m t
+  filled_more : (held more : ℕ → ℕ) (m : Mark) (t : ℕ) → t ≤ now → AtLeast held more → Filled v held m t →
+      Filled v more m t
   filled_more held more m t le at_least h c given before = grind (arith, with_more)
 
-  followed_more : (held more : ℕ → ℕ) (m n : Mark) → AtLeast held more → Followed v now held m n → Followed v now more m n
+  followed_more : (held more : ℕ → ℕ) (m n : Mark) → AtLeast held more → Followed v now held m n →
+      Followed v now more m n
   followed_more held more m n le given = grind (arith, filled_more)
 
-  open_more : (held more : ℕ → ℕ) (m : Mark) → AtLeast held more → IsOpen v halted now held m → IsOpen v halted now more m
+  open_more : (held more : ℕ → ℕ) (m : Mark) → AtLeast held more → IsOpen v halted now held m →
+      IsOpen v halted now more m
   open_more held more m le given = grind (arith, filled_more)
 
-  joint_more : (held more : ℕ → ℕ) (m : Mark) (ms : List Mark) → AtLeast held more → Joint v now (IsOpen v halted now) held m ms →
-      Joint v now (IsOpen v halted now) more m ms
+  joint_more : (held more : ℕ → ℕ) (m : Mark) (ms : List Mark) → AtLeast held more →
+      Joint v now (IsOpen v halted now) held m ms → Joint v now (IsOpen v halted now) more m ms
   joint_more held more m ms le h = grind (arith, open_more, followed_more)
 
   linked_more : (held more : ℕ → ℕ) (ms : List Mark) → AtLeast held more → Linked v now (IsOpen v halted now) held ms →
       Linked v now (IsOpen v halted now) more ms
   linked_more held more [] le h = tt
-  linked_more held more (m ∷ ms) le h = (joint_more held more m ms le h.0, linked_more (with_word held m) (with_word more m) ms (with_more held more m le) h.1)
+  linked_more held more (m ∷ ms) le h = (
+    joint_more held more m ms le h.0,
+    linked_more (with_word held m) (with_word more m) ms (with_more held more m le) h.1,
+  )
 
   -- what a mark that goes on keeps
   record WentOn (m n : Mark) : Type 0 where
@@ -134,19 +143,25 @@ module _ (v : Values) (now : ℕ) (halted : Bool) where
     joint_goes held (z ∷ zs) (by, inr (inl early)) = (by, inr (inl (early.0, g.sent z.fetched early.1)))
     joint_goes held (z ∷ zs) (by, inr (inr full)) = (by, inr (inr (filled_same held z.fetched by full)))
 
-    joint_before : (held : ℕ → ℕ) (x : Mark) (xs zs : List Mark) → Joint v now (IsOpen v halted now) held x (xs ++ m ∷ zs) →
+    joint_before : (held : ℕ → ℕ) (x : Mark) (xs zs : List Mark) →
+        Joint v now (IsOpen v halted now) held x (xs ++ m ∷ zs) →
         Joint v now (IsOpen v halted now) held x (xs ++ n ∷ zs)
-    joint_before held x [] zs h = subst (λ t. (t ≤ now) × (IsBy x.retired t ⊎ ((v.recovery ≡ Early) × (x.broadcast ≡ Some t)) ⊎ Filled v held x t)) g.fetched h
+    joint_before held x [] zs h =
+        subst (λ t. (t ≤ now) ×
+        (IsBy x.retired t ⊎ ((v.recovery ≡ Early) × (x.broadcast ≡ Some t)) ⊎ Filled v held x t))
+        g.fetched h
     joint_before held x (y ∷ ys) zs h = h
 
     linked_goes : (held : ℕ → ℕ) (xs zs : List Mark) → Linked v now (IsOpen v halted now) held (xs ++ m ∷ zs) →
         Linked v now (IsOpen v halted now) held (xs ++ n ∷ zs)
-    linked_goes held [] zs h = (joint_goes held zs h.0, linked_more (with_word held m) (with_word held n) zs (with_same held) h.1)
+    linked_goes held [] zs h =
+        (joint_goes held zs h.0, linked_more (with_word held m) (with_word held n) zs (with_same held) h.1)
     linked_goes held (x ∷ xs) zs h = (joint_before held x xs zs h.0, linked_goes (with_word held x) xs zs h.1)
 
   -- a list of marks that was cut at most
   abbrev pub WasLinked : ℕ → List Mark → Type 0
-  WasLinked size ms = (rest : List Mark) × Linked v now (IsOpen v halted now) (λ c. 0) (ms ++ rest) × (length (ms ++ rest) ≡ size)
+  WasLinked size ms =
+      (rest : List Mark) × Linked v now (IsOpen v halted now) (λ c. 0) (ms ++ rest) × (length (ms ++ rest) ≡ size)
 
   same_size : (xs zs : List Mark) (m n : Mark) → length (xs ++ m ∷ zs) ≡ length (xs ++ n ∷ zs)
   same_size xs zs m n = length-append xs (m ∷ zs) ∙ sym (length-append xs (n ∷ zs))
@@ -158,7 +173,8 @@ module _ (v : Values) (now : ℕ) (halted : Bool) where
 -- a fetch
 
 -- in a later cycle
-followed_later : (v : Values) (now : ℕ) (held : ℕ → ℕ) (m n : Mark) → Followed v now held m n → Followed v (now + 1) held m n
+followed_later : (v : Values) (now : ℕ) (held : ℕ → ℕ) (m n : Mark) → Followed v now held m n →
+    Followed v (now + 1) held m n
 followed_later v now held m n h = (omega (arith, h.0), h.1)
 
 module _ (v : Values) (now : ℕ) (last next : (ℕ → ℕ) → Mark → Type 0) where
@@ -170,8 +186,8 @@ module _ (v : Values) (now : ℕ) (last next : (ℕ → ℕ) → Mark → Type 0
 
   -- where nothing is fetched, linked marks stay linked in the next cycle
   pub linked_stays : (held : ℕ → ℕ) (ms : List Mark) →
-      ((h : ℕ → ℕ) (x : Mark) → with_word h x now ≡ held_after held ms now → last h x → next h x) → Linked v now last held ms →
-      Linked v (now + 1) next held ms
+      ((h : ℕ → ℕ) (x : Mark) → with_word h x now ≡ held_after held ms now → last h x → next h x) →
+      Linked v now last held ms → Linked v (now + 1) next held ms
   linked_stays held [] f h = tt
   linked_stays held (m ∷ ms) f h = (joint_stays held m ms f h.0, linked_stays (with_word held m) ms f h.1)
 
@@ -189,15 +205,16 @@ module _ (v : Values) (now : ℕ) (last next : (ℕ → ℕ) → Mark → Type 0
 
 -- where the last of some marks is known, what came after may be cut
 module _ (v : Values) (now : ℕ) (last : (ℕ → ℕ) → Mark → Type 0) (P : Mark → Type 0) where
-  joint_cut : (held : ℕ → ℕ) (m : Mark) (ms rest : List Mark) → LastIs P (m ∷ ms) → Joint v now last held m (ms ++ rest) →
-      Joint v now (λ h x. P x) held m ms
+  joint_cut : (held : ℕ → ℕ) (m : Mark) (ms rest : List Mark) → LastIs P (m ∷ ms) →
+      Joint v now last held m (ms ++ rest) → Joint v now (λ h x. P x) held m ms
   joint_cut held m ms rest is h = grind arith
 
   -- the first of linked marks are linked
   pub linked_cut : (held : ℕ → ℕ) (ms rest : List Mark) → LastIs P ms → Linked v now last held (ms ++ rest) →
       Linked v now (λ h x. P x) held ms
   linked_cut held [] rest is h = tt
-  linked_cut held (m ∷ ms) rest is h = (joint_cut held m ms rest is h.0, linked_cut (with_word held m) ms rest (last_of P m ms is) h.1)
+  linked_cut held (m ∷ ms) rest is h =
+      (joint_cut held m ms rest is h.0, linked_cut (with_word held m) ms rest (last_of P m ms is) h.1)
 
 -- words of the present cycle
 

@@ -1,9 +1,20 @@
 -- In every history each mark tells why the next was not fetched earlier.
-use Rattle.rv_hardware.proofs.Words.{◌≡◌, ℕ, ◌+◌, ◌-◌, ◌<◌, ◌≤◌, true, false, ◌⊎◌, List, [], ◌∷◌, ◌++◌, map, length, Some, None, Option, sym, refl, ap, ◌∙◌, subst, inl, inr, true≢false, append-nil, arith, length-append, cases_lt, Lines, Early, Values, due, Each, FetchBuffer, Fetched, Committing, IsCycle, any_prediction, execute, with_lines, Dispatching, Hardware, Report, rows_of, Row, Step, Each-weaker, Each-map, count}
+use Rattle.rv_hardware.proofs.Words.{◌≡◌, ℕ, ◌+◌, ◌-◌, ◌<◌, ◌≤◌, true, false, ◌⊎◌, List, [], ◌∷◌, ◌++◌, map, length}
+use Rattle.rv_hardware.proofs.Words.{Some, None, Option, sym, refl, ap, ◌∙◌, subst, inl, inr, true≢false, append-nil}
+use Rattle.rv_hardware.proofs.Words.{arith, length-append, cases_lt, Lines, Early, Values, due, Each, FetchBuffer}
+use Rattle.rv_hardware.proofs.Words.{Fetched, Committing, IsCycle, any_prediction, execute, with_lines, Dispatching}
+use Rattle.rv_hardware.proofs.Words.{Hardware, Report, rows_of, Row, Step, count, each_image, each_then}
 use Rattle.std.specs.FinSet as set
-use Rattle.rv_hardware.proofs.Marks.Cited.{fetch-cases, IsNew, count-as_of, Passed, History, began, went_on, is_buffered_mark, buffered_words, committing, issued_all, dispatching, cycle_passes, history_is_legal, history_is_sound, Mark, mark_of_row, mark_of_entry, mark_of_fetched, marks_in, marks, marks_at_entry, as_of_now, marks_settled, SoundRow}
-use Rattle.rv_hardware.proofs.Laws.NoIdleFetch.Links.{with_word, IsBy, Followed, IsOpen, Linked, LastIs, held_after, held_count, WasLinked, was_linked_kept, linked_stays, linked_on, linked_cut, linked_words, last_at}
-use Rattle.rv_hardware.proofs.Laws.NoIdleFetch.Phases.{size, size_of_marks, Uncut, LeftByBroadcast, commit_goes_by, drain_and_issue, broadcast_and_dispatch}
+use Rattle.rv_hardware.proofs.Marks.Cited.{fetch-cases, IsNew, count-as_of, Passed, History, began, went_on}
+use Rattle.rv_hardware.proofs.Marks.Cited.{is_buffered_mark, buffered_words, committing, issued_all, dispatching}
+use Rattle.rv_hardware.proofs.Marks.Cited.{cycle_passes, history_is_legal, history_is_sound, Mark, mark_of_row}
+use Rattle.rv_hardware.proofs.Marks.Cited.{mark_of_entry, mark_of_fetched, marks_in, marks, marks_at_entry, as_of_now}
+use Rattle.rv_hardware.proofs.Marks.Cited.{marks_settled, SoundRow, SoundFetched}
+use Rattle.rv_hardware.proofs.Laws.NoIdleFetch.Links.{with_word, IsBy, Followed, IsOpen, Linked, LastIs, held_after}
+use Rattle.rv_hardware.proofs.Laws.NoIdleFetch.Links.{held_count, WasLinked, was_linked_kept, linked_stays, linked_on}
+use Rattle.rv_hardware.proofs.Laws.NoIdleFetch.Links.{linked_cut, linked_words, last_at}
+use Rattle.rv_hardware.proofs.Laws.NoIdleFetch.Phases.{size, size_of_marks, Uncut, LeftByBroadcast, commit_goes_by}
+use Rattle.rv_hardware.proofs.Laws.NoIdleFetch.Phases.{drain_and_issue, broadcast_and_dispatch}
 
 -- the last mark after a squash: a row, or the instruction whose broadcast squashed the rest
 abbrev Squashes : Values → ℕ → Mark → Type 0
@@ -20,22 +31,27 @@ no_rest xs [] all one = refl
 no_rest xs (y ∷ ys) all one = absurd (let both = length-append xs (y ∷ ys) in omega (arith, both, all, one))
 
 -- a front that is halted stays
-pub stays_halted : {lines : Lines} {old new : Hardware} {report : Report} → IsCycle any_prediction lines old report new →
-    (dispatching lines old).hardware.front.halted ≡ true → new.front ≡ (dispatching lines old).hardware.front
+pub stays_halted : {lines : Lines} {old new : Hardware} {report : Report} →
+    IsCycle any_prediction lines old report new → (dispatching lines old).hardware.front.halted ≡ true →
+    new.front ≡ (dispatching lines old).hardware.front
 stays_halted {lines} {old} {new} {report} is =
-    let same : is.dispatching ≡ dispatching lines old = is.executes ∙ ap (λ (c : Committing). execute c.hardware) is.commits in
+    let same : is.dispatching ≡ dispatching lines old =
+    is.executes ∙ ap (λ (c : Committing). execute c.hardware) is.commits in
     subst (λ (d : Dispatching). d.hardware.front.halted ≡ true → new.front ≡ d.hardware.front) same
-    (fetch-cases any_prediction is.dispatching.hardware.cache.backing old.cycle is.dispatching.hardware.front new.front is.fetch_stop
+    (fetch-cases any_prediction is.dispatching.hardware.cache.backing old.cycle is.dispatching.hardware.front
+    new.front is.fetch_stop
     (λ halted stays h. stays) (λ runs adds h. absurd (true≢false (sym h ∙ runs))) is.fetches)
 
-module _ (v : Values) {earlier : List Step} {old new : Hardware} {lines : Lines} {report : Report} (before : History v earlier old) (is : IsCycle any_prediction lines old report new)
+module _ (v : Values) {earlier : List Step} {old new : Hardware} {lines : Lines} {report : Report}
+    (before : History v earlier old) (is : IsCycle any_prediction lines old report new)
     (linked : Linked v old.cycle (IsOpen v old.front.halted old.cycle) (λ c. 0) (marks_in earlier old)) where
   abbrev Was : List Mark → Type 0
   Was = WasLinked v old.cycle old.front.halted (length (marks_in earlier old))
 
   passed : Passed v Was earlier lines old report new
   passed =
-      cycle_passes (history_is_legal before) lines new report (was_linked_kept v old.cycle old.front.halted (length (marks_in earlier old))) (history_is_sound before)
+      cycle_passes (history_is_legal before) lines new report
+      (was_linked_kept v old.cycle old.front.halted (length (marks_in earlier old))) (history_is_sound before)
       ([], rw (append-nil (marks_in earlier old)) linked, rw (append-nil (marks_in earlier old)) refl) is
 
   abbrev d : Hardware
@@ -53,18 +69,28 @@ module _ (v : Values) {earlier : List Step} {old new : Hardware} {lines : Lines}
       let commits = commit_goes_by n b earlier set.contains (due g.csrs g.lines) g begins in
       let c = (committing lines old).hardware in
       let issues = drain_and_issue n b v old.cycle all c (rw (passed.steps) commits) in
-      broadcast_and_dispatch n b v old.cycle all (issued_all lines old) passed.issues.basics.cycle passed.issues.basics.always.sizes.values issues
+      broadcast_and_dispatch n b v old.cycle all
+      (issued_all lines old) passed.issues.basics.cycle passed.issues.basics.always.sizes.values issues
 
-  fetches_none : {P : Type 0} (f : Fetched) (fs : List Fetched) → passed.fetches.added ≡ f ∷ fs → d.front.halted ≡ true → P
+  fetches_none : {P : Type 0} (f : Fetched) (fs : List Fetched) → passed.fetches.added ≡ f ∷ fs →
+      d.front.halted ≡ true → P
   fetches_none f fs given halted =
       let same = ap (λ (r : FetchBuffer). length r.entries) (stays_halted is halted) in
-      absurd (omega (arith, same, ap length passed.fetches.entries, length-append d.front.entries passed.fetches.added, ap length given))
+      absurd (omega (
+        arith,
+        same,
+        ap length passed.fetches.entries,
+        length-append d.front.entries passed.fetches.added,
+        ap length given,
+      ))
 
   abbrev Next : List Mark → Type 0
   Next ms = Linked v (old.cycle + 1) (IsOpen v new.front.halted (old.cycle + 1)) (λ c. 0) ms
 
-  new_ones : {fs : List Fetched} → passed.fetches.added ≡ fs → Each (λ m. m.fetched ≡ old.cycle) (map mark_of_fetched fs)
-  new_ones {fs} at = Each-map _ _ fs (Each-weaker _ _ (λ f w. w.0) fs (subst (Each (IsNew old.cycle)) at passed.fetches.are_new))
+  new_ones : {fs : List Fetched} → passed.fetches.added ≡ fs →
+      Each (λ m. m.fetched ≡ old.cycle) (map mark_of_fetched fs)
+  new_ones {fs} at =
+      each_image _ (λ f w. w.0) _ (subst (Each (IsNew old.cycle)) at passed.fetches.are_new)
 
   -- after a squash
 
@@ -81,13 +107,19 @@ module _ (v : Values) {earlier : List Step} {old new : Hardware} {lines : Lines}
     where
       by_reason : (d.front.halted ≡ true) ⊎ ((d.front.width ≡ 0) ⊎ (d.front.capacity - length d.front.entries ≡ 0)) → ⊥
       by_reason (inl halted) = true≢false (sym halted ∙ runs)
-      by_reason (inr (inl narrow)) = let legal = (history_is_legal before).pipeline.fetch_width in omega (arith, narrow, passed.dispatches.basics.always.sizes.width, legal)
-      by_reason (inr (inr full)) = let legal = (history_is_legal before).pipeline.fetch_buffer in let empty = ap length none in omega (arith, full, empty, passed.dispatches.basics.always.sizes.room, legal)
+      by_reason (inr (inl narrow)) =
+          let legal = (history_is_legal before).pipeline.fetch_width in
+          omega (arith, narrow, passed.dispatches.basics.always.sizes.width, legal)
+      by_reason (inr (inr full)) =
+          let legal = (history_is_legal before).pipeline.fetch_buffer in let empty = ap length none in
+          omega (arith, full, empty, passed.dispatches.basics.always.sizes.room, legal)
   after_squash last none runs (f ∷ fs) at =
       let was = passed.dispatches.marks in
-      let cut = linked_cut v old.cycle (IsOpen v old.front.halted old.cycle) (Squashes v old.cycle) (λ c. 0) (marks_in all d) was.0 last was.1 in
+      let cut = linked_cut v old.cycle (IsOpen v old.front.halted old.cycle) (Squashes v old.cycle) (λ c. 0)
+      (marks_in all d) was.0 last was.1 in
       let these = new_ones at in
-      linked_on v old.cycle Behind (IsOpen v new.front.halted (old.cycle + 1)) (λ c. 0) (marks_in all d) (mark_of_fetched f) (map mark_of_fetched fs) (squash_followed (mark_of_fetched f) these.0) cut
+      linked_on v old.cycle Behind (IsOpen v new.front.halted (old.cycle + 1)) (λ c. 0) (marks_in all d)
+      (mark_of_fetched f) (map mark_of_fetched fs) (squash_followed (mark_of_fetched f) these.0) cut
       (λ h. linked_words v old.cycle new.front.halted h (map mark_of_fetched (f ∷ fs)) these)
 
   -- where nothing was squashed
@@ -97,40 +129,48 @@ module _ (v : Values) {earlier : List Step} {old new : Hardware} {lines : Lines}
     still =
         let was = passed.dispatches.marks in
         let none = no_rest (marks_in all d) was.0 was.2 (size_of_marks all d ∙ uncut.0) in
-        subst (Linked v old.cycle (IsOpen v old.front.halted old.cycle) (λ c. 0)) (ap (λ l. marks_in all d ++ l) none ∙ append-nil (marks_in all d)) was.1
+        subst (Linked v old.cycle (IsOpen v old.front.halted old.cycle) (λ c. 0))
+        (ap (λ l. marks_in all d ++ l) none ∙ append-nil (marks_in all d)) was.1
 
     on_followed : (f : Fetched) (fs : List Fetched) → passed.fetches.added ≡ f ∷ fs → f.cycle ≡ old.cycle →
-        (h : ℕ → ℕ) (x : Mark) → IsOpen v old.front.halted old.cycle h x → Followed v (old.cycle + 1) h x (mark_of_fetched f)
+        (h : ℕ → ℕ) (x : Mark) → IsOpen v old.front.halted old.cycle h x →
+        Followed v (old.cycle + 1) h x (mark_of_fetched f)
     on_followed f fs at same h x (inl halted) = fetches_none f fs at (uncut.1 ∙ halted)
     on_followed f fs at same h x (inr (inl over)) = (omega (arith, same), inl (rw same over))
     on_followed f fs at same h x (inr (inr full)) = (omega (arith, same), inr (inr (rw same full)))
 
     -- the words fill the buffer
-    full_now : d.front.capacity - length d.front.entries ≡ 0 → v.fetch_buffer ≤ held_after (λ c. 0) (marks_in all d) old.cycle
+    full_now : d.front.capacity - length d.front.entries ≡ 0 →
+        v.fetch_buffer ≤ held_after (λ c. 0) (marks_in all d) old.cycle
     full_now full =
         let b = passed.dispatches.basics in
-        let words = Each-weaker _ _ (λ f w. (omega (arith, w.0), w.1)) _ b.fetched in
+        let words : Each (SoundFetched (old.cycle + 1)) d.front.entries =
+        each_then (λ f w. (omega (arith, w.0), w.1)) _ b.fetched in
         let held = held_count (λ c. 0) (marks_in all d) old.cycle in
         let counts = count-as_of is_buffered_mark old.cycle (marks_in all d) in
-        let settled = ap (count is_buffered_mark) (as_of_now old.cycle _ (marks_settled v old.cycle all _ _ b.rows b.entries words)) in
+        let settled = ap (count is_buffered_mark)
+        (as_of_now old.cycle _ (marks_settled v old.cycle all _ _ b.rows b.entries words)) in
         let many = buffered_words all d.rob.entries d.front.entries in
         omega (arith, full, b.always.sizes.room, held, counts, settled, many)
 
     stays_open : v.fetch_buffer ≤ held_after (λ c. 0) (marks_in all d) old.cycle → (h : ℕ → ℕ) (x : Mark) →
-        with_word h x old.cycle ≡ held_after (λ c. 0) (marks_in all d) old.cycle → IsOpen v old.front.halted old.cycle h x →
-        IsOpen v new.front.halted (old.cycle + 1) h x
-    stays_open full h x same (inl halted) = inl (ap (λ (r : FetchBuffer). r.halted) (stays_halted is (uncut.1 ∙ halted)) ∙ uncut.1 ∙ halted)
+        with_word h x old.cycle ≡ held_after (λ c. 0) (marks_in all d) old.cycle →
+        IsOpen v old.front.halted old.cycle h x → IsOpen v new.front.halted (old.cycle + 1) h x
+    stays_open full h x same (inl halted) =
+        inl (ap (λ (r : FetchBuffer). r.halted) (stays_halted is (uncut.1 ∙ halted)) ∙ uncut.1 ∙ halted)
     stays_open full h x same (inr (inl over)) = inr (inl (by_later x.retired over))
       where
         by_later : (o : Option ℕ) → IsBy o old.cycle → IsBy o (old.cycle + 1)
         by_later None by = by
         by_later (Some c) by = omega (arith, by)
-    stays_open full h x same (inr (inr filled)) = inr (inr (λ c after earlier. by_cycle c after (cases_lt c old.cycle) earlier))
+    stays_open full h x same (inr (inr filled)) =
+        inr (inr (λ c after earlier. by_cycle c after (cases_lt c old.cycle) earlier))
       where
         by_cycle : (c : ℕ) → x.fetched < c → (c < old.cycle) ⊎ (old.cycle ≤ c) → c < old.cycle + 1 →
             v.fetch_buffer ≤ with_word h x c
         by_cycle c after (inl lt) earlier = filled c after lt
-        by_cycle c after (inr le) earlier = let at : c ≡ old.cycle = omega (arith, le, earlier) in rw at (omega (arith, full, same))
+        by_cycle c after (inr le) earlier =
+            let at : c ≡ old.cycle = omega (arith, le, earlier) in rw at (omega (arith, full, same))
 
     goes_on : (fs : List Fetched) → passed.fetches.added ≡ fs → Next (marks_in all d ++ map mark_of_fetched fs)
     goes_on [] at = rw (append-nil (marks_in all d)) (by_reason (passed.fetches.goes_on at))
@@ -138,14 +178,19 @@ module _ (v : Values) {earlier : List Step} {old new : Hardware} {lines : Lines}
         by_reason : (d.front.halted ≡ true) ⊎ ((d.front.width ≡ 0) ⊎ (d.front.capacity - length d.front.entries ≡ 0)) →
             Next (marks_in all d)
         by_reason (inl halted) =
-            linked_stays v old.cycle (IsOpen v old.front.halted old.cycle) (IsOpen v new.front.halted (old.cycle + 1)) (λ c. 0) (marks_in all d)
+            linked_stays v old.cycle (IsOpen v old.front.halted old.cycle) (IsOpen v new.front.halted (old.cycle + 1))
+            (λ c. 0) (marks_in all d)
             (λ h x same was. inl (ap (λ (r : FetchBuffer). r.halted) (stays_halted is halted) ∙ halted)) still
-        by_reason (inr (inl narrow)) = absurd (let legal = (history_is_legal before).pipeline.fetch_width in omega (arith, narrow, passed.dispatches.basics.always.sizes.width, legal))
+        by_reason (inr (inl narrow)) =
+            absurd (let legal = (history_is_legal before).pipeline.fetch_width in
+            omega (arith, narrow, passed.dispatches.basics.always.sizes.width, legal))
         by_reason (inr (inr full)) =
-            linked_stays v old.cycle (IsOpen v old.front.halted old.cycle) (IsOpen v new.front.halted (old.cycle + 1)) (λ c. 0) (marks_in all d) (stays_open (full_now full)) still
+            linked_stays v old.cycle (IsOpen v old.front.halted old.cycle) (IsOpen v new.front.halted (old.cycle + 1))
+            (λ c. 0) (marks_in all d) (stays_open (full_now full)) still
     goes_on (f ∷ fs) at =
         let these = new_ones at in
-        linked_on v old.cycle (IsOpen v old.front.halted old.cycle) (IsOpen v new.front.halted (old.cycle + 1)) (λ c. 0) (marks_in all d) (mark_of_fetched f) (map mark_of_fetched fs) (on_followed f fs at these.0) still
+        linked_on v old.cycle (IsOpen v old.front.halted old.cycle) (IsOpen v new.front.halted (old.cycle + 1)) (λ c. 0)
+        (marks_in all d) (mark_of_fetched f) (map mark_of_fetched fs) (on_followed f fs at these.0) still
         (λ h. linked_words v old.cycle new.front.halted h (map mark_of_fetched (f ∷ fs)) these)
 
   by_squash : LeftByBroadcast (length (marks_in earlier old)) old.front.halted v old.cycle all d →
@@ -153,12 +198,19 @@ module _ (v : Values) {earlier : List Step} {old new : Hardware} {lines : Lines}
   by_squash (inl (inl uncut)) = goes_on uncut passed.fetches.added refl
   by_squash (inl (inr empty)) =
       after_squash
-      (subst (LastIs (Squashes v old.cycle)) (sym (ap (λ es. marks all es d.front.entries) empty.0 ∙ ap (λ fs. marks all [] fs) empty.1 ∙ append-nil (map mark_of_row (rows_of all)))) (last_row v old.cycle _ passed.dispatches.basics.rows))
+      (subst (LastIs (Squashes v old.cycle))
+      (sym (ap (λ es. marks all es d.front.entries) empty.0 ∙ ap (λ fs. marks all [] fs) empty.1 ∙
+      append-nil (map mark_of_row (rows_of all))))
+      (last_row v old.cycle _ passed.dispatches.basics.rows))
       empty.1 empty.2 passed.fetches.added refl
   by_squash (inr mended) =
       after_squash
-      (subst (LastIs (Squashes v old.cycle)) (sym (ap (λ es. marks all es d.front.entries) mended.entries ∙ ap (λ fs. marks all (mended.older ++ mended.last ∷ []) fs) mended.words ∙ marks_at_entry all mended.older [] mended.last []))
-      (last_at (Squashes v old.cycle) (map mark_of_row (rows_of all) ++ map mark_of_entry mended.older) (mark_of_entry mended.last) (inr (mended.early, mended.sent))))
+      (subst (LastIs (Squashes v old.cycle))
+      (sym (ap (λ es. marks all es d.front.entries) mended.entries ∙
+      ap (λ fs. marks all (mended.older ++ mended.last ∷ []) fs) mended.words ∙
+      marks_at_entry all mended.older [] mended.last []))
+      (last_at (Squashes v old.cycle) (map mark_of_row (rows_of all) ++ map mark_of_entry mended.older)
+      (mark_of_entry mended.last) (inr (mended.early, mended.sent))))
       mended.words mended.runs passed.fetches.added refl
 
   pub linked_in_cycle : Linked v new.cycle (IsOpen v new.front.halted new.cycle) (λ c. 0) (marks_in all new)

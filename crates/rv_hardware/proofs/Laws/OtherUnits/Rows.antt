@@ -1,11 +1,11 @@
 -- Of rows that hold a unit in a cycle there are at most as many as there are units.
-use Rattle.rv_hardware.proofs.Words.{◌≡◌, ℕ, ◌+◌, ◌<◌, ◌≤◌, Bool, true, false, ◌&&◌, List, ◌++◌, IfSome, ◌==◌, Some, None, count_by, Option, arith, is_of_kind, kind_of_word, at_kind, Lines, Kind, Values, Fetched, Hardware, Report, rows_of, Execution, Row, Step, Each-all, count, count-le}
-use Rattle.rv_hardware.proofs.Marks.Cited.{in_cycle, Shows, counted_law, History, Passed, dispatching, Mark, Start, mark_of_row, mark_of_entry, mark_of_fetched, marks_in, Extends, SoundRow, count_in_flight}
+use Rattle.rv_hardware.proofs.Words.{◌≡◌, ℕ, ◌+◌, ◌≤◌, Bool, true, false, ◌&&◌, List, ◌++◌, ◌==◌, Some, None, count_by}
+use Rattle.rv_hardware.proofs.Words.{Option, arith, is_of_kind, kind_of_word, at_kind, Lines, Kind, Values, Fetched}
+use Rattle.rv_hardware.proofs.Words.{Hardware, Report, rows_of, Row, Step, Each-all, count, count-le}
+use Rattle.rv_hardware.proofs.Marks.Cited.{in_cycle, Shows, counted_law, History, Passed, dispatching, Mark, Start}
+use Rattle.rv_hardware.proofs.Marks.Cited.{mark_of_row, mark_of_entry, mark_of_fetched, marks_in, Extends, SoundRow}
+use Rattle.rv_hardware.proofs.Marks.Cited.{count_in_flight}
 use Rattle.rv_hardware.proofs.Laws.OtherUnits.Phases.{holds_mark, units_of_history, units_kept}
-
--- an execution lies between the dispatch and the retirement
-abbrev pub Between : ℕ → ℕ → Option Execution → Type 0
-Between D C x = IfSome x (λ x. (D < x.issued) × (x.issued + x.cost ≤ x.broadcast) × (x.broadcast < C))
 
 -- at most as many as hold a unit
 module _ {v : Values} (k : Kind) {test : ℕ → Mark → Bool}
@@ -13,14 +13,17 @@ module _ {v : Values} (k : Kind) {test : ℕ → Mark → Bool}
     (gone : (now : ℕ) (row : Row) → SoundRow v (now + 1) row → test now (mark_of_row row) ≡ false)
     (no_word : (now : ℕ) (f : Fetched) → test now (mark_of_fetched f) ≡ false) where
   held_at_end : (earlier : List Step) (old new : Hardware) (lines : Lines) (report : Report) → History v earlier old →
-      History v (earlier ++ report.steps) new → Passed v (Extends old.cycle (marks_in earlier old)) earlier lines old report new →
+      History v (earlier ++ report.steps) new →
+      Passed v (Extends old.cycle (marks_in earlier old)) earlier lines old report new →
       count (test old.cycle) (marks_in (earlier ++ report.steps) new) ≤ (at_kind k v.kinds).units
   held_at_end earlier old new lines report before after passed =
       let p : Mark → Bool = test old.cycle in
       let d : Hardware = (dispatching lines old).hardware in
       let all = count_in_flight p passed (gone old.cycle) (no_word old.cycle) in
       let held = in_cycle (units_kept v old.cycle) passed (units_of_history before) k in
-      let entries = count-le (λ e. p (mark_of_entry e)) (λ e. holds_mark v k old.cycle (mark_of_entry e)) d.rob.entries (Each-all (λ e. p (mark_of_entry e) ≡ true → holds_mark v k old.cycle (mark_of_entry e) ≡ true) (λ e. holds old.cycle (mark_of_entry e)) d.rob.entries) in
+      let entries = count-le (λ e. p (mark_of_entry e)) (λ e. holds_mark v k old.cycle (mark_of_entry e)) d.rob.entries
+      (Each-all (λ e. p (mark_of_entry e) ≡ true → holds_mark v k old.cycle (mark_of_entry e) ≡ true)
+      (λ e. holds old.cycle (mark_of_entry e)) d.rob.entries) in
       let tied = held.tied old.cycle (omega arith) in
       let within = held.within old.cycle (omega arith) in
       omega (arith, all, entries, tied, within)

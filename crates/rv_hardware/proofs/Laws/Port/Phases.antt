@@ -1,18 +1,37 @@
 -- Through every phase the port is busy until each load that uses the cache is over, and one begins when all others are.
-use Rattle.rv_hardware.proofs.Words.{◌≡◌, ℕ, ◌+◌, ◌<◌, ◌≤◌, Bool, true, false, not, ◌&&◌, ◌⊎◌, List, [], ◌∷◌, ◌++◌, IfSome, nat_le, None, Option, sym, refl, ap, ◌∙◌, subst, inl, inr, true≢false, append_assoc, arith, leb-true, IsLegal, Instr, Kind, Values, Each, finished, predicting, started, Entry, with_write_back, with_drained, Hardware, cost_of, issued, path, with_access, and_first, and_second, Each-append, Each-left, Each-right, Each-set, Each-place, Each-weaker, Each-all, Each-both, EveryPair, EveryPair-append, EveryPair-left, EveryPair-right, EveryPair-across, EveryPair-set}
-use Rattle.rv_hardware.proofs.Marks.Cited.{with_entries, IsKeptByBroadcast, with_mended, IsKeptByCommit, IsKeptByDispatch, IsKeptByDrain, IsReady, ready-parts, InCycle, IsKeptInCycle, finished_mark, dispatched_mark, message_at, started_entries, Mark, Start, mark_of_entry, start_of_issue, positive_cost}
-use Rattle.rv_hardware.proofs.Laws.Port.Loads.{uses_cache, WhereUsed, OverBy, OneAtATime, path_of_user, has_its_port, port_grows}
+use Rattle.rv_hardware.proofs.Words.{◌≡◌, ℕ, ◌+◌, ◌<◌, ◌≤◌, Bool, true, false, not, ◌&&◌, ◌⊎◌, List, [], ◌∷◌, ◌++◌}
+use Rattle.rv_hardware.proofs.Words.{IfSome, nat_le, None, Option, sym, refl, ap, ◌∙◌, subst, inl, inr, true≢false}
+use Rattle.rv_hardware.proofs.Words.{append_assoc, arith, leb-true, IsLegal, Instr, Kind, Values, Each, finished}
+use Rattle.rv_hardware.proofs.Words.{predicting, started, Entry, with_write_back, with_drained, Hardware, cost_of}
+use Rattle.rv_hardware.proofs.Words.{issued, path, with_access, and_first, and_second, Each-left}
+use Rattle.rv_hardware.proofs.Words.{Each-right, Each-set, Each-place, Each-weaker, Each-both, EveryPair}
+use Rattle.rv_hardware.proofs.Words.{EveryPair-append, EveryPair-left, EveryPair-right, EveryPair-across, EveryPair-set}
+use Rattle.rv_hardware.proofs.Words.{each_then, pair_moves, each_moves}
+use Rattle.rv_hardware.proofs.Marks.Cited.{with_entries, IsKeptByBroadcast, with_mended, IsKeptByCommit}
+use Rattle.rv_hardware.proofs.Marks.Cited.{IsKeptByDispatch, IsKeptByDrain, IsReady, ready-parts, InCycle}
+use Rattle.rv_hardware.proofs.Marks.Cited.{IsKeptInCycle, finished_mark, dispatched_mark, message_at, started_entries}
+use Rattle.rv_hardware.proofs.Marks.Cited.{Mark, Start, mark_of_entry, start_of_issue, positive_cost}
+use Rattle.rv_hardware.proofs.Laws.Port.Loads.{uses_cache, WhereUsed, OverBy, OneAtATime, path_of_user, has_its_port}
+use Rattle.rv_hardware.proofs.Laws.Port.Loads.{port_grows}
 
 -- the port is busy until it is over
 abbrev pub Tied : Values → ℕ → Mark → Type 0
 Tied v c m = WhereUsed v m (λ s. (s.cycle + s.cost ≤ c) × (0 < s.cost))
 
+-- of instructions in flight: it is so of each, and no two of them use the cache at one time
+abbrev pub AreTied : Values → ℕ → List Entry → Type 0
+AreTied v c = Each (λ e. Tied v c (mark_of_entry e))
+
+abbrev pub AreApart : Values → ℕ → List Entry → Type 0
+AreApart v now = EveryPair (λ a b. OneAtATime v now (mark_of_entry a) (mark_of_entry b))
+
 -- the port is busy until each load that uses the cache is over, and none began before another was
 pub record PortOk (v : Values) (now : ℕ) (h : Hardware) : Type 0 where
-  pub tie : Each (λ e. Tied v h.port_free (mark_of_entry e)) h.rob.entries
-  pub pairs : EveryPair (λ a b. OneAtATime v now (mark_of_entry a) (mark_of_entry b)) h.rob.entries
+  pub tie : AreTied v h.port_free h.rob.entries
+  pub pairs : AreApart v now h.rob.entries
 
-used_weaker : (v : Values) (i : Option Instr) (o : Option Start) {P Q : Start → Type 0} → ((s : Start) → P s → Q s) → IfSome o (λ s. uses_cache v i s ≡ true → P s) → IfSome o (λ s. uses_cache v i s ≡ true → Q s)
+used_weaker : (v : Values) (i : Option Instr) (o : Option Start) {P Q : Start → Type 0} → ((s : Start) → P s → Q s) →
+    IfSome o (λ s. uses_cache v i s ≡ true → P s) → IfSome o (λ s. uses_cache v i s ≡ true → Q s)
 used_weaker v i o f h = grind arith
 
 tied_later : (v : Values) (c d : ℕ) (m : Mark) → c ≤ d → Tied v c m → Tied v d m
@@ -23,8 +42,8 @@ tied_over v c d m le h = used_weaker v m.instruction m.start (λ s k. omega (ari
 
 -- the same entries, or fewer
 
-pub port_same : {v : Values} {now : ℕ} (g : Hardware) {h : Hardware} → g.rob.entries ≡ h.rob.entries → h.port_free ≤ g.port_free →
-    PortOk v now h → PortOk v now g
+pub port_same : {v : Values} {now : ℕ} (g : Hardware) {h : Hardware} → g.rob.entries ≡ h.rob.entries →
+    h.port_free ≤ g.port_free → PortOk v now h → PortOk v now g
 port_same g given le ok = grind (arith, Each-weaker, tied_later)
 
 -- where the port is found idle, it is free by now
@@ -35,10 +54,11 @@ port_commit : (v : Values) (now : ℕ) → IsKeptByCommit (PortOk v now)
 port_commit v now = record {
   empties = λ h s retired ok. record { tie = tt; pairs = tt };
   retires = λ h e es s message ok split known faultless. record {
-    tie = (subst (Each (λ x. Tied v h.port_free (mark_of_entry x))) split ok.tie).1;
-    pairs = (subst (EveryPair (λ a b. OneAtATime v now (mark_of_entry a) (mark_of_entry b))) split ok.pairs).1;
+    tie = (subst (AreTied v h.port_free) split ok.tie).1;
+    pairs = (subst (AreApart v now) split ok.pairs).1;
   };
-  writes_back = λ h ok drained. let le = drained_idle _ h drained in port_same (with_write_back h) refl (omega (arith, le)) ok;
+  writes_back =
+      λ h ok drained. let le = drained_idle _ h drained in port_same (with_write_back h) refl (omega (arith, le)) ok;
 }
 
 port_drain : (v : Values) (now : ℕ) → IsKeptByDrain (PortOk v now)
@@ -59,7 +79,9 @@ pub turned : (v : Values) (now : ℕ) (a b : Mark) → OneAtATime v now a b → 
 turned v now a b p = (p.1, p.0)
 
 module _ {v : Values} (legal : IsLegal v) (now : ℕ) where
-  module _ {k : Kind} {h : Hardware} {older : List Entry} (younger : List Entry) {e : Entry} (at : h.rob.entries ≡ older ++ e ∷ younger) (ready : IsReady h k older e) (p : InCycle v now h × PortOk v now h) where
+  module _ {k : Kind} {h : Hardware} {older : List Entry} (younger : List Entry) {e : Entry}
+      (at : h.rob.entries ≡ older ++ e ∷ younger) (ready : IsReady h k older e)
+      (p : InCycle v now h × PortOk v now h) where
     abbrev new_start : Start
     new_start = start_of_issue (record { cycle = h.cycle; cost = cost_of h k (path h older e) }) (message_at h older e)
 
@@ -68,6 +90,9 @@ module _ {v : Values} (legal : IsLegal v) (now : ℕ) where
 
     abbrev new_port : ℕ
     new_port = (with_access (path h older e) h).port_free
+
+    abbrev IsBesideNew : Entry → Type 0
+    IsBesideNew z = OneAtATime v now (mark_of_entry z) (mark_of_entry new_entry)
 
     not_true : (b : Bool) → not b ≡ true → b ≡ false
     not_true b is = grind arith
@@ -80,62 +105,77 @@ module _ {v : Values} (legal : IsLegal v) (now : ℕ) where
     grows : h.port_free ≤ new_port
     grows = port_grows h (path h older e) (has_its_port h older e ready.loads)
 
-    others : (xs : List Entry) → Each (λ z. Tied v h.port_free (mark_of_entry z)) xs →
-        Each (λ z. OneAtATime v now (mark_of_entry z) (mark_of_entry new_entry)) xs
+    others : (xs : List Entry) → AreTied v h.port_free xs → Each IsBesideNew xs
     others xs tie = by_use (uses_cache v e.instruction (new_start)) refl
       where
-        by_use : (b : Bool) → uses_cache v e.instruction (new_start) ≡ b →
-            Each (λ z. OneAtATime v now (mark_of_entry z) (mark_of_entry new_entry)) xs
+        by_use : (b : Bool) → uses_cache v e.instruction (new_start) ≡ b → Each IsBesideNew xs
         by_use true used =
             Each-weaker _ _
-            (λ z k. pair_with_new v now (mark_of_entry z) (mark_of_entry new_entry) (inl (tied_later v h.port_free now (mark_of_entry z) (let idle = (by_cache used).0 in omega (arith, idle, p.0.1)) k))) xs tie
+            (λ z k. pair_with_new v now (mark_of_entry z) (mark_of_entry new_entry)
+            (inl (tied_later v h.port_free now (mark_of_entry z)
+            (let idle = (by_cache used).0 in omega (arith, idle, p.0.1)) k)))
+            xs tie
         by_use false used =
-            Each-weaker _ _
-            (λ z k. pair_with_new v now (mark_of_entry z) (mark_of_entry new_entry) (inr (λ is. absurd (true≢false (sym is ∙ used))))) xs tie
+            each_then (λ z k.
+            pair_with_new v now (mark_of_entry z) (mark_of_entry new_entry)
+            (inr (λ is. absurd (true≢false (sym is ∙ used))))) _
+            tie
 
     pub started_port : PortOk v now (issued k h older e)
     started_port =
-        let tie = subst (Each (λ z. Tied v h.port_free (mark_of_entry z))) at p.1.tie in
-        let pairs = subst (EveryPair (λ a b. OneAtATime v now (mark_of_entry a) (mark_of_entry b))) at p.1.pairs in
+        let tie = subst (AreTied v h.port_free) at p.1.tie in
+        let pairs = subst (AreApart v now) at p.1.pairs in
         let olders = Each-left _ older _ tie in
         let youngers = (Each-right _ older _ tie).1 in
         let right = EveryPair-right _ older _ pairs in
         record {
           tie = rw (started_entries k h older younger e at)
-              (Each-set _ older younger e _ (λ used. ((by_cache used).1, positive_cost legal h p.0.0 k (path h older e)))
-              (Each-weaker _ _ (λ z w. tied_later v h.port_free new_port (mark_of_entry z) grows w) _ tie));
+              (Each-set _ older younger e _
+              (λ used. ((by_cache used).1, positive_cost legal h p.0.0 k (path h older e)))
+              (each_then (λ z w. tied_later v h.port_free new_port (mark_of_entry z) grows w) _ tie));
           pairs = rw (started_entries k h older younger e at)
-              (EveryPair-append _ older _ (EveryPair-left _ older _ pairs)
-              (Each-weaker _ _ (λ z w. turned v now (mark_of_entry z) (mark_of_entry new_entry) w) younger (others younger youngers), right.1)
+              (EveryPair-append _ older _ (EveryPair-left _ older _ pairs) (
+                each_then (λ z w. turned v now (mark_of_entry z) (mark_of_entry new_entry) w) _
+                    (others younger youngers),
+                right.1,
+              )
               (Each-both _ (λ a w n. (n, w.1)) older (EveryPair-across _ older _ pairs) (others older olders)));
         }
 
 -- broadcast and dispatch: what began stays
 
 -- a mark with the same start
-same_tied : (v : Values) (c : ℕ) (m n : Mark) → n.instruction ≡ m.instruction → n.start ≡ m.start → Tied v c m → Tied v c n
+same_tied : (v : Values) (c : ℕ) (m n : Mark) → n.instruction ≡ m.instruction → n.start ≡ m.start →
+    Tied v c m → Tied v c n
 same_tied v c m n instruction start h = rw (instruction, start) h
 
-same_first : (v : Values) (now : ℕ) (m n z : Mark) → n.instruction ≡ m.instruction → n.start ≡ m.start → OneAtATime v now m z →
-    OneAtATime v now n z
+same_first : (v : Values) (now : ℕ) (m n z : Mark) → n.instruction ≡ m.instruction → n.start ≡ m.start →
+    OneAtATime v now m z → OneAtATime v now n z
 same_first v now m n z instruction start h = rw (instruction, start) h
 
-same_second : (v : Values) (now : ℕ) (m n z : Mark) → n.instruction ≡ m.instruction → n.start ≡ m.start → OneAtATime v now z m →
-    OneAtATime v now z n
-same_second v now m n z instruction start h = turned v now n z (same_first v now m n z instruction start (turned v now z m h))
+same_second : (v : Values) (now : ℕ) (m n z : Mark) → n.instruction ≡ m.instruction → n.start ≡ m.start →
+    OneAtATime v now z m → OneAtATime v now z n
+same_second v now m n z instruction start h =
+    turned v now n z (same_first v now m n z instruction start (turned v now z m h))
 
-module _ {v : Values} {now : ℕ} (g : Hardware) {h : Hardware} (older younger : List Entry) (e x : Entry) (at : h.rob.entries ≡ older ++ e ∷ younger)
-    (instruction : (mark_of_entry x).instruction ≡ (mark_of_entry e).instruction) (start : (mark_of_entry x).start ≡ (mark_of_entry e).start) (port : g.port_free ≡ h.port_free) (ok : PortOk v now h) where
-  set_tie : Each (λ z. Tied v g.port_free (mark_of_entry z)) (older ++ x ∷ younger)
+module _ {v : Values} {now : ℕ} (g : Hardware) {h : Hardware} (older younger : List Entry) (e x : Entry)
+    (at : h.rob.entries ≡ older ++ e ∷ younger)
+    (instruction : (mark_of_entry x).instruction ≡ (mark_of_entry e).instruction)
+    (start : (mark_of_entry x).start ≡ (mark_of_entry e).start) (port : g.port_free ≡ h.port_free)
+    (ok : PortOk v now h) where
+  set_tie : AreTied v g.port_free (older ++ x ∷ younger)
   set_tie =
-      rw port (let tie = subst (Each (λ z. Tied v h.port_free (mark_of_entry z))) at ok.tie in
-      Each-set _ older younger e x (same_tied v h.port_free (mark_of_entry e) (mark_of_entry x) instruction start (Each-place _ older younger e tie)) tie)
+      rw port (let tie = subst (AreTied v h.port_free) at ok.tie in
+      Each-set _ older younger e x
+      (same_tied v h.port_free (mark_of_entry e) (mark_of_entry x) instruction start (Each-place _ older younger e tie))
+      tie)
 
-  set_pairs : EveryPair (λ a b. OneAtATime v now (mark_of_entry a) (mark_of_entry b)) (older ++ x ∷ younger)
+  set_pairs : AreApart v now (older ++ x ∷ younger)
   set_pairs =
       EveryPair-set _ older younger e x
-      (λ z w. same_second v now (mark_of_entry e) (mark_of_entry x) (mark_of_entry z) instruction start w) (λ z w. same_first v now (mark_of_entry e) (mark_of_entry x) (mark_of_entry z) instruction start w)
-      (subst (EveryPair (λ a b. OneAtATime v now (mark_of_entry a) (mark_of_entry b))) at ok.pairs)
+      (λ z w. same_second v now (mark_of_entry e) (mark_of_entry x) (mark_of_entry z) instruction start w)
+      (λ z w. same_first v now (mark_of_entry e) (mark_of_entry x) (mark_of_entry z) instruction start w)
+      (subst (AreApart v now) at ok.pairs)
 
   port_set : g.rob.entries ≡ older ++ x ∷ younger → PortOk v now g
   port_set at' = record { tie = rw at' set_tie; pairs = rw at' set_pairs }
@@ -151,7 +191,8 @@ port_broadcast v now = record {
   broadcasts = λ h older younger e message ok split gives.
       let x : Entry = finished message h.cycle e in
       let same = finished_mark h.cycle e gives.runs in
-      port_set (with_entries (older ++ x ∷ younger) h) older younger e x split refl (ap (λ (m : Mark). m.start) same) refl ok refl;
+      port_set (with_entries (older ++ x ∷ younger) h) older younger e x split refl
+      (ap (λ (m : Mark). m.start) same) refl ok refl;
   mends = λ h older younger e next ok split.
       let x : Entry = predicting next e in
       port_cut (with_mended next (older ++ x ∷ []) h) older younger e x split refl refl refl ok refl;
@@ -165,7 +206,7 @@ pub new_pair : (v : Values) (now : ℕ) (a n : Mark) → n.start ≡ None → On
 new_pair v now a n none = pair_with_new v now a n (inr (not_started v n (λ t. ⊥) none))
 
 port_dispatch : (v : Values) (now : ℕ) → IsKeptByDispatch (PortOk v now)
-port_dispatch v now = grind (arith, dispatched_mark, Each-append, not_started, EveryPair-append, Each-all, new_pair)
+port_dispatch v now = grind (arith, pair_moves, each_moves, dispatched_mark, not_started, new_pair)
 
 -- each phase of a cycle keeps it
 pub port_kept : {v : Values} → IsLegal v → (now : ℕ) → IsKeptInCycle v now (PortOk v now)
