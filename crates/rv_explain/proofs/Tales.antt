@@ -162,18 +162,20 @@ module _ (values : Values) where
     retired = omega (arith, count_by-le-length is_retirement (steps_of (reports_of moments)), few, little);
     exceptions = kept_counted (exceptions_of moments) (omega (arith, length-filter_map exception_of_cycle moments, within));
     interrupts = lines_counted (interruptions_of moments) (omega (arith, length-filter_map interruption_of_cycle moments, within));
-    left = omega (arith, fewer, some);
-    squashed = omega (arith, count_by-le-length (λ (p : Passage). is_squash p.ending) left, fewer, some);
-    branches = omega (arith, count_by-le-length is_retired_branch left, fewer, some);
-    mispredicted = omega (arith, count_by-le-length is_mispredicted_branch left, fewer, some);
-    loads = omega (arith, count_by-le-length (λ p. is_some (retired_load_cost p)) left, fewer, some);
-    quick = omega (arith, count_by-le-length (λ p. is_hit (costs_of values) (retired_load_cost p)) left, fewer, some);
+    left = record {
+      left = omega (arith, fewer, some);
+      squashed = omega (arith, count_by-le-length (λ (p : Passage). is_squash p.ending) left, fewer, some);
+      branches = omega (arith, count_by-le-length is_retired_branch left, fewer, some);
+      mispredicted = omega (arith, count_by-le-length is_mispredicted_branch left, fewer, some);
+      loads = omega (arith, count_by-le-length (λ p. is_some (retired_load_cost p)) left, fewer, some);
+      quick = omega (arith, count_by-le-length (λ p. is_hit (costs_of values) (retired_load_cost p)) left, fewer, some);
+      branch_words = omega (arith, counted_within (word_in Branch) values left, fewer, some);
+      mispredicted_words = omega (arith, counted_within (word_in Mispredicted) values left, fewer, some);
+      outcomes = can_take values (costs_of values) left rows (omega (arith, fewer, some));
+    };
     drains = omega (arith, drains_of-le arrivals h moments, within);
     hits = omega (arith, drains_of-le arrivals h moments, count_by-le-length (λ (cost : ℕ). cost == values.cache.hit) (drains_of arrivals h moments), within);
     stores = can_count_store values (costs_of values) arrivals h moments within;
-    outcomes = can_take values (costs_of values) left rows (omega (arith, fewer, some));
     heads = omega (arith, counted_within itself values (accounts_of h moments), length-accounts h moments, within);
     idle = omega (arith, count_by-le-length is_idle (accounts_of h moments), length-accounts h moments, within);
-    branch_words = omega (arith, counted_within (word_in Branch) values left, fewer, some);
-    mispredicted_words = omega (arith, counted_within (word_in Mispredicted) values left, fewer, some);
   }

@@ -26,8 +26,9 @@ use Rattle.rv_hardware.specs.History.{Moment, reports_of}
 use Rattle.rv_sentences.specs.Interrupt.{AreCountable, by_line, interruption_in, interruptions_of, interrupts_after}
 use Rattle.rv_sentences.specs.Kinds.{IsCountable, kept_after, kept_of}
 use Rattle.rv_sentences.specs.LastStore.{last_store_to, stores_in, stores_of, with_stores}
+use Rattle.rv_sentences.specs.Left.{CanAdd}
 use Rattle.rv_sentences.specs.Load.{loads_of}
-use Rattle.rv_sentences.specs.Outcome.{CanTake, outcomes_at, with_passages}
+use Rattle.rv_sentences.specs.Outcome.{outcomes_at, with_passages}
 use Rattle.rv_counts.specs.Places.{AddUp, all_places, places_of, with_cycle}
 use Rattle.rv_sentences.specs.Stay.{all_stays, awaited_of, no_stays, oldest_awaited, stays_among, stays_of, with_stays}
 use Rattle.rv_sentences.specs.Untaken.{raised_of, raised_with}
@@ -120,17 +121,9 @@ pub record HasRoom (tale : Tale) (more rows : ℕ) : Type 0 where
   pub awaited : sum tale.awaited.words + 1 < 2 ^ 64
   pub exceptions : IsCountable tale.exceptions
   pub interrupts : AreCountable tale.interrupts
-  pub left : tale.work.left + rows < 2 ^ 64
-  pub squashed : tale.work.squashed + rows < 2 ^ 64
-  pub branches : tale.work.branches + rows < 2 ^ 64
-  pub mispredicted : tale.work.mispredicted + rows < 2 ^ 64
-  pub loads : tale.loads.all + rows < 2 ^ 64
-  pub quick : tale.loads.quick + rows < 2 ^ 64
+  pub left : CanAdd tale.work tale.loads tale.branches tale.mispredicted tale.outcomes rows
   pub drains : tale.drains.all + 1 < 2 ^ 64
   pub hits : tale.drains.quick + 1 < 2 ^ 64
-  pub outcomes : CanTake tale.outcomes rows
   pub stores : CanCountStore tale.stores
   pub heads : sum tale.heads.words + 1 < 2 ^ 64
   pub idle : tale.idle + 1 < 2 ^ 64
-  pub branch_words : sum tale.branches.words + rows < 2 ^ 64
-  pub mispredicted_words : sum tale.mispredicted.words + rows < 2 ^ 64

@@ -1,7 +1,8 @@
 -- What is kept of the instructions that left the hardware, where the last of some is added first.
-use Rattle.std.proofs.Common.{◌≡◌, ◌∙◌, ℕ, ◌+◌, Bool, true, false, List, [], ◌∷◌, ◌++◌, length, filter, count_by, is_some, cond, refl, ap, sym, arith, append-nil}
+use Rattle.std.proofs.Common.{◌≡◌, ◌∙◌, ℕ, ◌+◌, ◌≤◌, Bool, true, false, List, [], ◌∷◌, ◌++◌, length, filter, count_by, is_some, cond, refl, ap, sym, arith, append-nil}
 use Rattle.std.proofs.lemmas.List.Elements.{filter-append}
 use Rattle.std.proofs.lemmas.List.Sums.{length-filter, sum_by_push}
+use Rattle.std.specs.Prelude.{sum}
 use Rattle.rv_memory.specs.Memory.{word_of}
 use Rattle.rv_passage.specs.Passage.{is_squash}
 use Rattle.rv_passage.specs.declared.passage.Passage.{Passage}
@@ -10,12 +11,17 @@ use Rattle.rv_counts.specs.Load.{is_hit}
 use Rattle.rv_counts.specs.Passing.{has_left}
 use Rattle.rv_counts.specs.declared.loads.LoadCosts.{LoadCosts}
 use Rattle.rv_sentences.specs.Access.{both}
+use Rattle.rv_sentences.specs.Left.{CanAdd}
 use Rattle.rv_sentences.specs.Load.{loads_of, loads_with, retired_load_cost}
 use Rattle.rv_sentences.specs.Outcome.{outcomes_with, with_passages}
+use Rattle.rv_sentences.specs.WordCount.{with_one}
 use Rattle.rv_sentences.specs.WordNotes.{Notes, with_change}
-use Rattle.rv_sentences.specs.Work.{both_work, is_mispredicted_branch, is_retired_branch, work_of, work_with}
+use Rattle.rv_sentences.specs.Work.{both_work, is_mispredicted_branch, is_retired_branch, word_in, work_of, work_with}
 use Rattle.rv_sentences.specs.declared.{accesses.Accesses.Accesses, outcomes.Outcomes.Outcomes, work.Work.Work}
-use Rattle.rv_sentences.proofs.OutcomesGrow.{no_load, passages-last}
+use Rattle.rv_sentences.specs.declared.work.Class.TheVariants.{Branch, Mispredicted}
+use Rattle.rv_counts.proofs.Rooms.{one_more-within}
+use Rattle.rv_sentences.proofs.CountSums.{sum_with_one}
+use Rattle.rv_sentences.proofs.OutcomesGrow.{can_take_fewer, can_take_others, no_load, passages-last}
 use Rattle.rv_sentences.proofs.Works.{branches_left, mispredicted_left, squashed_left, unretired}
 
 one_more-counted : (is : Bool) (n m : ℕ) → one_more is n + m ≡ n + (m + cond is 1 0)
@@ -59,3 +65,35 @@ module _ (costs : LoadCosts) (ps : List Passage) (p : Passage) (notes : Notes Ou
   pub outcomes-last : with_passages costs (filter has_left ps) (with_change (outcomes_with costs p) notes (word_of p.pc)) ≡ with_passages costs (filter has_left (ps ++ p ∷ [])) notes
   outcomes-last =
       by_left (has_left p) refl ∙ ap (λ l. with_passages costs l notes) (sym (filter-append has_left ps (p ∷ [])))
+
+-- ---- the counts can go on
+
+pub can_add_fewer : {work : Work} {loads : Accesses} {branches mispredicted : Notes ℕ} {outcomes : Notes Outcomes} (fewer more : ℕ) → fewer ≤ more → CanAdd work loads branches mispredicted outcomes more
+    → CanAdd work loads branches mispredicted outcomes fewer
+can_add_fewer {outcomes = outcomes} fewer more under can = record {
+  left = omega (arith, under, can.left);
+  squashed = omega (arith, under, can.squashed);
+  branches = omega (arith, under, can.branches);
+  mispredicted = omega (arith, under, can.mispredicted);
+  loads = omega (arith, under, can.loads);
+  quick = omega (arith, under, can.quick);
+  branch_words = omega (arith, under, can.branch_words);
+  mispredicted_words = omega (arith, under, can.mispredicted_words);
+  outcomes = can_take_fewer outcomes fewer more under can.outcomes;
+}
+
+-- with one more by so many fewer
+pub can_add_others : (costs : LoadCosts) (p : Passage) {work : Work} {loads : Accesses} {branches mispredicted : Notes ℕ} {outcomes : Notes Outcomes} (fewer more : ℕ)
+    → fewer + 1 ≤ more → CanAdd work loads branches mispredicted outcomes more
+    → CanAdd (work_with p work) (loads_with costs p loads) (with_one (word_in Branch p) branches) (with_one (word_in Mispredicted p) mispredicted) (with_change (outcomes_with costs p) outcomes (word_of p.pc)) fewer
+can_add_others costs p {work = work} {loads = loads} {branches = branches} {mispredicted = mispredicted} {outcomes = outcomes} fewer more under can = record {
+  left = omega (arith, under, can.left, one_more-within (has_left p) work.left);
+  squashed = omega (arith, under, can.squashed, one_more-within (is_squash p.ending) work.squashed);
+  branches = omega (arith, under, can.branches, one_more-within (is_retired_branch p) work.branches);
+  mispredicted = omega (arith, under, can.mispredicted, one_more-within (is_mispredicted_branch p) work.mispredicted);
+  loads = omega (arith, under, can.loads, one_more-within (is_some (retired_load_cost p)) loads.all);
+  quick = omega (arith, under, can.quick, one_more-within (is_hit costs (retired_load_cost p)) loads.quick);
+  branch_words = omega (arith, under, can.branch_words, sum_with_one (word_in Branch p) branches);
+  mispredicted_words = omega (arith, under, can.mispredicted_words, sum_with_one (word_in Mispredicted p) mispredicted);
+  outcomes = can_take_others costs p outcomes (with_change (outcomes_with costs p) outcomes (word_of p.pc)) (word_of p.pc) fewer more refl under can.outcomes;
+}

@@ -8,7 +8,7 @@ pub mod LastStores
 pub mod InterruptsGrow
 mod Joined
 mod LargestFirst
-mod LeftGrows
+pub mod LeftGrows
 pub mod KindsGrow
 mod Options
 mod SeriesGrows

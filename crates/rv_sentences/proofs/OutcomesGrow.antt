@@ -71,14 +71,6 @@ within-with costs p most o is = record {
   write_backs = omega (arith, is.write_backs, one_more-within (is_write_back costs (retired_load_cost p)) o.write_backs);
 }
 
-within-passages : (costs : LoadCosts) (ps : List Passage) (most : ℕ) (notes : Notes Outcomes) → Each (IsWithin most) notes.words → Each (IsWithin (most + length ps)) (with_passages costs ps notes).words
-within-passages costs [] most notes each = each-by notes.words (λ o is. within-more most (most + 0) o (omega arith) is) each
-within-passages costs (p ∷ ps) most notes each =
-    let before = within-passages costs ps most notes each in
-    each-change (IsWithin (most + length ps)) (IsWithin (most + length (p ∷ ps))) (outcomes_with costs p) (λ o is. within-more (most + length ps) (most + length (p ∷ ps)) o (omega arith) is)
-    (λ o is. within-more (most + length ps + 1) (most + length (p ∷ ps)) (outcomes_with costs p o) (omega arith) (within-with costs p (most + length ps) o is))
-    (with_passages costs ps notes) (word_of p.pc) before
-
 -- one more can be counted
 pub can_count : (notes : Notes Outcomes) (word more : ℕ) → 1 ≤ more → CanTake notes more → IfSome (note_at notes word) CanCount
 can_count notes word more some can =
@@ -92,13 +84,6 @@ can_take_others costs p old new word fewer more new_is under can = record {
       (each-change (IsWithin can.most) (IsWithin (can.most + 1)) (outcomes_with costs p) (λ o is. within-more can.most (can.most + 1) o (omega arith) is) (λ o is. within-with costs p can.most o is) old word can.within);
   countable = omega (arith, under, can.countable);
 }
-
--- one more can be counted, after some
-pub can_take_one : (costs : LoadCosts) (ps : List Passage) (old new : Notes Outcomes) (word more : ℕ) → new ≡ with_passages costs ps old → length ps + 1 ≤ more → CanTake old more → IfSome (note_at new word) CanCount
-can_take_one costs ps old new word more new_is fewer can =
-    subst (λ (notes : Notes Outcomes). IfSome (note_at notes word) CanCount) (sym new_is)
-    (each-note CanCount (with_passages costs ps old) word
-    (each-by (with_passages costs ps old).words (λ o is. within-more (can.most + length ps) (2 ^ 62) o (omega (arith, fewer, can.countable)) is) (within-passages costs ps can.most old can.within)))
 
 pub can_take_fewer : (notes : Notes Outcomes) (fewer more : ℕ) → fewer ≤ more → CanTake notes more → CanTake notes fewer
 can_take_fewer notes fewer more under can = record { most = can.most; within = can.within; countable = omega (arith, can.countable, under) }

@@ -9,6 +9,7 @@ pub mod Drained
 pub mod Stack
 pub mod Work
 pub mod Outcome
+pub mod Left
 pub mod OutcomeText
 pub mod Spot
 pub mod Hotspot

@@ -1,5 +1,5 @@
 -- What became of the fetched words, and how many of the branches and jumps among them were mispredicted.
-use Rattle.std.specs.Prelude.{ℕ, ◌+◌, ◌/◌, ◌%◌, ◌==◌, ◌&&◌, Bool, if◌then◌else◌, List, ◌++◌, codes, count_by, decimal, is_some, length, Option, Some, None}
+use Rattle.std.specs.Prelude.{ℕ, ◌+◌, ◌/◌, ◌%◌, ◌==◌, ◌&&◌, Bool, if◌then◌else◌, List, ◌++◌, codes, count_by, decimal, length, Option, Some, None}
 use Rattle.rv_isa.specs.Instruction.{is_branch_or_jump}
 use Rattle.rv_memory.specs.Memory.{word_of}
 use Rattle.rv_passage.specs.Passage.{is_squash}
@@ -7,10 +7,9 @@ use Rattle.rv_passage.specs.Prediction.{is_mispredicted}
 use Rattle.rv_passage.specs.declared.passage.Passage.{Passage}
 use Rattle.rv_counts.specs.Counts.{one_more}
 use Rattle.rv_counts.specs.Passing.{has_left, is_retirement}
-use Rattle.rv_sentences.specs.Load.{retired_load_cost}
 use Rattle.rv_sentences.specs.Stack.{parts_of}
 use Rattle.rv_sentences.specs.declared.work.{Class.Class, Work.Work}
-use Rattle.rv_sentences.specs.declared.work.Class.TheVariants.{Left, Squashed, Branch, Mispredicted, Load}
+use Rattle.rv_sentences.specs.declared.work.Class.TheVariants.{Branch, Mispredicted}
 
 -- a branch or a jump retired
 abbrev pub is_retired_branch : Passage → Bool
@@ -22,11 +21,8 @@ is_mispredicted_branch p = is_retired_branch p && is_mispredicted p
 
 -- a fetched word is of a class
 abbrev pub is_of : Class → Passage → Bool
-is_of Left p = has_left p
-is_of Squashed p = is_squash p.ending
 is_of Branch p = is_retired_branch p
 is_of Mispredicted p = is_mispredicted_branch p
-is_of Load p = is_some (retired_load_cost p)
 
 -- the word of RAM that a fetched word is, if it is of a class
 abbrev pub word_in : Class → Passage → Option ℕ
@@ -36,9 +32,9 @@ word_in class p = if is_of class p then Some (word_of p.pc) else None
 abbrev pub work_of : List Passage → Work
 work_of passages = record {
   left = length passages;
-  squashed = count_by (is_of Squashed) passages;
-  branches = count_by (is_of Branch) passages;
-  mispredicted = count_by (is_of Mispredicted) passages;
+  squashed = count_by (λ p. is_squash p.ending) passages;
+  branches = count_by is_retired_branch passages;
+  mispredicted = count_by is_mispredicted_branch passages;
 }
 
 -- that of some instructions and of others
@@ -53,10 +49,10 @@ both_work some others = record {
 -- with one instruction more, if it left the hardware
 abbrev pub work_with : Passage → Work → Work
 work_with p work = record {
-  left = one_more (is_of Left p) work.left;
-  squashed = one_more (is_of Squashed p) work.squashed;
-  branches = one_more (is_of Branch p) work.branches;
-  mispredicted = one_more (is_of Mispredicted p) work.mispredicted;
+  left = one_more (has_left p) work.left;
+  squashed = one_more (is_squash p.ending) work.squashed;
+  branches = one_more (is_retired_branch p) work.branches;
+  mispredicted = one_more (is_mispredicted_branch p) work.mispredicted;
 }
 
 -- a number of tenths of a percent, in brackets at the end of a line

@@ -1,11 +1,12 @@
-ghost use Rattle.std.specs.Prelude.{◌≡◌, ◌+◌, ◌<◌, ◌^◌, IfSome, filter, length, sum};
+ghost use Rattle.std.specs.Prelude.{◌≡◌, filter, length};
 ghost use Rattle.rv_counts.specs.Passing.{has_left};
 ghost use Rattle.rv_memory.specs.Memory.{word_of};
 ghost use Rattle.rv_sentences.specs.Access.{both};
+ghost use Rattle.rv_sentences.specs.Left.{CanAdd};
 ghost use Rattle.rv_sentences.specs.Load.{loads_of, loads_with};
-ghost use Rattle.rv_sentences.specs.Outcome.{CanCount, CanTake, outcomes_with, with_passages};
+ghost use Rattle.rv_sentences.specs.Outcome.{outcomes_with, with_passages};
 ghost use Rattle.rv_sentences.specs.WordCount.{with_all, with_one};
-ghost use Rattle.rv_sentences.specs.WordNotes.{note_at, with_change};
+ghost use Rattle.rv_sentences.specs.WordNotes.{with_change};
 ghost use Rattle.rv_sentences.specs.Work.{both_work, word_in, work_of, work_with};
 ghost use Rattle.rv_sentences.specs.declared.work.Class.TheVariants.{Branch, Mispredicted};
 
@@ -28,15 +29,7 @@ fn add_row(
     costs: &LoadCosts,
     row: &Passage,
 )
-    requires left { work.old.left + 1 < 2 ^ 64 }
-    requires squashed { work.old.squashed + 1 < 2 ^ 64 }
-    requires branches { work.old.branches + 1 < 2 ^ 64 }
-    requires mispredicted { work.old.mispredicted + 1 < 2 ^ 64 }
-    requires loads { loads.old.all + 1 < 2 ^ 64 }
-    requires quick { loads.old.quick + 1 < 2 ^ 64 }
-    requires branch_words { sum branches.old.words + 1 < 2 ^ 64 }
-    requires mispredicted_words { sum mispredicted.old.words + 1 < 2 ^ 64 }
-    requires outcomes { IfSome (note_at outcomes.old (word_of row.now.pc)) CanCount }
+    requires { CanAdd work.old loads.old branches.old mispredicted.old outcomes.old 1 }
     ensures work { work.new ≡ work_with row.now work.old }
     ensures loads { loads.new ≡ loads_with costs.now row.now loads.old }
     ensures branches { branches.new ≡ with_one (word_in Branch row.now) branches.old }
@@ -61,15 +54,7 @@ pub fn add_left(
     costs: &LoadCosts,
     rows: &[Passage],
 )
-    requires left { work.old.left + length rows.now < 2 ^ 64 }
-    requires squashed { work.old.squashed + length rows.now < 2 ^ 64 }
-    requires branches { work.old.branches + length rows.now < 2 ^ 64 }
-    requires mispredicted { work.old.mispredicted + length rows.now < 2 ^ 64 }
-    requires loads { loads.old.all + length rows.now < 2 ^ 64 }
-    requires quick { loads.old.quick + length rows.now < 2 ^ 64 }
-    requires branch_words { sum branches.old.words + length rows.now < 2 ^ 64 }
-    requires mispredicted_words { sum mispredicted.old.words + length rows.now < 2 ^ 64 }
-    requires outcomes { CanTake outcomes.old (length rows.now) }
+    requires { CanAdd work.old loads.old branches.old mispredicted.old outcomes.old (length rows.now) }
     ensures work { work.new ≡ both_work work.old (work_of (filter has_left rows.now)) }
     ensures loads { loads.new ≡ both loads.old (loads_of costs.now rows.now) }
     ensures branches { branches.new ≡ with_all (word_in Branch) rows.now branches.old }

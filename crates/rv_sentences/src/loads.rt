@@ -1,11 +1,9 @@
-ghost use Rattle.std.specs.Prelude.{◌≡◌, ◌+◌, ◌<◌, ◌^◌, count_by, length};
+ghost use Rattle.std.specs.Prelude.{◌≡◌, ◌+◌, ◌<◌, ◌^◌};
 ghost use Rattle.rv_counts.specs.Load.{is_hit};
-ghost use Rattle.rv_sentences.specs.Access.{both};
-ghost use Rattle.rv_sentences.specs.Load.{load_text, loads_of, loads_with, retired_load_cost};
+ghost use Rattle.rv_sentences.specs.Load.{load_text, loads_with, retired_load_cost};
 ghost use Rattle.rv_text.specs.Said.{Says};
 
 use crate::accesses::{Accesses, write_accesses};
-use crate::work::{Class, count};
 use rv_counts::{LoadCosts, has_retired, load_cost};
 use rv_passage::Passage;
 use rv_text::Sink;
@@ -32,18 +30,6 @@ pub fn is_quick(costs: &LoadCosts, passage: &Passage) -> bool
     }
 }
 
-fn count_quick(costs: &LoadCosts, rows: &[Passage]) -> usize
-    ensures { result ≡ count_by (λ p. is_hit costs.now (retired_load_cost p)) rows.now }
-{
-    let mut quick = 0;
-    for row in rows {
-        if is_quick(costs, row) {
-            quick += 1;
-        }
-    }
-    quick
-}
-
 /// Counts an instruction, if it is a load that retired.
 pub(crate) fn add_load(loads: &mut Accesses, costs: &LoadCosts, row: &Passage)
     requires all { loads.old.all + 1 < 2 ^ 64 }
@@ -57,16 +43,6 @@ pub(crate) fn add_load(loads: &mut Accesses, costs: &LoadCosts, row: &Passage)
     if costs.is_quick(cost) {
         loads.quick += 1;
     }
-}
-
-/// Counts the loads that retired among more instructions.
-pub fn add_loads(loads: &mut Accesses, costs: &LoadCosts, rows: &[Passage])
-    requires all { loads.old.all + length rows.now < 2 ^ 64 }
-    requires quick { loads.old.quick + length rows.now < 2 ^ 64 }
-    ensures { loads.new ≡ both loads.old (loads_of costs.now rows.now) }
-{
-    loads.all += count(rows, Class::Load) as u64;
-    loads.quick += count_quick(costs, rows) as u64;
 }
 
 /// Writes how many loads retired, by what they cost.

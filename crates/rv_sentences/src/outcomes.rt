@@ -1,9 +1,8 @@
-ghost use Rattle.std.specs.Prelude.{◌≡◌, ◌+◌, ◌<◌, ◌^◌, IfSome, filter, length};
+ghost use Rattle.std.specs.Prelude.{◌≡◌, ◌+◌, ◌<◌, ◌^◌, IfSome};
 ghost use Rattle.rv_counts.specs.Counts.{one_more};
 ghost use Rattle.rv_counts.specs.Load.{is_miss};
-ghost use Rattle.rv_counts.specs.Passing.{has_left};
 ghost use Rattle.rv_sentences.specs.Load.{retired_load_cost};
-ghost use Rattle.rv_sentences.specs.Outcome.{CanCount, CanTake, is_forwarded, is_write_back, outcomes_with, with_passages};
+ghost use Rattle.rv_sentences.specs.Outcome.{CanCount, is_forwarded, is_write_back, outcomes_with};
 ghost use Rattle.rv_sentences.specs.WordNotes.{note_at, with_change};
 
 use crate::loads::{is_quick, retired_load_cost};
@@ -108,18 +107,5 @@ pub(crate) fn count_in(
     match retired_load_cost(passage) {
         Some(_) => count_load(words, costs, word, passage),
         None => {}
-    }
-}
-
-/// Counts those of some instructions that left the hardware.
-pub fn count_left(words: &mut WordNotes<Outcomes>, costs: &LoadCosts, rows: &[Passage])
-    requires room { CanTake words.old (length rows.now) }
-    ensures { words.new ≡ with_passages costs.now (filter has_left rows.now) words.old }
-{
-    if let [row, rest @ ..] = rows {
-        count_left(words, costs, rest);
-        if !row.is_in_flight() {
-            count_in(words, costs, row.pc / 4, row);
-        }
     }
 }

@@ -1,13 +1,9 @@
-ghost use Rattle.std.specs.Prelude.{◌≡◌, ◌+◌, ◌<◌, ◌^◌, count_by, filter, length, sum};
-ghost use Rattle.rv_counts.specs.Passing.{has_left};
-ghost use Rattle.rv_sentences.specs.Work.{both_work, branches_text, is_mispredicted_branch, is_of, is_retired_branch, part_text, word_in, work_of, work_text, work_with};
-ghost use Rattle.rv_sentences.specs.WordCount.{with_all};
+ghost use Rattle.std.specs.Prelude.{◌≡◌, ◌+◌, ◌<◌, ◌^◌};
+ghost use Rattle.rv_sentences.specs.Work.{branches_text, is_mispredicted_branch, is_of, is_retired_branch, part_text, word_in, work_text, work_with};
 ghost use Rattle.rv_text.specs.Said.{Says};
 
-use crate::loads::retired_load_cost;
 use crate::outcomes::one_more;
 use crate::stack::parts_of;
-use crate::word_notes::{WordNotes, count_one};
 use itoa::Buffer;
 use rv_counts::{has_retired, was_squashed};
 use rv_passage::Passage;
@@ -38,18 +34,13 @@ fn is_mispredicted_branch(passage: &Passage) -> bool
     is_retired_branch(passage) && passage.is_mispredicted()
 }
 
-/// A class of fetched words, by what became of them.
+/// A class of instructions that retired.
 #[derive(Clone, Copy)]
 pub enum Class {
-    /// Those that left the hardware.
-    Left,
-    Squashed,
-    /// The branches and jumps that retired.
+    /// The branches and jumps.
     Branch,
     /// Those of them that were mispredicted.
     Mispredicted,
-    /// The loads that retired.
-    Load,
 }
 
 // Whether a fetched word is of a class.
@@ -57,25 +48,9 @@ fn is_of(class: Class, passage: &Passage) -> bool
     ensures { result ≡ is_of class passage.now }
 {
     match class {
-        Class::Left => !passage.is_in_flight(),
-        Class::Squashed => was_squashed(passage),
         Class::Branch => is_retired_branch(passage),
         Class::Mispredicted => is_mispredicted_branch(passage),
-        Class::Load => retired_load_cost(passage).is_some(),
     }
-}
-
-/// How many fetched words are of a class.
-pub fn count(rows: &[Passage], class: Class) -> usize
-    ensures { result ≡ count_by (is_of class) rows.now }
-{
-    let mut found = 0;
-    for row in rows {
-        if is_of(class, row) {
-            found += 1;
-        }
-    }
-    found
 }
 
 /// The word of RAM that a fetched word is, if it is of a class.
@@ -86,18 +61,6 @@ pub(crate) fn word_in(class: Class, passage: &Passage) -> Option<u32>
         Some(passage.pc / 4)
     } else {
         None
-    }
-}
-
-/// Counts the fetched words that are of a class, each at its word of RAM.
-pub fn count_words(counts: &mut WordNotes<u64>, rows: &[Passage], class: Class)
-    requires room { sum counts.old.words + length rows.now < 2 ^ 64 }
-    ensures { counts.new ≡ with_all (word_in class) rows.now counts.old }
-{
-    let mut left = rows;
-    while let Some((row, before)) = left.split_last() {
-        count_one(counts, word_in(class, row));
-        left = before;
     }
 }
 
@@ -122,20 +85,6 @@ impl Work {
         self.squashed = one_more(was_squashed(row), self.squashed);
         self.branches = one_more(is_retired_branch(row), self.branches);
         self.mispredicted = one_more(is_mispredicted_branch(row), self.mispredicted);
-    }
-
-    /// Adds those of some passages that left the hardware.
-    pub fn add(&mut self, rows: &[Passage])
-        requires left { self.old.left + length rows.now < 2 ^ 64 }
-        requires squashed { self.old.squashed + length rows.now < 2 ^ 64 }
-        requires branches { self.old.branches + length rows.now < 2 ^ 64 }
-        requires mispredicted { self.old.mispredicted + length rows.now < 2 ^ 64 }
-        ensures { self.new ≡ both_work self.old (work_of (filter has_left rows.now)) }
-    {
-        self.left += count(rows, Class::Left) as u64;
-        self.squashed += count(rows, Class::Squashed) as u64;
-        self.branches += count(rows, Class::Branch) as u64;
-        self.mispredicted += count(rows, Class::Mispredicted) as u64;
     }
 }
 

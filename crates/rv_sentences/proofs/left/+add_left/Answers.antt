@@ -20,47 +20,21 @@ use Rattle.rv_sentences.proofs.LeftGrows.{outcomes-last}
 use Rattle.rv_sentences.proofs.OutcomesGrow.{can_take_others}
 use Rattle.rv_sentences.proofs.left.+add_left.Goals as goal
 
--- a count has room for the others, after one
-room : (is : Bool) (old new fewer more : ℕ) → new ≡ one_more is old → more ≡ fewer + 1 → old + more < 2 ^ 64 → new + fewer < 2 ^ 64
-room is old new fewer more new_is shorter few = omega (arith, new_is, shorter, few, one_more-within is old)
+pub add_row-requires : goal.add_row-requires
+add_row-requires t c =
+    let shorter = ap length c.in-Some.ensures.cases.0 ∙ length-append c.in-Some.before.now (c.in-Some.row.now ∷ []) in
+    can_add_fewer 1 (length c.args.rows.now) (omega (arith, shorter)) c.requires
 
 pub add_left-requires : goal.add_left-requires
 add_left-requires t c =
     let row = c.in-Some.row.now in
     let before : List Passage = c.in-Some.before.now in
-    let rows : List Passage = c.args.rows.now in
-    let work : Work = c.args.work.now in
-    let loads : Accesses = c.args.loads.now in
-    let costs = c.args.costs.now in
-    let shorter : length rows ≡ length before + 1 = omega (arith, ap length c.in-Some.ensures.cases.0, length-append before (row ∷ [])) in
-    let worked = c.add_row.ensures.work in
-    let loaded = c.add_row.ensures.loads in (
+    let shorter : length c.args.rows.now ≡ length before + 1 = omega (arith, ap length c.in-Some.ensures.cases.0, length-append before (row ∷ [])) in
+    let added = c.add_row.ensures in (
       omega (arith, shorter),
-      (
-        room (has_left row) work.left _ (length before) (length rows) (ap (λ (w : Work). w.left) worked) shorter c.requires.left,
-        (
-          room (is_squash row.ending) work.squashed _ (length before) (length rows) (ap (λ (w : Work). w.squashed) worked) shorter c.requires.squashed,
-          (
-            room (is_retired_branch row) work.branches _ (length before) (length rows) (ap (λ (w : Work). w.branches) worked) shorter c.requires.branches,
-            (
-              room (is_mispredicted_branch row) work.mispredicted _ (length before) (length rows) (ap (λ (w : Work). w.mispredicted) worked) shorter c.requires.mispredicted,
-              (
-                room (is_some (retired_load_cost row)) loads.all _ (length before) (length rows) (ap (λ (a : Accesses). a.all) loaded) shorter c.requires.loads,
-                (
-                  room (is_hit costs (retired_load_cost row)) loads.quick _ (length before) (length rows) (ap (λ (a : Accesses). a.quick) loaded) shorter c.requires.quick,
-                  (
-                    omega (arith, shorter, sum_with_one (word_in Branch row) c.args.branches.now, ap (λ (notes : Notes ℕ). sum notes.words) c.add_row.ensures.branches, c.requires.branch_words),
-                    (
-                      omega (arith, shorter, sum_with_one (word_in Mispredicted row) c.args.mispredicted.now, ap (λ (notes : Notes ℕ). sum notes.words) c.add_row.ensures.mispredicted, c.requires.mispredicted_words),
-                      can_take_others costs row c.args.outcomes.now c.add_row.new.outcomes (word_of row.pc) (length before) (length rows) c.add_row.ensures.outcomes (omega (arith, shorter)) c.requires.outcomes,
-                    ),
-                  ),
-                ),
-              ),
-            ),
-          ),
-        ),
-      ),
+      subst (λ (after : Work). CanAdd after c.add_row.new.loads c.add_row.new.branches c.add_row.new.mispredicted c.add_row.new.outcomes (length before)) (sym added.work)
+      (subst (λ (after : Accesses). CanAdd (work_with row c.args.work.now) after c.add_row.new.branches c.add_row.new.mispredicted c.add_row.new.outcomes (length before)) (sym added.loads)
+      (can_add_others c.args.costs.now row (length before) (length c.args.rows.now) (omega (arith, shorter)) c.requires)),
     )
 
 pub returns-in-Some-clause-branches : goal.returns-in-Some-clause-branches

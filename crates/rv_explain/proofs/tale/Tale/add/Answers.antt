@@ -14,13 +14,12 @@ use Rattle.rv_sentences.specs.Access.{both}
 use Rattle.rv_sentences.specs.Outcome.{with_passages}
 use Rattle.rv_sentences.specs.Work.{both_work, word_in, work_of}
 use Rattle.rv_sentences.specs.declared.work.Class.TheVariants.{Branch, Mispredicted}
-use Rattle.rv_sentences.proofs.OutcomesGrow.{can_take_fewer}
+use Rattle.rv_sentences.proofs.LeftGrows.{can_add_fewer}
 use Rattle.rv_explain.proofs.InFlight.{loads_same, no_branch, no_mispredicted, noted_same}
 use Rattle.rv_explain.proofs.tale.Tale.add.Goals as goal
 
-pub add_left-requires-clause-outcomes : goal.add_left-requires-clause-outcomes
-add_left-requires-clause-outcomes c =
-    can_take_fewer c.args.self.now.outcomes _ _ c.up_to-left.ensures.few c.requires.room.outcomes
+pub add_left-requires : goal.add_left-requires
+add_left-requires c = can_add_fewer _ _ c.up_to-left.ensures.few c.requires.room.left
 
 pub returns : goal.returns
 returns c =
