@@ -5,20 +5,19 @@ use Rattle.rv_hardware.proofs.Words.{arith, eq-eqb, le-leb, Message, Issue, Valu
 use Rattle.rv_hardware.proofs.Words.{Fetched, broadcast, broadcast_turn, has_result, with_broadcast, Hardware}
 use Rattle.rv_hardware.proofs.Words.{LeavesNoBusIdle, Turn, EachAfter, is_broadcast_in, passes, rows_of, Execution, Row}
 use Rattle.rv_hardware.proofs.Words.{Step, and_second, Each-all, EveryAfter, count, count-set-grows, count-set-one_more}
-use Rattle.rv_hardware.proofs.Words.{EveryAfter-append, Beginning-EveryAfter}
-use Rattle.rv_hardware.proofs.Words.{EveryAfter-all, Leads, turns_within, Each-images}
-use Rattle.rv_hardware.proofs.Words.{Each-append, after_moves}
+use Rattle.rv_hardware.proofs.Words.{EveryAfter-append, EveryAfter-all, Leads, turns_within, Each-images, Each-append}
+use Rattle.rv_hardware.proofs.Words.{after_moves}
 use Rattle.rv_hardware.proofs.Laws.BusWidth.{sent_shows}
 use Rattle.rv_hardware.proofs.Laws.RunsOn.{RunsOn, row_of_all, row_of_run, none_earlier}
 use Rattle.rv_hardware.proofs.Marks.Cited.{IsBefore, IsSentIfReady, Advances, IsSent, Kept, BroadcastTurn, no_result}
 use Rattle.rv_hardware.proofs.Marks.Cited.{sends, mends, Sends, broadcast_turn_is, sent_entries, mended_entries}
 use Rattle.rv_hardware.proofs.Marks.Cited.{after_law, after_count, Anything, anything_is_kept, History}
 use Rattle.rv_hardware.proofs.Marks.Cited.{history_is_legal, issued_all, sent_all, dispatching, rows_sent, entries_sent}
-use Rattle.rv_hardware.proofs.Marks.Cited.{rows_obey, Broadcasts, broadcast_turn_keeps, dispatch_keeps}
-use Rattle.rv_hardware.proofs.Marks.Cited.{before_broadcast, before_dispatch, send_is, with_marks, SoundRow, Mark}
-use Rattle.rv_hardware.proofs.Marks.Cited.{Start, mark_of_row, mark_of_entry, mark_of_fetched, marks, marks_in}
-use Rattle.rv_hardware.proofs.Marks.Cited.{marks_at_entry, as_of, at_end, until, broadcast_of_execution, until_now}
-use Rattle.rv_hardware.proofs.Marks.Cited.{is_at, older_marks}
+use Rattle.rv_hardware.proofs.Marks.Cited.{Broadcasts, broadcast_turn_keeps, dispatch_keeps, before_broadcast}
+use Rattle.rv_hardware.proofs.Marks.Cited.{before_dispatch, send_is, with_marks, SoundRow, Mark, Start, mark_of_row}
+use Rattle.rv_hardware.proofs.Marks.Cited.{mark_of_entry, mark_of_fetched, marks, marks_in, marks_at_entry, as_of}
+use Rattle.rv_hardware.proofs.Marks.Cited.{at_end, until, broadcast_of_execution, until_now, is_at, older_marks}
+use Rattle.rv_hardware.proofs.Marks.Cited.{rows_obey_after}
 
 abbrev pub is_sent_in : ℕ → Mark → Bool
 is_sent_in c m = is_at c m.broadcast
@@ -142,7 +141,7 @@ sent_row c x h = grind arith
 busy_marks : {v : Values} {steps : List Step} {h : Hardware} → History v steps h → (c : ℕ) → c < h.cycle →
     EveryAfter (BusyBus v.bus_width c) [] (as_of c (map mark_of_row (rows_of steps)))
 busy_marks {v} history =
-    rows_obey v (λ c ms. EveryAfter (BusyBus v.bus_width c) [] ms) (λ c xs ys b h. Beginning-EveryAfter _ xs ys b h)
+    rows_obey_after v (BusyBus v.bus_width)
     (λ earlier old new lines report before after passed.
     let all : List Step = earlier ++ report.steps in
     let legal = history_is_legal before in

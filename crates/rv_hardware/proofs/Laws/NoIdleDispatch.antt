@@ -10,9 +10,8 @@ use Rattle.rv_hardware.proofs.Words.{EachAfter, is_dispatched_in, is_in_flight_i
 use Rattle.rv_hardware.proofs.Words.{is_store_row, passes, rows_of, Execution, Row, Step, and_first, and_second}
 use Rattle.rv_hardware.proofs.Words.{Each-All, Each-left, Each-right, Each-place, Each-weaker, Each-all, Each-map}
 use Rattle.rv_hardware.proofs.Words.{Each-filter, EveryAfter, count, count-count_by, count-append, count-yes, count-map}
-use Rattle.rv_hardware.proofs.Words.{count-le, EveryAfter-append, Beginning-EveryAfter, EveryAfter-all}
-use Rattle.rv_hardware.proofs.Words.{EachAfter-EveryAfter, Leads, turns_within, entry_of_fetched, Each-images}
-use Rattle.rv_hardware.proofs.Words.{each_image, each_then, Each-append}
+use Rattle.rv_hardware.proofs.Words.{count-le, EveryAfter-append, EveryAfter-all, EachAfter-EveryAfter, Leads}
+use Rattle.rv_hardware.proofs.Words.{turns_within, entry_of_fetched, Each-images, each_image, each_then, Each-append}
 use Rattle.rv_hardware.proofs.Laws.DispatchWidth.{dispatched_shows}
 use Rattle.rv_hardware.proofs.Laws.ReorderBuffer.{in_flight_shows}
 use Rattle.rv_hardware.proofs.Laws.Stations.{stationed_shows}
@@ -22,8 +21,8 @@ use Rattle.rv_hardware.proofs.Marks.Cited.{dispatching, after_law, after_count, 
 use Rattle.rv_hardware.proofs.Marks.Cited.{WaitsFor, for_serial, for_buffer, for_station, for_queue, buffer_empty}
 use Rattle.rv_hardware.proofs.Marks.Cited.{waits, dispatches, Mark, mark_of_row, mark_of_entry, mark_of_fetched, at_end}
 use Rattle.rv_hardware.proofs.Marks.Cited.{as_of, was_fetched, start_until, start_of_stage, start_of_execution}
-use Rattle.rv_hardware.proofs.Marks.Cited.{until_by, until_now, Older, rows_are_older, rows_obey, SoundRow, HasShape}
-use Rattle.rv_hardware.proofs.Marks.Cited.{some_kind, is_at}
+use Rattle.rv_hardware.proofs.Marks.Cited.{until_by, until_now, Older, rows_are_older, SoundRow, HasShape, some_kind}
+use Rattle.rv_hardware.proofs.Marks.Cited.{is_at, rows_obey_after}
 
 -- a word that could have been dispatched in a cycle: the oldest that was not, with no serialising instruction in flight
 pub record MayEnter (c : ℕ) (before : List Mark) (m : Mark) : Type 0 where
@@ -180,7 +179,7 @@ dispatched_ones v now before xs h = EveryAfter-all (λ b x is may. was_dispatche
 soon_marks : {v : Values} {steps : List Step} {h : Hardware} → History v steps h → (c : ℕ) → c < h.cycle →
     EveryAfter (EntersSoon v c) [] (as_of c (map mark_of_row (rows_of steps)))
 soon_marks {v} history =
-    rows_obey v (λ c ms. EveryAfter (EntersSoon v c) [] ms) (λ c xs ys b h. Beginning-EveryAfter _ xs ys b h)
+    rows_obey_after v (EntersSoon v)
     (λ earlier old new lines report before after passed.
     let all : List Step = earlier ++ report.steps in
     let now : ℕ = old.cycle in

@@ -7,15 +7,15 @@ use Rattle.rv_hardware.proofs.Words.{ap, ◌∙◌, subst, arith, le-leb, and_fr
 use Rattle.rv_hardware.proofs.Words.{Hardware, HasOperandsIn, LeaveNoUnitIdle, is_pipelined, instruction_of_row}
 use Rattle.rv_hardware.proofs.Words.{is_issued_in, is_row_of_kind, last_from, last_that, passes, producer_among}
 use Rattle.rv_hardware.proofs.Words.{rows_of, sources_of_row, writes_register, Execution, Row, Step, and_first}
-use Rattle.rv_hardware.proofs.Words.{and_second, Each-All, Each-all, Each-place, EveryAfter, Beginning-EveryAfter}
-use Rattle.rv_hardware.proofs.Words.{EachAfter-EveryAfter, EveryAfter-EveryPair, IsBetween, each_then}
+use Rattle.rv_hardware.proofs.Words.{and_second, Each-All, Each-all, Each-place, EveryAfter, EachAfter-EveryAfter}
+use Rattle.rv_hardware.proofs.Words.{EveryAfter-EveryPair, IsBetween, each_then}
 use Rattle.rv_hardware.proofs.Laws.PipelinedUnits.{begun_shows}
 use Rattle.rv_hardware.proofs.Laws.RunsOn.{RunsOn, row_of_all, row_of_run, none_earlier, operands_of_all}
 use Rattle.rv_hardware.proofs.Marks.Cited.{IsBefore, writes_mark, IsKnownMark, OperandsKnown, after_law, after_count}
 use Rattle.rv_hardware.proofs.Marks.Cited.{History, history_is_sound, Mark, mark_of_row, as_of, as_of-cons, at_end}
 use Rattle.rv_hardware.proofs.Marks.Cited.{was_fetched, until, start_until, start_until_now, start_of_execution}
 use Rattle.rv_hardware.proofs.Marks.Cited.{broadcast_of_execution, until_by, history_is_orderly, Older, rows_are_older}
-use Rattle.rv_hardware.proofs.Marks.Cited.{row_pairs, rows_obey, SoundRow}
+use Rattle.rv_hardware.proofs.Marks.Cited.{row_pairs, SoundRow, rows_obey_after}
 use Rattle.rv_hardware.proofs.Laws.NoIdleUnit.Marks.{MayStart, BusyUnits}
 use Rattle.rv_hardware.proofs.Laws.NoIdleUnit.Phases.{units_are_busy}
 use Rattle.rv_hardware.proofs.Laws.OtherUnits.Rows.{starts_at, begins_mark}
@@ -24,8 +24,7 @@ busy_rows : {v : Values} (k : Kind) → (at_kind k v.kinds).pipelined ≡ true �
     History v steps h → (c : ℕ) → c < h.cycle →
     EveryAfter (BusyUnits k (at_kind k v.kinds).units c) [] (as_of c (map mark_of_row (rows_of steps)))
 busy_rows {v} k line history =
-    rows_obey v (λ c ms. EveryAfter (BusyUnits k (at_kind k v.kinds).units c) [] ms)
-    (λ c xs ys b h. Beginning-EveryAfter _ xs ys b h)
+    rows_obey_after v (BusyUnits k (at_kind k v.kinds).units)
     (λ earlier old new lines report before after passed. units_are_busy k line before passed) history
 
 -- rows that were all fetched

@@ -8,13 +8,12 @@ use Rattle.rv_hardware.proofs.Words.{Each, Entry, Stage, Finished, Running, Wait
 use Rattle.rv_hardware.proofs.Words.{EachAfter, instruction_of_row, is_load_row, passes, rows_of, uses_port, Execution}
 use Rattle.rv_hardware.proofs.Words.{Row, Step, and_first, and_second, Each-left, Each-place, Each-all, Each-both}
 use Rattle.rv_hardware.proofs.Words.{EveryPair, EveryAfter, AllPairs-EveryPair, EveryPair-append, EveryPair-map}
-use Rattle.rv_hardware.proofs.Words.{Beginning-EveryAfter, EveryPair-EveryAfter, EveryAfter-EveryPair, Each-images}
-use Rattle.rv_hardware.proofs.Words.{IsBetween, each_then}
+use Rattle.rv_hardware.proofs.Words.{EveryPair-EveryAfter, EveryAfter-EveryPair, Each-images, IsBetween, each_then}
 use Rattle.rv_hardware.proofs.Marks.Cited.{in_cycle, after_law, History, began, went_on, dispatching, history_is_legal}
 use Rattle.rv_hardware.proofs.Marks.Cited.{history_is_sound, history_passes, Mark, Start, mark_of_row, mark_of_entry}
 use Rattle.rv_hardware.proofs.Marks.Cited.{mark_of_fetched, marks_in, as_of, as_of-cons, at_end, start_until}
-use Rattle.rv_hardware.proofs.Marks.Cited.{start_of_execution, start_of_stage, rows_obey, SoundRow, SoundEntry}
-use Rattle.rv_hardware.proofs.Marks.Cited.{SoundStage}
+use Rattle.rv_hardware.proofs.Marks.Cited.{start_of_execution, start_of_stage, SoundRow, SoundEntry, SoundStage}
+use Rattle.rv_hardware.proofs.Marks.Cited.{rows_obey_after}
 use Rattle.rv_hardware.proofs.Laws.Port.Loads.{uses_cache, WhereUsed, OverBy, OneAtATime}
 use Rattle.rv_hardware.proofs.Laws.Port.Phases.{PortOk, Tied, new_pair, port_kept, AreTied}
 
@@ -88,7 +87,7 @@ PortAfter v c before m = Each (λ a. OneAtATime v c a m) before
 port_marks : {v : Values} {steps : List Step} {h : Hardware} → History v steps h → (c : ℕ) → c < h.cycle →
     EveryAfter (PortAfter v c) [] (as_of c (map mark_of_row (rows_of steps)))
 port_marks {v} history =
-    rows_obey v (λ c ms. EveryAfter (PortAfter v c) [] ms) (λ c xs ys b h. Beginning-EveryAfter _ xs ys b h)
+    rows_obey_after v (PortAfter v)
     (λ earlier old new lines report before after passed.
     let all : List Step = earlier ++ report.steps in
     let now : ℕ = old.cycle in

@@ -51,7 +51,7 @@ pub use Rattle.rv_hardware.proofs.Marks.History.{cycle_passes, History, began, w
 pub use Rattle.rv_hardware.proofs.Marks.History.{anything_is_kept, history_is_sound, history_passes, is_buffered_mark}
 pub use Rattle.rv_hardware.proofs.Marks.History.{KeptMarks, buffered_words, new_words, marks_of_history}
 pub use Rattle.rv_hardware.proofs.Marks.History.{reachable_has_history}
-pub use Rattle.rv_hardware.proofs.Marks.Past.{as_of_now, marks_settled, rows_obey}
+pub use Rattle.rv_hardware.proofs.Marks.Past.{as_of_now, marks_settled, rows_obey, rows_obey_after}
 pub use Rattle.rv_hardware.proofs.Marks.Order.{IsDispatchedFirst, history_is_orderly}
 pub use Rattle.rv_hardware.proofs.Marks.Counted.{count-as_of, Shows, fails_later, counted_law, after_law, after_count}
 pub use Rattle.rv_hardware.proofs.Marks.Widths.{is_at, count_marks, count_in_flight}

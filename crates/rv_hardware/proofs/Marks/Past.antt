@@ -2,7 +2,7 @@
 use Rattle.rv_hardware.proofs.Words.{◌≡◌, ℕ, ◌+◌, ◌<◌, ◌≤◌, List, [], ◌∷◌, ◌++◌, map, IfSome, Some, Option, sym, refl}
 use Rattle.rv_hardware.proofs.Words.{ap, subst, inl, inr, arith, le-leb, cases_lt, Instr, Lines, Values, Each, Entry}
 use Rattle.rv_hardware.proofs.Words.{Stage, Fetched, Hardware, Report, rows_of, Execution, Row, Step, Beginning}
-use Rattle.rv_hardware.proofs.Words.{IsBetween, each_image, Each-append}
+use Rattle.rv_hardware.proofs.Words.{IsBetween, each_image, Each-append, EveryAfter, Beginning-EveryAfter}
 use Rattle.rv_hardware.proofs.Marks.Basics.{Basics}
 use Rattle.rv_hardware.proofs.Marks.Advance.{extends_kept}
 use Rattle.rv_hardware.proofs.Marks.History.{dispatching, Passed, History, began, went_on, cycle_passes}
@@ -65,6 +65,14 @@ Past P steps h = (c : ℕ) → c < h.cycle → P c (as_of c (marks_in steps h))
 abbrev pub IsKeptByBeginnings : (ℕ → List Mark → Type 0) → Type 0
 IsKeptByBeginnings P = (c : ℕ) (xs ys : List Mark) → Beginning xs ys → P c ys → P c xs
 
+-- at the end of each cycle it holds of all marks
+abbrev pub HoldsAtEnds : Values → (ℕ → List Mark → Type 0) → Type 0
+HoldsAtEnds v P =
+    (earlier : List Step) (old new : Hardware) (lines : Lines) (report : Report) → History v earlier old →
+    History v (earlier ++ report.steps) new →
+    Passed v (Extends old.cycle (marks_in earlier old)) earlier lines old report new →
+    P old.cycle (marks_in (earlier ++ report.steps) new)
+
 module _ (v : Values) (P : ℕ → List Mark → Type 0) (closed : IsKeptByBeginnings P) where
   past_goes_on : {earlier : List Step} {old new : Hardware} {lines : Lines} {report : Report} →
       Passed v (Extends old.cycle (marks_in earlier old)) earlier lines old report new →
@@ -92,10 +100,7 @@ module _ (v : Values) (P : ℕ → List Mark → Type 0) (closed : IsKeptByBegin
             own
       ]
 
-  module _ (own : (earlier : List Step) (old new : Hardware) (lines : Lines) (report : Report) → History v earlier old →
-      History v (earlier ++ report.steps) new →
-      Passed v (Extends old.cycle (marks_in earlier old)) earlier lines old report new →
-      P old.cycle (marks_in (earlier ++ report.steps) new)) where
+  module _ (own : HoldsAtEnds v P) where
     pub history_obeys : {steps : List Step} {h : Hardware} → History v steps h → Past P steps h
     history_obeys (began image start legal) = λ c lt. absurd (omega arith)
     history_obeys (went_on {earlier} {old} {new} {lines} {report} before is) =
@@ -114,3 +119,10 @@ module _ (v : Values) (P : ℕ → List Mark → Type 0) (closed : IsKeptByBegin
               (map mark_of_entry h.rob.entries ++ map mark_of_fetched h.front.entries),
         )
         (history_obeys history c lt)
+
+-- what holds then of each mark behind those before it holds of the rows' marks as they stood at the end of each cycle
+pub rows_obey_after : (v : Values) {steps : List Step} {h : Hardware} (P : ℕ → List Mark → Mark → Type 0) →
+    HoldsAtEnds v (λ c ms. EveryAfter (P c) [] ms) → History v steps h → (c : ℕ) → c < h.cycle →
+    EveryAfter (P c) [] (as_of c (map mark_of_row (rows_of steps)))
+rows_obey_after v P own history c lt =
+    rows_obey v (λ n ms. EveryAfter (P n) [] ms) (λ n xs ys b h. Beginning-EveryAfter (P n) xs ys b h) own history c lt
