@@ -1,5 +1,6 @@
 use Rattle.rv_core.proofs.Words.{◌≡◌, List, slice_get, sym, ap, ◌∙◌, commit_turn, head_turn, Hardware, Step, IsHead, committing}
 use Rattle.std.specs.FinSet as set
+use Rattle.rv_core.specs.HeadTurn.{role_of}
 use Rattle.rv_core.proofs.Retired.Roles.{ends_with_none, first_is_head, kept, turn_of_head, turn_accesses, waits_not}
 use Rattle.rv_core.proofs.parts.Parts.serial_head.Goals as goal
 use Rattle.rv_core.proofs.parts.Parts.serial_head.Goals.{After-role_of, In-Some}
@@ -29,13 +30,14 @@ returns-in-CsrAccess-clause-turn c steps =
     let at = goal.at.returns-in-CsrAccess-clause-turn c in
     turn at.After-role_of (head at.In-Some) steps
     ∙ turn_accesses c.in-Some.head.now c.in-Some.head.now.instruction c.in-CsrAccess.access (committing c.args.self.now steps)
-    (sym c.role_of.ensures ∙ c.in-CsrAccess.is)
+    (sym (c.role_of.ensures ∙ ap role_of c.instruction.ensures) ∙ c.in-CsrAccess.is)
     ∙ c.access_csr.ensures.turn steps
 
 pub returns-in-WaitsForResult-clause-turn : goal.returns-in-WaitsForResult-clause-turn
 returns-in-WaitsForResult-clause-turn c steps =
     let at = goal.at.returns-in-WaitsForResult-clause-turn c in
-    absurd (waits_not c.in-Some.head.now.instruction (sym c.role_of.ensures ∙ c.in-WaitsForResult.is)
+    absurd (waits_not c.in-Some.head.now.instruction
+    (sym (c.role_of.ensures ∙ ap role_of c.instruction.ensures) ∙ c.in-WaitsForResult.is)
     (c.requires.serial c.in-Some.head.now (head at.In-Some)))
 
 pub returns-in_default-clause-turn : goal.returns-in_default-clause-turn
