@@ -1,9 +1,11 @@
-ghost use Rattle.std.specs.Prelude.{◌≡◌, ◌≤◌, List, [], length, take, IfOk};
+ghost use Rattle.std.specs.Prelude.{◌≡◌, ◌≤◌, List, [], length, IfOk};
 ghost use Rattle.rv_hardware.specs.Hardware.{Hardware};
 ghost use Rattle.rv_isa.specs.declared.lines.Arrival.{Arrival};
+ghost use Rattle.rv_explain.specs.AtEnd.{AreAtEnd};
 ghost use Rattle.rv_explain.specs.Tale.{HasRoom, tale_after, tale_of};
 ghost use Rattle.rv_counts.specs.Places.{cycle_total};
 
+use crate::at_end::{left_among, without_waiting};
 use crate::head::accounts_of;
 use crate::high_lines::follow_lines;
 use crate::traps::note_steps;
@@ -58,15 +60,6 @@ pub(crate) struct Tale {
     pub(crate) stores: StoreCounts,
 }
 
-// The first of some passages, so many.
-fn up_to(rows: &[Passage], end: usize) -> &[Passage]
-    requires within { end ≤ length rows.now }
-    ensures first { result.now ≡ take end rows.now }
-    ensures few { length result.now ≤ length rows.now }
-{
-    &rows[..end]
-}
-
 impl Tale {
     /// What is kept of no cycle. The only error is out of memory.
     pub(crate) fn new(alloc: Global, description: &Description) -> Result<Tale, AllocError>
@@ -112,16 +105,17 @@ impl Tale {
     )
         requires room { HasRoom self.old (length steps.now) (length rows.now) }
         requires few { cycle_total places.now ≤ 264 }
+        requires end { AreAtEnd cycle pipeline.now rows.now }
         ensures { self.new ≡ tale_after cycle registers.old steps.now places.now drain lines pipeline.now rows.now self.old }
     {
         let has_unit = pipeline.units().free(Kind::Mem, cycle);
-        let end = add_stays(
+        add_stays(
             &mut self.stays,
             &mut self.awaited,
             cycle,
             has_unit,
             true,
-            rows,
+            without_waiting(rows, pipeline),
         );
         let (account, flusher) = accounts_of(pipeline, rows, self.flusher);
         count_one(&mut self.heads, account);
@@ -133,7 +127,7 @@ impl Tale {
         self.places.add(places);
         self.dispatches.add(steps);
         // Those in flight after them add nothing.
-        let left = up_to(rows, end);
+        let left = left_among(rows, cycle, pipeline);
         add_left(
             &mut self.work,
             &mut self.loads,

@@ -22,4 +22,3 @@ pub mod StaysGrow
 pub mod AccountsGrow
 pub mod RaisedGrows
 mod Addresses
-mod UpToYoungestLeft

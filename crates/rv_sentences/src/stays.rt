@@ -1,6 +1,4 @@
-ghost use Rattle.std.specs.Prelude.{◌≡◌, ◌+◌, ◌-◌, ◌<◌, ◌≤◌, ◌^◌, if◌then◌else◌, drop, length, sum, take};
-ghost use Rattle.rv_passage.specs.Left.{IsUpToYoungestLeft};
-ghost use Rattle.rv_passage.specs.Passage.{is_in_flight};
+ghost use Rattle.std.specs.Prelude.{◌≡◌, ◌+◌, ◌-◌, ◌<◌, ◌^◌, drop, length, sum, take};
 ghost use Rattle.std.specs.Option.{option_or};
 ghost use Rattle.rv_sentences.specs.Stay.{all_stays, awaited_word, have_addresses, oldest_awaited, stay_in, stays_among, with_reason, with_stay, with_stays};
 ghost use Rattle.rv_sentences.specs.WordCount.{with_one};
@@ -122,16 +120,7 @@ fn add_stay(
     note_awaited(oldest, awaited_word(stay));
 }
 
-// Up to where those go, of which the youngest is the last one that left, with one more, at a place.
-fn end_with(end: usize, place: usize, row: &Passage) -> usize
-    requires { place + 1 < 2 ^ 64 }
-    ensures { result ≡ (if is_in_flight row.now then end else place + 1) }
-{
-    if row.is_in_flight() { end } else { place + 1 }
-}
-
-// Adds why those from a place on stay, and notes the word that the oldest of all awaits that wait for an operand. Answers how many
-// rows there are up to the youngest that left, which is known of those before the place.
+// Adds why those from a place on stay, and notes the word that the oldest of all awaits that wait for an operand.
 fn add_stays_from(
     stays: &mut Stays,
     oldest: &mut Option<u32>,
@@ -140,18 +129,12 @@ fn add_stays_from(
     has_addresses: bool,
     rows: &[Passage],
     place: usize,
-    end: usize,
-) -> usize
+)
     requires room { all_stays stays.old + (length rows.now - place) < 2 ^ 64 }
-    requires end { IsUpToYoungestLeft (take place rows.now) (take end rows.now) }
-    requires within { end ≤ length rows.now }
     ensures stays { stays.new ≡ with_stays (stays_among cycle has_unit (have_addresses cycle has_addresses (take place rows.now)) (drop place rows.now)) stays.old }
     ensures oldest { oldest.new ≡ option_or oldest.old (oldest_awaited (stays_among cycle has_unit (have_addresses cycle has_addresses (take place rows.now)) (drop place rows.now))) }
-    ensures left { IsUpToYoungestLeft rows.now (take result rows.now) }
-    ensures few { result ≤ length rows.now }
 {
     if place < rows.len() {
-        let row = &rows[place];
         add_stay(
             stays,
             oldest,
@@ -159,7 +142,7 @@ fn add_stays_from(
             has_unit,
             has_addresses,
             &rows[..place],
-            row,
+            &rows[place],
         );
         add_stays_from(
             stays,
@@ -169,16 +152,13 @@ fn add_stays_from(
             has_addresses,
             rows,
             place + 1,
-            end_with(end, place, row),
-        )
-    } else {
-        end
+        );
     }
 }
 
 /// Adds why some instructions stay in flight in a cycle, in order of fetch, and counts the cycle at the word that the oldest of them
 /// awaits that wait for an operand, if one does: whether a unit of loads and stores is free in the cycle, and all stores before them
-/// have their addresses. Answers how many of them there are up to the youngest that left the hardware.
+/// have their addresses.
 pub fn add_stays(
     stays: &mut Stays,
     awaited: &mut WordNotes<u64>,
@@ -186,25 +166,13 @@ pub fn add_stays(
     has_unit: bool,
     has_addresses: bool,
     rows: &[Passage],
-) -> usize
+)
     requires room { all_stays stays.old + length rows.now < 2 ^ 64 }
     requires words { sum awaited.old.words + 1 < 2 ^ 64 }
     ensures stays { stays.new ≡ with_stays (stays_among cycle has_unit has_addresses rows.now) stays.old }
     ensures awaited { awaited.new ≡ with_one (oldest_awaited (stays_among cycle has_unit has_addresses rows.now)) awaited.old }
-    ensures left { IsUpToYoungestLeft rows.now (take result rows.now) }
-    ensures few { result ≤ length rows.now }
 {
     let mut oldest = None;
-    let end = add_stays_from(
-        stays,
-        &mut oldest,
-        cycle,
-        has_unit,
-        has_addresses,
-        rows,
-        0,
-        0,
-    );
+    add_stays_from(stays, &mut oldest, cycle, has_unit, has_addresses, rows, 0);
     count_one(awaited, oldest);
-    end
 }

@@ -1,23 +1,13 @@
-use Rattle.std.proofs.Common.{◌≡◌, ◌∙◌, ℕ, ◌+◌, ◌<◌, ◌^◌, Bool, List, [], ◌∷◌, filter, is_some, length, length-append, ap, arith, sym}
-use Rattle.std.specs.Prelude.{sum}
-use Rattle.rv_memory.specs.Memory.{word_of}
-use Rattle.rv_passage.specs.Passage.{is_squash}
+use Rattle.std.proofs.Common.{◌≡◌, ◌∙◌, ◌+◌, List, ◌∷◌, [], filter, length, length-append, ap, arith, subst, sym}
 use Rattle.rv_passage.specs.declared.passage.Passage.{Passage}
-use Rattle.rv_counts.specs.Counts.{one_more}
-use Rattle.rv_counts.specs.Load.{is_hit}
 use Rattle.rv_counts.specs.Passing.{has_left}
-use Rattle.rv_counts.proofs.Rooms.{one_more-within}
-use Rattle.rv_sentences.specs.Load.{retired_load_cost}
+use Rattle.rv_sentences.specs.Left.{CanAdd}
 use Rattle.rv_sentences.specs.Outcome.{with_passages}
 use Rattle.rv_sentences.specs.WordCount.{with_all}
-use Rattle.rv_sentences.specs.WordNotes.{Notes}
-use Rattle.rv_sentences.specs.Work.{is_mispredicted_branch, is_retired_branch, word_in}
-use Rattle.rv_sentences.specs.declared.{accesses.Accesses.Accesses, work.Work.Work}
+use Rattle.rv_sentences.specs.Work.{word_in}
 use Rattle.rv_sentences.specs.declared.work.Class.TheVariants.{Branch, Mispredicted}
-use Rattle.rv_sentences.proofs.CountSums.{sum_with_one}
 use Rattle.rv_sentences.proofs.CountsGrow.{with_all-last}
-use Rattle.rv_sentences.proofs.LeftGrows.{outcomes-last}
-use Rattle.rv_sentences.proofs.OutcomesGrow.{can_take_others}
+use Rattle.rv_sentences.proofs.LeftGrows.{can_add_fewer, can_add_others, outcomes-last}
 use Rattle.rv_sentences.proofs.left.+add_left.Goals as goal
 
 pub add_row-requires : goal.add_row-requires
@@ -30,11 +20,11 @@ add_left-requires t c =
     let row = c.in-Some.row.now in
     let before : List Passage = c.in-Some.before.now in
     let shorter : length c.args.rows.now ≡ length before + 1 = omega (arith, ap length c.in-Some.ensures.cases.0, length-append before (row ∷ [])) in
-    let added = c.add_row.ensures in (
+    let added = c.add_row.ensures in
+    let can = can_add_others c.args.costs.now row (length before) (length c.args.rows.now) (omega (arith, shorter)) c.requires in (
       omega (arith, shorter),
-      subst (λ (after : Work). CanAdd after c.add_row.new.loads c.add_row.new.branches c.add_row.new.mispredicted c.add_row.new.outcomes (length before)) (sym added.work)
-      (subst (λ (after : Accesses). CanAdd (work_with row c.args.work.now) after c.add_row.new.branches c.add_row.new.mispredicted c.add_row.new.outcomes (length before)) (sym added.loads)
-      (can_add_others c.args.costs.now row (length before) (length c.args.rows.now) (omega (arith, shorter)) c.requires)),
+      subst (λ (claim : Type 0). claim)
+          (λ i. CanAdd (sym added.work i) (sym added.loads i) (sym added.branches i) (sym added.mispredicted i) (sym added.outcomes i) (length before)) can,
     )
 
 pub returns-in-Some-clause-branches : goal.returns-in-Some-clause-branches

@@ -1,19 +1,12 @@
 use Rattle.std.proofs.Common.{arith}
 use Rattle.rv_sentences.proofs.Addresses.{oldest_on, stays_on}
 use Rattle.rv_sentences.proofs.StaysGrow.{stay_counted}
-use Rattle.rv_sentences.proofs.UpToYoungestLeft.{end_on, end_within}
 use Rattle.rv_sentences.proofs.stays.+add_stays_from.Goals as goal
 
 pub add_stays_from-requires : goal.add_stays_from-requires
 add_stays_from-requires t c = (
   omega (arith, c.if-place-rows.true),
-  (
-    omega (arith, c.if-place-rows.true, stay_counted _ c.args.stays.now c.add_stay.new.stays c.add_stay.ensures.stays, c.requires.room),
-    (
-      end_on c.args.rows.now c.args.place c.index-rows-place.result c.if-place-rows.true c.index-rows-place.is c.args.end c.end_with.result c.end_with.ensures c.requires.end,
-      end_within c.args.rows.now c.args.place c.index-rows-place.result c.if-place-rows.true c.index-rows-place.is c.args.end c.end_with.result c.end_with.ensures c.requires.within,
-    ),
-  ),
+  omega (arith, c.if-place-rows.true, stay_counted _ c.args.stays.now c.add_stay.new.stays c.add_stay.ensures.stays, c.requires),
 )
 
 pub returns-then-place-rows-clause-stays : goal.returns-then-place-rows-clause-stays

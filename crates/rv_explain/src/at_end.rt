@@ -1,0 +1,42 @@
+ghost use Rattle.std.specs.Prelude.{◌≡◌, ◌≤◌, ◌-◌, length, take};
+ghost use Rattle.std.specs.List.{list_all};
+ghost use Rattle.rv_counts.specs.Passing.{has_left};
+ghost use Rattle.rv_explain.specs.AtEnd.{AreAtEnd};
+ghost use Rattle.rv_passage.specs.Left.{IsUpToYoungestLeft};
+
+use rv_core::Pipeline;
+use rv_passage::{Passage, up_to_youngest_left};
+
+/// The passages at the end of a cycle without the last ones, as many as words wait in the fetch buffer: none of these was dispatched
+/// and is in flight.
+pub(crate) fn without_waiting<'a>(rows: &'a [Passage], pipeline: &Pipeline) -> &'a [Passage]
+    ensures first { result.now ≡ take (length rows.now - length pipeline.now.front.entries) rows.now }
+    ensures few { length result.now ≤ length rows.now }
+{
+    &rows[..rows.len().saturating_sub(pipeline.front().len())]
+}
+
+fn have_left(rows: &[Passage]) -> bool
+    ensures { result ≡ list_all has_left rows.now }
+{
+    match rows {
+        [] => true,
+        [row, rest @ ..] => !row.is_in_flight() && have_left(rest),
+    }
+}
+
+/// The passages at the end of a cycle up to the youngest that left the hardware. Mostly those that left are the first ones: then as many
+/// others are in flight as there are.
+pub(crate) fn left_among<'a>(rows: &'a [Passage], cycle: u64, pipeline: &Pipeline) -> &'a [Passage]
+    requires { AreAtEnd cycle pipeline.now rows.now }
+    ensures left { IsUpToYoungestLeft rows.now result.now }
+    ensures few { length result.now ≤ length rows.now }
+{
+    let in_flight = pipeline.reorder_buffer().len() + pipeline.front().len();
+    let first = &rows[..rows.len().saturating_sub(in_flight)];
+    if have_left(first) {
+        first
+    } else {
+        up_to_youngest_left(rows)
+    }
+}
