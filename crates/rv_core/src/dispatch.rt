@@ -217,8 +217,8 @@ fn station(
         seq,
         pc: fetched.pc,
         instruction,
-        first: operand_of(rename, rob, registers, *first),
-        second: operand_of(rename, rob, registers, *second),
+        first: operand_of(rename, rob, registers, first),
+        second: operand_of(rename, rob, registers, second),
     };
     stations.insert(kind, waiting);
 }

@@ -1,7 +1,7 @@
 ghost use Rattle.std.specs.Prelude.{◌≡◌, ◌≢◌, ◌<◌, IfSome, None, Some};
 ghost use Rattle.rv_isa.specs.Instruction.{is_branch_or_jump, is_load, is_serialising, is_store, kind_of_word, target_of_word};
 ghost use Rattle.rv_decode.specs.Decodes.{instruction_of};
-ghost use Rattle.rv_decode.specs.Known.{both_sources, known_of};
+ghost use Rattle.rv_decode.specs.Known.{both_sources, class_of, known_of};
 
 use crate::codec::decode;
 use rv_isa::{Instr, Kind, Reg, kind, sources, target};
@@ -13,10 +13,18 @@ struct Known {
     kind: Option<Kind>,
     // Register x0 where there is none.
     target: Reg,
-    sources: [Option<Reg>; 2],
-    is_store: bool,
-    is_serialising: bool,
-    is_branch_or_jump: bool,
+    class: Class,
+}
+
+// What hardware does with an instruction beside its execution.
+#[derive(Clone, Copy)]
+enum Class {
+    Store,
+    // It waits to be the oldest, with nothing younger in flight beside it.
+    Serialising,
+    // Its next pc comes from its execution.
+    BranchOrJump,
+    Other,
 }
 
 /// What a word decodes to, with what hardware asks of it: found once, where the word is decoded.
@@ -94,10 +102,13 @@ impl Decoded {
     }
 
     /// The registers that it reads, first `rs1` and then `rs2`; None where it has no such operand.
-    pub fn sources(&self) -> &[Option<Reg>; 2]
-        ensures { result.now ≡ both_sources self.now }
+    pub fn sources(&self) -> [Option<Reg>; 2]
+        ensures { result ≡ both_sources self.now }
     {
-        &self.known.sources
+        match &self.instruction {
+            Some(instruction) => sources(instruction),
+            None => [None, None],
+        }
     }
 
     /// Whether it loads.
@@ -111,21 +122,21 @@ impl Decoded {
     pub fn is_store(&self) -> bool
         ensures { result ≡ is_store self.now }
     {
-        self.known.is_store
+        matches!(self.known.class, Class::Store)
     }
 
     /// Whether it waits to be the oldest, with nothing younger in flight beside it.
     pub fn is_serialising(&self) -> bool
         ensures { result ≡ is_serialising self.now }
     {
-        self.known.is_serialising
+        matches!(self.known.class, Class::Serialising)
     }
 
     /// Whether its next pc comes from its execution.
     pub fn is_branch_or_jump(&self) -> bool
         ensures { result ≡ is_branch_or_jump self.now }
     {
-        self.known.is_branch_or_jump
+        matches!(self.known.class, Class::BranchOrJump)
     }
 }
 
@@ -137,10 +148,7 @@ fn known_of(instruction: &Option<Instr>) -> Known
         None => Known {
             kind: None,
             target: Reg::ZERO,
-            sources: [None, None],
-            is_store: false,
-            is_serialising: false,
-            is_branch_or_jump: false,
+            class: Class::Other,
         },
     }
 }
@@ -151,12 +159,17 @@ fn known_of_instruction(instruction: &Instr) -> Known
     Known {
         kind: kind(instruction),
         target: target(instruction).unwrap_or(Reg::ZERO),
-        sources: sources(instruction),
-        is_store: matches!(instruction, Instr::Store { .. }),
-        is_serialising: matches!(instruction, Instr::FenceI | Instr::Csr { .. } | Instr::Mret),
-        is_branch_or_jump: matches!(
-            instruction,
-            Instr::Jal { .. } | Instr::Jalr { .. } | Instr::Branch { .. }
-        ),
+        class: class_of(instruction),
+    }
+}
+
+fn class_of(instruction: &Instr) -> Class
+    ensures { result ≡ class_of (Some instruction.now) }
+{
+    match instruction {
+        Instr::Store { .. } => Class::Store,
+        Instr::FenceI | Instr::Csr { .. } | Instr::Mret => Class::Serialising,
+        Instr::Jal { .. } | Instr::Jalr { .. } | Instr::Branch { .. } => Class::BranchOrJump,
+        _ => Class::Other,
     }
 }

@@ -53,7 +53,7 @@ fn each_format_has_its_kind_its_target_and_its_sources(rt: HostRuntime) {
         check_equal_at(
             &rt,
             *word,
-            *decoded.sources(),
+            decoded.sources(),
             [register(first), register(second)],
         );
     }
@@ -125,7 +125,7 @@ fn a_place_without_a_word_is_as_an_illegal_word(rt: HostRuntime) {
     check_equal_at(&rt, 0, code_of(*none.instruction()), None);
     check_equal_at(&rt, 0, none.kind(), None);
     check_equal_at(&rt, 0, none.target(), None);
-    check_equal_at(&rt, 0, *none.sources(), [None, None]);
+    check_equal_at(&rt, 0, none.sources(), [None, None]);
     check_equal_at(&rt, 0, none.is_serialising(), false);
     check_equal_at(
         &rt,

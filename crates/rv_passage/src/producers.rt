@@ -181,7 +181,7 @@ fn producers_among(older: &[Passage], instruction: &Decoded) -> Producers
     ensures { result ≡ producers_among older.now instruction.now }
 {
     match instruction.instruction() {
-        Some(_) if instruction.kind().is_some() => producers_for(older, instruction.sources()),
+        Some(_) if instruction.kind().is_some() => producers_for(older, &instruction.sources()),
         _ => Producers::NONE,
     }
 }
