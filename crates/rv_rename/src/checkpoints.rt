@@ -17,6 +17,10 @@ pub(crate) fn remove(numbers: &mut Vec<u64>, seq: u64)
     ensures shorter { vec_len numbers.new ≤ vec_len numbers.old }
     ensures capacity { vec_capacity numbers.new ≡ vec_capacity numbers.old }
 {
+    // Mostly there is none.
+    if numbers.is_empty() {
+        return;
+    }
     numbers.retain(|&number| number != seq);
 }
 
