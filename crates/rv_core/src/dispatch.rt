@@ -38,7 +38,7 @@ pub(crate) fn is_serialising(instruction: &Option<Instr>) -> bool
     )
 }
 
-fn is_store(instruction: &Option<Instr>) -> bool
+pub(crate) fn is_store(instruction: &Option<Instr>) -> bool
     ensures { result ≡ is_store instruction.now }
 {
     matches!(instruction, Some(Instr::Store { .. }))
