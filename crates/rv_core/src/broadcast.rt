@@ -1,4 +1,4 @@
-ghost use Rattle.std.specs.Prelude.{◌≡◌, ◌+◌, ◌&&◌, true, if◌then◌else◌, Some, None, map};
+ghost use Rattle.std.specs.Prelude.{◌≡◌, ◌+◌, ◌&&◌, true, false, if◌then◌else◌, Some, None, map};
 ghost use Rattle.rv_isa.specs.declared.broadcast.Message.{Message as MessageOf};
 ghost use Rattle.rv_isa.specs.declared.issues.Issue.{Issue as IssueOf};
 ghost use Rattle.rv_rob.specs.Entry.{predicting};
@@ -9,12 +9,13 @@ ghost use Rattle.rv_stations.specs.Pool.{woken_pool};
 ghost use Rattle.rv_stores.specs.Store.{answered};
 ghost use Rattle.rv_hardware.specs.Broadcast.{broadcast, broadcast_turn, is_mispredicted, mends_early};
 ghost use Rattle.rv_hardware.specs.InFlight.{store_of_message};
-ghost use Rattle.rv_isa.specs.Instruction.{is_branch_or_jump};
+ghost use Rattle.rv_isa.specs.Instruction.{is_branch_or_jump, is_store};
 ghost use Rattle.rv_hardware.specs.Squash.{redirected};
-ghost use Rattle.rv_core.specs.InExecution.{IsRunning};
+ghost use Rattle.rv_core.specs.InExecution.{AreOthers, IsRunning};
 ghost use Rattle.rv_core.specs.Turns.{turn_of};
 
 use crate::parts::Parts;
+use rv_decode::Decoded;
 use rv_isa::{Message, Recovery, StoreAccess};
 use rv_rob::{Entry, Rob, Stage};
 use rv_stations::Stations;
@@ -84,10 +85,19 @@ impl Parts {
     }
 }
 
-// A store learns what it writes, or that it faults; any other instruction has no place in the queue.
-fn fill_store(stores: &mut StoreQueue, seq: u64, access: &Option<StoreAccess>)
+// A store learns what it writes, or that it faults; any other instruction has no place in the queue, and none is looked for.
+fn fill_store(
+    stores: &mut StoreQueue,
+    instruction: &Decoded,
+    seq: u64,
+    access: &Option<StoreAccess>,
+)
+    requires apart { is_store instruction.now ≡ false → AreOthers seq stores.old.stores }
     ensures { stores.new ≡ record stores.old { stores = map (answered seq (store_of_message access.now)) stores.old.stores } }
 {
+    if !instruction.is_store() {
+        return;
+    }
     match *access {
         Some(access) => stores.fill(seq, access),
         None => stores.fill_fault(seq),
@@ -103,6 +113,7 @@ fn send(
     recovery: Recovery,
     seq: u64,
 ) -> Option<u32>
+    requires apart { (e : EntryOf) → entry_of seq rob.now.retired rob.now.entries ≡ Some e → is_store e.instruction ≡ false → AreOthers seq stores.old.stores }
     ensures carried { (e : EntryOf) (issue : IssueOf) (message : MessageOf) → IsRunning seq rob.now e issue message →
         stations.new ≡ for_each (woken_pool seq message.value) stations.old }
     ensures stored { (e : EntryOf) (issue : IssueOf) (message : MessageOf) → IsRunning seq rob.now e issue message →
@@ -117,7 +128,7 @@ fn send(
         return None;
     };
     stations.wake(seq, message.value);
-    fill_store(stores, seq, &message.store);
+    fill_store(stores, &entry.instruction, seq, &message.store);
     if mends_early(recovery) && is_mispredicted(entry, message) {
         Some(message.next_pc)
     } else {

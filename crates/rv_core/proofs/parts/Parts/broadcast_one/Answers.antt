@@ -1,7 +1,9 @@
-use Rattle.rv_core.proofs.Words.{◌≡◌, ℕ, ◌+◌, Bool, true, false, cond, predicting, cut_from, redirected, ◌&&◌, [], Some, None, sym, ap, ◌∙◌, subst, arith, and_parts, finished, changed, is_mispredicted, mends_early, with_recovery, Hardware, Ends, GoesOn, find, is_ready_result, IsSound, hardware_of, Inside}
+use Rattle.rv_core.proofs.Words.{◌≡◌, ℕ, ◌+◌, Bool, true, false, cond, predicting, cut_from, redirected, ◌&&◌, [], Some, None, sym, ap, ◌∙◌, subst, arith, and_parts, finished, changed, is_mispredicted, mends_early, with_recovery, Hardware, Ends, GoesOn, find, Queue, is_ready_result, IsSound, hardware_of, Inside}
 use Rattle.rv_core.proofs.Ties.Broadcast.{grant, sent_parts, sent-goes_on, sent-is, sent-recovers, sent-sound, sent_to, unsent, unsent_bus}
 use Rattle.rv_core.proofs.Ties.Bus.{IsGranted}
 use Rattle.rv_core.proofs.Ties.Entries.{entry_of-changed, with_entry-alike}
+use Rattle.rv_core.proofs.Ties.Queue.{others-queued}
+use Rattle.rv_core.specs.InExecution.{AreOthers}
 use Rattle.rv_rob.specs.Entry.{broadcast_in, ended, issue_of}
 use Rattle.rv_rob.specs.declared.entry.Stage.TheVariants.{Finished}
 use Rattle.rv_core.proofs.parts.Parts.broadcast_one.Goals as goal
@@ -20,6 +22,16 @@ invariant_of-self c =
 pub returns-in_default : goal.returns-in_default
 returns-in_default c = rw (← c.self.view_is)
     (unsent c.self.inside c.self.invariant (none (goal.at.returns-in_default c).In_default))
+
+-- an instruction that is no store has no place in the queue
+pub send-goes_on-requires : goal.send-goes_on-requires
+send-goes_on-requires c =
+    let h = hardware_of c.self.inside in
+    let seq = c.in-Some.pending.seq in record {
+      apart = λ e held no_store.
+          subst (λ (queue : Queue). AreOthers seq queue.stores) (sym c.self.invariant.tied.queued)
+          (others-queued seq h.committed h.rob.retired h.rob.entries e c.self.invariant.sound.stores.older held no_store);
+    }
 
 -- the parts once the oldest result was sent
 abbrev left : After-finish → Inside
