@@ -1,4 +1,3 @@
-mod AtEnd
 mod Explained
 mod InFlight
 pub mod OneExplanation

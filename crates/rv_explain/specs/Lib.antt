@@ -1,4 +1,3 @@
-pub mod AtEnd
 pub mod Ending
 pub mod Crash
 pub mod Tale

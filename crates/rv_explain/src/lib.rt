@@ -4,7 +4,6 @@
 //! program.
 #![tactic(auto)]
 
-mod at_end;
 mod crash;
 mod cycle_places;
 mod ending;
