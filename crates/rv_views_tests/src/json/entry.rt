@@ -113,7 +113,7 @@ fn an_entry_of_no_word_has_neither_target_nor_kind(rt: HostRuntime) {
     let mut text = Vec::new(rt.alloc());
     let entry = Entry {
         word: None,
-        instruction: None,
+        instruction: Decoded::none(),
         ..entry(Instr::Ecall, Stage::Waiting)
     };
     write_entry(&mut Sink::new(&mut text), 19, &entry);
