@@ -32,7 +32,7 @@ pub beginning-longer : (a b : Option (List ℕ)) (xs ys : List ℕ) → AppendsB
 beginning-longer a b xs ys (n, within, appended) = (
   n,
   omega (arith, length-append xs ys),
-  Appends-same a b (take n xs) (take n (xs ++ ys)) (sym (take-append-le n xs ys within)) appended,
+  Appends-same a b (take n xs) (take n (xs ++ ys)) (sym (take-append-le n xs ys (omega arith))) appended,
 )
 
 -- a text and a beginning of the next are a beginning of both
