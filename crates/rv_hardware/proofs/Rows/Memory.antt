@@ -1,43 +1,49 @@
 -- What loads and stores take from each other, from the cache and from its port.
 use Rattle.rv_hardware.proofs.Words.{◌≡◌, [], ◌∷◌, Some, None, refl}
 use Rattle.rv_isa.specs.Csr as csr
+use Rattle.rv_isa.specs.declared.operations.Kind.TheVariants as kind
 use Rattle.rv_decode.specs.Decodes.{instruction_of}
 use Rattle.rv_decode.specs.InstructionTable.{table}
 use Rattle.rv_hardware.specs.declared.report.Stall.TheVariants as stall
-use Rattle.rv_hardware.proofs.Rows.Programs.{breakpoint, ebreak, executed, machine, reasons_of, serialised, steps_at}
-use Rattle.rv_hardware.proofs.Rows.Programs.{steps_of}
+use Rattle.rv_hardware.proofs.Rows.Programs.{breakpoint, ebreak, executed, machine, machine_with, reasons_of}
+use Rattle.rv_hardware.proofs.Rows.Programs.{serialised, steps_at, steps_of}
 
 -- a load gets each of its bytes from another store
 load_takes_bytes_of_two_stores : steps_of machine
     (0x00000417 ∷ 0x02040413 ∷ 0x0252c3b3 ∷ 0x00840023 ∷ 0x007400a3 ∷ 0x00045303 ∷ ebreak ∷ 0 ∷ 0x44332211 ∷ []) 25 ≡
-    executed 0x80000000 0x00000417 (Some (8, 0x80000000)) 0 1 2 1 3 4 ∷ executed 0x80000004 0x02040413
-    (Some (8, 0x80000020)) 0 1 4 1 5 6 ∷ executed 0x80000008 0x0252c3b3
-    (Some (7, 0xffffffff)) 1 2 3 16 19 20 ∷ executed 0x8000000c 0x00840023 None 1 2 6 1 7 20 ∷ executed 0x80000010
-    0x007400a3 None 2 3 20 1 21 22 ∷ executed 0x80000014 0x00045303
-    (Some (6, 0xff20)) 2 3 22 1 23 24 ∷ breakpoint 0x80000018 24
+    executed 0x80000000 0x00000417 (Some (8, 0x80000000)) 0 1 2 1 3 4 ∷
+    executed 0x80000004 0x02040413 (Some (8, 0x80000020)) 0 1 4 1 5 6 ∷
+    executed 0x80000008 0x0252c3b3 (Some (7, 0xffffffff)) 1 2 3 16 19 20 ∷
+    executed 0x8000000c 0x00840023 None 1 2 6 1 7 20 ∷
+    executed 0x80000010 0x007400a3 None 2 3 20 1 21 22 ∷
+    executed 0x80000014 0x00045303 (Some (6, 0xff20)) 2 3 22 1 23 24 ∷
+    breakpoint 0x80000018 24
 unfolding instruction_of table
 load_takes_bytes_of_two_stores = refl
 
 -- loads that are narrower than the store before them, at its front and at an offset
 load_takes_bytes_of_a_wider_store : steps_of machine
     (0x00000417 ∷ 0x02040413 ∷ 0x0252c3b3 ∷ 0x00842023 ∷ 0x00044303 ∷ 0x00245383 ∷ ebreak ∷ []) 23 ≡
-    executed 0x80000000 0x00000417 (Some (8, 0x80000000)) 0 1 2 1 3 4 ∷ executed 0x80000004 0x02040413
-    (Some (8, 0x80000020)) 0 1 4 1 5 6 ∷ executed 0x80000008 0x0252c3b3
-    (Some (7, 0xffffffff)) 1 2 3 16 19 20 ∷ executed 0x8000000c 0x00842023 None 1 2 6 1 7 20 ∷ executed
-    0x80000010 0x00044303
-    (Some (6, 0x20)) 2 3 8 1 9 21 ∷ executed 0x80000014 0x00245383
-    (Some (7, 0x8000)) 2 3 9 1 10 21 ∷ breakpoint 0x80000018 22
+    executed 0x80000000 0x00000417 (Some (8, 0x80000000)) 0 1 2 1 3 4 ∷
+    executed 0x80000004 0x02040413 (Some (8, 0x80000020)) 0 1 4 1 5 6 ∷
+    executed 0x80000008 0x0252c3b3 (Some (7, 0xffffffff)) 1 2 3 16 19 20 ∷
+    executed 0x8000000c 0x00842023 None 1 2 6 1 7 20 ∷
+    executed 0x80000010 0x00044303 (Some (6, 0x20)) 2 3 8 1 9 21 ∷
+    executed 0x80000014 0x00245383 (Some (7, 0x8000)) 2 3 9 1 10 21 ∷
+    breakpoint 0x80000018 22
 unfolding instruction_of table
 load_takes_bytes_of_a_wider_store = refl
 
 -- a load of which a store has one byte costs its access, and not what is forwarded
 load_of_some_stored_bytes_costs_the_access : steps_of (record machine { forward = 5 })
     (0x80001437 ∷ 0x028044b3 ∷ 0x008400a3 ∷ 0x07f40513 ∷ 0x00a40123 ∷ 0x00042283 ∷ ebreak ∷ []) 24 ≡
-    executed 0x80000000 0x80001437 (Some (8, 0x80001000)) 0 1 2 1 3 4 ∷ executed 0x80000004 0x028044b3
-    (Some (9, 0x0)) 0 1 4 16 20 21 ∷ executed 0x80000008 0x008400a3 None 1 2 4 1 5 21 ∷ executed 0x8000000c 0x07f40513
-    (Some (10, 0x8000107f)) 1 2 4 1 5 22 ∷ executed 0x80000010 0x00a40123 None 2 3 6 1 7 22 ∷ executed
-    0x80000014 0x00042283
-    (Some (5, 0x7f0000)) 2 3 8 11 19 23 ∷ breakpoint 0x80000018 23
+    executed 0x80000000 0x80001437 (Some (8, 0x80001000)) 0 1 2 1 3 4 ∷
+    executed 0x80000004 0x028044b3 (Some (9, 0x0)) 0 1 4 16 20 21 ∷
+    executed 0x80000008 0x008400a3 None 1 2 4 1 5 21 ∷
+    executed 0x8000000c 0x07f40513 (Some (10, 0x8000107f)) 1 2 4 1 5 22 ∷
+    executed 0x80000010 0x00a40123 None 2 3 6 1 7 22 ∷
+    executed 0x80000014 0x00042283 (Some (5, 0x7f0000)) 2 3 8 11 19 23 ∷
+    breakpoint 0x80000018 23
 unfolding instruction_of table
 load_of_some_stored_bytes_costs_the_access = refl
 
@@ -45,39 +51,44 @@ load_of_some_stored_bytes_costs_the_access = refl
 dirty_victim_costs_its_write_back : steps_of
     (record machine { cache = record machine.cache { sets = 1; write_back = 7 } })
     (0x00000417 ∷ 0x02040413 ∷ 0x00042023 ∷ 0x340022f3 ∷ 0x04042303 ∷ 0x08042383 ∷ ebreak ∷ []) 50 ≡
-    executed 0x80000000 0x00000417 (Some (8, 0x80000000)) 0 1 2 1 3 4 ∷ executed 0x80000004 0x02040413
-    (Some (8, 0x80000020)) 0 1 4 1 5 6 ∷ executed 0x80000008 0x00042023 None 1 2 6 1 7 8 ∷ serialised
-    0x8000000c 0x340022f3
-    (Some (5, 0x0)) 1 2 8 ∷ executed 0x80000010 0x04042303
-    (Some (6, 0x0)) 8 9 19 11 30 31 ∷ executed 0x80000014 0x08042383
-    (Some (7, 0x0)) 8 9 30 18 48 49 ∷ breakpoint 0x80000018 49
+    executed 0x80000000 0x00000417 (Some (8, 0x80000000)) 0 1 2 1 3 4 ∷
+    executed 0x80000004 0x02040413 (Some (8, 0x80000020)) 0 1 4 1 5 6 ∷
+    executed 0x80000008 0x00042023 None 1 2 6 1 7 8 ∷
+    serialised 0x8000000c 0x340022f3 (Some (5, 0x0)) 1 2 8 ∷
+    executed 0x80000010 0x04042303 (Some (6, 0x0)) 8 9 19 11 30 31 ∷
+    executed 0x80000014 0x08042383 (Some (7, 0x0)) 8 9 30 18 48 49 ∷
+    breakpoint 0x80000018 49
 unfolding instruction_of table csr.order
 dirty_victim_costs_its_write_back = refl
 
 -- two loads are ready in one cycle and two units idle, but the cache has one port
-two_units_share_the_port : steps_of
-    (record machine { kinds = record machine.kinds { mem = record machine.kinds.mem { units = 2 } } })
+two_units_share_the_port : steps_of (machine_with kind.Mem (record machine.kinds.mem { units = 2 }))
     (0x00000417 ∷ 0x02040413 ∷ 0x00042283 ∷ 0x34002373 ∷ 0x00042303 ∷ 0x00442383 ∷ ebreak ∷ 0 ∷ 1 ∷ 2 ∷ []) 24 ≡
-    executed 0x80000000 0x00000417 (Some (8, 0x80000000)) 0 1 2 1 3 4 ∷ executed 0x80000004 0x02040413
-    (Some (8, 0x80000020)) 0 1 4 1 5 6 ∷ executed 0x80000008 0x00042283
-    (Some (5, 0x1)) 1 2 6 11 17 18 ∷ serialised 0x8000000c 0x34002373
-    (Some (6, 0x0)) 1 2 18 ∷ executed 0x80000010 0x00042303
-    (Some (6, 0x1)) 18 19 20 1 21 22 ∷ executed 0x80000014 0x00442383
-    (Some (7, 0x2)) 18 19 21 1 22 23 ∷ breakpoint 0x80000018 23
+    executed 0x80000000 0x00000417 (Some (8, 0x80000000)) 0 1 2 1 3 4 ∷
+    executed 0x80000004 0x02040413 (Some (8, 0x80000020)) 0 1 4 1 5 6 ∷
+    executed 0x80000008 0x00042283 (Some (5, 0x1)) 1 2 6 11 17 18 ∷
+    serialised 0x8000000c 0x34002373 (Some (6, 0x0)) 1 2 18 ∷
+    executed 0x80000010 0x00042303 (Some (6, 0x1)) 18 19 20 1 21 22 ∷
+    executed 0x80000014 0x00442383 (Some (7, 0x2)) 18 19 21 1 22 23 ∷
+    breakpoint 0x80000018 23
 unfolding instruction_of table csr.order
 two_units_share_the_port = refl
 
 -- a store queue with two places: a retired store has one of them until its access is over
 store_queue_of_two : steps_of (record machine { store_queue = 2 })
     (0x80000437 ∷ 0x02040413 ∷ 0x00842023 ∷ 0x00842223 ∷ 0x00842423 ∷ ebreak ∷ []) 23 ≡
-    executed 0x80000000 0x80000437 (Some (8, 0x80000000)) 0 1 2 1 3 4 ∷ executed 0x80000004 0x02040413
-    (Some (8, 0x80000020)) 0 1 4 1 5 6 ∷ executed 0x80000008 0x00842023 None 1 2 6 1 7 8 ∷ executed 0x8000000c
-    0x00842223 None 1 2 7 1 8 9 ∷ executed 0x80000010 0x00842423 None 2 19 20 1 21 22 ∷ breakpoint 0x80000014 22
+    executed 0x80000000 0x80000437 (Some (8, 0x80000000)) 0 1 2 1 3 4 ∷
+    executed 0x80000004 0x02040413 (Some (8, 0x80000020)) 0 1 4 1 5 6 ∷
+    executed 0x80000008 0x00842023 None 1 2 6 1 7 8 ∷
+    executed 0x8000000c 0x00842223 None 1 2 7 1 8 9 ∷
+    executed 0x80000010 0x00842423 None 2 19 20 1 21 22 ∷
+    breakpoint 0x80000014 22
 unfolding instruction_of table
 store_queue_of_two = refl
 
 -- at reset the cache holds no line, not even the first one of RAM at 0
-first_load_misses : steps_at 0 (record machine { ram_base = 0 }) (0x00002283 ∷ ebreak ∷ []) 15 ≡
+first_load_misses : steps_at 0 (record machine { ram_base = 0 })
+    (0x00002283 ∷ ebreak ∷ []) 15 ≡
     executed 0x00000000 0x00002283 (Some (5, 0x2283)) 0 1 2 11 13 14 ∷
     breakpoint 0x00000004 14
 unfolding instruction_of table
@@ -86,7 +97,16 @@ first_load_misses = refl
 -- the word after a division is stored to, and its line is not written back: fetch reads FENCE.I, which RAM still has
 fetch_reads_past_the_cache : reasons_of machine
     (0x80000437 ∷ 0x01300493 ∷ 0x00942a23 ∷ 0x34002573 ∷ 0x020042b3 ∷ 0x0000100f ∷ []) 10 ≡
-    Some stall.Fetch ∷ None ∷ None ∷ Some stall.Serial ∷ Some stall.Serial ∷ Some stall.Serial ∷ Some
-    stall.Fetch ∷ None ∷ Some stall.Serial ∷ Some stall.Serial ∷ []
+    Some stall.Fetch ∷
+    None ∷
+    None ∷
+    Some stall.Serial ∷
+    Some stall.Serial ∷
+    Some stall.Serial ∷
+    Some stall.Fetch ∷
+    None ∷
+    Some stall.Serial ∷
+    Some stall.Serial ∷
+    []
 unfolding instruction_of table csr.order
 fetch_reads_past_the_cache = refl

@@ -1,12 +1,14 @@
 -- The steps of a program, and why its cycles stall, by the definition: straight ahead, or as a predictor answers.
 use Rattle.rv_hardware.proofs.Words.{ℕ, zero, suc, ◌+◌, ◌*◌, ◌/◌, ◌==◌, nat_lt, false, if◌then◌else◌, List, [], ◌∷◌}
 use Rattle.rv_hardware.proofs.Words.{◌++◌, length, Option, Some, None, is_none, option_and_then, bytes_of_number}
-use Rattle.rv_hardware.proofs.Words.{pc_plus_4, Values, no_lines, Memory, fetched_word, FetchBuffer, Fetched}
+use Rattle.rv_hardware.proofs.Words.{pc_plus_4, Kind, Values, with_kind, Early, no_lines, Memory, fetched_word}
+use Rattle.rv_hardware.proofs.Words.{FetchBuffer, Fetched}
 use Rattle.rv_hardware.proofs.Words.{Committing, commit_with, execute, Dispatching, stall_of, Hardware, reset_hardware}
 use Rattle.rv_hardware.proofs.Words.{Stall, Step, Retired, Trap, Execution}
 use Rattle.std.specs.List.{fold}
 use Rattle.rv_isa.specs.Standard.{standard_values}
 use Rattle.rv_isa.specs.declared.causes.Cause.TheVariants.{Breakpoint}
+use Rattle.rv_isa.specs.declared.values.KindValues.{KindValues}
 use Rattle.rv_isa.specs.declared.values.PredictorKind.TheVariants as kind
 use Rattle.rv_decode.specs.Decodes.{instruction_of}
 use Rattle.rv_front.specs.Flow.{flow_at}
@@ -76,6 +78,14 @@ reasons_of values words cycles = reasons_from cycles (reset_hardware values (in_
 -- the standard machine with a smaller RAM, which the programs do not leave
 abbrev pub machine : Values
 machine = record standard_values { ram_size = 8192 }
+
+-- the same with other units of one kind
+abbrev pub machine_with : Kind → KindValues → Values
+machine_with kind units = record machine { kinds = with_kind kind units machine.kinds }
+
+-- the same with early recovery
+abbrev pub early : Values
+early = record machine { recovery = Early }
 
 -- a row of a run
 abbrev pub row : ℕ → ℕ → Option (ℕ × ℕ) → ℕ → ℕ → Option Execution → ℕ → Step

@@ -1,22 +1,19 @@
 -- Stamps and reasons of stalls of short programs, worked out by hand.
-use Rattle.rv_hardware.proofs.Words.{◌≡◌, [], ◌∷◌, false, Some, None, refl, Early, Trap}
+use Rattle.rv_hardware.proofs.Words.{◌≡◌, [], ◌∷◌, false, Some, None, refl, Trap}
 use Rattle.rv_isa.specs.Csr as csr
 use Rattle.rv_isa.specs.declared.causes.Cause.TheVariants.{InstructionAccessFault, IllegalInstruction, LoadAccessFault}
 use Rattle.rv_isa.specs.declared.causes.Cause.TheVariants.{StoreAddressMisaligned}
+use Rattle.rv_isa.specs.declared.operations.Kind.TheVariants as kind
 use Rattle.rv_decode.specs.Decodes.{instruction_of}
 use Rattle.rv_decode.specs.InstructionTable.{table}
 use Rattle.rv_hardware.specs.declared.report.Stall.TheVariants as stall
-use Rattle.rv_hardware.proofs.Rows.Programs.{breakpoint, ebreak, executed, machine, reasons_of, serialised, steps_of}
+use Rattle.rv_hardware.proofs.Rows.Programs.{breakpoint, early, ebreak, executed, machine, machine_with, reasons_of}
+use Rattle.rv_hardware.proofs.Rows.Programs.{serialised, steps_of}
 
 -- addi x1,x0,5 on a machine of width 1
 one_instruction_on_a_narrow_machine : steps_of
-    (record machine {
-      fetch_width = 1;
-      dispatch_width = 1;
-      commit_width = 1;
-      bus_width = 1;
-      kinds = record machine.kinds { alu = record machine.kinds.alu { units = 1 } };
-    })
+    (record (machine_with kind.Alu (record machine.kinds.alu { units = 1 }))
+    { fetch_width = 1; dispatch_width = 1; commit_width = 1; bus_width = 1 })
     (0x00500093 ∷ ebreak ∷ []) 6 ≡
     executed 0x80000000 0x00500093 (Some (1, 5)) 0 1 2 1 3 4 ∷
     breakpoint 0x80000004 5
@@ -24,7 +21,8 @@ unfolding instruction_of table
 one_instruction_on_a_narrow_machine = refl
 
 -- a dependent instruction issues in the cycle after its operand's broadcast
-dependent_instruction_waits : steps_of machine (0x00100093 ∷ 0x00108113 ∷ ebreak ∷ []) 7 ≡
+dependent_instruction_waits : steps_of machine
+    (0x00100093 ∷ 0x00108113 ∷ ebreak ∷ []) 7 ≡
     executed 0x80000000 0x00100093 (Some (1, 1)) 0 1 2 1 3 4 ∷
     executed 0x80000004 0x00108113 (Some (2, 2)) 0 1 4 1 5 6 ∷
     breakpoint 0x80000008 6
@@ -32,24 +30,26 @@ unfolding instruction_of table
 dependent_instruction_waits = refl
 
 -- a division of 8 cycles; what is younger is broadcast before it and retires after it
-younger_result_comes_first : steps_of
-    (record machine { kinds = record machine.kinds { div = record machine.kinds.div { latency = 8 } } })
+younger_result_comes_first : steps_of (machine_with kind.Div (record machine.kinds.div { latency = 8 }))
     (0x020042b3 ∷ 0x00100313 ∷ ebreak ∷ []) 13 ≡
-    executed 0x80000000 0x020042b3 (Some (5, 4294967295)) 0 1 2 8 10 11 ∷ executed 0x80000004 0x00100313
-    (Some (6, 1)) 0 1 2 1 3 11 ∷ breakpoint 0x80000008 12
+    executed 0x80000000 0x020042b3 (Some (5, 4294967295)) 0 1 2 8 10 11 ∷
+    executed 0x80000004 0x00100313 (Some (6, 1)) 0 1 2 1 3 11 ∷
+    breakpoint 0x80000008 12
 unfolding instruction_of table
 younger_result_comes_first = refl
 
 -- two results on a bus of width 1
 narrow_bus_sends_the_older_result_first : steps_of (record machine { bus_width = 1 })
     (0x00100093 ∷ 0x00200113 ∷ ebreak ∷ []) 6 ≡
-    executed 0x80000000 0x00100093 (Some (1, 1)) 0 1 2 1 3 4 ∷ executed 0x80000004 0x00200113
-    (Some (2, 2)) 0 1 2 1 4 5 ∷ breakpoint 0x80000008 5
+    executed 0x80000000 0x00100093 (Some (1, 1)) 0 1 2 1 3 4 ∷
+    executed 0x80000004 0x00200113 (Some (2, 2)) 0 1 2 1 4 5 ∷
+    breakpoint 0x80000008 5
 unfolding instruction_of table
 narrow_bus_sends_the_older_result_first = refl
 
 -- a load that misses the cache keeps the port; the next one hits
-load_misses_and_the_next_one_hits : steps_of machine (0x800012b7 ∷ 0x0002a383 ∷ 0x0042a403 ∷ ebreak ∷ []) 18 ≡
+load_misses_and_the_next_one_hits : steps_of machine
+    (0x800012b7 ∷ 0x0002a383 ∷ 0x0042a403 ∷ ebreak ∷ []) 18 ≡
     executed 0x80000000 0x800012b7 (Some (5, 2147487744)) 0 1 2 1 3 4 ∷
     executed 0x80000004 0x0002a383 (Some (7, 0)) 0 1 4 11 15 16 ∷
     executed 0x80000008 0x0042a403 (Some (8, 0)) 1 2 15 1 16 17 ∷
@@ -60,23 +60,26 @@ load_misses_and_the_next_one_hits = refl
 -- a load leaves its line clean: in a cache of one line the next line costs no write-back
 load_drops_a_clean_line : steps_of (record machine { cache = record machine.cache { sets = 1; ways = 1 } })
     (0x800012b7 ∷ 0x0002a383 ∷ 0x0402a403 ∷ ebreak ∷ []) 28 ≡
-    executed 0x80000000 0x800012b7 (Some (5, 2147487744)) 0 1 2 1 3 4 ∷ executed 0x80000004 0x0002a383
-    (Some (7, 0)) 0 1 4 11 15 16 ∷ executed 0x80000008 0x0402a403
-    (Some (8, 0)) 1 2 15 11 26 27 ∷ breakpoint 0x8000000c 27
+    executed 0x80000000 0x800012b7 (Some (5, 2147487744)) 0 1 2 1 3 4 ∷
+    executed 0x80000004 0x0002a383 (Some (7, 0)) 0 1 4 11 15 16 ∷
+    executed 0x80000008 0x0402a403 (Some (8, 0)) 1 2 15 11 26 27 ∷
+    breakpoint 0x8000000c 27
 unfolding instruction_of table
 load_drops_a_clean_line = refl
 
 -- lui x5,0x80010 and lw x7,0(x5): a load outside RAM costs the latency of its kind
 load_outside_memory_costs_the_latency : steps_of
-    (record machine { forward = 3; kinds = record machine.kinds { mem = record machine.kinds.mem { latency = 7 } } })
+    (record (machine_with kind.Mem (record machine.kinds.mem { latency = 7 })) { forward = 3 })
     (0x800102b7 ∷ 0x0002a383 ∷ ebreak ∷ []) 13 ≡
-    executed 0x80000000 0x800102b7
-    (Some (5, 0x80010000)) 0 1 2 1 3 4 ∷ Trap 0x80000004 LoadAccessFault 0x80010000 12 ∷ []
+    executed 0x80000000 0x800102b7 (Some (5, 0x80010000)) 0 1 2 1 3 4 ∷
+    Trap 0x80000004 LoadAccessFault 0x80010000 12 ∷
+    []
 unfolding instruction_of table
 load_outside_memory_costs_the_latency = refl
 
 -- a load takes its bytes from the store before it
-store_is_forwarded_to_a_load : steps_of machine (0x800012b7 ∷ 0x00700313 ∷ 0x0062a023 ∷ 0x0002a383 ∷ ebreak ∷ []) 9 ≡
+store_is_forwarded_to_a_load : steps_of machine
+    (0x800012b7 ∷ 0x00700313 ∷ 0x0062a023 ∷ 0x0002a383 ∷ ebreak ∷ []) 9 ≡
     executed 0x80000000 0x800012b7 (Some (5, 2147487744)) 0 1 2 1 3 4 ∷
     executed 0x80000004 0x00700313 (Some (6, 7)) 0 1 2 1 3 4 ∷
     executed 0x80000008 0x0062a023 None 1 2 4 1 5 6 ∷
@@ -86,29 +89,33 @@ unfolding instruction_of table
 store_is_forwarded_to_a_load = refl
 
 -- beq x0,x0 by 8 is predicted not to be taken
-wrong_prediction_is_mended_at_retirement : steps_of machine (0x00000463 ∷ 0 ∷ ebreak ∷ []) 7 ≡
+wrong_prediction_is_mended_at_retirement : steps_of machine
+    (0x00000463 ∷ 0 ∷ ebreak ∷ []) 7 ≡
     executed 0x80000000 0x00000463 None 0 1 2 1 3 4 ∷
     breakpoint 0x80000008 6
 unfolding instruction_of table
 wrong_prediction_is_mended_at_retirement = refl
 
 -- the same with early recovery
-wrong_prediction_is_mended_at_broadcast : steps_of (record machine { recovery = Early })
+wrong_prediction_is_mended_at_broadcast : steps_of early
     (0x00000463 ∷ 0 ∷ ebreak ∷ []) 6 ≡
-    executed 0x80000000 0x00000463 None 0 1 2 1 3 4 ∷ breakpoint 0x80000008 5
+    executed 0x80000000 0x00000463 None 0 1 2 1 3 4 ∷
+    breakpoint 0x80000008 5
 unfolding instruction_of table
 wrong_prediction_is_mended_at_broadcast = refl
 
 -- lui x5,0x80000 and jalr x0,12(x5), whose target is known at its broadcast
-jump_to_a_register_is_mended_at_broadcast : steps_of (record machine { recovery = Early })
+jump_to_a_register_is_mended_at_broadcast : steps_of early
     (0x800002b7 ∷ 0x00c28067 ∷ 0 ∷ ebreak ∷ []) 8 ≡
-    executed 0x80000000 0x800002b7
-    (Some (5, 0x80000000)) 0 1 2 1 3 4 ∷ executed 0x80000004 0x00c28067 None 0 1 4 1 5 6 ∷ breakpoint 0x8000000c 7
+    executed 0x80000000 0x800002b7 (Some (5, 0x80000000)) 0 1 2 1 3 4 ∷
+    executed 0x80000004 0x00c28067 None 0 1 4 1 5 6 ∷
+    breakpoint 0x8000000c 7
 unfolding instruction_of table
 jump_to_a_register_is_mended_at_broadcast = refl
 
 -- no program: an illegal word, and then access faults at 0
-empty_memory_traps_again_and_again : steps_of machine [] 10 ≡
+empty_memory_traps_again_and_again : steps_of machine
+    [] 10 ≡
     Trap 0x80000000 IllegalInstruction 0 2 ∷
     Trap 0 InstructionAccessFault 0 4 ∷
     Trap 0 InstructionAccessFault 0 6 ∷
@@ -118,14 +125,16 @@ unfolding instruction_of table
 empty_memory_traps_again_and_again = refl
 
 -- a reorder buffer with one entry
-reorder_buffer_of_one : steps_of (record machine { rob = 1 }) (0x00100093 ∷ ebreak ∷ []) 6 ≡
+reorder_buffer_of_one : steps_of (record machine { rob = 1 })
+    (0x00100093 ∷ ebreak ∷ []) 6 ≡
     executed 0x80000000 0x00100093 (Some (1, 1)) 0 1 2 1 3 4 ∷
     breakpoint 0x80000004 5
 unfolding instruction_of table
 reorder_buffer_of_one = refl
 
 -- csrrs x5,mip,x0 after a division
-serialising_instruction_waits_for_the_head : steps_of machine (0x02004333 ∷ 0x344022f3 ∷ ebreak ∷ []) 22 ≡
+serialising_instruction_waits_for_the_head : steps_of machine
+    (0x02004333 ∷ 0x344022f3 ∷ ebreak ∷ []) 22 ≡
     executed 0x80000000 0x02004333 (Some (6, 4294967295)) 0 1 2 16 18 19 ∷
     serialised 0x80000004 0x344022f3 (Some (5, 0)) 0 1 19 ∷
     breakpoint 0x80000008 21
@@ -133,7 +142,8 @@ unfolding instruction_of table csr.order
 serialising_instruction_waits_for_the_head = refl
 
 -- a wrong prediction after a division is mended when the branch retires
-branch_beside_a_division : steps_of machine (0x020042b3 ∷ 0x00000463 ∷ 0 ∷ ebreak ∷ []) 22 ≡
+branch_beside_a_division : steps_of machine
+    (0x020042b3 ∷ 0x00000463 ∷ 0 ∷ ebreak ∷ []) 22 ≡
     executed 0x80000000 0x020042b3 (Some (5, 4294967295)) 0 1 2 16 18 19 ∷
     executed 0x80000004 0x00000463 None 0 1 2 1 3 19 ∷
     breakpoint 0x8000000c 21
@@ -141,74 +151,91 @@ unfolding instruction_of table
 branch_beside_a_division = refl
 
 -- or, with early recovery, when its result is broadcast
-branch_beside_a_division_mended_early : steps_of (record machine { recovery = Early })
+branch_beside_a_division_mended_early : steps_of early
     (0x020042b3 ∷ 0x00000463 ∷ 0 ∷ ebreak ∷ []) 21 ≡
-    executed 0x80000000 0x020042b3
-    (Some (5, 4294967295)) 0 1 2 16 18 19 ∷ executed 0x80000004 0x00000463 None 0 1 2 1 3 19 ∷ breakpoint 0x8000000c 20
+    executed 0x80000000 0x020042b3 (Some (5, 4294967295)) 0 1 2 16 18 19 ∷
+    executed 0x80000004 0x00000463 None 0 1 2 1 3 19 ∷
+    breakpoint 0x8000000c 20
 unfolding instruction_of table
 branch_beside_a_division_mended_early = refl
 
 -- two stores into two lines, and FENCE.I, which waits for both and then for the write-back of both lines
 fence_waits_for_stores_and_write_back : steps_of machine
     (0x80000437 ∷ 0x02040413 ∷ 0x00842023 ∷ 0x04842023 ∷ 0x0000100f ∷ 0x00042483 ∷ ebreak ∷ []) 56 ≡
-    executed 0x80000000 0x80000437 (Some (8, 0x80000000)) 0 1 2 1 3 4 ∷ executed 0x80000004 0x02040413
-    (Some (8, 0x80000020)) 0 1 4 1 5 6 ∷ executed 0x80000008 0x00842023 None 1 2 6 1 7 8 ∷ executed 0x8000000c
-    0x04842023 None 1 2 7 1 8 9 ∷ serialised 0x80000010 0x0000100f None 2 3 51 ∷ executed 0x80000014 0x00042483
-    (Some (9, 0x80000020)) 51 52 53 1 54 55 ∷ breakpoint 0x80000018 55
+    executed 0x80000000 0x80000437 (Some (8, 0x80000000)) 0 1 2 1 3 4 ∷
+    executed 0x80000004 0x02040413 (Some (8, 0x80000020)) 0 1 4 1 5 6 ∷
+    executed 0x80000008 0x00842023 None 1 2 6 1 7 8 ∷
+    executed 0x8000000c 0x04842023 None 1 2 7 1 8 9 ∷
+    serialised 0x80000010 0x0000100f None 2 3 51 ∷
+    executed 0x80000014 0x00042483 (Some (9, 0x80000020)) 51 52 53 1 54 55 ∷
+    breakpoint 0x80000018 55
 unfolding instruction_of table
 fence_waits_for_stores_and_write_back = refl
 
 -- a store queue with one place: the next store is dispatched when the one before it has left the cache's port
 store_queue_of_one : steps_of (record machine { store_queue = 1 })
     (0x80000437 ∷ 0x02040413 ∷ 0x00842023 ∷ 0x00842223 ∷ 0x00842423 ∷ ebreak ∷ []) 27 ≡
-    executed 0x80000000 0x80000437 (Some (8, 0x80000000)) 0 1 2 1 3 4 ∷ executed 0x80000004 0x02040413
-    (Some (8, 0x80000020)) 0 1 4 1 5 6 ∷ executed 0x80000008 0x00842023 None 1 2 6 1 7 8 ∷ executed 0x8000000c
-    0x00842223 None 1 19 20 1 21 22 ∷ executed 0x80000010 0x00842423 None 2 23 24 1 25 26 ∷ breakpoint 0x80000014 26
+    executed 0x80000000 0x80000437 (Some (8, 0x80000000)) 0 1 2 1 3 4 ∷
+    executed 0x80000004 0x02040413 (Some (8, 0x80000020)) 0 1 4 1 5 6 ∷
+    executed 0x80000008 0x00842023 None 1 2 6 1 7 8 ∷
+    executed 0x8000000c 0x00842223 None 1 19 20 1 21 22 ∷
+    executed 0x80000010 0x00842423 None 2 23 24 1 25 26 ∷
+    breakpoint 0x80000014 26
 unfolding instruction_of table
 store_queue_of_one = refl
 
 -- sw x5,2(x0): a store that faults costs the latency of its kind
-store_that_faults_costs_the_latency : steps_of
-    (record machine { kinds = record machine.kinds { mem = record machine.kinds.mem { latency = 5 } } })
+store_that_faults_costs_the_latency : steps_of (machine_with kind.Mem (record machine.kinds.mem { latency = 5 }))
     (0x00502123 ∷ []) 9 ≡
-    Trap 0x80000000 StoreAddressMisaligned 2 8 ∷ []
+    Trap 0x80000000 StoreAddressMisaligned 2 8 ∷
+    []
 unfolding instruction_of table
 store_that_faults_costs_the_latency = refl
 
 -- a unit without a pipeline is held by a store for the latency of its kind, and by a load for what it costs
 load_holds_its_unit_for_its_cost : steps_of
-    (record machine
-    { kinds = record machine.kinds { mem = record machine.kinds.mem { latency = 8; pipelined = false } } })
+    (machine_with kind.Mem (record machine.kinds.mem { latency = 8; pipelined = false }))
     (0x00000417 ∷ 0x02040413 ∷ 0x0252c3b3 ∷ 0x00542023 ∷ 0x00042303 ∷ 0x00042383 ∷ ebreak ∷ []) 23 ≡
-    executed 0x80000000 0x00000417 (Some (8, 0x80000000)) 0 1 2 1 3 4 ∷ executed 0x80000004 0x02040413
-    (Some (8, 0x80000020)) 0 1 4 1 5 6 ∷ executed 0x80000008 0x0252c3b3
-    (Some (7, 4294967295)) 1 2 3 16 19 20 ∷ executed 0x8000000c 0x00542023 None 1 2 6 8 14 20 ∷ executed
-    0x80000010 0x00042303
-    (Some (6, 0)) 2 3 15 1 16 21 ∷ executed 0x80000014 0x00042383
-    (Some (7, 0)) 2 3 16 1 17 21 ∷ breakpoint 0x80000018 22
+    executed 0x80000000 0x00000417 (Some (8, 0x80000000)) 0 1 2 1 3 4 ∷
+    executed 0x80000004 0x02040413 (Some (8, 0x80000020)) 0 1 4 1 5 6 ∷
+    executed 0x80000008 0x0252c3b3 (Some (7, 4294967295)) 1 2 3 16 19 20 ∷
+    executed 0x8000000c 0x00542023 None 1 2 6 8 14 20 ∷
+    executed 0x80000010 0x00042303 (Some (6, 0)) 2 3 15 1 16 21 ∷
+    executed 0x80000014 0x00042383 (Some (7, 0)) 2 3 16 1 17 21 ∷
+    breakpoint 0x80000018 22
 unfolding instruction_of table
 load_holds_its_unit_for_its_cost = refl
 
 -- div x5,x6,x7, and two additions that wait for x5, with room for one: a full reorder buffer comes before full stations
 full_reorder_buffer_comes_before_full_stations : reasons_of
-    (record machine { rob = 2; kinds = record machine.kinds { alu = record machine.kinds.alu { stations = 1 } } })
+    (record (machine_with kind.Alu (record machine.kinds.alu { stations = 1 })) { rob = 2 })
     (0x027342b3 ∷ 0x00528433 ∷ 0x005404b3 ∷ ebreak ∷ []) 4 ≡
-    Some stall.Fetch ∷ None ∷ Some stall.Rob ∷ Some stall.Rob ∷ []
+    Some stall.Fetch ∷
+    None ∷
+    Some stall.Rob ∷
+    Some stall.Rob ∷
+    []
 unfolding instruction_of table
 full_reorder_buffer_comes_before_full_stations = refl
 
--- two stores behind a division, with room for one: full stations are the reason before a full store queue
+-- two stores after a division, with room for one: full stations are the reason before a full store queue
 full_stations_come_before_a_full_store_queue : reasons_of
-    (record machine
-    { store_queue = 1; kinds = record machine.kinds { mem = record machine.kinds.mem { stations = 1 } } })
+    (record (machine_with kind.Mem (record machine.kinds.mem { stations = 1 })) { store_queue = 1 })
     (0x00000417 ∷ 0x02040413 ∷ 0x027342b3 ∷ 0x00542023 ∷ 0x00542223 ∷ ebreak ∷ []) 4 ≡
-    Some stall.Fetch ∷ None ∷ None ∷ Some stall.Station ∷ []
+    Some stall.Fetch ∷
+    None ∷
+    None ∷
+    Some stall.Station ∷
+    []
 unfolding instruction_of table
 full_stations_come_before_a_full_store_queue = refl
 
 -- two stores: a full reorder buffer is the reason before a full store queue
 full_reorder_buffer_comes_before_a_full_store_queue : reasons_of (record machine { rob = 1; store_queue = 1 })
     (0x00002023 ∷ 0x00002023 ∷ ebreak ∷ []) 3 ≡
-    Some stall.Fetch ∷ None ∷ Some stall.Rob ∷ []
+    Some stall.Fetch ∷
+    None ∷
+    Some stall.Rob ∷
+    []
 unfolding instruction_of table
 full_reorder_buffer_comes_before_a_full_store_queue = refl
