@@ -1,4 +1,4 @@
--- The code of hardware is made of those of its fields, and tells two values apart.
+-- The code of hardware is made of those of its fields, and distinguishes two values.
 use Rattle.rv_hardware.proofs.Words.{nat_cmp, Hardware}
 use Rattle.std.specs.Coded.{Coded, codes, coded_ℕ}
 use Rattle.std.specs.FinSet as set

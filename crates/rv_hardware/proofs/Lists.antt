@@ -219,7 +219,7 @@ module _ {X : Type 0} where
   moved P Q pre pre' f acc (y ∷ ys) h =
       grind (arith, append_assoc, moved P Q pre pre' f (acc ++ y ∷ []) ys (rw (append_assoc pre acc (y ∷ [])) at h.1))
 
-  -- of a list behind another beginning
+  -- of a list after another beginning
   pub EveryAfter-moved : (P Q : List X → X → Type 0) (pre pre' : List X) →
       ((mid : List X) (z : X) → P (pre ++ mid) z → Q (pre' ++ mid) z) → (ys : List X) → EveryAfter P pre ys →
       EveryAfter Q pre' ys
@@ -259,14 +259,14 @@ EveryAfter-unmap P f before [] h = tt
 EveryAfter-unmap P f before (y ∷ ys) h =
     (h.0, EveryAfter-unmap P f (before ++ y ∷ []) ys (rw (map-append f before (y ∷ [])) (h.1)))
 
--- what follows from what holds of each element behind others holds of each
+-- what follows from what holds of each element after others holds of each
 pub EveryAfter-weaker : {X : Type 0} {P Q : List X → X → Type 0} →
     ((before : List X) (x : X) → P before x → Q before x) → (before xs : List X) → EveryAfter P before xs →
     EveryAfter Q before xs
 EveryAfter-weaker f before [] h = tt
 EveryAfter-weaker {P} {Q} f before (x ∷ xs) h = (f before x h.0, EveryAfter-weaker f (before ++ x ∷ []) xs h.1)
 
--- what follows from a property of each element and what holds of each behind others holds of each
+-- what follows from a property of each element and what holds of each after others holds of each
 pub EveryAfter-both : {X : Type 0} {P : X → Type 0} {Q R : List X → X → Type 0} →
     ((before : List X) (x : X) → P x → Q before x → R before x) → (before xs : List X) → Each P xs →
     EveryAfter Q before xs → EveryAfter R before xs
@@ -303,7 +303,7 @@ module _ {X : Type 0} (R : X → X → Type 0) where
         h.1,
   )
 
--- of each pair, and of each element behind others, and so of parts, of more and of a list in which one is another now
+-- of each pair, and of each element after others, and so of parts, of more and of a list in which one is another now
 pub ruleset pair_moves = (EveryPair-append, EveryPair-left, EveryPair-right, EveryPair-across, EveryPair-set)
 
 pub ruleset after_moves = (EveryAfter-append, EveryAfter-left, EveryAfter-right, EveryAfter-moved, EveryAfter-set)

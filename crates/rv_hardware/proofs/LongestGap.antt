@@ -50,7 +50,7 @@ module _ (n before m : ℕ) (reports : List Report) (few : before ≤ n) (passed
         within = omega (arith, few, passed);
         is_gap = All-append outside (x ∷ xs) (steps_of reports)
             (All-weaker (λ y. stamp_of y ≡ n) outside (λ y at. inr (omega (arith, at, few))) (x ∷ xs) stamped)
-            (All-weaker (λ y. n + 1 ≤ stamp_of y) outside (λ y behind. inr (omega (arith, behind, few)))
+            (All-weaker (λ y. n + 1 ≤ stamp_of y) outside (λ y after. inr (omega (arith, after, few)))
             (steps_of reports) later);
       })
 
@@ -90,9 +90,9 @@ module _ (layout : Layout) (arrivals : List Arrival) where
         is_gap = All-nil (IsOutside (n - before) before);
       }
   has_gap before {n = n} {m = m} (one_more {report = report} {reports = reports} cycle rest) few =
-      let behind = All-weaker (λ y. (n + 1 ≤ stamp_of y) × (stamp_of y < m)) (λ y. n + 1 ≤ stamp_of y)
+      let after = All-weaker (λ y. (n + 1 ≤ stamp_of y) × (stamp_of y < m)) (λ y. n + 1 ≤ stamp_of y)
       (λ y within. within.0) (steps_of reports) (true_run_within layout arrivals rest) in
-      gap_from n before m reports few (omega (arith, counts_cycles layout arrivals rest)) behind _ cycle.stamped
+      gap_from n before m reports few (omega (arith, counts_cycles layout arrivals rest)) after _ cycle.stamped
       (has_gap (before + 1) rest (omega (arith, few))) (has_gap 0 rest (omega arith))
 
   -- and no gap is longer

@@ -1,4 +1,4 @@
--- What the access of a store to the cache costs, and when it is over, as the views tell it.
+-- What the access of a store to the cache costs, and when it is over, as the views show it.
 use Rattle.std.specs.Prelude.{ℕ, nat_le, if◌then◌else◌, Option, Some, None}
 use Rattle.std.specs.Option.{option_map}
 use Rattle.rv_isa.specs.declared.broadcast.StoreAccess.{StoreAccess}

@@ -1,4 +1,4 @@
--- An instruction in flight waits for a unit or to be the oldest, or its message tells just what it may.
+-- An instruction in flight waits for a unit or to be the oldest, or its message holds just what it may.
 use Rattle.rv_hardware.proofs.Words.{◌≡◌, ℕ, Bool, true, ◌||◌, ◌∷◌, ◌++◌, is_some, Some, None, Option, option_and_then}
 use Rattle.rv_hardware.proofs.Words.{sym, subst, is_of_kind, is_serialising, is_store, kind_of_word, Message, Instr}
 use Rattle.rv_hardware.proofs.Words.{Lines, Kind, instruction_of, Layout, Effect, State, Each, issue_of, Entry, Stage}
@@ -11,23 +11,23 @@ use Rattle.rv_hardware.proofs.Turns.Cited.{HasRun}
 use Rattle.rv_hardware.proofs.Always.Faults.{HasWordOr, IsUnitFault, by_result}
 use Rattle.rv_hardware.proofs.Marks.Sound.{some_kind}
 
--- a result that is no fault tells what is written where it is a store's, and nowhere else
-abbrev pub TellsItsStore : Option Instr → Message → Type 0
-TellsItsStore i message = message.fault ≡ None → is_some message.store ≡ is_store i
+-- a result that is no fault holds what is written where it is a store's, and nowhere else
+abbrev pub HasItsStore : Option Instr → Message → Type 0
+HasItsStore i message = message.fault ≡ None → is_some message.store ≡ is_store i
 
--- what a message tells of its instruction
-pub record Tells (word : Option ℕ) (instruction : Option Instr) (message : Message) : Type 0 where
+-- what a message holds of its instruction
+pub record IsMessageFor (word : Option ℕ) (instruction : Option Instr) (message : Message) : Type 0 where
   pub fault : HasWordOr message.fault word
-  pub store : TellsItsStore instruction message
+  pub store : HasItsStore instruction message
 
--- by its stage, an instruction waits for a unit or to be the oldest, or its message tells what it may
+-- by its stage, an instruction waits for a unit or to be the oldest, or its message holds what it may
 abbrev pub IsShaped : Option ℕ → Option Instr → Stage → Type 0
 IsShaped word instruction Waiting =
     HasWordOr None word × ((is_some (kind_of_word instruction) || is_serialising instruction) ≡ true)
-IsShaped word instruction (Running issue message) = Tells word instruction message × IsUnitFault message.fault
-IsShaped word instruction (Finished None cycle message) = Tells word instruction message
+IsShaped word instruction (Running issue message) = IsMessageFor word instruction message × IsUnitFault message.fault
+IsShaped word instruction (Finished None cycle message) = IsMessageFor word instruction message
 IsShaped word instruction (Finished (Some issue) cycle message) =
-    Tells word instruction message × IsUnitFault message.fault
+    IsMessageFor word instruction message × IsUnitFault message.fault
 
 -- an instruction in flight is so
 abbrev pub Shaped : Entry → Type 0
@@ -46,28 +46,29 @@ abbrev pub AreShaped : Hardware → Type 0
 AreShaped h = Each Shaped h.rob.entries × Each FetchedShape h.front.entries
 
 -- what is known of the message of an instruction that has finished
-pub told_at_end : (word : Option ℕ) (instruction : Option Instr) (stage : Stage) (message : Message) →
-    broadcast_of stage ≡ Some message → IsShaped word instruction stage → Tells word instruction message
-told_at_end word instruction stage message is shaped = grind arith
+pub message_at_end : (word : Option ℕ) (instruction : Option Instr) (stage : Stage) (message : Message) →
+    broadcast_of stage ≡ Some message → IsShaped word instruction stage → IsMessageFor word instruction message
+message_at_end word instruction stage message is shaped = grind arith
 
 -- ---- what an instruction gives
-access_tells : (s : State) (i : Instr) → is_some (access_of s i) ≡ is_store (Some i)
-access_tells s i = grind arith
+access_has_its_store : (s : State) (i : Instr) → is_some (access_of s i) ≡ is_store (Some i)
+access_has_its_store s i = grind arith
 
-effect_tells : (s : State) (i : Instr) (given : Effect) → TellsItsStore (Some i) (effect_message (access_of s i) given)
-effect_tells s i given = grind (arith, access_tells)
+effect_has_its_store : (s : State) (i : Instr) (given : Effect) →
+    HasItsStore (Some i) (effect_message (access_of s i) given)
+effect_has_its_store s i given = grind (arith, access_has_its_store)
 
-word_tells : (layout : Layout) (s : State) (lines : Lines) (word : Option ℕ) (i : Option Instr) →
-    TellsItsStore i (result_of_word layout s lines word i)
-word_tells layout s lines word i = grind (arith, effect_tells)
+word_has_its_store : (layout : Layout) (s : State) (lines : Lines) (word : Option ℕ) (i : Option Instr) →
+    HasItsStore i (result_of_word layout s lines word i)
+word_has_its_store layout s lines word i = grind (arith, effect_has_its_store)
 
-word_told : (layout : Layout) (s : State) (lines : Lines) (word : Option ℕ) (instruction : Option Instr) →
+word_message : (layout : Layout) (s : State) (lines : Lines) (word : Option ℕ) (instruction : Option Instr) →
     HasWordOr (result_of_word layout s lines word instruction).fault word
-word_told layout s lines word instruction = grind arith
+word_message layout s lines word instruction = grind arith
 
-result_told : (layout : Layout) (s : State) (lines : Lines) (word : Option ℕ) (instruction : Option Instr) →
-    Tells word instruction (result_of_word layout s lines word instruction)
-result_told layout s lines word instruction = grind (arith, word_told, word_tells)
+result_recorded : (layout : Layout) (s : State) (lines : Lines) (word : Option ℕ) (instruction : Option Instr) →
+    IsMessageFor word instruction (result_of_word layout s lines word instruction)
+result_recorded layout s lines word instruction = grind (arith, word_message, word_has_its_store)
 
 -- ---- an execution begins, and its result is broadcast
 waits_with_word : (word : Option ℕ) (instruction : Option Instr) (stage : Stage) → is_waiting stage ≡ true →
@@ -76,8 +77,9 @@ waits_with_word word instruction stage given shaped = grind arith
 
 begun_shape : (k : Kind) (e : Entry) (message : Message) → is_waiting e.stage ≡ true →
     is_of_kind k (kind_of_word e.instruction) ≡ true → IsResultOfWord e.word e.instruction message → Shaped e →
-    Tells e.word e.instruction message × IsUnitFault message.fault
-begun_shape k e message given of_kind result shaped = grind (arith, result_told, by_result, waits_with_word, some_kind)
+    IsMessageFor e.word e.instruction message × IsUnitFault message.fault
+begun_shape k e message given of_kind result shaped =
+    grind (arith, result_recorded, by_result, waits_with_word, some_kind)
 
 known_shape : {cycle : ℕ} (word : Option ℕ) (instruction : Option Instr) {stage : Stage} {message : Message} →
     HasRun cycle stage message → IsShaped word instruction stage →
@@ -95,11 +97,13 @@ or_true b = grind arith
 shaped_by : (word : Option ℕ) (instruction : Option Instr) (kind : Option Kind) (serialising : Bool) (cycle : ℕ)
     (message : Message) →
     kind_of_word instruction ≡ kind → is_serialising instruction ≡ serialising → HasWordFor word instruction →
-    Tells word instruction message → IsShaped word instruction (stage_by kind serialising (Finished None cycle message))
-shaped_by word instruction kind serialising cycle message of_kind serial has told = grind (arith, word_for, or_true)
+    IsMessageFor word instruction message →
+    IsShaped word instruction (stage_by kind serialising (Finished None cycle message))
+shaped_by word instruction kind serialising cycle message of_kind serial has is_message =
+    grind (arith, word_for, or_true)
 
 shaped_entry : (h : Hardware) (f : Fetched) → FetchedShape f → Shaped (entry_of_fetched h f)
-shaped_entry h f has = grind (arith, shaped_by, result_told)
+shaped_entry h f has = grind (arith, shaped_by, result_recorded)
 
 -- ---- a fetch
 no_word : (word : Option ℕ) {instruction : Option Instr} → instruction ≡ option_and_then instruction_of word →

@@ -6,7 +6,7 @@ use Rattle.rv_hardware.proofs.Words.{stop_after, stop_for, FetchStop, Halted, Fe
 use Rattle.rv_hardware.proofs.Words.{Hardware, map-change, arith}
 use Rattle.rv_hardware.proofs.Turns.Cited.{IsKept, phases-kept, IsKeptByChanges, all_squashed, head_retires, one_starts}
 use Rattle.rv_hardware.proofs.Turns.Cited.{one_sent, one_mended, one_enters, fetch-cases}
-use Rattle.rv_hardware.proofs.Always.Entries.{AreShaped, entries_changes, entries-kept, told_at_end}
+use Rattle.rv_hardware.proofs.Always.Entries.{AreShaped, entries_changes, entries-kept, message_at_end}
 use Rattle.rv_hardware.proofs.Always.Faults.{HasWordOr}
 
 abbrev word_of_entry : Entry → Option ℕ
@@ -31,7 +31,7 @@ HaltsAfter false ws = Unit {0}
 
 -- where there is no word, fetch is not halted
 pub runs-empty : (halted : Bool) → HaltsAfter halted [] → halted ≡ false
-runs-empty halted behind = grind arith
+runs-empty halted after = grind arith
 
 -- where fetch is halted, the last word, fetched or in flight, was not there
 abbrev pub IsHalted : Hardware → Type 0
@@ -48,16 +48,16 @@ has_word word message faultless has = subst (λ fault. HasWordOr fault word) fau
 
 next_last : (halted : Bool) (word : Option ℕ) (ws : List (Option ℕ)) → HasWordOr None word →
     HaltsAfter halted (word ∷ ws) → HaltsAfter halted ws
-next_last false word ws has behind = tt
-next_last true None ws has behind = absurd has
-next_last true (Some word) [] has behind = absurd (cc)
-next_last true (Some word) (w ∷ ws) has behind = behind
+next_last false word ws has after = tt
+next_last true None ws has after = absurd has
+next_last true (Some word) [] has after = absurd (cc)
+next_last true (Some word) (w ∷ ws) has after = after
 
 -- ---- one among the others is another one with the same word
 same_words : (h : Hardware) (older younger : List Entry) (old new : Entry) → new.word ≡ old.word →
     h.rob.entries ≡ older ++ old ∷ younger → HaltsAfter h.front.halted (words_of h.rob.entries h.front.entries) →
     HaltsAfter h.front.halted (words_of (older ++ new ∷ younger) h.front.entries)
-same_words h older younger old new same split behind = grind (arith, map-change)
+same_words h older younger old new same split after = grind (arith, map-change)
 
 -- ---- a dispatch
 moved_words : (entries : List Entry) (e : Entry) (f : Fetched) (rest : List Fetched) → e.word ≡ f.word →
@@ -71,11 +71,11 @@ halted_for word straight reason is halted = grind arith
 
 module _ (ram : Memory) (cycle : ℕ) where
   last_by : (width room : ℕ) (e : Fetched) (es : List Fetched) (next : ℕ) {stop : FetchStop}
-      {behind : Option FetchStop} →
-      stop_after e ≡ behind → stop ≡ Halted →
+      {after_first : Option FetchStop} →
+      stop_after e ≡ after_first → stop ≡ Halted →
       (Fetches any_prediction ram cycle width room e.predicted es next stop →
       last_of e.word (map word_of_fetched es) ≡ None) →
-      MatchOption behind (Fetches any_prediction ram cycle width room e.predicted es next stop)
+      MatchOption after_first (Fetches any_prediction ram cycle width room e.predicted es next stop)
       (λ reason. (es ≡ []) × (next ≡ e.predicted) × (stop ≡ reason)) →
       last_of e.word (map word_of_fetched es) ≡ None
   last_by width room e es next is halted given rest = grind (arith, halted_for)
@@ -98,12 +98,12 @@ module _ (ram : Memory) (cycle : ℕ) where
   after_fetched : (entries : List Entry) (old new : FetchBuffer) (stop : FetchStop) →
       FetchesInto any_prediction ram cycle old new stop → HaltsAfter old.halted (words_of entries old.entries) →
       HaltsAfter new.halted (words_of entries new.entries)
-  after_fetched entries old new stop fetches behind = grind (arith, fetch-cases, after_added)
+  after_fetched entries old new stop fetches after = grind (arith, fetch-cases, after_added)
 
 halted_changes : IsKeptByChanges IsHalted
 halted_changes h _ (all_squashed s retired) has = (entries_changes h _ (all_squashed s retired) has.0, tt)
 halted_changes h _ (head_retires e es s message split known none) has =
-    grind (arith, entries_changes, next_last, has_word, told_at_end)
+    grind (arith, entries_changes, next_last, has_word, message_at_end)
 halted_changes h _ (one_starts k older younger e cost message split waits of_kind result costs) has = (
   entries_changes h _ (one_starts k older younger e cost message split waits of_kind result costs) has.0,
   same_words h older younger e (started (record { cycle = h.cycle; cost = cost }) message e) refl split has.1,

@@ -8,7 +8,7 @@ use Rattle.rv_hardware.proofs.Words.{committed_store, stores_after, by_test, map
 use Rattle.rv_hardware.proofs.Turns.Cited.{IsKept, phases-kept, IsKeptByChanges, all_squashed, head_retires}
 use Rattle.rv_hardware.proofs.Turns.Cited.{store_drained, store_drains, one_starts, one_sent, one_mended, one_enters}
 use Rattle.rv_hardware.proofs.Turns.Cited.{WaitsForNothing}
-use Rattle.rv_hardware.proofs.Always.Entries.{AreShaped, entries_changes, entries-kept, told_at_end}
+use Rattle.rv_hardware.proofs.Always.Entries.{AreShaped, entries_changes, entries-kept, message_at_end}
 
 -- the instruction of an entry
 abbrev pub instruction_of_entry : Entry → Option Instr
@@ -55,12 +55,12 @@ HasStores h = AreShaped h × FitQueue h h.committed h.rob.entries
 -- ---- a retirement
 one_committed : (instruction : Option Instr) (seq : ℕ) (access : Option StoreAccess) →
     is_some access ≡ is_store instruction → length (committed_store seq access) ≤ cond (is_store instruction) 1 0
-one_committed instruction seq access tells = grind arith
+one_committed instruction seq access stored = grind arith
 
 fits_retired : (h : Hardware) (e : Entry) (es : List Entry) (message : Message) → HasStores h → h.rob.entries ≡ e ∷ es →
     broadcast_of e.stage ≡ Some message → message.fault ≡ None →
     FitQueue h (h.committed ++ committed_store h.rob.retired message.store) es
-fits_retired h e es message has split known faultless = grind (arith, one_committed, told_at_end, length-append)
+fits_retired h e es message has split known faultless = grind (arith, one_committed, message_at_end, length-append)
 
 -- ---- a drain
 length_without : (ss : List Store) → length (without_drained ss) ≤ length ss

@@ -124,15 +124,15 @@ pub after_issue : (instruction : Option Instr) (k : Kind) (of_kind : kind_of_wor
 after_issue instruction kind.Alu is pool cycle h can =
     let a : Hardware = issue_kind kind.Alu h in
     let m : Hardware = issue_kind kind.Mul a in
-    let behind = after_others instruction is pool cycle in
-    behind kind.Mem refl (issue_kind kind.Div m)
-    (behind kind.Div refl m (behind kind.Mul refl a (own_turn instruction is pool cycle h can)))
+    let after = after_others instruction is pool cycle in
+    after kind.Mem refl (issue_kind kind.Div m)
+    (after kind.Div refl m (after kind.Mul refl a (own_turn instruction is pool cycle h can)))
 after_issue instruction kind.Mul is pool cycle h can =
     let a : Hardware = issue_kind kind.Alu h in
     let m : Hardware = issue_kind kind.Mul a in
-    let behind = after_others instruction is pool cycle in
-    behind kind.Mem refl (issue_kind kind.Div m)
-    (behind kind.Div refl m
+    let after = after_others instruction is pool cycle in
+    after kind.Mem refl (issue_kind kind.Div m)
+    (after kind.Div refl m
     (own_turn instruction is pool cycle a (others_turn instruction is pool cycle kind.Alu refl h can)))
 after_issue instruction kind.Div is pool cycle h can =
     let a : Hardware = issue_kind kind.Alu h in

@@ -6,24 +6,24 @@ use Rattle.rv_hardware.proofs.Words.{issue_of, predicting, ReorderBuffer, change
 use Rattle.rv_hardware.proofs.Words.{broadcast_turn, is_mispredicted, mends_early, with_broadcast, with_recovery}
 use Rattle.rv_hardware.proofs.Words.{Hardware, Turn, effect_message, result_of_word, layout_of, seen, Leaves}
 use Rattle.rv_hardware.proofs.Words.{kept_by_turns, arith}
-use Rattle.rv_hardware.proofs.Headline.Fold.{result_at, behind, IsResult, AreInFlight}
+use Rattle.rv_hardware.proofs.Headline.Fold.{result_at, after_entries, IsResult, AreInFlight}
 use Rattle.rv_hardware.proofs.Headline.Invariant.{FollowsProgram, IsSoundAt, with_other_program}
-use Rattle.rv_hardware.proofs.Headline.Retires.{IsTold, effect_told}
-use Rattle.rv_hardware.proofs.Headline.Split.{behind-append, AreInFlight-older, AreInFlight-append}
+use Rattle.rv_hardware.proofs.Headline.Retires.{IsRecorded, effect_recorded}
+use Rattle.rv_hardware.proofs.Headline.Split.{after_entries-append, AreInFlight-older, AreInFlight-append}
 use Rattle.rv_hardware.proofs.Headline.Stage.{after_aligned, here_in_flight, FollowsProgram-staged}
 use Rattle.rv_hardware.proofs.Turns.Broadcast.{BroadcastTurn, Sends, no_result, sends, mends, broadcast_turn_is}
 use Rattle.rv_hardware.proofs.Turns.Broadcast.{sent_entries, mended_entries}
 
 -- ---- the pc after an instruction that does not fault is a multiple of 4
 aligned_effect : (layout : Layout) (s : State) (target : Option ℕ) (access : Option StoreAccess) (effect : Effect) →
-    IsTold layout s target access effect → is_none (effect_message access effect).fault ≡ true →
+    IsRecorded layout s target access effect → is_none (effect_message access effect).fault ≡ true →
     (effect_message access effect).next_pc % 4 ≡ 0
-aligned_effect layout s target access effect told given = grind (arith, false≢true)
+aligned_effect layout s target access effect recorded given = grind (arith, false≢true)
 
 pub aligned_result : (layout : Layout) (s : State) (lines : Lines) (word : Option ℕ) (i : Option Instr) → s.pc % 4 ≡ 0 →
     is_serialising i ≡ false → is_none (result_of_word layout s lines word i).fault ≡ true →
     (result_of_word layout s lines word i).next_pc % 4 ≡ 0
-aligned_result layout s lines word i here plain given = grind (arith, aligned_effect, effect_told, false≢true)
+aligned_result layout s lines word i here plain given = grind (arith, aligned_effect, effect_recorded, false≢true)
 
 plain_jump : (i : Option Instr) → is_branch_or_jump i ≡ true → is_serialising i ≡ false
 plain_jump i jumps = grind (arith, false≢true)
@@ -47,8 +47,8 @@ module _ (values : Values) (cycle : ℕ) (state : State) (h : Hardware) (is : Is
   all = subst (AreInFlight layout s s) sent.place is.sound.program.in_flight
 
   -- what is broadcast was in execution
-  result : message ≡ result_at layout (behind layout older s) e
-  result = subst (IsResult (result_at layout (behind layout older s) e)) sent.runs
+  result : message ≡ result_at layout (after_entries layout older s) e
+  result = subst (IsResult (result_at layout (after_entries layout older s) e)) sent.runs
       (here_in_flight layout s older e younger all).result
 
   program_known : FollowsProgram layout s (with_broadcast seq message h).rob.entries h.front
@@ -85,8 +85,8 @@ module _ (values : Values) (cycle : ℕ) (state : State) (h : Hardware) (is : Is
       with_other_program is h.units rob (record {
         in_flight = subst (AreInFlight layout s s) (sym after) now;
         buffered = sym
-            (ap (λ (es : List Entry). (behind layout es s).pc) after ∙
-            ap (λ (t : State). t.pc) (behind-append layout older (mended ∷ []) s));
+            (ap (λ (es : List Entry). (after_entries layout es s).pc) after ∙
+            ap (λ (t : State). t.pc) (after_entries-append layout older (mended ∷ []) s));
         aligned = aligned;
       })
 

@@ -120,17 +120,17 @@ module _ (lines : Lines) (before : State) (old : Hardware) where
         retire_done true is = record {
           stays = going.stays;
           calm = going.calm;
-          sound = result_sound h e message going.sound es entries result takes.tells.store
-              (eqb-true message.next_pc e.predicted_next is) takes.tells.aligned;
+          sound = result_sound h e message going.sound es entries result takes.recorded.store
+              (eqb-true message.next_pc e.predicted_next is) takes.recorded.aligned;
           leads = true_cycle_leads going.leads row retired_now;
           retirements = retirements_push c.steps row going.retirements refl refl;
           no_stop = going.no_stop;
         }
         retire_done false is = record {
           stays = going.stays;
-          sound = flushed_sound after takes.tells.aligned going.sound.mepc_aligned
+          sound = flushed_sound after takes.recorded.aligned going.sound.mepc_aligned
               (memory_stored h.values h.stale h.cache h.committed going.sound.memory h.rob.retired message.store
-              takes.tells.store);
+              takes.recorded.store);
           true_cycle = true_push h.cycle going.leads going.retirements row (seen after) retired_now refl
               ((λ is. let none = going.no_stop in absurd (cc)), (λ is. absurd (false≢true is)))
               (λ pc is. let none = going.no_stop in cc);

@@ -50,12 +50,12 @@ cycle_true lines old report new is c =
       values_are = fetched.values_are;
       cycle_is = fetched.cycle_is;
       sound = fetched.sound;
-      true_cycle = rw (c.reports, fetched.sees) (told_by committed);
+      true_cycle = rw (c.reports, fetched.sees) (message_by committed);
     } where
-      told_by : IsDone lines (seen old) (with_lines lines old) c.committing →
+      message_by : IsDone lines (seen old) (with_lines lines old) c.committing →
           IsTrueCycle (layout_of old.values) lines old.cycle (seen old) c.committing.steps c.committing.stop
           (seen c.committing.hardware)
-      told_by committed =
+      message_by committed =
           let P : Values → Lines → ℕ → Type 0 =
           λ values levels cycle.
           IsTrueCycle (layout_of values) levels cycle (seen old) c.committing.steps c.committing.stop

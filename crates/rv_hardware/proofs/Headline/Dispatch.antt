@@ -5,10 +5,10 @@ use Rattle.rv_hardware.proofs.Words.{Values, Layout, State, pushed, Entry, Finis
 use Rattle.rv_hardware.proofs.Words.{entry_of_fetched, stage_by, Hardware, result_of_word, layout_of, seen, state_after}
 use Rattle.rv_hardware.proofs.Words.{arith}
 use Rattle.rv_hardware.proofs.Turns.KeptByDispatch.{dispatch-keeps}
-use Rattle.rv_hardware.proofs.Headline.Fold.{behind, IsResult}
+use Rattle.rv_hardware.proofs.Headline.Fold.{after_entries, IsResult}
 use Rattle.rv_hardware.proofs.Headline.Invariant.{FollowsProgram, IsSoundAt, with_other_program}
 use Rattle.rv_hardware.proofs.Headline.Result.{ReadsSame, same_result}
-use Rattle.rv_hardware.proofs.Headline.Split.{behind-append, AreInFlight-append}
+use Rattle.rv_hardware.proofs.Headline.Split.{after_entries-append, AreInFlight-append}
 
 -- an instruction that uses no unit reads neither registers nor memory
 record ReadsNothing (s t : State) (i : Option Instr) : Type 0 where
@@ -29,7 +29,7 @@ module _ (h : Hardware) (fetched : Fetched) where
   e = entry_of_fetched h fetched
 
   abbrev now : State
-  now = behind layout h.rob.entries s
+  now = after_entries layout h.rob.entries s
 
   -- what is finished at once has its result
   stage_result : (k : Option Kind) (serialising : Bool) → kind_of_word fetched.instruction ≡ k →
@@ -43,7 +43,7 @@ module _ (h : Hardware) (fetched : Fetched) where
   dispatched_program : (rest : List Fetched) →
       FollowsProgram layout s h.rob.entries (record h.front { entries = fetched ∷ rest }) →
       FollowsProgram layout s (h.rob.entries ++ e ∷ []) (record h.front { entries = rest })
-  dispatched_program rest given = grind (arith, e, stage_result, AreInFlight-append, behind-append)
+  dispatched_program rest given = grind (arith, e, stage_result, AreInFlight-append, after_entries-append)
 
 module _ (values : Values) (cycle : ℕ) (state : State) where
   -- the dispatch phase keeps the hardware sound, with the same state seen

@@ -24,9 +24,9 @@ abbrev pub executed : Layout → Entry → State → State
 executed layout e s = with_message layout.base e (result_at layout s e) e.predicted_next s
 
 -- the state after some instructions in flight, each executed in order
-abbrev pub behind : Layout → List Entry → State → State
-behind layout [] s = s
-behind layout (e ∷ es) s = behind layout es (executed layout e s)
+abbrev pub after_entries : Layout → List Entry → State → State
+after_entries layout [] s = s
+after_entries layout (e ∷ es) s = after_entries layout es (executed layout e s)
 
 -- a fetched word is memory's at its place, unless a retired store has touched that
 abbrev pub IsWordAt : Layout → State → ℕ → Option ℕ → Type 0

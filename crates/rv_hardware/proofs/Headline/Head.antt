@@ -1,4 +1,4 @@
--- Where the result of the oldest instruction is known, the one-at-a-time machine takes the step that it tells of.
+-- Where the result of the oldest instruction is known, the one-at-a-time machine takes the step that it stands for.
 use Rattle.rv_hardware.proofs.Words.{◌≡◌, ℕ, ◌%◌, Bool, true, false, cond, List, [], ◌∷◌, Some, None, Option}
 use Rattle.rv_hardware.proofs.Words.{option_map, option_and_then, unwrap_or, sym, refl, ◌∙◌, subst, no_lines, code_of}
 use Rattle.rv_hardware.proofs.Words.{is_serialising, sources_of_word, target_of_word, target_of, Message, Fault, Instr}
@@ -11,7 +11,7 @@ use Rattle.rv_arch.specs.Step.{Step}
 use Rattle.rv_arch.specs.declared.outcome.RefStep.TheVariants.{Retired, Trap}
 use Rattle.rv_decode.proofs.Relation.{Decodes-instruction_of, IsIllegal-instruction_of}
 use Rattle.rv_hardware.proofs.Headline.Result.{ReadsSame, same_result}
-use Rattle.rv_hardware.proofs.Headline.Retires.{IsRetirement, IsTold, effect_told}
+use Rattle.rv_hardware.proofs.Headline.Retires.{IsRetirement, IsRecorded, effect_recorded}
 
 -- the word that a fetch found, or where it found none
 outside_by : (inside : Bool) (word : ℕ) → cond inside (Some word) None ≡ None → inside ≡ false
@@ -62,33 +62,33 @@ module _ (layout : Layout) (s : State) (lines : Lines) where
   pub some_word : (word : Option ℕ) (i : Instr) → IsReadyHead word (Some i) → word ≡ Some (unwrap_or word 0)
   some_word word i ready = grind arith
 
-  -- the step that a message tells of: a retirement, or a trap
+  -- the step that a message stands for: a retirement, or a trap
   pub record Retires_as (word : Option ℕ) (instruction : Option Instr) (message : Message) : Type 0 where
     pub next : State
     pub takes : Step layout s lines
         (Retired s.pc (unwrap_or word 0) (option_map (λ (r : ℕ). (r, message.value)) (target_of_word instruction))) next
-    pub tells : IsRetirement layout s next (target_of_word instruction) message
+    pub recorded : IsRetirement layout s next (target_of_word instruction) message
         (option_map (λ (r : ℕ). (r, message.value)) (target_of_word instruction))
 
-  -- the machine's step that a message tells of: a retirement where it has no fault, else a trap
+  -- the machine's step that a message stands for: a retirement where it has no fault, else a trap
   abbrev pub IsStepOf : Option ℕ → Option Instr → Message → Option Fault → Type 0
   IsStepOf word instruction message None = Retires_as word instruction message
   IsStepOf word instruction message (Some fault) =
       Step layout s lines (Trap s.pc fault.cause fault.value) (trap_taken s (code_of fault.cause) fault.value)
 
   step_of_effect : (word : ℕ) (i : Instr) (e : Effect) → IsReadyHead (Some word) (Some i) →
-      effect layout s lines word i ≡ e → IsTold layout s (target_of i) (access_of s i) e →
+      effect layout s lines word i ≡ e → IsRecorded layout s (target_of i) (access_of s i) e →
       IsStepOf (Some word) (Some i) (effect_message (access_of s i) e) (effect_message (access_of s i) e).fault
-  step_of_effect word i (Retires register next) ready is tells = record {
+  step_of_effect word i (Retires register next) ready is recorded = record {
     next = next;
-    takes = subst (λ (r : Option (ℕ × ℕ)). Step layout s lines (Retired s.pc word r) next) tells.register_is
+    takes = subst (λ (r : Option (ℕ × ℕ)). Step layout s lines (Retired s.pc word r) next) recorded.register_is
         (retired_at layout s lines (fetched ready) s.pc refl word (word_here ready) i (decoded ready) register next is);
-    tells = subst
+    recorded = subst
         (λ (r : Option (ℕ × ℕ)).
         IsRetirement layout s next (target_of i) (effect_message (access_of s i) (Retires register next)) r)
-        tells.register_is tells;
+        recorded.register_is recorded;
   }
-  step_of_effect word i (Faults cause value) ready is tells =
+  step_of_effect word i (Faults cause value) ready is recorded =
       faulted_at layout s lines (fetched ready) word (word_here ready) i (decoded ready) cause value is
 
   step_of_result : s.pc % 4 ≡ 0 → (word : Option ℕ) (instruction : Option Instr) → is_serialising instruction ≡ false →
@@ -98,7 +98,7 @@ module _ (layout : Layout) (s : State) (lines : Lines) where
   step_of_result here None instruction plain ready = unfetched ready.calm (outside ready)
   step_of_result here (Some word) None plain ready =
       grind (arith, illegal_at, fetched, word_here, IsIllegal-instruction_of)
-  step_of_result here (Some word) (Some i) plain ready = grind (arith, step_of_effect, effect_told)
+  step_of_result here (Some word) (Some i) plain ready = grind (arith, step_of_effect, effect_recorded)
 
   -- where the message of the oldest instruction is its result, the machine takes that step
   pub step_of : s.pc % 4 ≡ 0 → {word : Option ℕ} {instruction : Option Instr} {message : Message} →

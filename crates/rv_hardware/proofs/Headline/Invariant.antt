@@ -5,7 +5,7 @@ use Rattle.rv_hardware.proofs.Words.{word_of, State, Contents, IsConsistent, Eac
 use Rattle.rv_hardware.proofs.Words.{Pool, ReorderBuffer, Entry, FetchBuffer, Hardware, bytes_after, with_store}
 use Rattle.rv_hardware.proofs.Words.{layout_of, seen, arith}
 use Rattle.std.specs.FinSet as set
-use Rattle.rv_hardware.proofs.Headline.Fold.{behind, AreInFlight, AreInBuffer}
+use Rattle.rv_hardware.proofs.Headline.Fold.{after_entries, AreInFlight, AreInBuffer}
 use Rattle.rv_hardware.proofs.Headline.Words.{IsRetiredStore}
 
 -- only the oldest store's access may be under way, and the cache has its bytes then
@@ -41,7 +41,7 @@ pub record HoldsMemory (values : Values) (stale : set.FinSet nat_cmp) (cache : C
 -- the instructions in flight and the fetched words go on from the state that programs see
 pub record FollowsProgram (layout : Layout) (s : State) (entries : List Entry) (front : FetchBuffer) : Type 0 where
   pub in_flight : AreInFlight layout s s entries
-  pub buffered : AreInBuffer layout s (behind layout entries s).pc front.entries front.next_pc
+  pub buffered : AreInBuffer layout s (after_entries layout entries s).pc front.entries front.next_pc
   pub aligned : front.next_pc % 4 ≡ 0
 
 -- pc and mepc are aligned, cache and queue hold the program's memory, and what is in flight follows the program

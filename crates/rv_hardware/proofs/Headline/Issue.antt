@@ -9,7 +9,7 @@ use Rattle.rv_hardware.proofs.Words.{path_of, with_access, with_start, layout_of
 use Rattle.rv_isa.specs.declared.Issue.{Issue}
 use Rattle.rv_units.specs.Pool.{started as started_unit}
 use Rattle.rv_hardware.proofs.Headline.Drain.{with_other_memory}
-use Rattle.rv_hardware.proofs.Headline.Fold.{result_at, behind, AreInFlight}
+use Rattle.rv_hardware.proofs.Headline.Fold.{result_at, after_entries, AreInFlight}
 use Rattle.rv_hardware.proofs.Headline.Invariant.{IsSoundAt, with_other_program}
 use Rattle.rv_hardware.proofs.Headline.Known.{issued_result}
 use Rattle.rv_hardware.proofs.Headline.Retires.{some_bytes}
@@ -67,7 +67,7 @@ module _ (values : Values) (cycle : ℕ) (state : State) where
   start_kept : (k : Kind) (cost : ℕ) {seq : ℕ} {message : Message} (older : List Entry) (e : Entry)
       (younger : List Entry) {h : Hardware} →
       IsSoundAt values cycle state h → h.rob.entries ≡ older ++ e ∷ younger → seq ≡ h.rob.retired + length older →
-      message ≡ result_at (layout_of h.values) (behind (layout_of h.values) older (seen h)) e →
+      message ≡ result_at (layout_of h.values) (after_entries (layout_of h.values) older (seen h)) e →
       IsSoundAt values cycle state (with_start k seq cost message h)
   start_kept k cost {seq} {message} older e younger {h} is entries at result =
       let issue : Issue = record { cycle = h.cycle; cost = cost } in
@@ -82,7 +82,7 @@ module _ (values : Values) (cycle : ℕ) (state : State) where
       (younger : List Entry) {h : Hardware} →
       IsInRam h p → IsSoundAt values cycle state h → h.rob.entries ≡ older ++ e ∷ younger →
       seq ≡ h.rob.retired + length older →
-      message ≡ result_at (layout_of h.values) (behind (layout_of h.values) older (seen h)) e →
+      message ≡ result_at (layout_of h.values) (after_entries (layout_of h.values) older (seen h)) e →
       IsSoundAt values cycle state (with_start k seq cost message (with_access p h))
   started_kept (FromCache address) k cost {seq} {message} older e younger {h} inside is entries at result =
       start_kept k cost older e younger (access_kept (FromCache address) h inside is) entries at result

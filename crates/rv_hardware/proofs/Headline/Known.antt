@@ -12,7 +12,7 @@ use Rattle.rv_hardware.proofs.Words.{store_of_broadcast, store_of_message, store
 use Rattle.rv_hardware.proofs.Words.{has_operands, access_of, effect_message, result_of_word, layout_of, seen}
 use Rattle.rv_hardware.proofs.Words.{state_after, stores_after}
 use Rattle.rv_hardware.specs.InFlight.{is_known}
-use Rattle.rv_hardware.proofs.Headline.Fold.{result_at, executed, behind, IsResult, AreInFlight}
+use Rattle.rv_hardware.proofs.Headline.Fold.{result_at, executed, after_entries, IsResult, AreInFlight}
 use Rattle.rv_hardware.proofs.Headline.Result.{ReadsSame, same_result}
 
 -- ---- x0 is nobody's target
@@ -70,7 +70,7 @@ module _ (layout : Layout) (now : State) where
   known_from : (older : List Entry) (s : State) (registers : List ℕ) {known : Bool} (r : ℕ) →
       AreInFlight layout now s older → length registers ≡ length s.registers →
       (known ≡ true → slice_index registers r ≡ register_of s r) → is_known_from known older r ≡ true →
-      slice_index (registers_after registers older) r ≡ register_of (behind layout older s) r
+      slice_index (registers_after registers older) r ≡ register_of (after_entries layout older s) r
   known_from [] s registers r all size same test = same test
   known_from (e ∷ es) s registers {known} r all size same test =
       let target = target_of_word e.instruction in
@@ -84,7 +84,7 @@ module _ (layout : Layout) (now : State) where
 
   pub operands_known : (older : List Entry) (s t : State) (sources : List (Option ℕ)) → AreInFlight layout now s older →
       t.registers ≡ registers_after s.registers older → has_operands older sources ≡ true →
-      ReadsSame t (behind layout older s) sources
+      ReadsSame t (after_entries layout older s) sources
   operands_known older s t [] all is has = tt
   operands_known older s t (None ∷ sources) all is has = operands_known older s t sources all is has
   operands_known older s t (Some r ∷ sources) all is has =
@@ -116,7 +116,7 @@ module _ (layout : Layout) (now : State) where
       is_store e.instruction ≡ b → IsResult (result_at layout s e) e.stage → bytes ≡ s.ram →
       ((bytes' : List ℕ) → bytes' ≡ (executed layout e s).ram →
       list_all is_known_store (stores_of (seq + 1) es) ≡ true →
-      bytes_after layout.base (stores_of (seq + 1) es) bytes' ≡ (behind layout (e ∷ es) s).ram) →
+      bytes_after layout.base (stores_of (seq + 1) es) bytes' ≡ (after_entries layout (e ∷ es) s).ram) →
       list_all is_known_store
       (if b then record { seq = seq; state = store_of_broadcast (broadcast_of e.stage) } ∷ stores_of (seq + 1) es
       else stores_of (seq + 1) es) ≡
@@ -125,12 +125,12 @@ module _ (layout : Layout) (now : State) where
       (if b then record { seq = seq; state = store_of_broadcast (broadcast_of e.stage) } ∷ stores_of (seq + 1) es
       else stores_of (seq + 1) es)
       bytes ≡
-      (behind layout (e ∷ es) s).ram
+      (after_entries layout (e ∷ es) s).ram
   known_by e es s seq is result same rest known = grind (arith, and_parts, store_known, broadcast_is, no_store)
 
   pub memory_known : (older : List Entry) (s : State) (seq : ℕ) {bytes : List ℕ} → AreInFlight layout now s older →
       bytes ≡ s.ram → list_all is_known_store (stores_of seq older) ≡ true →
-      bytes_after layout.base (stores_of seq older) bytes ≡ (behind layout older s).ram
+      bytes_after layout.base (stores_of seq older) bytes ≡ (after_entries layout older s).ram
   memory_known [] s seq all same known = same
   memory_known (e ∷ es) s seq {bytes} all same known =
       known_by e es s seq refl all.0.result same
@@ -146,13 +146,13 @@ bytes_after-append base (x ∷ xs) ys bytes = bytes_after-append base xs ys (wit
 module _ (h : Hardware) (older : List Entry) (e : Entry) where
   -- an instruction whose operands and older stores are known gives the result that it has in program order
   pub issued_result : AreInFlight (layout_of h.values) (seen h) (seen h) older →
-      e.pc ≡ (behind (layout_of h.values) older (seen h)).pc → is_serialising e.instruction ≡ false →
+      e.pc ≡ (after_entries (layout_of h.values) older (seen h)).pc → is_serialising e.instruction ≡ false →
       has_operands older (sources_of_word e.instruction) ≡ true →
       (is_load e.instruction ≡ true → list_all is_known_store (stores_after h older) ≡ true) →
       result_of_word (layout_of h.values) (state_after h older e.pc) h.lines e.word e.instruction ≡
-      result_at (layout_of h.values) (behind (layout_of h.values) older (seen h)) e
+      result_at (layout_of h.values) (after_entries (layout_of h.values) older (seen h)) e
   issued_result all here plain has known =
-      same_result (state_after h older e.pc) (behind (layout_of h.values) older (seen h))
+      same_result (state_after h older e.pc) (after_entries (layout_of h.values) older (seen h))
       (layout_of h.values) h.lines no_lines here e.word e.instruction plain
       (operands_known (layout_of h.values) (seen h) older (seen h) (state_after h older e.pc)
       (sources_of_word e.instruction) all refl has)

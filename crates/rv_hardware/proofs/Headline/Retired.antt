@@ -8,7 +8,7 @@ use Rattle.rv_hardware.proofs.Words.{is_draining, Store as QueuedStore, Committe
 use Rattle.rv_hardware.proofs.Words.{bytes_after, store_of_message, with_store, committed_store, stale_after}
 use Rattle.rv_hardware.proofs.Words.{with_result, layout_of, seen, with_state, flushed, with_trap, Each-push, each_then}
 use Rattle.std.specs.FinSet as set
-use Rattle.rv_hardware.proofs.Headline.Fold.{result_at, with_message, executed, behind, IsWordAt, AreInFlight}
+use Rattle.rv_hardware.proofs.Headline.Fold.{result_at, with_message, executed, after_entries, IsWordAt, AreInFlight}
 use Rattle.rv_hardware.proofs.Headline.Fold.{AreInBuffer}
 use Rattle.rv_hardware.proofs.Headline.Invariant.{DrainInOrder, HoldsMemory, FollowsProgram, IsSound}
 use Rattle.rv_hardware.proofs.Headline.Known.{bytes_after-append}
@@ -172,19 +172,20 @@ module _ (h : Hardware) (e : Entry) (message : Message) where
         let same : next_state ≡ executed this e (seen h) =
         ap₂ (λ (m : Message) (n : ℕ). with_message h.values.ram_base e m n (seen h)) result as_predicted in
         let buffered : AreInBuffer this (seen h)
-        (behind this es (executed this e (seen h))).pc h.front.entries h.front.next_pc =
+        (after_entries this es (executed this e (seen h))).pc h.front.entries h.front.next_pc =
         subst (λ (xs : List Entry).
-        AreInBuffer this (seen h) (behind this xs (seen h)).pc h.front.entries h.front.next_pc)
+        AreInBuffer this (seen h) (after_entries this xs (seen h)).pc h.front.entries h.front.next_pc)
         entries is.program.buffered in
         let start = after_aligned this (seen h) (seen h) es (executed this e (seen h)) all.1 all.0.aligned in
         record {
           in_flight = subst (λ (u : State). AreInFlight this next_state u es) (sym same)
               (AreInFlight-kept this (seen h) next_state keep es (executed this e (seen h)) all.0.aligned all.1);
           buffered =
-              subst (λ (u : State). AreInBuffer this next_state (behind this es u).pc h.front.entries h.front.next_pc)
+              subst
+              (λ (u : State). AreInBuffer this next_state (after_entries this es u).pc h.front.entries h.front.next_pc)
               (sym same)
               (AreInBuffer-kept this (seen h) next_state keep h.front.entries
-              (behind this es (executed this e (seen h))).pc h.front.next_pc start buffered);
+              (after_entries this es (executed this e (seen h))).pc h.front.next_pc start buffered);
           aligned = is.program.aligned;
         }
 

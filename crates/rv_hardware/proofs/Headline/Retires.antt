@@ -1,4 +1,4 @@
--- What an instruction's retirement makes of a state is what its message tells.
+-- What an instruction's retirement makes of a state is what its message records.
 use Rattle.rv_hardware.proofs.Words.{◌≡◌, ℕ, zero, suc, ◌+◌, ◌/◌, ◌%◌, ◌≤◌, Bool, true, false, cond, not, length}
 use Rattle.rv_hardware.proofs.Words.{IfSome, if◌then◌else◌, nat_eq, slice_set, Some, None, Option, option_map, refl, ap}
 use Rattle.rv_hardware.proofs.Words.{true≢false, arith, eqb-true, cond-false, nat_tests, bytes_of_number, holds}
@@ -20,7 +20,7 @@ pub record IsStoreAccess (layout : Layout) (access : StoreAccess) : Type 0 where
   pub aligned : IsAligned access.address (length access.bytes)
   pub writable : is_writable layout access.address (length access.bytes) ≡ true
 
--- a retirement from a state to the next, with a written register, as a message tells it
+-- a retirement from a state to the next, with a written register, as a message records it
 pub record IsRetirement (layout : Layout) (s next : State) (target : Option ℕ) (message : Message)
     (register : Option (ℕ × ℕ)) : Type 0 where
   pub next_is : next ≡ record {
@@ -35,10 +35,10 @@ pub record IsRetirement (layout : Layout) (s next : State) (target : Option ℕ)
   pub store : IfSome message.store (IsStoreAccess layout)
 
 -- ... where the effect is a retirement
-abbrev pub IsTold : Layout → State → Option ℕ → Option StoreAccess → Effect → Type 0
-IsTold layout s target access (Retires register next) =
+abbrev pub IsRecorded : Layout → State → Option ℕ → Option StoreAccess → Effect → Type 0
+IsRecorded layout s target access (Retires register next) =
     IsRetirement layout s next target (effect_message access (Retires register next)) register
-IsTold layout s target access (Faults cause value) = Unit {0}
+IsRecorded layout s target access (Faults cause value) = Unit {0}
 
 -- the pc after an aligned one is aligned
 pub aligned_next : (pc : ℕ) → pc % 4 ≡ 0 → pc_plus_4 pc % 4 ≡ 0
@@ -64,26 +64,26 @@ module _ (layout : Layout) (s : State) (here : s.pc % 4 ≡ 0) where
       option_map (λ (r : ℕ). (r, message.value)) (cond none None (Some rd))
   register_by none rd value message same = grind arith
 
-  writes_told : (rd value next : ℕ) → next % 4 ≡ 0 → IsTold layout s (written rd) None (writes s rd value next)
-  writes_told rd value next aligned = grind (arith, registers_by, register_by)
+  writes_recorded : (rd value next : ℕ) → next % 4 ≡ 0 → IsRecorded layout s (written rd) None (writes s rd value next)
+  writes_recorded rd value next aligned = grind (arith, registers_by, register_by)
 
-  goes_told : (next : ℕ) → next % 4 ≡ 0 → IsTold layout s None None (goes_to s next)
-  goes_told next aligned = record { next_is = refl; register_is = refl; aligned = aligned; store = tt }
+  goes_recorded : (next : ℕ) → next % 4 ≡ 0 → IsRecorded layout s None None (goes_to s next)
+  goes_recorded next aligned = record { next_is = refl; register_is = refl; aligned = aligned; store = tt }
 
   jumps_by : (b : Bool) (cause : Cause) (rd target : ℕ) → is_aligned target 4 ≡ b →
-      IsTold layout s (written rd) None (if b then writes s rd (pc_plus_4 s.pc) target else Faults cause target)
-  jumps_by b cause rd target is = grind (arith, writes_told, is_aligned_by_4)
+      IsRecorded layout s (written rd) None (if b then writes s rd (pc_plus_4 s.pc) target else Faults cause target)
+  jumps_by b cause rd target is = grind (arith, writes_recorded, is_aligned_by_4)
 
   branches_by : (taken : Bool) {b : Bool} (cause : Cause) (target : ℕ) → is_aligned target 4 ≡ b →
-      IsTold layout s None None
+      IsRecorded layout s None None
       (if taken then (if b then goes_to s target else Faults cause target) else goes_to s (pc_plus_4 s.pc))
-  branches_by taken cause target is = grind (arith, goes_told, aligned_next, is_aligned_by_4)
+  branches_by taken cause target is = grind (arith, goes_recorded, aligned_next, is_aligned_by_4)
 
   loads_by : (aligned inside : Bool) (a b : Cause) (rd address value : ℕ) →
-      IsTold layout s (written rd) None
+      IsRecorded layout s (written rd) None
       (if not aligned then Faults a address
       else (if not inside then Faults b address else writes s rd value (pc_plus_4 s.pc)))
-  loads_by aligned inside a b rd address value = grind (arith, writes_told, aligned_next)
+  loads_by aligned inside a b rd address value = grind (arith, writes_recorded, aligned_next)
 
   length-bytes_of_number : (count number : ℕ) → length (bytes_of_number count number) ≡ count
   length-bytes_of_number zero number = refl
@@ -104,7 +104,7 @@ module _ (layout : Layout) (s : State) (here : s.pc % 4 ≡ 0) where
   stores_by : (aligned writable : Bool) (a b : Cause) (width : Width) (address word : ℕ) →
       is_aligned address (bytes_of width) ≡ aligned → is_writable layout address (bytes_of width) ≡ writable →
       let access : StoreAccess = record { address = address; bytes = bytes_of_number (bytes_of width) word } in
-      IsTold layout s None (Some access)
+      IsRecorded layout s None (Some access)
       (if not aligned then Faults a address else (if not writable then Faults b address else Retires None (record s {
         pc = pc_plus_4 s.pc;
         ram = with_store layout.base (store_of_message (Some access)) s.ram;
@@ -114,27 +114,28 @@ module _ (layout : Layout) (s : State) (here : s.pc % 4 ≡ 0) where
       grind (arith, inside_of, length-bytes_of_number, aligned_next, one_word_of, some_bytes, aligned_bytes)
   stores_by aligned writable a b width address word is_a is_w = tt
 
-  loaded : (form : LoadForm) (rd address : ℕ) → IsTold layout s (written rd) None (loads layout s form rd address)
+  loaded : (form : LoadForm) (rd address : ℕ) → IsRecorded layout s (written rd) None (loads layout s form rd address)
   loaded form rd address = grind (arith, loads_by)
 
-  -- what an instruction's message tells is its effect on the state
-  pub effect_told : (lines : Lines) (word : ℕ) (i : Instr) → is_serialising (Some i) ≡ false →
-      IsTold layout s (target_of i) (access_of s i) (effect layout s lines word i)
-  effect_told lines word (Lui rd immediate) plain = writes_told rd _ _ (aligned_next s.pc here)
-  effect_told lines word (Auipc rd immediate) plain = writes_told rd _ _ (aligned_next s.pc here)
-  effect_told lines word (Jal rd offset) plain = jumps_by _ _ rd _ refl
-  effect_told lines word (Jalr rd rs1 offset) plain = jumps_by _ _ rd _ refl
-  effect_told lines word (Branch condition rs1 rs2 offset) plain =
+  -- what an instruction's message records is its effect on the state
+  pub effect_recorded : (lines : Lines) (word : ℕ) (i : Instr) → is_serialising (Some i) ≡ false →
+      IsRecorded layout s (target_of i) (access_of s i) (effect layout s lines word i)
+  effect_recorded lines word (Lui rd immediate) plain = writes_recorded rd _ _ (aligned_next s.pc here)
+  effect_recorded lines word (Auipc rd immediate) plain = writes_recorded rd _ _ (aligned_next s.pc here)
+  effect_recorded lines word (Jal rd offset) plain = jumps_by _ _ rd _ refl
+  effect_recorded lines word (Jalr rd rs1 offset) plain = jumps_by _ _ rd _ refl
+  effect_recorded lines word (Branch condition rs1 rs2 offset) plain =
       branches_by (holds condition (register_of s rs1) (register_of s rs2)) InstructionAddressMisaligned
       (pc_plus s.pc offset) refl
-  effect_told lines word (Load form rd rs1 offset) plain = loaded form rd (sum (register_of s rs1) (modulo_word offset))
-  effect_told lines word (Store width rs1 rs2 offset) plain = stores_by _ _ _ _ width _ _ refl refl
-  effect_told lines word (OpImmediate op rd rs1 immediate) plain = writes_told rd _ _ (aligned_next s.pc here)
-  effect_told lines word (Shift op rd rs1 amount) plain = writes_told rd _ _ (aligned_next s.pc here)
-  effect_told lines word (Op op rd rs1 rs2) plain = writes_told rd _ _ (aligned_next s.pc here)
-  effect_told lines word FenceI plain = absurd (true≢false plain)
-  effect_told lines word (Csr op rd csr source) plain = absurd (true≢false plain)
-  effect_told lines word Ecall plain = tt
-  effect_told lines word Ebreak plain = tt
-  effect_told lines word Mret plain = absurd (true≢false plain)
-  effect_told lines word _ plain = goes_told _ (aligned_next s.pc here)
+  effect_recorded lines word (Load form rd rs1 offset) plain =
+      loaded form rd (sum (register_of s rs1) (modulo_word offset))
+  effect_recorded lines word (Store width rs1 rs2 offset) plain = stores_by _ _ _ _ width _ _ refl refl
+  effect_recorded lines word (OpImmediate op rd rs1 immediate) plain = writes_recorded rd _ _ (aligned_next s.pc here)
+  effect_recorded lines word (Shift op rd rs1 amount) plain = writes_recorded rd _ _ (aligned_next s.pc here)
+  effect_recorded lines word (Op op rd rs1 rs2) plain = writes_recorded rd _ _ (aligned_next s.pc here)
+  effect_recorded lines word FenceI plain = absurd (true≢false plain)
+  effect_recorded lines word (Csr op rd csr source) plain = absurd (true≢false plain)
+  effect_recorded lines word Ecall plain = tt
+  effect_recorded lines word Ebreak plain = tt
+  effect_recorded lines word Mret plain = absurd (true≢false plain)
+  effect_recorded lines word _ plain = goes_recorded _ (aligned_next s.pc here)

@@ -10,7 +10,7 @@ use Rattle.rv_hardware.proofs.Headline.Cycle.{always_sound}
 use Rattle.rv_hardware.proofs.Headline.Fold.{executed, IsResult, AreInFlight}
 use Rattle.rv_hardware.proofs.Headline.Invariant.{IsSound}
 use Rattle.rv_hardware.proofs.Headline.Known.{no_store}
-use Rattle.rv_hardware.proofs.Headline.Retires.{IsTold, IsStoreAccess, effect_told}
+use Rattle.rv_hardware.proofs.Headline.Retires.{IsRecorded, IsStoreAccess, effect_recorded}
 use Rattle.rv_hardware.proofs.Headline.Split.{AreInFlight-older}
 
 -- a serialising instruction is no store
@@ -18,12 +18,13 @@ pub serialising_is_no_store : (i : Option Instr) → is_serialising i ≡ true �
 serialising_is_no_store i serial = grind (arith, false≢true)
 
 store_of_effect : (layout : Layout) (s : State) (target : Option ℕ) (access : Option StoreAccess) (effect : Effect) →
-    IsTold layout s target access effect → IfSome (effect_message access effect).store (IsStoreAccess layout)
-store_of_effect layout s target access effect told = grind arith
+    IsRecorded layout s target access effect → IfSome (effect_message access effect).store (IsStoreAccess layout)
+store_of_effect layout s target access effect recorded = grind arith
 
 store_inside : (layout : Layout) (s : State) (lines : Lines) (word : Option ℕ) (i : Option Instr) → s.pc % 4 ≡ 0 →
     IfSome (result_of_word layout s lines word i).store (IsStoreAccess layout)
-store_inside layout s lines word i here = grind (arith, no_store, serialising_is_no_store, store_of_effect, effect_told)
+store_inside layout s lines word i here =
+    grind (arith, no_store, serialising_is_no_store, store_of_effect, effect_recorded)
 
 -- what an instruction that executes, or did, writes to memory
 abbrev pub IsStageInside : Layout → Stage → Type 0

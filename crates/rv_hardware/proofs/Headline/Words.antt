@@ -79,7 +79,7 @@ module _ {layout : Layout} {access : StoreAccess} (legal : IsStoreAccess layout 
   stored_elsewhere i other = elim (cases_lt i at) [
     | inl below ↦ get_or-overwritten_below xs access.bytes at fits i below
     | inr from ↦ elim (cases_lt i (at + length access.bytes)) [
-      | inr behind ↦ get_or-overwritten_above xs access.bytes at fits i behind
+      | inr above ↦ get_or-overwritten_above xs access.bytes at fits i above
       | inl here ↦ absurd (other (omega (arith, legal.above, legal.one_word)))
     ]
   ]
@@ -93,7 +93,7 @@ module _ {layout : Layout} {access : StoreAccess} (legal : IsStoreAccess layout 
       ext_get_or 0 _ _ (length-overwritten once access.bytes at fits_again) (λ i within. elim (cases_lt i at) [
         | inl below ↦ get_or-overwritten_below once access.bytes at fits_again i below
         | inr from ↦ elim (cases_lt i (at + length access.bytes)) [
-          | inr behind ↦ get_or-overwritten_above once access.bytes at fits_again i behind
+          | inr above ↦ get_or-overwritten_above once access.bytes at fits_again i above
           | inl here ↦ get_or-overwritten_in once access.bytes at fits_again i from here ∙
               sym (get_or-overwritten_in xs access.bytes at fits i from here)
         ]

@@ -13,28 +13,28 @@ IsCounted true (Some reason) = Unit {0}
 IsCounted false None = Unit {0}
 IsCounted _ _ = ⊥
 
-abbrev Tells : Dispatching → Type 0
-Tells d = IsCounted (d.dispatched == 0) (stall_of d)
+abbrev IsCountedDispatch : Dispatching → Type 0
+IsCountedDispatch d = IsCounted (d.dispatched == 0) (stall_of d)
 
 abbrev Counts : ℕ → Dispatching → Type 0
 Counts k d = d.dispatched ≡ k
 
-tells_some : (b : Bool) (reason : Stall) → IsCounted b (cond b (Some reason) None)
-tells_some b reason = grind arith
+counted_some : (b : Bool) (reason : Stall) → IsCounted b (cond b (Some reason) None)
+counted_some b reason = grind arith
 
-tells_more : (n : ℕ) (o : Option Stall) → 0 < n → IsCounted (n == 0) (cond (n == 0) o None)
-tells_more n o lt = rw (ne_eqb n 0 (omega arith)) tt
+counted_more : (n : ℕ) (o : Option Stall) → 0 < n → IsCounted (n == 0) (cond (n == 0) o None)
+counted_more n o lt = rw (ne_eqb n 0 (omega arith)) tt
 
-dispatch_tells_turn : (k : ℕ) {d : Dispatching} {t : Turn Dispatching} → DispatchTurn d t → Counts k d →
-    Leads (Counts (suc k)) Tells t
-dispatch_tells_turn k given p = grind (arith, tells_some)
+dispatch_turn_counted : (k : ℕ) {d : Dispatching} {t : Turn Dispatching} → DispatchTurn d t → Counts k d →
+    Leads (Counts (suc k)) IsCountedDispatch t
+dispatch_turn_counted k given p = grind (arith, counted_some)
 
 -- the dispatch phase dispatches something or gives a reason for its stall
-pub dispatch_tells : (h : Hardware) → 1 ≤ h.values.dispatch_width → Tells (dispatch h)
-dispatch_tells h le =
-    turns_within h.values.dispatch_width Counts Tells dispatch_turn
-    (λ k d lt p. dispatch_tells_turn k (dispatch_turn_is d) p)
-    (λ d p. tells_more d.dispatched d.waits_for (omega (arith, p, le))) h.values.dispatch_width 0
+pub dispatch_is_counted : (h : Hardware) → 1 ≤ h.values.dispatch_width → IsCountedDispatch (dispatch h)
+dispatch_is_counted h le =
+    turns_within h.values.dispatch_width Counts IsCountedDispatch dispatch_turn
+    (λ k d lt p. dispatch_turn_counted k (dispatch_turn_is d) p)
+    (λ d p. counted_more d.dispatched d.waits_for (omega (arith, p, le))) h.values.dispatch_width 0
     (record { hardware = h; dispatched = 0; waits_for = None }) (omega arith) refl
 
 -- over all cycles
@@ -42,16 +42,16 @@ dispatch_tells h le =
 one_more : (reason : Stall) (counts : StallCounts) → stall_cycles (counted reason counts) ≡ suc (stall_cycles counts)
 one_more reason counts = grind arith
 
--- each report tells
-abbrev pub AllTell : List Report → Type 0
-AllTell [] = Unit {0}
-AllTell (report ∷ reports) = IsCounted (report.dispatched == 0) report.stall × AllTell reports
+-- each report counts its cycle once: as busy, or as a stall for one reason
+abbrev pub AreAllCounted : List Report → Type 0
+AreAllCounted [] = Unit {0}
+AreAllCounted (report ∷ reports) = IsCounted (report.dispatched == 0) report.stall × AreAllCounted reports
 
 counts_by : (b : Bool) (o : Option Stall) (counts : StallCounts) (n : ℕ) → IsCounted b o →
     cond (not b) (suc n) n + stall_cycles (counted_stall o counts) ≡ suc (n + stall_cycles counts)
 counts_by b o counts n h = grind (arith, one_more)
 
-counts_from : (counts : StallCounts) (reports : List Report) → AllTell reports →
+counts_from : (counts : StallCounts) (reports : List Report) → AreAllCounted reports →
     count (λ report. not (report.dispatched == 0)) reports + stall_cycles (stalls_from counts reports) ≡
     length reports + stall_cycles counts
 counts_from counts [] h = refl
@@ -59,6 +59,6 @@ counts_from counts (report ∷ reports) h =
     grind (arith, counts_by, counts_from (counted_stall report.stall counts) reports h.1)
 
 -- busy and stalls make the cycles
-pub busy_and_stalls : (reports : List Report) → AllTell reports →
+pub busy_and_stalls : (reports : List Report) → AreAllCounted reports →
     busy_of reports + stall_cycles (stalls_of reports) ≡ length reports
 busy_and_stalls reports h = grind (arith, counts_from, count-count_by)

@@ -4,7 +4,7 @@ use Rattle.rv_hardware.proofs.Words.{Values, due, interrupt_cause, commit_unless
 use Rattle.rv_hardware.proofs.Words.{stall_cycles, Report, Cycles, Reachable, busy_of, cycled, ended, stalls_of, Step}
 use Rattle.rv_hardware.proofs.Words.{Interrupt}
 use Rattle.std.specs.FinSet as set
-use Rattle.rv_hardware.proofs.Laws.Counts.{IsCounted, AllTell, dispatch_tells, busy_and_stalls}
+use Rattle.rv_hardware.proofs.Laws.Counts.{IsCounted, AreAllCounted, dispatch_is_counted, busy_and_stalls}
 use Rattle.rv_hardware.proofs.Marks.History.{Anything, History, went_on, Passed, history_is_legal}
 use Rattle.rv_hardware.proofs.Marks.History.{reachable_has_history, history_passes, sent_all}
 
@@ -25,24 +25,26 @@ module _ (v : Values) {steps : List Step} {old new : Hardware} {lines : Lines} {
   passes_here = history_passes v history is
 
   -- it dispatches something, or else stalls for one reason
-  pub cycle_tells : IsCounted (report.dispatched == 0) report.stall
-  cycle_tells =
+  pub cycle_is_counted : IsCounted (report.dispatched == 0) report.stall
+  cycle_is_counted =
       let width = ap (λ (w : Values). w.dispatch_width) passes_here.sends.basics.always.sizes.values in
-      let tells = dispatch_tells (sent_all lines old)
+      let counted_once = dispatch_is_counted (sent_all lines old)
       (omega (arith, width, (history_is_legal history).pipeline.dispatch_width)) in
-      rw (passes_here.report_is.0, passes_here.report_is.1) tells
+      rw (passes_here.report_is.0, passes_here.report_is.1) counted_once
 
 -- over a run
 
-pub run_tells : {v : Values} {arrivals : List Arrival} {steps : List Step} {old new : Hardware}
+pub run_is_counted : {v : Values} {arrivals : List Arrival} {steps : List Step} {old new : Hardware}
     {reports : List Report} →
-    Cycles arrivals old reports new → History v steps old → AllTell reports × (new.cycle ≡ old.cycle + length reports)
-run_tells ended history = (tt, omega arith)
-run_tells {v} {steps} (cycled {old = old} {middle = middle} {report = report} {reports = reports} is rest) history =
+    Cycles arrivals old reports new → History v steps old →
+    AreAllCounted reports × (new.cycle ≡ old.cycle + length reports)
+run_is_counted ended history = (tt, omega arith)
+run_is_counted {v} {steps} (cycled {old = old} {middle = middle} {report = report} {reports = reports} is rest)
+    history =
     let passed = passes_here v history is in
     let next : middle.cycle ≡ old.cycle + 1 = ap (λ (h : Hardware). h.cycle) passed.others_stay in
-    let further = run_tells rest (went_on history is) in
-    ((cycle_tells v history is, further.0), omega (arith, further.1, next))
+    let further = run_is_counted rest (went_on history is) in
+    ((cycle_is_counted v history is, further.0), omega (arith, further.1, next))
 
 -- busy cycles and stalls make the cycles of a run
 pub counts_of_runs : {arrivals : List Arrival} {old new : Hardware} {reports : List Report} → Reachable old →
@@ -50,5 +52,5 @@ pub counts_of_runs : {arrivals : List Arrival} {old new : Hardware} {reports : L
     (busy_of reports + stall_cycles (stalls_of reports) ≡ length reports) × (new.cycle ≡ old.cycle + length reports)
 counts_of_runs {reports = reports} reached cycles =
     let before = reachable_has_history reached in
-    let tells = run_tells cycles before.2 in
-    (busy_and_stalls reports tells.0, tells.1)
+    let counted_once = run_is_counted cycles before.2 in
+    (busy_and_stalls reports counted_once.0, counted_once.1)

@@ -23,7 +23,7 @@ use Rattle.rv_hardware.proofs.Marks.Cited.{history_passes, InCommit, commit_turn
 use Rattle.rv_hardware.proofs.Marks.Cited.{mark_of_entry, mark_of_fetched, marks_in, at_end, as_of, was_fetched, until}
 use Rattle.rv_hardware.proofs.Marks.Cited.{Extends, rows_append, until_by, rows_obey, SoundRow, row_at, retiring_is_one}
 use Rattle.rv_hardware.proofs.Marks.Cited.{may_retire_serial, may_retire_finished, MayRetire, SoundEntry, row_decodes}
-use Rattle.rv_hardware.proofs.Marks.Cited.{Shaped, told_at_end, count_marks}
+use Rattle.rv_hardware.proofs.Marks.Cited.{Shaped, message_at_end, count_marks}
 use Rattle.rv_hardware.proofs.Headline.Stores.{serialising_is_no_store}
 use Rattle.rv_hardware.proofs.Laws.Port.Loads.{has_its_port, port_grows}
 use Rattle.rv_hardware.proofs.Laws.Port.Phases.{drained_idle}
@@ -77,11 +77,11 @@ module _ (v : Values) (now : ℕ) (earlier : List Step) (is_stale : set.FinSet n
   result_row c e es {issue} {cycle} {message} place given holds p ok =
       let row : Row = row_at e (written_of e message) c.hardware.cycle in
       let same = row_is_store c e es (written_of e message) place (may_retire_finished e.instruction given holds) p in
-      let tells =
-      (told_at_end e.word e.instruction e.stage message (ap broadcast_of given)
+      let stored =
+      (message_at_end e.word e.instruction e.stage message (ap broadcast_of given)
       (subst (Each Shaped) place p.basics.always.stores.0.0).0).store holds in
       rw (pushed c (Retired row))
-      (queue_retires ok row c.hardware.rob.retired message.store (tells ∙ sym same) (omega (arith, p.basics.cycle)))
+      (queue_retires ok row c.hardware.rob.retired message.store (stored ∙ sym same) (omega (arith, p.basics.cycle)))
 
   commit_queue : (c : Committing) (t : Turn Committing) → CommitTurn is_stale c t → InCommit v now earlier is_stale c →
       Queues c → Leads Queues Queues t

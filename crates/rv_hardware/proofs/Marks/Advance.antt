@@ -106,15 +106,15 @@ each_is_kept P goes = record {
   set = λ xs ys m n a h. Each-set P xs ys m n (goes xs m n a (Each-place P xs ys m h)) h;
 }
 
--- what holds of each mark behind others, where a mark that goes on keeps it, and keeps it of those behind it
+-- what holds of each mark after others, where a mark that goes on keeps it, and keeps it of those after it
 pub after_is_kept : {v : Values} {now : ℕ} (P : List Mark → Mark → Type 0) →
     ((xs : List Mark) (m n : Mark) → Advances v now xs m n → P xs m → P xs n) →
     ((xs : List Mark) (m n : Mark) → Advances v now xs m n → (mid : List Mark) (z : Mark) → P (xs ++ m ∷ mid) z →
     P (xs ++ n ∷ mid) z) →
     Kept v now (EveryAfter P [])
-after_is_kept P itself behind = record {
+after_is_kept P itself after = record {
   cut = λ xs ys h. EveryAfter-left P [] xs ys h;
-  set = λ xs ys m n a h. EveryAfter-set P xs ys m n (itself xs m n a) (behind xs m n a) h;
+  set = λ xs ys m n a h. EveryAfter-set P xs ys m n (itself xs m n a) (after xs m n a) h;
 }
 
 agree_by : (now : ℕ) (m n p : Mark) → n ≡ p →

@@ -19,7 +19,7 @@ pub use Rattle.rv_hardware.proofs.Turns.Cited.{serial_faults, retires_last, comm
 pub use Rattle.rv_hardware.proofs.Always.Sizes.{HasShape, HasSizes, sizes-kept}
 pub use Rattle.rv_hardware.proofs.Always.Sets.{HasRoom, write_back_time-most, clean-after, room-kept}
 pub use Rattle.rv_hardware.proofs.Always.Queue.{CanDrain, IsQueue, HasQueue, queue_of_all}
-pub use Rattle.rv_hardware.proofs.Always.Entries.{IsShaped, Shaped, told_at_end}
+pub use Rattle.rv_hardware.proofs.Always.Entries.{IsShaped, Shaped, message_at_end}
 pub use Rattle.rv_hardware.proofs.Always.Executions.{EndsBy, Ending, AreEnding}
 pub use Rattle.rv_hardware.proofs.Always.Units.{HoldsUntil, AreHeld}
 pub use Rattle.rv_hardware.proofs.Always.Stores.{instructions_of, store_count}

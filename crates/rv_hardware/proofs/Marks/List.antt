@@ -46,14 +46,14 @@ mark_of_row row = record {
 abbrev pub start_of_issue : Issue → Message → Start
 start_of_issue issue message = record { cycle = issue.cycle; cost = issue.cost; faults = is_some message.fault }
 
--- the start that a stage tells of
+-- the start that a stage records
 abbrev pub start_of_stage : Stage → Option Start
 start_of_stage Waiting = None
 start_of_stage (Running issue message) = Some (start_of_issue issue message)
 start_of_stage (Finished None cycle message) = None
 start_of_stage (Finished (Some issue) cycle message) = Some (start_of_issue issue message)
 
--- the broadcast that a stage tells of
+-- the broadcast that a stage records
 abbrev pub broadcast_of_stage : Stage → Option ℕ
 broadcast_of_stage (Finished (Some issue) cycle message) = Some cycle
 broadcast_of_stage _ = None
@@ -220,7 +220,7 @@ pub marks_retired : (steps : List Step) (row : Row) (es : List Entry) (fs : List
     map mark_of_row (rows_of steps) ++ mark_of_row row ∷ (map mark_of_entry es ++ map mark_of_fetched fs)
 marks_retired steps row es fs = grind (arith, row_marks_append, append_assoc)
 
--- the mark of the oldest fetched word stands behind those of what is in flight
+-- the mark of the oldest fetched word comes after those of what is in flight
 pub marks_dispatched : (steps : List Step) (es : List Entry) (f : Fetched) (fs : List Fetched) →
     marks steps es (f ∷ fs) ≡
     (map mark_of_row (rows_of steps) ++ map mark_of_entry es) ++ mark_of_fetched f ∷ map mark_of_fetched fs

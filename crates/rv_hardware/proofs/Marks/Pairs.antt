@@ -52,7 +52,7 @@ every_before : {X : Type 0} (P : X → Type 0) (before xs : List X) → Each P b
 every_before P before [] h g = tt
 every_before P before (x ∷ xs) h g = (h, every_before P _ xs (Each-append P before _ h (g.0, tt)) g.1)
 
--- what follows from two facts of each element behind others holds of each
+-- what follows from two facts of each element after others holds of each
 pub two_after : {X : Type 0} {P Q R : List X → X → Type 0} → ((b : List X) (x : X) → P b x → Q b x → R b x) →
     (before xs : List X) → EveryAfter P before xs → EveryAfter Q before xs → EveryAfter R before xs
 two_after f before [] h g = tt

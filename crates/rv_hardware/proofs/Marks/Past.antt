@@ -120,7 +120,7 @@ module _ (v : Values) (P : ℕ → List Mark → Type 0) (closed : IsKeptByBegin
         )
         (history_obeys history c lt)
 
--- what holds then of each mark behind those before it holds of the rows' marks as they stood at the end of each cycle
+-- what holds then of each mark after those before it holds of the rows' marks as they stood at the end of each cycle
 pub rows_obey_after : (v : Values) {steps : List Step} {h : Hardware} (P : ℕ → List Mark → Mark → Type 0) →
     HoldsAtEnds v (λ c ms. EveryAfter (P c) [] ms) → History v steps h → (c : ℕ) → c < h.cycle →
     EveryAfter (P c) [] (as_of c (map mark_of_row (rows_of steps)))

@@ -37,7 +37,7 @@ pub record Sends (h : Hardware) (older younger : List Entry) (e : Entry) (issue 
   pub over : issue.cycle + issue.cost ≤ h.cycle
   pub oldest_one : EveryAfter (λ before x. has_result h.cycle before x ≡ false) [] older
 
--- the hardware once the instruction behind some older ones was broadcast, and once early recovery mended it
+-- the hardware once the instruction after some older ones was broadcast, and once early recovery mended it
 abbrev pub once_sent : Hardware → List Entry → Message → Hardware
 once_sent h older message = with_broadcast (h.rob.retired + length older) message h
 

@@ -65,7 +65,7 @@ module _ {v : Values} (legal : IsLegal v) where
       (goes_on : added ≡ [] →
       (front.halted ≡ true) ⊎ ((front.width ≡ 0) ⊎ (front.capacity - length front.entries ≡ 0))) where
     fetches_one : (b : Bool) → front.halted ≡ b → HaltsAfter b [] → length front.entries ≡ 0 → added ≡ [] → ⊥
-    fetches_one b is behind empty given = grind (arith, true≢false)
+    fetches_one b is halts empty given = grind (arith, true≢false)
 
     next_added : (more : List Fetched) → Each (IsNew now) more → (more ≡ [] → ⊥) → now ≤ s →
         Next (now + 1) (now + 1) s store_waits stale [] more
@@ -75,7 +75,7 @@ module _ {v : Values} (legal : IsLegal v) where
         HaltsAfter front.halted (words_of es fs) →
         ((f : Fetched) (gs : List Fetched) → es ≡ [] → fs ≡ f ∷ gs → (store_waits && is_store f.instruction) ≡ true) →
         Next (now + 1) now s store_waits stale es fs → Next (now + 1) (now + 1) s store_waits stale es (fs ++ added)
-    next_fetched given behind stores next = grind (arith, true≢false, next_added, fetches_one)
+    next_fetched given halts stores next = grind (arith, true≢false, next_added, fetches_one)
 
 both_empty : (xs ys : List Step) → xs ++ ys ≡ [] → (xs ≡ []) × (ys ≡ [])
 both_empty [] ys none = (refl, none)

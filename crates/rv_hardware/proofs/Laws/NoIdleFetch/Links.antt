@@ -1,4 +1,4 @@
--- Marks of which each tells why the next was not fetched earlier go on to do so.
+-- Marks of which each shows why the next was not fetched earlier go on to do so.
 use Rattle.rv_hardware.proofs.Words.{◌≡◌, ℕ, suc, ◌+◌, ◌<◌, ◌≤◌, Bool, true, cond, ◌&&◌, ◌⊎◌, List, [], ◌∷◌, ◌++◌}
 use Rattle.rv_hardware.proofs.Words.{length, Some, None, Option, sym, ap, ◌∙◌, subst, append_assoc, arith}
 use Rattle.rv_hardware.proofs.Words.{length-append, Early, Values, Each, count, inl, inr}

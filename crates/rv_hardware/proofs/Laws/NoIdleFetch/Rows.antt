@@ -1,4 +1,4 @@
--- In every history each mark tells why the next was not fetched earlier.
+-- In every history each mark shows why the next was not fetched earlier.
 use Rattle.rv_hardware.proofs.Words.{◌≡◌, ℕ, ◌+◌, ◌-◌, ◌<◌, ◌≤◌, true, false, ◌⊎◌, List, [], ◌∷◌, ◌++◌, map, length}
 use Rattle.rv_hardware.proofs.Words.{Some, None, Option, sym, refl, ap, ◌∙◌, subst, inl, inr, true≢false, append-nil}
 use Rattle.rv_hardware.proofs.Words.{arith, length-append, cases_lt, Lines, Early, Values, due, Each, FetchBuffer}
@@ -94,8 +94,8 @@ module _ (v : Values) {earlier : List Step} {old new : Hardware} {lines : Lines}
 
   -- after a squash
 
-  abbrev Behind : (ℕ → ℕ) → Mark → Type 0
-  Behind h x = Squashes v old.cycle x
+  abbrev LastSquashes : (ℕ → ℕ) → Mark → Type 0
+  LastSquashes h x = Squashes v old.cycle x
 
   squash_followed : (f : Mark) → f.fetched ≡ old.cycle → (h : ℕ → ℕ) (x : Mark) → Squashes v old.cycle x →
       Followed v (old.cycle + 1) h x f
@@ -118,7 +118,7 @@ module _ (v : Values) {earlier : List Step} {old new : Hardware} {lines : Lines}
       let cut = linked_cut v old.cycle (IsOpen v old.front.halted old.cycle) (Squashes v old.cycle) (λ c. 0)
       (marks_in all d) was.0 last was.1 in
       let these = new_ones at in
-      linked_on v old.cycle Behind (IsOpen v new.front.halted (old.cycle + 1)) (λ c. 0) (marks_in all d)
+      linked_on v old.cycle LastSquashes (IsOpen v new.front.halted (old.cycle + 1)) (λ c. 0) (marks_in all d)
       (mark_of_fetched f) (map mark_of_fetched fs) (squash_followed (mark_of_fetched f) these.0) cut
       (λ h. linked_words v old.cycle new.front.halted h (map mark_of_fetched (f ∷ fs)) these)
 
@@ -216,7 +216,7 @@ module _ (v : Values) {earlier : List Step} {old new : Hardware} {lines : Lines}
   pub linked_in_cycle : Linked v new.cycle (IsOpen v new.front.halted new.cycle) (λ c. 0) (marks_in all new)
   linked_in_cycle = rw (ap (λ (h : Hardware). h.cycle) passed.others_stay, passed.new_marks) (by_squash left)
 
--- in every history each mark tells why the next one was not fetched earlier
+-- in every history each mark shows why the next one was not fetched earlier
 pub marks_are_linked : {v : Values} {steps : List Step} {h : Hardware} → History v steps h →
     Linked v h.cycle (IsOpen v h.front.halted h.cycle) (λ c. 0) (marks_in steps h)
 marks_are_linked (began image start legal) = tt

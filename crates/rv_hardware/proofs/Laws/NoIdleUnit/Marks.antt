@@ -92,10 +92,10 @@ still_begins : (k : Kind) {v : Values} {now : ℕ} {xs : List Mark} {m n : Mark}
     begins_mark k now m ≡ true → begins_mark k now n ≡ true
 still_begins k given h = grind (arith, never_both)
 
--- and those behind it
-behind_it : (k : Kind) (j : ℕ) {v : Values} {now : ℕ} {xs : List Mark} {m n : Mark} → Advances v now xs m n →
+-- and those after it
+after_it : (k : Kind) (j : ℕ) {v : Values} {now : ℕ} {xs : List Mark} {m n : Mark} → Advances v now xs m n →
     (mid : List Mark) (z : Mark) → BusyUnits k j now (xs ++ m ∷ mid) z → BusyUnits k j now (xs ++ n ∷ mid) z
-behind_it k j {now = now} {xs} {m} {n} a mid z busy may =
+after_it k j {now = now} {xs} {m} {n} a mid z busy may =
     let back = goes_back a in
     let grown = count-set-grows (begins_mark k now) xs mid m n (still_begins k a) in
     let before = busy (may_back now m n back.instruction back.known k xs mid z may) in
@@ -104,7 +104,7 @@ behind_it k j {now = now} {xs} {m} {n} a mid z busy may =
 -- marks that go on keep it that, where one could start but does not, so many that are older did
 pub busy_units_are_kept : (k : Kind) (j : ℕ) (v : Values) (now : ℕ) → Kept v now (EveryAfter (BusyUnits k j now) [])
 busy_units_are_kept k j v now =
-    after_is_kept (BusyUnits k j now) (λ xs m n a. itself k j a) (λ xs m n a. behind_it k j a)
+    after_is_kept (BusyUnits k j now) (λ xs m n a. itself k j a) (λ xs m n a. after_it k j a)
 
 -- an entry that may start is ready
 

@@ -69,12 +69,12 @@ module _ (now : ℕ) (xs ys : List Mark) (m n : Mark) where
   sent_bus a o =
       let sent : n.broadcast ≡ Some now = ap (λ x. x.broadcast) a.becomes in
       let start : n.start ≡ Some a.start = ap (λ x. x.start) a.becomes ∙ a.started in
-      let behind = EveryPair-right _ xs _ o.oldest_first in
+      let later = EveryPair-right _ xs _ o.oldest_first in
       record {
         oldest_first = EveryPair-append _ xs _ (EveryPair-left _ xs _ o.oldest_first) (
           each_then (λ z w. rw (start, sent) (sent_later a.start now z.broadcast (rw (a.started, a.not_yet) at w))) _
-              behind.0,
-          behind.1,
+              later.0,
+          later.1,
         )
             (Each-both _ (λ x w ready. (rw sent ready, w.1)) xs (EveryPair-across _ xs _ o.oldest_first) a.oldest);
         by_now = Each-set _ xs ys m n (rw sent (omega arith)) o.by_now;

@@ -111,7 +111,7 @@ starts_are_kept v = record {
   more = λ now ms fs words h. EveryAfter-append _ [] ms _ h (new_have_not_started ms fs);
 }
 
--- in every history each mark started behind what it waits for
+-- in every history each mark started after what it waits for
 pub history_starts_after : {v : Values} {steps : List Step} {h : Hardware} → History v steps h →
     EveryAfter StartsAfter [] (marks_in steps h)
 history_starts_after {v} history = marks_of_history (starts_are_kept v) history

@@ -340,9 +340,9 @@ module _ (v : Values) (legal : IsLegal v) (earlier : List Step) (old new : Hardw
   pub steps_go_on : StepsPast v so_far new
   steps_go_on =
       let d : Hardware = (dispatching lines old).hardware in
-      let behind = Each-right _ _ _ at_dispatch in
-      let es = Each-unmap _ _ _ (Each-left _ _ _ behind) in
-      let fs = Each-unmap _ _ _ (Each-right _ _ _ behind) in
+      let unretired = Each-right _ _ _ at_dispatch in
+      let es = Each-unmap _ _ _ (Each-left _ _ _ unretired) in
+      let fs = Each-unmap _ _ _ (Each-right _ _ _ unretired) in
       record {
         before = subst (λ n. Each (λ s. stamp_of s < n) so_far)
             (sym (ap (λ (h : Hardware). h.cycle) passed.others_stay)) by_now;

@@ -77,7 +77,7 @@ module _ {hit now : ℕ} {rows : List Row} {port : ℕ} {committed : List Store}
   -- a store that retires is the last row and the last in the queue
   pub queue_retires : (row : Row) (seq : ℕ) (access : Option StoreAccess) → is_some access ≡ is_store_row row →
       row.retired ≤ now → QueueOk hit now (rows ++ row ∷ []) port (committed ++ committed_store seq access)
-  queue_retires row seq access tells le = grind (arith, append-nil, plain_retires, store_retires)
+  queue_retires row seq access stored le = grind (arith, append-nil, plain_retires, store_retires)
 
 -- a drain
 

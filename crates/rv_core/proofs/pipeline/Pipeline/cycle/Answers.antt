@@ -1,9 +1,10 @@
-use Rattle.rv_core.proofs.Words.{◌≡◌, ℕ, Bool, true, false, is_some, IfSome, ◌==◌, Some, None, Option, refl, due, Stall, report_of_cycle}
+use Rattle.rv_core.proofs.Words.{◌≡◌, ℕ, Bool, true, false, is_some, IfSome, ◌==◌, Some, None, Option, refl, due, Stall}
+use Rattle.rv_core.proofs.Words.{report_of_cycle}
 use Rattle.rv_hardware.proofs.AnyPrediction.{any_cycle}
 use Rattle.rv_hardware.proofs.Headline.Cycle.{headline_of_cycle}
 use Rattle.rv_hardware.proofs.Laws.Counts.{IsCounted}
 use Rattle.rv_hardware.proofs.Marks.History.{reachable_has_history}
-use Rattle.rv_hardware.proofs.Laws.OfCycles.{cycle_tells, due_interrupt_is_taken}
+use Rattle.rv_hardware.proofs.Laws.OfCycles.{cycle_is_counted, due_interrupt_is_taken}
 use Rattle.rv_core.proofs.pipeline.Pipeline.cycle.Goals as goal
 
 pub returns-clause-true_cycle : goal.returns-clause-true_cycle
@@ -31,4 +32,4 @@ pub returns-clause-stall : goal.returns-clause-stall
 returns-clause-stall g c counted =
     let before = reachable_has_history c.cycles_done.ensures.reached in
     stalls_where (c.next_cycle.result.dispatched == 0) c.next_cycle.result.stall
-    (cycle_tells before.0 before.2 (any_cycle (c.next_cycle.ensures.cycled counted).cycle))
+    (cycle_is_counted before.0 before.2 (any_cycle (c.next_cycle.ensures.cycled counted).cycle))
