@@ -15,6 +15,7 @@ import json
 import os
 import re
 import shutil
+import signal
 import subprocess
 import sys
 import tomllib
@@ -120,7 +121,8 @@ def program():
 def flat(description):
     """A description's keys with dots, as a dictionary; from a TOML text or a dictionary."""
     if isinstance(description, str):
-        description = tomllib.loads(description)
+        # (a byte order mark may stand before a description, and tomllib takes none)
+        description = tomllib.loads(description.removeprefix("\ufeff"))
     keys = {}
     for key, value in (description or {}).items():
         inner = flat(value) if isinstance(value, dict) else {"": value}
@@ -280,6 +282,16 @@ def number(name, text):
     return int(text, 16) if is_word(name) else float(text) if "." in text else int(text)
 
 
+def plain(text):
+    """A text as a cell of a table or one line: what does not print, in whatever script, is escaped."""
+    return "".join(it if it.isprintable() and it != "\\" else escaped(it) for it in text)
+
+
+def escaped(letter):
+    # A byte of a file's name that is no UTF-8 comes as a surrogate.
+    return f"\\x{ord(letter) - 0xDC00:02x}" if "\udc80" <= letter <= "\udcff" else letter.encode("unicode_escape").decode()
+
+
 def read_table(text):
     """A table with tabs, as dictionaries by the names in its first line."""
     names, *rows = [line.split("\t") for line in text.splitlines()]
@@ -328,11 +340,21 @@ def read_step(kind, cells):
     return step
 
 
+def end(number, _):
+    """Ends a script that is told to end, as Ctrl-C does: what it made for itself is removed."""
+    sys.exit(128 + number)
+
+
 def interruptible(main):
     """The status of a script's main function; Ctrl-C, a reader that left, and an input or output that fails end it with no traceback."""
+    for number in (signal.SIGTERM, signal.SIGHUP):
+        if signal.getsignal(number) == signal.SIG_DFL:
+            signal.signal(number, end)
     try:
         if sys.stdout is None:
             raise OSError(errno.EBADF, os.strerror(errno.EBADF))
+        # (in any locale, and a file's name with bytes that are none as it is)
+        sys.stdout.reconfigure(encoding="utf-8", errors="surrogateescape")
         status = main()
         sys.stdout.flush()
         return status
