@@ -1,16 +1,23 @@
 -- The operands of tags and values that were written for a producer, and the mask of those that wait.
-use Rattle.std.proofs.Common.{◌≡◌, sym, ℕ, suc, ◌+◌, ◌-◌, ◌*◌, ◌<◌, ◌≤◌, ◌^◌, ◌%◌, ◌/◌, not, inl, inr, Bool, true, false, cond, List, [], ◌∷◌, ◌++◌, length, get_or, take, drop, map, replicate, slice_set, bit_and, bit_or, min, max, ◌&&◌, arith, eqb, refl, ap, ap₂, ◌∙◌, mod-eq_of_lt, length-take-le, w64}
+use Rattle.std.proofs.Common.{◌≡◌, sym, ℕ, suc, ◌+◌, ◌-◌, ◌*◌, ◌<◌, ◌≤◌, ◌^◌, ◌%◌, ◌/◌, not, inl, inr, Bool, true}
+use Rattle.std.proofs.Common.{false, cond, List, [], ◌∷◌, ◌++◌, length, get_or, take, drop, map, replicate, slice_set}
+use Rattle.std.proofs.Common.{bit_and, bit_or, min, max, ◌&&◌, arith, eqb, refl, ap, ap₂, ◌∙◌, mod-eq_of_lt}
+use Rattle.std.proofs.Common.{length-take-le, w64}
 use Rattle.std.specs.Int.{bit_at}
 use Rattle.std.specs.Simd.Lanes.{zip2, mask_l}
 use Rattle.std.proofs.lemmas.Bool.{cases_Bool, cases_eq, cases_lt, true≢false, eqb-true, eq-eqb, ne_eqb}
-use Rattle.std.proofs.lemmas.List.{get_or-take, get_or-drop, get_or-map, get_or-set_same, get_or-set_other, get_or_append_left, get_or-append_right, get_or-replicate, ext_get_or, length-map, length-set, length-append, length-drop, take-append-drop}
+use Rattle.std.proofs.lemmas.List.{get_or-take, get_or-drop, get_or-map, get_or-set_same, get_or-set_other}
+use Rattle.std.proofs.lemmas.List.{get_or_append_left, get_or-append_right, get_or-replicate, length-map}
+use Rattle.std.proofs.lemmas.List.{length-set, length-append, length-drop, take-append-drop}
 use Rattle.std.proofs.lemmas.Nat.{pow_pos, shl_whole}
-use Rattle.std.proofs.lemmas.Nat.Bits.{bit_at-zero, bit_at-lt, bit_at_above, bit_at_and, bit_at_or, shr_and_one, bit_at_not, bit_at_cat_low, bit_at_cat_high}
+use Rattle.std.proofs.lemmas.Nat.Bits.{bit_at-zero, bit_at-lt, bit_at_above, bit_at_and, bit_at_or, shr_and_one}
+use Rattle.std.proofs.lemmas.Nat.Bits.{bit_at_not, bit_at_cat_low, bit_at_cat_high}
 use Rattle.std.proofs.lemmas.Simd.{length-zip2, bit_mask_l, mask_l-lt, chunk-drop, get_or-zip2}
 use Rattle.rv_stations.specs.declared.waiting.Operand.{Operand}
 use Rattle.rv_stations.specs.declared.waiting.Operand.TheVariants.{Value, Tag}
 use Rattle.rv_stations.specs.Waiting.{has_value, woken_operand}
-use Rattle.rv_stations.specs.Column.{IsWaitMask, OtherBitsStay, in_eight, operand_of, is_producer, woken_tag, woken_value}
+use Rattle.rv_stations.specs.Column.{IsWaitMask, OtherBitsStay, in_eight, operand_of, is_producer, woken_tag}
+use Rattle.rv_stations.specs.Column.{woken_value}
 use Rattle.rv_stations.specs.ColumnFields.{operands, IsSoundColumn}
 use Rattle.rv_stations.specs.declared.column.OperandColumn.TheInside.{Inside}
 use Rattle.rv_stations.proofs.LaneLemmas.{unheld-tags, unheld-values}
@@ -39,7 +46,8 @@ unwoken seq value tag held other = elim (cases_Bool (eqb tag 1844674407370955161
 ]
 
 -- a tag that is the producer's number becomes the value
-operand_of-woken : (seq value tag held : ℕ) → eqb seq 18446744073709551615 ≡ false → value < 2 ^ 32 → operand_of (woken_tag seq tag) (woken_value seq value tag held) ≡ woken_operand seq value (operand_of tag held)
+operand_of-woken : (seq value tag held : ℕ) → eqb seq 18446744073709551615 ≡ false → value < 2 ^ 32 →
+    operand_of (woken_tag seq tag) (woken_value seq value tag held) ≡ woken_operand seq value (operand_of tag held)
 operand_of-woken seq value tag held some small = elim (cases_Bool (eqb tag seq)) [
   | inl same ↦
       let equal : tag ≡ seq = eqb-true tag seq same in
@@ -49,7 +57,9 @@ operand_of-woken seq value tag held some small = elim (cases_Bool (eqb tag seq))
   | inr other ↦ rw other (sym (unwoken seq value tag held other))
 ]
 
-pub operands-woken : (seq value : ℕ) (tags values : List ℕ) → eqb seq 18446744073709551615 ≡ false → value < 2 ^ 32 → zip2 operand_of (map (woken_tag seq) tags) (zip2 (woken_value seq value) tags values) ≡ map (woken_operand seq value) (zip2 operand_of tags values)
+pub operands-woken : (seq value : ℕ) (tags values : List ℕ) → eqb seq 18446744073709551615 ≡ false → value < 2 ^ 32 →
+    zip2 operand_of (map (woken_tag seq) tags) (zip2 (woken_value seq value) tags values)
+    ≡ map (woken_operand seq value) (zip2 operand_of tags values)
 operands-woken seq value [] values some small = refl
 operands-woken seq value (t ∷ ts) [] some small = refl
 operands-woken seq value (t ∷ ts) (v ∷ vs) some small =
@@ -62,26 +72,31 @@ woken_by_none value tag held = elim (cases_Bool (eqb tag 18446744073709551615)) 
   | inr waits ↦ unwoken 18446744073709551615 value tag held waits
 ]
 
-pub operands-unwoken : (value : ℕ) (tags values : List ℕ) → map (woken_operand 18446744073709551615 value) (zip2 operand_of tags values) ≡ zip2 operand_of tags values
+pub operands-unwoken : (value : ℕ) (tags values : List ℕ) →
+    map (woken_operand 18446744073709551615 value) (zip2 operand_of tags values) ≡ zip2 operand_of tags values
 operands-unwoken value [] values = refl
 operands-unwoken value (t ∷ ts) [] = refl
 operands-unwoken value (t ∷ ts) (v ∷ vs) = ap₂ ◌∷◌ (woken_by_none value t v) (operands-unwoken value ts vs)
 
 -- operands that all have their values are not woken
-unwoken_all : (seq value : ℕ) (os : List Operand) → ((at : ℕ) → at < length os → has_value (get_or os at (Value 0)) ≡ true) → map (woken_operand seq value) os ≡ os
+unwoken_all : (seq value : ℕ) (os : List Operand) →
+    ((at : ℕ) → at < length os → has_value (get_or os at (Value 0)) ≡ true) → map (woken_operand seq value) os ≡ os
 unwoken_all seq value [] have = refl
 unwoken_all seq value (Value held ∷ os) have = ap (λ l. Value held ∷ l) (unwoken_all seq value os (λ at lt. have (suc at) (omega arith)))
 unwoken_all seq value (Tag tag ∷ os) have = absurd (true≢false (sym (have 0 (omega arith))))
 
-set_bit : (b : Bool) → ◌≡◌ {A = ℕ} (cond b 0 1) 0 → b ≡ true
+-- a bit that is not set shows a value that is there
+pub set_bit : (b : Bool) → ◌≡◌ {A = ℕ} (cond b 0 1) 0 → b ≡ true
 set_bit true zero_bit = refl
 set_bit false zero_bit = absurd (omega (arith, zero_bit))
 
 -- where no bit is set, no operand waits
 pub operands-idle : (seq value : ℕ) (os : List Operand) → IsWaitMask os 0 → map (woken_operand seq value) os ≡ os
-operands-idle seq value os marked = unwoken_all seq value os (λ at lt. set_bit (has_value (get_or os at (Value 0))) (sym (marked at lt) ∙ bit_at-zero at))
+operands-idle seq value os marked =
+    unwoken_all seq value os
+    (λ at lt. set_bit (has_value (get_or os at (Value 0))) (sym (marked at lt) ∙ bit_at-zero at))
 
--- a tag tells whether there is a value
+-- a tag shows whether there is a value
 pub has_value-operand_of : (tag held : ℕ) → has_value (operand_of tag held) ≡ eqb tag 18446744073709551615
 has_value-operand_of tag held = elim (cases_Bool (eqb tag 18446744073709551615)) [
   | inl has ↦ rw has refl
@@ -92,14 +107,18 @@ pub operand_of-has_value : (tag held : ℕ) → has_value (operand_of tag held) 
 operand_of-has_value tag held has = operand_of-value tag held (eqb-true tag 18446744073709551615 (sym (has_value-operand_of tag held) ∙ has))
 
 -- the mask after one operand is written
-pub IsWaitMask-set : (os : List Operand) (place tag held before after : ℕ) → length os ≤ 64 → place < length os → IsWaitMask os before → bit_at after place ≡ cond (is_producer tag) 1 0 → OtherBitsStay place before after → IsWaitMask (slice_set os place (operand_of tag held)) after
+pub IsWaitMask-set : (os : List Operand) (place tag held before after : ℕ) → length os ≤ 64 → place < length os →
+    IsWaitMask os before → bit_at after place ≡ cond (is_producer tag) 1 0 → OtherBitsStay place before after →
+    IsWaitMask (slice_set os place (operand_of tag held)) after
 IsWaitMask-set os place tag held before after few within marked bit others at lt = elim (cases_eq at place) [
   | inl same ↦
       ap (bit_at after) same
       ∙ bit
       ∙ one_or_none (eqb tag 18446744073709551615)
       ∙ ap (λ b. cond b 0 1) (sym (has_value-operand_of tag held))
-      ∙ ap (λ o. cond (has_value o) 0 1) (sym (ap (λ i. get_or (slice_set os place (operand_of tag held)) i (Value 0)) same ∙ get_or-set_same os place (operand_of tag held) (Value 0) within))
+      ∙ ap (λ o. cond (has_value o) 0 1)
+      (sym (ap (λ i. get_or (slice_set os place (operand_of tag held)) i (Value 0)) same
+      ∙ get_or-set_same os place (operand_of tag held) (Value 0) within))
   | inr other ↦
       let long = length-set os place (operand_of tag held) in
       others at (omega (arith, long, lt)) other
@@ -145,7 +164,8 @@ module _ {X : Type 0} (f : X → X) (start : ℕ) (xs : List X) (room : start + 
       ∙ omega (arith, front, length-append (map f (take 8 (drop start xs))) (drop (start + 8) xs), eight, length-drop (start + 8) xs)
 
 -- a change that changes nothing
-pub in_eight-same : {X : Type 0} (start : ℕ) (change : List X → List X) (xs : List X) → change (take 8 (drop start xs)) ≡ take 8 (drop start xs) → in_eight start change xs ≡ xs
+pub in_eight-same : {X : Type 0} (start : ℕ) (change : List X → List X) (xs : List X) →
+    change (take 8 (drop start xs)) ≡ take 8 (drop start xs) → in_eight start change xs ≡ xs
 in_eight-same start change xs same =
     ap (λ l. take start xs ++ (l ++ drop (start + 8) xs)) same
     ∙ ap (λ l. take start xs ++ l) (sym (chunk-drop start 8 xs))
@@ -177,14 +197,18 @@ module _ (ms : List Bool) (start : ℕ) (eight : length ms ≡ 8) (room : start 
   pub moved_above : (i : ℕ) → start + 8 ≤ i → bit_at (mask_l ms * 2 ^ start) i ≡ 0
   moved_above i le = moved_from i (omega arith) ∙ bit_at_above (mask_l ms) 8 (i - start) in_byte (omega arith)
 
-  pub bit_at-cleared : (mask i : ℕ) → i < 64 → bit_at (bit_and mask (18446744073709551615 - mask_l ms * 2 ^ start % 18446744073709551616)) i ≡ min (bit_at mask i) (1 - bit_at (mask_l ms * 2 ^ start) i)
+  pub bit_at-cleared : (mask i : ℕ) → i < 64 →
+      bit_at (bit_and mask (18446744073709551615 - mask_l ms * 2 ^ start % 18446744073709551616)) i
+      ≡ min (bit_at mask i) (1 - bit_at (mask_l ms * 2 ^ start) i)
   bit_at-cleared mask i lt = rw moved_whole (bit_at_and mask _ i ∙ ap (min (bit_at mask i)) (bit_at_not w64 (mask_l ms * 2 ^ start) i moved_fits lt))
 
-  pub not_cleared : (mask i : ℕ) → i < 64 → bit_at (mask_l ms * 2 ^ start) i ≡ 0 → bit_at (bit_and mask (18446744073709551615 - mask_l ms * 2 ^ start % 18446744073709551616)) i ≡ bit_at mask i
+  pub not_cleared : (mask i : ℕ) → i < 64 → bit_at (mask_l ms * 2 ^ start) i ≡ 0 →
+      bit_at (bit_and mask (18446744073709551615 - mask_l ms * 2 ^ start % 18446744073709551616)) i ≡ bit_at mask i
   not_cleared mask i lt none = bit_at-cleared mask i lt ∙ omega (arith, none, bit_at-lt mask i)
 
 -- an operand whose tag is the number has its value then
-has_value-woken : (seq value tag held : ℕ) → eqb seq 18446744073709551615 ≡ false → value < 2 ^ 32 → eqb tag seq ≡ true → has_value (woken_operand seq value (operand_of tag held)) ≡ true
+has_value-woken : (seq value tag held : ℕ) → eqb seq 18446744073709551615 ≡ false → value < 2 ^ 32 →
+    eqb tag seq ≡ true → has_value (woken_operand seq value (operand_of tag held)) ≡ true
 has_value-woken seq value tag held some small same =
     let gone : woken_tag seq tag ≡ 18446744073709551615 = rw same refl in
     ap has_value (sym (operand_of-woken seq value tag held some small))
@@ -192,9 +216,15 @@ has_value-woken seq value tag held some small same =
     ∙ eq-eqb (woken_tag seq tag) 18446744073709551615 gone
 
 -- the mask after eight operands are woken
-module _ (seq value start waiting : ℕ) (tags values : List ℕ) (some : eqb seq 18446744073709551615 ≡ false) (small : value < 2 ^ 32) (as_many : length tags ≡ length values) (few : length tags ≤ 64) (room : start + 8 ≤ length tags) where
-  abbrev told : List Operand
-  told = zip2 operand_of tags values
+module _ (seq value start waiting : ℕ) (tags values : List ℕ) (some : eqb seq 18446744073709551615 ≡ false)
+    (small : value < 2 ^ 32) (as_many : length tags ≡ length values) (few : length tags ≤ 64)
+    (room : start + 8 ≤ length tags) where
+  abbrev operands_now : List Operand
+  operands_now = zip2 operand_of tags values
+
+  -- the same once eight of them are woken
+  abbrev operands_after : List Operand
+  operands_after = in_eight start (map (woken_operand seq value)) operands_now
 
   abbrev equals : List Bool
   equals = map (λ t. eqb t seq) (take 8 (drop start tags))
@@ -202,7 +232,7 @@ module _ (seq value start waiting : ℕ) (tags values : List ℕ) (some : eqb se
   abbrev after : ℕ
   after = bit_and waiting (18446744073709551615 - mask_l equals * 2 ^ start % 18446744073709551616)
 
-  long : length told ≡ length tags
+  long : length operands_now ≡ length tags
   long = length-zip2 operand_of tags values as_many
 
   eights : length (take 8 (drop start tags)) ≡ 8
@@ -215,154 +245,121 @@ module _ (seq value start waiting : ℕ) (tags values : List ℕ) (some : eqb se
   lane at le lt =
       let back : start + (at - start) ≡ at = omega arith in
       get_or-map (λ t. eqb t seq) (take 8 (drop start tags)) (at - start) 0 false (omega (arith, eights))
-      ∙ ap (λ t. eqb t seq) (get_or-take 8 (drop start tags) (at - start) 0 (omega arith) ∙ get_or-drop start tags (at - start) 0 ∙ ap (λ n. get_or tags n 0) back)
+      ∙ ap (λ t. eqb t seq)
+      (get_or-take 8 (drop start tags) (at - start) 0 (omega arith) ∙ get_or-drop start tags (at - start) 0
+      ∙ ap (λ n. get_or tags n 0) back)
 
-  operand_at : (at : ℕ) → at < length tags → get_or told at (Value 0) ≡ operand_of (get_or tags at 0) (get_or values at 0)
+  operand_at : (at : ℕ) → at < length tags →
+      get_or operands_now at (Value 0) ≡ operand_of (get_or tags at 0) (get_or values at 0)
   operand_at at lt = get_or-zip2 operand_of tags values at 0 0 (Value 0) lt (omega (arith, as_many))
 
-  outside : (at : ℕ) → at < length tags → IsWaitMask told waiting → bit_at (mask_l equals * 2 ^ start) at ≡ 0 → get_or (in_eight start (map (woken_operand seq value)) told) at (Value 0) ≡ get_or told at (Value 0) → bit_at after at ≡ cond (has_value (get_or (in_eight start (map (woken_operand seq value)) told) at (Value 0))) 0 1
+  outside : (at : ℕ) → at < length tags → IsWaitMask operands_now waiting → bit_at (mask_l equals * 2 ^ start) at ≡ 0 →
+      get_or operands_after at (Value 0) ≡ get_or operands_now at (Value 0) →
+      bit_at after at ≡ cond (has_value (get_or operands_after at (Value 0))) 0 1
   outside at lt marked none same =
       not_cleared equals start eight_lanes (omega arith) waiting at (omega arith) none
       ∙ marked at (omega (arith, long))
       ∙ ap (λ o. cond (has_value o) 0 1) (sym same)
 
-  inside : (at : ℕ) → at < length tags → start ≤ at → at < start + 8 → IsWaitMask told waiting → bit_at after at ≡ cond (has_value (get_or (in_eight start (map (woken_operand seq value)) told) at (Value 0))) 0 1
+  inside : (at : ℕ) → at < length tags → start ≤ at → at < start + 8 → IsWaitMask operands_now waiting →
+      bit_at after at ≡ cond (has_value (get_or operands_after at (Value 0))) 0 1
   inside at lt le le8 marked = elim (cases_Bool (eqb (get_or tags at 0) seq)) [
     | inl same ↦
-        let set : bit_at (mask_l equals * 2 ^ start) at ≡ 1 = moved_inside equals start eight_lanes (omega arith) at le ∙ ap (λ b. cond b 1 0) (lane at le le8 ∙ same) in
+        let set : bit_at (mask_l equals * 2 ^ start) at ≡ 1 =
+        moved_inside equals start eight_lanes (omega arith) at le ∙ ap (λ b. cond b 1 0) (lane at le le8 ∙ same) in
         let gone : bit_at after at ≡ 0 = bit_at-cleared equals start eight_lanes (omega arith) waiting at (omega arith) ∙ omega (arith, set) in
         let has = has_value-woken seq value (get_or tags at 0) (get_or values at 0) some small same in
         gone ∙ ap (λ b. cond b 0 1) (sym (ap has_value (changed ∙ ap (woken_operand seq value) (operand_at at lt)) ∙ has))
     | inr other ↦
-        let clear : bit_at (mask_l equals * 2 ^ start) at ≡ 0 = moved_inside equals start eight_lanes (omega arith) at le ∙ ap (λ b. cond b 1 0) (lane at le le8 ∙ other) in
-        outside at lt marked clear (changed ∙ ap (woken_operand seq value) (operand_at at lt) ∙ unwoken seq value (get_or tags at 0) (get_or values at 0) other ∙ sym (operand_at at lt))
+        let clear : bit_at (mask_l equals * 2 ^ start) at ≡ 0 =
+        moved_inside equals start eight_lanes (omega arith) at le ∙ ap (λ b. cond b 1 0) (lane at le le8 ∙ other) in
+        outside at lt marked clear
+        (changed ∙ ap (woken_operand seq value) (operand_at at lt)
+        ∙ unwoken seq value (get_or tags at 0) (get_or values at 0) other ∙ sym (operand_at at lt))
   ]
     where
-      changed : get_or (in_eight start (map (woken_operand seq value)) told) at (Value 0) ≡ woken_operand seq value (get_or told at (Value 0))
-      changed = in_eight-inside (woken_operand seq value) start told (omega (arith, long)) (Value 0) at le le8
+      changed : get_or operands_after at (Value 0) ≡ woken_operand seq value (get_or operands_now at (Value 0))
+      changed = in_eight-inside (woken_operand seq value) start operands_now (omega (arith, long)) (Value 0) at le le8
 
-  pub IsWaitMask-woken : IsWaitMask told waiting → IsWaitMask (in_eight start (map (woken_operand seq value)) told) after
+  pub IsWaitMask-woken : IsWaitMask operands_now waiting → IsWaitMask operands_after after
   IsWaitMask-woken marked at within =
-      let within' : at < length tags = omega (arith, within, long, length-in_eight (woken_operand seq value) start told (omega (arith, long)) (Value 0)) in
+      let as_long = length-in_eight (woken_operand seq value) start operands_now (omega (arith, long)) (Value 0) in
+      let within' : at < length tags = omega (arith, within, long, as_long) in
       elim (cases_lt at start) [
-        | inl below ↦ outside at within' marked (moved_below equals start eight_lanes (omega arith) at below) (in_eight-below (woken_operand seq value) start told (omega (arith, long)) (Value 0) at below)
+        | inl below ↦
+            outside at within' marked (moved_below equals start eight_lanes (omega arith) at below)
+            (in_eight-below (woken_operand seq value) start operands_now (omega (arith, long)) (Value 0) at below)
         | inr from ↦ elim (cases_lt at (start + 8)) [
           | inl in_them ↦ inside at within' from in_them marked
-          | inr above ↦ outside at within' marked (moved_above equals start eight_lanes (omega arith) at above) (in_eight-above (woken_operand seq value) start told (omega (arith, long)) (Value 0) at above)
+          | inr above ↦
+              outside at within' marked (moved_above equals start eight_lanes (omega arith) at above)
+              (in_eight-above (woken_operand seq value) start operands_now (omega (arith, long)) (Value 0) at above)
         ]
       ]
 
   -- the operands of what is written
-  pub operands-in_eight : zip2 operand_of (in_eight start (map (woken_tag seq)) tags) (in_eight start (zip2 (woken_value seq value) (take 8 (drop start tags))) values) ≡ in_eight start (map (woken_operand seq value)) told
+  pub operands-in_eight : zip2 operand_of (in_eight start (map (woken_tag seq)) tags)
+      (in_eight start (zip2 (woken_value seq value) (take 8 (drop start tags))) values)
+      ≡ operands_after
   operands-in_eight =
-      let front : length (take start tags) ≡ length (take start values) = length-take-le start tags (omega arith) ∙ sym (length-take-le start values (omega (arith, as_many))) in
-      let middle : length (map (woken_tag seq) (take 8 (drop start tags))) ≡ length (zip2 (woken_value seq value) (take 8 (drop start tags)) (take 8 (drop start values))) =
+      let front : length (take start tags) ≡ length (take start values) =
+      length-take-le start tags (omega arith) ∙ sym (length-take-le start values (omega (arith, as_many))) in
+      let middle : length (map (woken_tag seq) (take 8 (drop start tags)))
+      ≡ length (zip2 (woken_value seq value) (take 8 (drop start tags)) (take 8 (drop start values))) =
       length-map (take 8 (drop start tags)) (woken_tag seq)
-      ∙ sym (length-zip2 (woken_value seq value) (take 8 (drop start tags)) (take 8 (drop start values)) (eights ∙ sym (length-take-le 8 (drop start values) (omega (arith, length-drop start values, as_many))))) in
+      ∙ sym (length-zip2 (woken_value seq value) (take 8 (drop start tags)) (take 8 (drop start values))
+      (eights ∙ sym (length-take-le 8 (drop start values) (omega (arith, length-drop start values, as_many))))) in
       zip2-append operand_of (take start tags) _ (take start values) _ front
       ∙ ap₂ ◌++◌
       (zip2-take operand_of start tags values)
       (zip2-append operand_of _ (drop (start + 8) tags) _ (drop (start + 8) values) middle
       ∙ ap₂ ◌++◌
       (operands-woken seq value (take 8 (drop start tags)) (take 8 (drop start values)) some small
-      ∙ ap (map (woken_operand seq value)) (zip2-take operand_of 8 (drop start tags) (drop start values) ∙ ap (take 8) (zip2-drop operand_of start tags values as_many)))
+      ∙ ap (map (woken_operand seq value))
+      (zip2-take operand_of 8 (drop start tags) (drop start values)
+      ∙ ap (take 8) (zip2-drop operand_of start tags values as_many)))
       (zip2-drop operand_of (start + 8) tags values as_many))
 
   -- eight operands of which none has the number
-  pub operands-unlike : mask_l equals ≡ 0 → in_eight start (map (woken_operand seq value)) told ≡ told
+  pub operands-unlike : mask_l equals ≡ 0 → operands_after ≡ operands_now
   operands-unlike none =
-      let as_eight : length (take 8 (drop start tags)) ≡ length (take 8 (drop start values)) = eights ∙ sym (length-take-le 8 (drop start values) (omega (arith, length-drop start values, as_many))) in
+      let as_eight : length (take 8 (drop start tags)) ≡ length (take 8 (drop start values)) =
+      eights ∙ sym (length-take-le 8 (drop start values) (omega (arith, length-drop start values, as_many))) in
       sym operands-in_eight
       ∙ ap₂ (zip2 operand_of)
       (in_eight-same start (map (woken_tag seq)) tags (unheld-tags seq (take 8 (drop start tags)) none))
-      (in_eight-same start (zip2 (woken_value seq value) (take 8 (drop start tags))) values (unheld-values seq value (take 8 (drop start tags)) (take 8 (drop start values)) as_eight none))
+      (in_eight-same start (zip2 (woken_value seq value) (take 8 (drop start tags))) values
+      (unheld-values seq value (take 8 (drop start tags)) (take 8 (drop start values)) as_eight none))
 
 -- a mask without the bits of eight places
-pub cleared-inside : (mask start place : ℕ) → start + 8 ≤ 64 → start ≤ place → place < start + 8 → bit_at (bit_and mask (18446744073709551615 - 255 * 2 ^ start % 18446744073709551616)) place ≡ 0
+pub cleared-inside : (mask start place : ℕ) → start + 8 ≤ 64 → start ≤ place → place < start + 8 →
+    bit_at (bit_and mask (18446744073709551615 - 255 * 2 ^ start % 18446744073709551616)) place ≡ 0
 cleared-inside mask start place room le lt =
-    let set : bit_at (255 * 2 ^ start) place ≡ 1 = moved_inside (replicate 8 true) start refl room place le ∙ ap (λ b. cond b 1 0) (get_or-replicate 8 (place - start) true false (omega arith)) in
+    let set : bit_at (255 * 2 ^ start) place ≡ 1 =
+    moved_inside (replicate 8 true) start refl room place le
+    ∙ ap (λ b. cond b 1 0) (get_or-replicate 8 (place - start) true false (omega arith)) in
     bit_at-cleared (replicate 8 true) start refl room mask place (omega arith) ∙ omega (arith, set)
 
-pub cleared-below : (mask start place : ℕ) → start + 8 ≤ 64 → place < start → bit_at (bit_and mask (18446744073709551615 - 255 * 2 ^ start % 18446744073709551616)) place ≡ bit_at mask place
+pub cleared-below : (mask start place : ℕ) → start + 8 ≤ 64 → place < start →
+    bit_at (bit_and mask (18446744073709551615 - 255 * 2 ^ start % 18446744073709551616)) place ≡ bit_at mask place
 cleared-below mask start place room lt =
     not_cleared (replicate 8 true) start refl room mask place (omega arith) (moved_below (replicate 8 true) start refl room place lt)
 
-pub cleared-above : (mask start place : ℕ) → start + 8 ≤ 64 → start + 8 ≤ place → place < 64 → bit_at (bit_and mask (18446744073709551615 - 255 * 2 ^ start % 18446744073709551616)) place ≡ bit_at mask place
+pub cleared-above : (mask start place : ℕ) → start + 8 ≤ 64 → start + 8 ≤ place → place < 64 →
+    bit_at (bit_and mask (18446744073709551615 - 255 * 2 ^ start % 18446744073709551616)) place ≡ bit_at mask place
 cleared-above mask start place room le lt =
     not_cleared (replicate 8 true) start refl room mask place lt (moved_above (replicate 8 true) start refl room place le)
 
--- what is woken twice is woken
-woken_operand-twice : (seq value : ℕ) (o : Operand) → woken_operand seq value (woken_operand seq value o) ≡ woken_operand seq value o
-woken_operand-twice seq value (Value held) = refl
-woken_operand-twice seq value (Tag tag) = elim (cases_Bool (eqb tag seq)) [
-  | inl same ↦ rw same refl
-  | inr other ↦ rw other (rw other refl)
-]
-
-has_value-unwoken : (seq value : ℕ) (o : Operand) → has_value o ≡ true → woken_operand seq value o ≡ o
-has_value-unwoken seq value (Value held) has = refl
-has_value-unwoken seq value (Tag tag) has = absurd (true≢false (sym has))
-
--- The operands whose bits are cleared are woken, and the others can still be.
-pub record Waking (seq value left : ℕ) (old now : List Operand) : Type 0 where
-  pub long : length now ≡ length old
-  pub same : (i : ℕ) → i < length old → woken_operand seq value (get_or now i (Value 0)) ≡ woken_operand seq value (get_or old i (Value 0))
-  pub done : (i : ℕ) → i < length old → bit_at left i ≡ 0 → woken_operand seq value (get_or now i (Value 0)) ≡ get_or now i (Value 0)
-
-pub Waking-start : (seq value left : ℕ) (os : List Operand) → IsWaitMask os left → Waking seq value left os os
-Waking-start seq value left os marked = record {
-  long = refl;
-  same = λ i lt. refl;
-  done = λ i lt none. has_value-unwoken seq value (get_or os i (Value 0)) (set_bit (has_value (get_or os i (Value 0))) (sym (marked i lt) ∙ none));
-}
-
-pub Waking-end : (seq value left : ℕ) (old now : List Operand) → ((i : ℕ) → i < length old → bit_at left i ≡ 0) → Waking seq value left old now → now ≡ map (woken_operand seq value) old
-Waking-end seq value left old now none w =
-    let mapped = length-map old (woken_operand seq value) in
-    ext_get_or (Value 0) now (map (woken_operand seq value) old) (w.long ∙ sym mapped)
-    (λ i lt.
-    let within : i < length old = omega (arith, lt, w.long) in
-    sym (w.done i within (none i within)) ∙ w.same i within ∙ sym (get_or-map (woken_operand seq value) old i (Value 0) (Value 0) within))
-
-pub Waking-next : (seq value left next start : ℕ) (old now : List Operand) → length old ≤ 64 → start + 8 ≤ length old → ((i : ℕ) → i < start → bit_at next i ≡ bit_at left i) → ((i : ℕ) → start + 8 ≤ i → i < 64 → bit_at next i ≡ bit_at left i) → Waking seq value left old now → Waking seq value next old (in_eight start (map (woken_operand seq value)) now)
-Waking-next seq value left next start old now few room before after w = record {
-  long = length-in_eight (woken_operand seq value) start now room_now (Value 0) ∙ w.long;
-  same = λ i lt. elim (cases_lt i start) [
-    | inl below ↦ ap (woken_operand seq value) (in_eight-below (woken_operand seq value) start now room_now (Value 0) i below) ∙ w.same i lt
-    | inr from ↦ elim (cases_lt i (start + 8)) [
-      | inl inside ↦
-          ap (woken_operand seq value) (in_eight-inside (woken_operand seq value) start now room_now (Value 0) i from inside)
-          ∙ woken_operand-twice seq value (get_or now i (Value 0))
-          ∙ w.same i lt
-      | inr above ↦ ap (woken_operand seq value) (in_eight-above (woken_operand seq value) start now room_now (Value 0) i above) ∙ w.same i lt
-    ]
-  ];
-  done = λ i lt none. elim (cases_lt i start) [
-    | inl below ↦
-        let here = in_eight-below (woken_operand seq value) start now room_now (Value 0) i below in
-        ap (woken_operand seq value) here ∙ w.done i lt (sym (before i below) ∙ none) ∙ sym here
-    | inr from ↦ elim (cases_lt i (start + 8)) [
-      | inl inside ↦
-          let here = in_eight-inside (woken_operand seq value) start now room_now (Value 0) i from inside in
-          ap (woken_operand seq value) here ∙ woken_operand-twice seq value (get_or now i (Value 0)) ∙ sym here
-      | inr above ↦
-          let here = in_eight-above (woken_operand seq value) start now room_now (Value 0) i above in
-          ap (woken_operand seq value) here ∙ w.done i lt (sym (after i above (omega arith)) ∙ none) ∙ sym here
-    ]
-  ];
-}
-  where
-    room_now : start + 8 ≤ length now
-    room_now = omega (arith, w.long, room)
-
 -- of two masks no bit is set in a place where both operands have their values
-pub both_ready : (first second place : ℕ) (a b : Bool) → bit_at first place ≡ cond a 0 1 → bit_at second place ≡ cond b 0 1 → (a && b) ≡ eqb (bit_and (bit_or first second / 2 ^ place) 1) 0
+pub both_ready : (first second place : ℕ) (a b : Bool) → bit_at first place ≡ cond a 0 1 →
+    bit_at second place ≡ cond b 0 1 → (a && b) ≡ eqb (bit_and (bit_or first second / 2 ^ place) 1) 0
 both_ready first second place a b of_first of_second =
-    let bit : bit_and (bit_or first second / 2 ^ place) 1 ≡ max (cond a 0 1) (cond b 0 1) = shr_and_one (bit_or first second) place ∙ bit_at_or first second place ∙ ap₂ max of_first of_second in
-    rw bit (told_by a b)
+    let bit : bit_and (bit_or first second / 2 ^ place) 1 ≡ max (cond a 0 1) (cond b 0 1) =
+    shr_and_one (bit_or first second) place ∙ bit_at_or first second place ∙ ap₂ max of_first of_second in
+    rw bit (shown_by a b)
   where
-    told_by : (a b : Bool) → (a && b) ≡ eqb (max (cond a 0 1) (cond b 0 1)) 0
-    told_by true true = refl
-    told_by true false = refl
-    told_by false true = refl
-    told_by false false = refl
+    shown_by : (a b : Bool) → (a && b) ≡ eqb (max (cond a 0 1) (cond b 0 1)) 0
+    shown_by true true = refl
+    shown_by true false = refl
+    shown_by false true = refl
+    shown_by false false = refl

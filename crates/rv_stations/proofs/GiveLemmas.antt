@@ -1,5 +1,7 @@
 -- Lanes of which those that are left still hold what they held, and the others are woken.
-use Rattle.std.proofs.Common.{◌≡◌, ℕ, ◌<◌, ◌≤◌, ◌+◌, ◌%◌, ◌^◌, List, length, get_or, map, slice_set, cond, Bool, true, false, eqb, refl, sym, ap, ◌∙◌, inl, inr, arith, w32, w64, bit_and, take, replicate, ap₂, [], ◌∷◌, ◌*◌}
+use Rattle.std.proofs.Common.{◌≡◌, ℕ, ◌<◌, ◌≤◌, ◌+◌, ◌%◌, ◌^◌, List, length, get_or, map, slice_set, cond, Bool, true}
+use Rattle.std.proofs.Common.{false, eqb, refl, sym, ap, ◌∙◌, inl, inr, arith, w32, w64, bit_and, take, replicate, ap₂}
+use Rattle.std.proofs.Common.{[], ◌∷◌, ◌*◌}
 use Rattle.std.specs.Int.{bit_at, trailing_zeros}
 use Rattle.std.specs.Simd.Lanes.{zip2}
 use lib.Lanes.{top, mask_l}
@@ -21,10 +23,12 @@ lowest_lane left some few =
     ]
 
 -- where a bit is not set, the tag is not the number
-pub no_like : (seq : ℕ) (tags : List ℕ) (i : ℕ) → i < length tags → bit_at (mask_l (map (λ t. eqb (t % 2 ^ 32) (seq % 2 ^ 32)) tags)) i ≡ 0 → eqb (get_or tags i 0) seq ≡ false
+pub no_like : (seq : ℕ) (tags : List ℕ) (i : ℕ) → i < length tags →
+    bit_at (mask_l (map (λ t. eqb (t % 2 ^ 32) (seq % 2 ^ 32)) tags)) i ≡ 0 → eqb (get_or tags i 0) seq ≡ false
 no_like seq tags i lt none = elim (cases_Bool (eqb (get_or tags i 0) seq)) [
   | inl is ↦
-      let like : eqb (get_or tags i 0 % 2 ^ 32) (seq % 2 ^ 32) ≡ true = eq-eqb (get_or tags i 0 % 2 ^ 32) (seq % 2 ^ 32) (ap (λ n. n % 2 ^ 32) (eqb-true (get_or tags i 0) seq is)) in
+      let like : eqb (get_or tags i 0 % 2 ^ 32) (seq % 2 ^ 32) ≡ true =
+      eq-eqb (get_or tags i 0 % 2 ^ 32) (seq % 2 ^ 32) (ap (λ n. n % 2 ^ 32) (eqb-true (get_or tags i 0) seq is)) in
       let set : bit_at (mask_l (map (λ t. eqb (t % 2 ^ 32) (seq % 2 ^ 32)) tags)) i ≡ 1 =
       bit_mask_l (map (λ t. eqb (t % 2 ^ 32) (seq % 2 ^ 32)) tags) i
       ∙ ap (λ b. cond b 1 0) (get_or-map (λ t. eqb (t % 2 ^ 32) (seq % 2 ^ 32)) tags i 0 false lt ∙ like) in
@@ -42,17 +46,27 @@ none_like seq (t ∷ ts) none =
     rw (here, none_like seq ts rest) refl
 
 -- the lower halves compared
-like_mask : (seq : ℕ) (tags : List ℕ) → mask_l (map (λ x. eqb x (bit_and seq 4294967295)) (map (λ (x : ℕ). x) (map (λ t. bit_and t 4294967295) tags))) ≡ mask_l (map (λ t. eqb (t % 2 ^ 32) (seq % 2 ^ 32)) tags)
+like_mask : (seq : ℕ) (tags : List ℕ) →
+    mask_l (map (λ x. eqb x (bit_and seq 4294967295)) (map (λ (x : ℕ). x) (map (λ t. bit_and t 4294967295) tags)))
+    ≡ mask_l (map (λ t. eqb (t % 2 ^ 32) (seq % 2 ^ 32)) tags)
 like_mask seq [] = refl
 like_mask seq (t ∷ ts) = ap₂ (λ (b : Bool) (n : ℕ). cond b 1 0 + 2 * n) (ap₂ eqb (and_mask t 32) (and_mask seq 32)) (like_mask seq ts)
 
-pub like_lanes : (seq : ℕ) (tags : List ℕ) → length tags ≡ 8 → mask_l (map (top 31) (zip2 (λ a b. cond (eqb a b) 4294967295 0) (map (λ (x : ℕ). x) (zip2 bit_and (take 8 tags) (replicate 8 4294967295))) (replicate 8 (bit_and seq 4294967295)))) % 18446744073709551616 ≡ mask_l (map (λ t. eqb (t % 2 ^ 32) (seq % 2 ^ 32)) tags)
+pub like_lanes : (seq : ℕ) (tags : List ℕ) → length tags ≡ 8 →
+    mask_l (map (top 31)
+    (zip2 (λ a b. cond (eqb a b) 4294967295 0)
+    (map (λ (x : ℕ). x) (zip2 bit_and (take 8 tags) (replicate 8 4294967295)))
+    (replicate 8 (bit_and seq 4294967295)))) % 18446744073709551616
+    ≡ mask_l (map (λ t. eqb (t % 2 ^ 32) (seq % 2 ^ 32)) tags)
 like_lanes seq tags long =
     let whole : take 8 tags ≡ tags = take_all 8 tags (omega arith) in
     let lower : List ℕ = map (λ t. bit_and t 4294967295) tags in
     let many : length (map (λ (x : ℕ). x) lower) ≡ 8 = length-map lower (λ (x : ℕ). x) ∙ length-map tags (λ t. bit_and t 4294967295) ∙ long in
     rw whole
-    (ap (λ xs. mask_l (map (top 31) (zip2 (λ a b. cond (eqb a b) 4294967295 0) (map (λ (x : ℕ). x) xs) (replicate 8 (bit_and seq 4294967295)))) % 18446744073709551616) (zip2_splat bit_and tags 8 4294967295 long)
+    (ap (λ xs. mask_l
+    (map (top 31)
+    (zip2 (λ a b. cond (eqb a b) 4294967295 0) (map (λ (x : ℕ). x) xs)
+    (replicate 8 (bit_and seq 4294967295)))) % 18446744073709551616) (zip2_splat bit_and tags 8 4294967295 long)
     ∙ bitmask_splat w32 eqb (map (λ (x : ℕ). x) lower) 8 (bit_and seq 4294967295) many (omega arith)
     ∙ like_mask seq tags)
 
@@ -75,7 +89,12 @@ module _ (seq value : ℕ) (tags values : List ℕ) where
     above = λ i le lt. bit_at-zero i;
   }
 
-  pub Giving-next : (left next woken woken_next lane : ℕ) (now_tags now_values : List ℕ) → length now_tags ≡ 8 → length now_values ≡ 8 → lane < 8 → bit_at left lane ≡ 1 → OtherBitsStay lane left next → bit_at woken_next lane ≡ cond (eqb (get_or now_tags lane 0) seq) 1 0 → OtherBitsStay lane woken woken_next → bit_at next lane ≡ 0 → Giving left woken now_tags now_values → Giving next woken_next (slice_set now_tags lane (woken_tag seq (get_or now_tags lane 0))) (slice_set now_values lane (woken_value seq value (get_or now_tags lane 0) (get_or now_values lane 0)))
+  pub Giving-next : (left next woken woken_next lane : ℕ) (now_tags now_values : List ℕ) → length now_tags ≡ 8 →
+      length now_values ≡ 8 → lane < 8 → bit_at left lane ≡ 1 → OtherBitsStay lane left next →
+      bit_at woken_next lane ≡ cond (eqb (get_or now_tags lane 0) seq) 1 0 → OtherBitsStay lane woken woken_next →
+      bit_at next lane ≡ 0 → Giving left woken now_tags now_values →
+      Giving next woken_next (slice_set now_tags lane (woken_tag seq (get_or now_tags lane 0)))
+      (slice_set now_values lane (woken_value seq value (get_or now_tags lane 0) (get_or now_values lane 0)))
   Giving-next left next woken woken_next lane now_tags now_values long as_long within set stay bit others clear g =
       let tag = g.rest_tags lane within set in
       let held = g.rest_values lane within set in
@@ -107,7 +126,8 @@ module _ (seq value : ℕ) (tags values : List ℕ) where
         above = λ i le lt. others i lt (λ same. absurd (omega (arith, same))) ∙ g.above i le lt;
       }
 
-  module _ (woken : ℕ) (now_tags now_values : List ℕ) (many : length tags ≡ 8) (as_many : length values ≡ 8) (long : length now_tags ≡ 8) (as_long : length now_values ≡ 8) (g : Giving 0 woken now_tags now_values) where
+  module _ (woken : ℕ) (now_tags now_values : List ℕ) (many : length tags ≡ 8) (as_many : length values ≡ 8)
+      (long : length now_tags ≡ 8) (as_long : length now_values ≡ 8) (g : Giving 0 woken now_tags now_values) where
     pub given-tags : now_tags ≡ map (woken_tag seq) tags
     given-tags =
         same_number_lists now_tags (map (woken_tag seq) tags) (omega (arith, long, many, length-map tags (woken_tag seq)))
@@ -115,8 +135,10 @@ module _ (seq value : ℕ) (tags values : List ℕ) where
 
     pub given-values : now_values ≡ zip2 (woken_value seq value) tags values
     given-values =
-        same_number_lists now_values (zip2 (woken_value seq value) tags values) (omega (arith, as_long, many, length-zip2 (woken_value seq value) tags values (many ∙ sym as_many)))
-        (λ i lt. g.now_given i (omega arith) (bit_at-zero i) ∙ sym (get_or-zip2 (woken_value seq value) tags values i 0 0 0 (omega arith) (omega arith)))
+        same_number_lists now_values (zip2 (woken_value seq value) tags values)
+        (omega (arith, as_long, many, length-zip2 (woken_value seq value) tags values (many ∙ sym as_many)))
+        (λ i lt. g.now_given i (omega arith) (bit_at-zero i)
+        ∙ sym (get_or-zip2 (woken_value seq value) tags values i 0 0 0 (omega arith) (omega arith)))
 
     equals : length (map (λ t. eqb t seq) tags) ≡ 8
     equals = length-map tags (λ t. eqb t seq) ∙ many

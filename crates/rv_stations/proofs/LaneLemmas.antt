@@ -10,14 +10,17 @@ pub unheld-tags : (seq : ℕ) (tags : List ℕ) → mask_l (map (λ t. eqb t seq
 unheld-tags seq [] none = refl
 unheld-tags seq (t ∷ ts) none = elim (cases_Bool (eqb t seq)) [
   | inl same ↦ let one : 1 + 2 * mask_l (map (λ t. eqb t seq) ts) ≡ 0 = rw same at none in absurd (omega (arith, one))
-  | inr other ↦ let rest : 0 + 2 * mask_l (map (λ t. eqb t seq) ts) ≡ 0 = rw other at none in ap₂ ◌∷◌ (rw other refl) (unheld-tags seq ts (omega (arith, rest)))
+  | inr other ↦ let rest : 0 + 2 * mask_l (map (λ t. eqb t seq) ts) ≡ 0 = rw other at none in
+      ap₂ ◌∷◌ (rw other refl) (unheld-tags seq ts (omega (arith, rest)))
 ]
 
-pub unheld-values : (seq value : ℕ) (tags values : List ℕ) → length tags ≡ length values → mask_l (map (λ t. eqb t seq) tags) ≡ 0 → zip2 (woken_value seq value) tags values ≡ values
+pub unheld-values : (seq value : ℕ) (tags values : List ℕ) → length tags ≡ length values →
+    mask_l (map (λ t. eqb t seq) tags) ≡ 0 → zip2 (woken_value seq value) tags values ≡ values
 unheld-values seq value [] [] long none = refl
 unheld-values seq value [] (v ∷ vs) long none = absurd (omega arith)
 unheld-values seq value (t ∷ ts) [] long none = refl
 unheld-values seq value (t ∷ ts) (v ∷ vs) long none = elim (cases_Bool (eqb t seq)) [
   | inl same ↦ let one : 1 + 2 * mask_l (map (λ t. eqb t seq) ts) ≡ 0 = rw same at none in absurd (omega (arith, one))
-  | inr other ↦ let rest : 0 + 2 * mask_l (map (λ t. eqb t seq) ts) ≡ 0 = rw other at none in ap₂ ◌∷◌ (rw other refl) (unheld-values seq value ts vs (omega arith) (omega (arith, rest)))
+  | inr other ↦ let rest : 0 + 2 * mask_l (map (λ t. eqb t seq) ts) ≡ 0 = rw other at none in
+      ap₂ ◌∷◌ (rw other refl) (unheld-values seq value ts vs (omega arith) (omega (arith, rest)))
 ]

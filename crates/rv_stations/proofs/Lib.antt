@@ -5,4 +5,5 @@ pub mod MarkLemmas
 pub mod PlaceLemmas
 pub mod PoolLemmas
 pub mod SearchLemmas
+pub mod WakingLemmas
 pub mod ZipLemmas

@@ -1,5 +1,7 @@
 -- The bits of the places in which instructions wait.
-use Rattle.std.proofs.Common.{◌≡◌, ℕ, zero, suc, ◌+◌, ◌<◌, ◌≤◌, ◌∙◌, ◌/◌, ◌^◌, Bool, true, false, cond, eqb, bit_and, bit_or, List, [], ◌∷◌, All, length, get_or, take, remove, slice_get, Some, inl, inr, refl, ap, sym, arith, length-take-le}
+use Rattle.std.proofs.Common.{◌≡◌, ℕ, zero, suc, ◌+◌, ◌<◌, ◌≤◌, ◌∙◌, ◌/◌, ◌^◌, Bool, true, false, cond, eqb, bit_and}
+use Rattle.std.proofs.Common.{bit_or, List, [], ◌∷◌, All, length, get_or, take, remove, slice_get, Some, inl, inr, refl}
+use Rattle.std.proofs.Common.{ap, sym, arith, length-take-le}
 use Rattle.std.specs.Int.{bit_at}
 use Rattle.std.specs.List.{AllPairs}
 use Rattle.std.specs.Option.{option_map}
@@ -15,7 +17,7 @@ use Rattle.rv_stations.specs.Waiting.{is_asked, is_ready, loads}
 use Rattle.rv_stations.specs.PoolFields.{some_waiting, nothing, pool, IsMarkedOther, IsSoundPool}
 use Rattle.rv_stations.specs.declared.pool.StationPool.TheInside.{Inside}
 use Rattle.rv_stations.proofs.PlaceLemmas.{All-remove, All-others}
-use Rattle.rv_stations.proofs.PoolLemmas.{length-pool, place_there, ready_told, loads_told, is_ready-in_place}
+use Rattle.rv_stations.proofs.PoolLemmas.{length-pool, place_there, ready_by_bits, loads_by_instruction, is_ready-in_place}
 
 -- no two places are the same
 abbrev pub AreApart : List ℕ → Type 0
@@ -26,7 +28,8 @@ flip a b apart same = apart (sym same)
 
 -- what holds of the places in use, and of the others still once one more is
 module _ (P Q : ℕ → Type 0) (place : ℕ) (step : (k : ℕ) → k < 64 → (k ≡ place → ⊥) → P k → Q k) where
-  pub marks-next : (ks : List ℕ) (n : ℕ) → AreApart ks → All (λ k. k < 64) ks → slice_get ks n ≡ Some place → Q place → All P (take n ks) → All Q (take (n + 1) ks)
+  pub marks-next : (ks : List ℕ) (n : ℕ) → AreApart ks → All (λ k. k < 64) ks → slice_get ks n ≡ Some place → Q place →
+      All P (take n ks) → All Q (take (n + 1) ks)
   marks-next ks n apart few is here marks =
       let within : n < length ks = slice_get_within ks n place is in
       let low : n ≤ length ks = omega arith in
@@ -41,7 +44,8 @@ module _ (P Q : ℕ → Type 0) (place : ℕ) (step : (k : ℕ) → k < 64 → (
       All-more Q ks n 0 within before (rw last here)
 
   -- and once that one is not any more
-  pub marks-removed : (ks : List ℕ) (at : ℕ) → AreApart ks → All (λ k. k < 64) ks → at < length ks → get_or ks at 0 ≡ place → All P ks → All Q (remove ks at)
+  pub marks-removed : (ks : List ℕ) (at : ℕ) → AreApart ks → All (λ k. k < 64) ks → at < length ks →
+      get_or ks at 0 ≡ place → All P ks → All Q (remove ks at)
   marks-removed ks at apart few within is marks = λ i d lt.
       step (get_or (remove ks at) i d) (All-remove (λ k. k < 64) at ks within few i d lt)
       (λ equal. All-others (λ a b. a ≡ b → ⊥) flip at ks 0 within apart i d lt (is ∙ sym equal))
@@ -88,11 +92,19 @@ module _ (p : Inside) (sound : IsSoundPool p) (at : ℕ) (low : at < p.count) wh
 
   loads_here : loads w ≡ is_load (Some (get_or p.dispatched.items place nothing).instruction)
   loads_here =
-      let known : slice_get p.dispatched.items place ≡ Some (get_or p.dispatched.items place nothing) = slice_get-get_or p.dispatched.items place nothing (omega (arith, place_there p sound at place place_in_use, sound.dispatched)) in
-      let told : Some (loads w) ≡ Some (is_load (Some (get_or p.dispatched.items place nothing).instruction)) = sym (ap (option_map loads) here) ∙ loads_told p sound at place (get_or p.dispatched.items place nothing) low place_in_use known in
-      cc told
+      let known : slice_get p.dispatched.items place ≡ Some (get_or p.dispatched.items place nothing) =
+      slice_get-get_or p.dispatched.items place nothing
+      (omega (arith, place_there p sound at place place_in_use, sound.dispatched)) in
+      let shown : Some (loads w) ≡ Some (is_load (Some (get_or p.dispatched.items place nothing).instruction)) =
+      sym (ap (option_map loads) here)
+      ∙ loads_by_instruction p sound at place (get_or p.dispatched.items place nothing) low place_in_use known in
+      cc shown
 
-  unasked_by : (loads_wait : Bool) → bit_at (cond loads_wait (bit_and p.held p.others) p.held) place ≡ 0 → is_asked loads_wait w ≡ false
+  -- the places in use that are asked, without those of loads where loads wait
+  abbrev asked_places : Bool → ℕ
+  asked_places loads_wait = cond loads_wait (bit_and p.held p.others) p.held
+
+  unasked_by : (loads_wait : Bool) → bit_at (asked_places loads_wait) place ≡ 0 → is_asked loads_wait w ≡ false
   unasked_by false unset = let set : bit_at p.held place ≡ 1 = rw same at (sound.held at 0 in_front) in absurd (omega (arith, set, unset))
   unasked_by true unset = elim (cases_Bool (loads w)) [
     | inl load ↦ elim (cases_Bool (is_ready w)) [
@@ -106,7 +118,8 @@ module _ (p : Inside) (sound : IsSoundPool p) (at : ℕ) (low : at < p.count) wh
         absurd (omega (arith, bit_at_and p.held p.others place, set, set_held, unset))
   ]
 
-  asked_by : (loads_wait : Bool) → is_ready w ≡ true → bit_at (cond loads_wait (bit_and p.held p.others) p.held) place ≡ 1 → is_asked loads_wait w ≡ true
+  asked_by : (loads_wait : Bool) → is_ready w ≡ true →
+      bit_at (asked_places loads_wait) place ≡ 1 → is_asked loads_wait w ≡ true
   asked_by false ready set = rw ready refl
   asked_by true ready set = elim (cases_Bool (loads w)) [
     | inl load ↦
@@ -117,21 +130,31 @@ module _ (p : Inside) (sound : IsSoundPool p) (at : ℕ) (low : at < p.count) wh
   ]
 
   module _ (a b mask : ℕ) (of_first : IsWaitMask p.first a) (of_second : IsWaitMask p.second b) where
-    told : is_ready w ≡ eqb (bit_and (bit_or a b / 2 ^ place) 1) 0
-    told = is_ready-in_place (pool p).waiting at w _ here (ready_told p sound a b at place of_first of_second low place_in_use)
+    -- where no operand waits, the mask has the bits of the places that are asked
+    abbrev HoldsAsked : Bool → Type 0
+    HoldsAsked loads_wait =
+        (k : ℕ) → k < 64 → bit_at (bit_or a b) k ≡ 0 → bit_at mask k ≡ bit_at (asked_places loads_wait) k
+
+    shown : is_ready w ≡ eqb (bit_and (bit_or a b / 2 ^ place) 1) 0
+    shown = is_ready-in_place (pool p).waiting at w _ here
+        (ready_by_bits p sound a b at place of_first of_second low place_in_use)
 
     -- an instruction whose bit is not set is not asked
-    pub unasked : (loads_wait : Bool) → ((k : ℕ) → k < 64 → bit_at (bit_or a b) k ≡ 0 → bit_at mask k ≡ bit_at (cond loads_wait (bit_and p.held p.others) p.held) k) → bit_at mask place ≡ 0 → option_map (is_asked loads_wait) (slice_get (pool p).waiting at) ≡ Some false
+    pub unasked : (loads_wait : Bool) → HoldsAsked loads_wait → bit_at mask place ≡ 0 →
+        option_map (is_asked loads_wait) (slice_get (pool p).waiting at) ≡ Some false
     unasked loads_wait kept none = ap (option_map (is_asked loads_wait)) here ∙ ap Some (elim (cases_Bool (is_ready w)) [
       | inl ready ↦
-          let idle : bit_at (bit_or a b) place ≡ 0 = sym (shr_and_one (bit_or a b) place) ∙ eqb-true _ _ (sym told ∙ ready) in
+          let idle : bit_at (bit_or a b) place ≡ 0 =
+          sym (shr_and_one (bit_or a b) place) ∙ eqb-true _ _ (sym shown ∙ ready) in
           unasked_by loads_wait (sym (kept place place_few idle) ∙ none)
       | inr waits ↦ rw waits refl
     ])
 
     -- one whose bit is set is asked
-    pub asked : (loads_wait : Bool) → ((k : ℕ) → k < 64 → bit_at (bit_or a b) k ≡ 0 → bit_at mask k ≡ bit_at (cond loads_wait (bit_and p.held p.others) p.held) k) → ((k : ℕ) → k < 64 → bit_at mask k ≡ 1 → bit_at (bit_or a b) k ≡ 0) → bit_at mask place ≡ 1 → option_map (is_asked loads_wait) (slice_get (pool p).waiting at) ≡ Some true
+    pub asked : (loads_wait : Bool) → HoldsAsked loads_wait →
+        ((k : ℕ) → k < 64 → bit_at mask k ≡ 1 → bit_at (bit_or a b) k ≡ 0) → bit_at mask place ≡ 1 →
+        option_map (is_asked loads_wait) (slice_get (pool p).waiting at) ≡ Some true
     asked loads_wait kept cleared set =
         let idle : bit_at (bit_or a b) place ≡ 0 = cleared place place_few set in
-        let ready : is_ready w ≡ true = told ∙ eq-eqb _ _ (shr_and_one (bit_or a b) place ∙ idle) in
+        let ready : is_ready w ≡ true = shown ∙ eq-eqb _ _ (shr_and_one (bit_or a b) place ∙ idle) in
         ap (option_map (is_asked loads_wait)) here ∙ ap Some (asked_by loads_wait ready (sym (kept place place_few idle) ∙ set))

@@ -1,18 +1,21 @@
 -- Lists of places, in which one is moved back.
-use Rattle.std.proofs.Common.{◌≡◌, ℕ, zero, suc, ◌+◌, ◌<◌, ◌≤◌, List, [], ◌∷◌, ◌++◌, length, get_or, drop, take, remove, slice_set, All, refl, ap, arith}
+use Rattle.std.proofs.Common.{◌≡◌, ℕ, zero, suc, ◌+◌, ◌<◌, ◌≤◌, List, [], ◌∷◌, ◌++◌, length, get_or, drop, take, remove}
+use Rattle.std.proofs.Common.{slice_set, All, refl, ap, arith}
 use Rattle.std.specs.List.{AllPairs, insert, range_with_len}
 use Rattle.std.proofs.lemmas.List.Elements.{All-cons, All-head, All-tail}
 use Rattle.std.proofs.lemmas.List.Kept.{AllPairs-cons}
 
 module _ {A : Type 0} where
   -- what stands after a place moved up by one, and a place was written last
-  pub moved-back : (at count last : ℕ) (xs : List A) (x : A) → last ≡ at + count → last < length xs → slice_set ((take at xs ++ take count (drop (suc at) xs)) ++ drop last xs) last x ≡ insert (remove xs at) last x
+  pub moved-back : (at count last : ℕ) (xs : List A) (x : A) → last ≡ at + count → last < length xs →
+      slice_set ((take at xs ++ take count (drop (suc at) xs)) ++ drop last xs) last x ≡ insert (remove xs at) last x
   moved-back at count last [] x is within = absurd (omega arith)
   moved-back zero zero zero (a ∷ xs) x is within = refl
   moved-back zero zero (suc last) (a ∷ xs) x is within = absurd (omega arith)
   moved-back zero (suc count) zero (a ∷ xs) x is within = absurd (omega arith)
   moved-back zero (suc count) (suc last) (a ∷ []) x is within = absurd (omega arith)
-  moved-back zero (suc count) (suc last) (a ∷ b ∷ xs) x is within = ap (λ ys. b ∷ ys) (moved-back zero count last (b ∷ xs) x (omega arith) (omega arith))
+  moved-back zero (suc count) (suc last) (a ∷ b ∷ xs) x is within =
+      ap (λ ys. b ∷ ys) (moved-back zero count last (b ∷ xs) x (omega arith) (omega arith))
   moved-back (suc at) count zero (a ∷ xs) x is within = absurd (omega arith)
   moved-back (suc at) count (suc last) (a ∷ xs) x is within = ap (λ ys. a ∷ ys) (moved-back at count last xs x (omega arith) (omega arith))
 
@@ -50,13 +53,17 @@ module _ {A : Type 0} where
     All-others at [] d within pairs = absurd (omega arith)
     All-others zero (x ∷ xs) d within pairs = first x xs pairs
     All-others (suc at) (x ∷ xs) d within pairs =
-        All-cons (R (get_or xs at d)) x (remove xs at) (flip x (get_or xs at d) (pairs 0 (suc at) d (omega arith) (omega arith))) (All-others at xs d (omega arith) (others x xs pairs))
+        All-cons (R (get_or xs at d)) x (remove xs at)
+        (flip x (get_or xs at d) (pairs 0 (suc at) d (omega arith) (omega arith)))
+        (All-others at xs d (omega arith) (others x xs pairs))
 
     pub AllPairs-insert : (n : ℕ) (xs : List A) (x : A) → All (R x) xs → AllPairs R xs → AllPairs R (insert xs n x)
     AllPairs-insert zero xs x all pairs = AllPairs-cons R x xs all pairs
     AllPairs-insert (suc n) [] x all pairs = AllPairs-cons R x [] all pairs
     AllPairs-insert (suc n) (y ∷ ys) x all pairs =
-        AllPairs-cons R y (insert ys n x) (All-insert (R y) n ys x (first y ys pairs) (flip x y (All-head (R x) y ys all))) (AllPairs-insert n ys x (All-tail (R x) y ys all) (others y ys pairs))
+        AllPairs-cons R y (insert ys n x)
+        (All-insert (R y) n ys x (first y ys pairs) (flip x y (All-head (R x) y ys all)))
+        (AllPairs-insert n ys x (All-tail (R x) y ys all) (others y ys pairs))
 
 -- one more number in a row
 range_with_len-next : (a n : ℕ) → range_with_len a n ++ (a + n) ∷ [] ≡ range_with_len a (n + 1)

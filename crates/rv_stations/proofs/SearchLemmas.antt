@@ -1,12 +1,15 @@
 -- A search for the oldest ready instruction that passes a test.
-use Rattle.std.proofs.Common.{◌≡◌, ℕ, zero, suc, ◌+◌, Bool, true, false, not, ◌&&◌, ◌<◌, ◌≤◌, length, List, [], ◌∷◌, ◌++◌, take, drop, remove, slice_get, Option, None, Some, inl, inr, refl, ap, sym, ◌∙◌, arith}
+use Rattle.std.proofs.Common.{◌≡◌, ℕ, zero, suc, ◌+◌, Bool, true, false, not, ◌&&◌, ◌<◌, ◌≤◌, length, List, [], ◌∷◌}
+use Rattle.std.proofs.Common.{◌++◌, take, drop, remove, slice_get, Option, None, Some, inl, inr, refl, ap, sym, ◌∙◌}
+use Rattle.std.proofs.Common.{arith}
 use Rattle.std.specs.Option.{option_map}
 use Rattle.std.proofs.lemmas.Bool.{and_parts, cases_Bool, cases_lt}
 use Rattle.std.proofs.lemmas.List.{append_assoc}
 use Rattle.std.proofs.lemmas.Option.{get_or_from_slice_get, slice_get_within}
 use Rattle.rv_isa.specs.Numbered.{IsInOrder}
 use Rattle.rv_stations.specs.declared.waiting.Waiting.{Waiting}
-use Rattle.rv_stations.specs.Waiting.{ArePassedBy, IsVerdict, is_asked, is_ready, loads, oldest_ready, seq_of, without_oldest_ready}
+use Rattle.rv_stations.specs.Waiting.{ArePassedBy, IsVerdict, is_asked, is_ready, loads, oldest_ready, seq_of}
+use Rattle.rv_stations.specs.Waiting.{without_oldest_ready}
 use Rattle.rv_stations.specs.PoolFields.{some_waiting}
 use Rattle.rv_stations.specs.declared.waiting.Verdict.TheVariants.{LoadsWait}
 
@@ -56,14 +59,16 @@ Searching-from test (suc at) (w ∷ ws) passed = elim (cases_Bool (is_ready w &&
 ]
 
 -- what comes after instructions that are passed by
-oldest_ready-append : (test : Waiting → Bool) (ws us : List Waiting) → oldest_ready test ws ≡ None → oldest_ready test (ws ++ us) ≡ oldest_ready test us
+oldest_ready-append : (test : Waiting → Bool) (ws us : List Waiting) → oldest_ready test ws ≡ None →
+    oldest_ready test (ws ++ us) ≡ oldest_ready test us
 oldest_ready-append test [] us passed = refl
 oldest_ready-append test (w ∷ ws) us passed = elim (cases_Bool (is_ready w && test w)) [
   | inl passes ↦ let found : Some w ≡ None = rw passes at passed in absurd (cc)
   | inr fails ↦ rw fails (oldest_ready-append test ws us (rw fails at passed))
 ]
 
-pub Searching-pass : (test : Waiting → Bool) (ws : List Waiting) (at : ℕ) (w : Waiting) → slice_get ws at ≡ Some w → (is_ready w && test w) ≡ false → Searching test ws at → Searching test ws (at + 1)
+pub Searching-pass : (test : Waiting → Bool) (ws : List Waiting) (at : ℕ) (w : Waiting) → slice_get ws at ≡ Some w →
+    (is_ready w && test w) ≡ false → Searching test ws at → Searching test ws (at + 1)
 Searching-pass test ws at w is fails s =
     let here = drop_at_get ws at w is in
     let passed = take_at_get ws at w is in
@@ -75,7 +80,9 @@ Searching-pass test ws at w is fails s =
       passed = rw passed (oldest_ready-append test (take at ws) (w ∷ []) s.passed ∙ rw fails refl);
     }
 
-pub Searching-found : (test : Waiting → Bool) (ws : List Waiting) (at : ℕ) (w : Waiting) → slice_get ws at ≡ Some w → (is_ready w && test w) ≡ true → Searching test ws at → (oldest_ready test ws ≡ slice_get ws at) × (without_oldest_ready test ws ≡ remove ws at)
+pub Searching-found : (test : Waiting → Bool) (ws : List Waiting) (at : ℕ) (w : Waiting) → slice_get ws at ≡ Some w →
+    (is_ready w && test w) ≡ true → Searching test ws at → (oldest_ready test ws ≡ slice_get ws at) ×
+    (without_oldest_ready test ws ≡ remove ws at)
 Searching-found test ws at w is passes s =
     let here = drop_at_get ws at w is in
     let next : at + 1 ≡ suc at = omega arith in
@@ -88,7 +95,9 @@ abbrev pub LoadsFail : (Waiting → Bool) → List Waiting → ℕ → Type 0
 LoadsFail test ws at = (k : ℕ) (w : Waiting) → at ≤ k → slice_get ws k ≡ Some w → loads w ≡ true → test w ≡ false
 
 -- an instruction that may not be the one is passed by
-pub is_passed_by : (test : Waiting → Bool) (ws : List Waiting) (at : ℕ) (loads_wait : Bool) (w : Waiting) → (loads_wait ≡ true → LoadsFail test ws at) → slice_get ws at ≡ Some w → is_asked loads_wait w ≡ false → (is_ready w && test w) ≡ false
+pub is_passed_by : (test : Waiting → Bool) (ws : List Waiting) (at : ℕ) (loads_wait : Bool) (w : Waiting) →
+    (loads_wait ≡ true → LoadsFail test ws at) → slice_get ws at ≡ Some w → is_asked loads_wait w ≡ false →
+    (is_ready w && test w) ≡ false
 is_passed_by test ws at loads_wait w fail is unasked = elim (cases_Bool (is_ready w)) [
   | inl ready ↦
       let both : not (loads_wait && loads w) ≡ false = rw ready at unasked in
@@ -98,10 +107,11 @@ is_passed_by test ws at loads_wait w fail is unasked = elim (cases_Bool (is_read
 ]
 
 -- what is asked is ready
-pub ready-asked : (loads_wait : Bool) (found : Option Waiting) → option_map (is_asked loads_wait) found ≡ Some true → option_map is_ready found ≡ Some true
-ready-asked loads_wait None told = cc
-ready-asked loads_wait (Some w) told =
-    let asked : is_asked loads_wait w ≡ true = cc told in
+pub ready-asked : (loads_wait : Bool) (found : Option Waiting) → option_map (is_asked loads_wait) found ≡ Some true →
+    option_map is_ready found ≡ Some true
+ready-asked loads_wait None shown = cc
+ready-asked loads_wait (Some w) shown =
+    let asked : is_asked loads_wait w ≡ true = cc shown in
     ap Some (and_parts (is_ready w) (not (loads_wait && loads w)) asked).0
 
 -- and so from a later one
@@ -109,7 +119,8 @@ pub LoadsFail-later : (test : Waiting → Bool) (ws : List Waiting) (at : ℕ) �
 LoadsFail-later test ws at fail = λ k w after is load. fail k w (omega (arith, after)) is load
 
 -- those after a load that waits with all that are younger
-pub LoadsFail-after : (test : Waiting → Bool) (ws : List Waiting) (place : ℕ) (w : Waiting) → IsInOrder seq_of ws → slice_get ws place ≡ Some w → IsVerdict test w LoadsWait → LoadsFail test ws (place + 1)
+pub LoadsFail-after : (test : Waiting → Bool) (ws : List Waiting) (place : ℕ) (w : Waiting) → IsInOrder seq_of ws →
+    slice_get ws place ≡ Some w → IsVerdict test w LoadsWait → LoadsFail test ws (place + 1)
 LoadsFail-after test ws place w in_order is verdict = λ k other after there load.
     let within = slice_get_within ws k other there in
     let here = get_or_from_slice_get ws place w some_waiting is in
@@ -122,7 +133,8 @@ pub LoadsFail-from : (test : Waiting → Bool) (ws : List Waiting) (at to : ℕ)
 LoadsFail-from test ws at to later fail = λ k w after is load. fail k w (omega (arith, later, after)) is load
 
 -- each of the instructions that are passed by is not ready, or fails
-passed_at : (test : Waiting → Bool) (n : ℕ) (ws : List Waiting) → ArePassedBy test n ws → (k : ℕ) (w : Waiting) → k < n → slice_get ws k ≡ Some w → (is_ready w && test w) ≡ false
+passed_at : (test : Waiting → Bool) (n : ℕ) (ws : List Waiting) → ArePassedBy test n ws → (k : ℕ) (w : Waiting) →
+    k < n → slice_get ws k ≡ Some w → (is_ready w && test w) ≡ false
 passed_at test zero ws passed k w low is = absurd (omega arith)
 passed_at test (suc n) [] passed k w low is = cc
 passed_at test (suc n) (v ∷ vs) passed zero w low is = elim (cases_Bool (is_ready v && test v)) [
@@ -135,28 +147,34 @@ passed_at test (suc n) (v ∷ vs) passed (suc k) w low is = elim (cases_Bool (is
 ]
 
 -- and where each is not, they are passed by
-passed_from : (test : Waiting → Bool) (n : ℕ) (ws : List Waiting) → ((k : ℕ) (w : Waiting) → k < n → slice_get ws k ≡ Some w → (is_ready w && test w) ≡ false) → ArePassedBy test n ws
+passed_from : (test : Waiting → Bool) (n : ℕ) (ws : List Waiting) →
+    ((k : ℕ) (w : Waiting) → k < n → slice_get ws k ≡ Some w → (is_ready w && test w) ≡ false) → ArePassedBy test n ws
 passed_from test zero ws fail = refl
 passed_from test (suc n) [] fail = refl
 passed_from test (suc n) (w ∷ ws) fail =
     rw (fail 0 w (omega arith) refl) (passed_from test n ws (λ k v low is. fail (suc k) v (omega (arith, low)) is))
 
 -- what is not asked is passed by
-pub passed_unasked : (test : Waiting → Bool) (ws : List Waiting) (at to : ℕ) (loads_wait : Bool) → ((k : ℕ) → at ≤ k → k < to → option_map (is_asked loads_wait) (slice_get ws k) ≡ Some false) → (loads_wait ≡ true → LoadsFail test ws at) → ArePassedBy test at ws → ArePassedBy test to ws
+pub passed_unasked : (test : Waiting → Bool) (ws : List Waiting) (at to : ℕ) (loads_wait : Bool) →
+    ((k : ℕ) → at ≤ k → k < to → option_map (is_asked loads_wait) (slice_get ws k) ≡ Some false) →
+    (loads_wait ≡ true → LoadsFail test ws at) → ArePassedBy test at ws → ArePassedBy test to ws
 passed_unasked test ws at to loads_wait unasked fail passed = passed_from test to ws (λ k w low is. elim (cases_lt k at) [
   | inl before ↦ passed_at test at ws passed k w before is
   | inr after ↦
-      let told : Some (is_asked loads_wait w) ≡ Some false = sym (ap (option_map (is_asked loads_wait)) is) ∙ unasked k after low in
-      let asked : is_asked loads_wait w ≡ false = cc told in
+      let shown : Some (is_asked loads_wait w) ≡ Some false =
+      sym (ap (option_map (is_asked loads_wait)) is) ∙ unasked k after low in
+      let asked : is_asked loads_wait w ≡ false = cc shown in
       is_passed_by test ws k loads_wait w (λ wait. LoadsFail-from test ws at k after (fail wait)) is asked
 ])
 
 -- one more is passed by
-pub passed_next : (test : Waiting → Bool) (ws : List Waiting) (at : ℕ) (w : Waiting) → slice_get ws at ≡ Some w → (is_ready w && test w) ≡ false → ArePassedBy test at ws → ArePassedBy test (at + 1) ws
+pub passed_next : (test : Waiting → Bool) (ws : List Waiting) (at : ℕ) (w : Waiting) → slice_get ws at ≡ Some w →
+    (is_ready w && test w) ≡ false → ArePassedBy test at ws → ArePassedBy test (at + 1) ws
 passed_next test ws at w is fails passed = (Searching-pass test ws at w is fails (Searching-from test at ws passed)).passed
 
 -- where all are passed by, none is found
-pub passed_whole : (test : Waiting → Bool) (at : ℕ) (ws : List Waiting) → ArePassedBy test at ws → length ws ≤ at → (oldest_ready test ws ≡ None) × (without_oldest_ready test ws ≡ ws)
+pub passed_whole : (test : Waiting → Bool) (at : ℕ) (ws : List Waiting) → ArePassedBy test at ws → length ws ≤ at →
+    (oldest_ready test ws ≡ None) × (without_oldest_ready test ws ≡ ws)
 passed_whole test at [] passed whole = (refl, refl)
 passed_whole test zero (w ∷ ws) passed whole = absurd (omega arith)
 passed_whole test (suc at) (w ∷ ws) passed whole = elim (cases_Bool (is_ready w && test w)) [

@@ -1,5 +1,6 @@
 -- Lists joined element by element, as an edit of both leaves them.
-use Rattle.std.proofs.Common.{◌≡◌, ℕ, zero, suc, ◌<◌, List, [], ◌∷◌, ◌++◌, length, take, drop, replicate, slice_get, slice_set, Some, refl, ap, arith}
+use Rattle.std.proofs.Common.{◌≡◌, ℕ, zero, suc, ◌<◌, List, [], ◌∷◌, ◌++◌, length, take, drop, replicate, slice_get}
+use Rattle.std.proofs.Common.{slice_set, Some, refl, ap, arith}
 use Rattle.std.specs.Simd.Lanes.{zip2}
 
 module _ {X Y Z : Type 0} (f : X → Y → Z) where
@@ -22,7 +23,8 @@ module _ {X Y Z : Type 0} (f : X → Y → Z) where
   zip2-drop (suc n) (x ∷ xs) [] long = absurd (omega arith)
   zip2-drop (suc n) (x ∷ xs) (y ∷ ys) long = zip2-drop n xs ys (omega arith)
 
-  pub zip2-set : (i : ℕ) (xs : List X) (ys : List Y) (x : X) (y : Y) → i < length xs → i < length ys → zip2 f (slice_set xs i x) (slice_set ys i y) ≡ slice_set (zip2 f xs ys) i (f x y)
+  pub zip2-set : (i : ℕ) (xs : List X) (ys : List Y) (x : X) (y : Y) → i < length xs → i < length ys →
+      zip2 f (slice_set xs i x) (slice_set ys i y) ≡ slice_set (zip2 f xs ys) i (f x y)
   zip2-set i [] ys x y within_xs within_ys = absurd (omega arith)
   zip2-set i (a ∷ as') [] x y within_xs within_ys = absurd (omega arith)
   zip2-set zero (a ∷ as') (b ∷ bs) x y within_xs within_ys = refl
@@ -32,7 +34,8 @@ module _ {X Y Z : Type 0} (f : X → Y → Z) where
   zip2-replicate zero x y = refl
   zip2-replicate (suc n) x y = ap (λ zs. f x y ∷ zs) (zip2-replicate n x y)
 
-  pub slice_get-zip2 : (i : ℕ) (xs : List X) (ys : List Y) (x : X) (y : Y) → slice_get xs i ≡ Some x → slice_get ys i ≡ Some y → slice_get (zip2 f xs ys) i ≡ Some (f x y)
+  pub slice_get-zip2 : (i : ℕ) (xs : List X) (ys : List Y) (x : X) (y : Y) → slice_get xs i ≡ Some x →
+      slice_get ys i ≡ Some y → slice_get (zip2 f xs ys) i ≡ Some (f x y)
   slice_get-zip2 i [] ys x y at_x at_y = cc
   slice_get-zip2 i (a ∷ as') [] x y at_x at_y = cc
   slice_get-zip2 zero (a ∷ as') (b ∷ bs) x y at_x at_y = cc

@@ -17,6 +17,8 @@ returns-clause-fewer c =
     let left : ℕ = bit_and c.args.mask (18446744073709551615 - 1 * 2 ^ c.args.place % 18446744073709551616) in
     let gone : bit_at left c.args.place ≡ 0 = bit_at_clear_same w64 c.args.mask c.args.place c.requires.within in
     elim (cases_eq left c.args.mask) [
-      | inl same ↦ absurd (let both : bit_at left c.args.place ≡ bit_at c.args.mask c.args.place = ap (λ x. bit_at x c.args.place) same in omega (arith, both, gone, c.requires.marked))
+      | inl same ↦
+          absurd (let both : bit_at left c.args.place ≡ bit_at c.args.mask c.args.place =
+          ap (λ x. bit_at x c.args.place) same in omega (arith, both, gone, c.requires.marked))
       | inr other ↦ omega (arith, and_le_l c.args.mask (18446744073709551615 - 1 * 2 ^ c.args.place % 18446744073709551616))
     ]

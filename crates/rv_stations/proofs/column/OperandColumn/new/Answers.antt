@@ -24,5 +24,7 @@ invariant_of-result c = record {
       ap₂ (zip2 operand_of) (c.in_ok-vec.ensures.items_if_clones_equal (λ y e. e)) (c.in_ok-vec-2.ensures.items_if_clones_equal (λ y e. e))
       ∙ zip2-replicate operand_of c.args.len 18446744073709551615 0 in
       let low : place < c.args.len = omega (arith, within, ap (λ l. length l) same, length-replicate c.args.len (Value 0)) in
-      bit_at-zero place ∙ ap (λ o. cond (has_value o) 0 1) (sym (ap (λ l. get_or l place (Value 0)) same ∙ get_or-replicate c.args.len place (Value 0) (Value 0) low));
+      bit_at-zero place
+      ∙ ap (λ o. cond (has_value o) 0 1)
+      (sym (ap (λ l. get_or l place (Value 0)) same ∙ get_or-replicate c.args.len place (Value 0) (Value 0) low));
 }

@@ -1,4 +1,4 @@
--- The operand does not wait, so its value tells it.
+-- The operand does not wait, so it is its value.
 use Rattle.std.proofs.Common.{◌≡◌, ◌∙◌, Some, true, refl, ap, sym, get_or, arith}
 use Rattle.std.specs.Option.{option_map}
 use Rattle.std.proofs.lemmas.Option.{slice_get-get_or, slice_get_read}
@@ -15,7 +15,10 @@ pub returns : goal.returns
 returns c =
     let within = place_within c.self.inside c.self.invariant _ c.self.view_is c.args.place c.requires.there in
     let tag = get_or c.self.inside.tags.items c.args.place 0 in
-    let held = slice_get_read c.self.inside.values.items _ c.args.place c.index.result.now refl (omega (arith, within, c.self.invariant.as_many)) c.index.ensures in
+    let held =
+    slice_get_read c.self.inside.values.items _ c.args.place c.index.result.now refl
+    (omega (arith, within, c.self.invariant.as_many)) c.index.ensures in
     let is = slice_get-zip2 operand_of c.args.place _ _ tag _ (slice_get-get_or c.self.inside.tags.items c.args.place 0 within) held in
-    let told : Some (has_value (operand_of tag c.index.result.now)) ≡ Some true = sym (ap (option_map has_value) is) ∙ rw (← c.self.view_is) at c.requires.ready in
-    rw (← c.self.view_is) (is ∙ ap Some (operand_of-has_value tag c.index.result.now (cc told)))
+    let shown : Some (has_value (operand_of tag c.index.result.now)) ≡ Some true =
+    sym (ap (option_map has_value) is) ∙ rw (← c.self.view_is) at c.requires.ready in
+    rw (← c.self.view_is) (is ∙ ap Some (operand_of-has_value tag c.index.result.now (cc shown)))

@@ -12,14 +12,21 @@ use Rattle.rv_stations.proofs.GiveLemmas.{none_like}
 use Rattle.rv_stations.proofs.column.OperandColumn.wake_eight.Goals as goal
 
 pub like_from-like-requires : goal.like_from-like-requires
-like_from-like-requires c = rw c.as_slice.ensures.value (omega (arith, rw (← c.self.view_is) at c.requires.within, length-column c.self.inside c.self.invariant))
+like_from-like-requires c =
+    rw c.as_slice.ensures.value
+    (omega (arith, rw (← c.self.view_is) at c.requires.within, length-column c.self.inside c.self.invariant))
 
 pub returns-then-like-eq0 : goal.returns-then-like-eq0
 returns-then-like-eq0 c =
     let p = c.self.inside in
-    let none : mask_l (map (λ t. eqb (t % 2 ^ 32) (c.args.seq % 2 ^ 32)) (take 8 (drop c.args.start p.tags.items))) ≡ 0 = rw c.as_slice.ensures.value at (sym c.like_from-like.ensures ∙ c.if-like-eq0.true) in
+    let none : mask_l (map (λ t. eqb (t % 2 ^ 32) (c.args.seq % 2 ^ 32)) (take 8 (drop c.args.start p.tags.items)))
+    ≡ 0 = rw c.as_slice.ensures.value at (sym c.like_from-like.ensures ∙ c.if-like-eq0.true) in
     rw (← c.self.view_is)
-    (sym (operands-unlike c.args.seq c.args.value c.args.start p.waiting p.tags.items p.values.items (ne_eqb _ _ c.requires.producer) c.ranges.value.fits (omega (arith, c.self.invariant.as_many)) (omega (arith, c.self.invariant.few)) (omega (arith, rw (← c.self.view_is) at c.requires.within, length-column p c.self.invariant)) (none_like c.args.seq (take 8 (drop c.args.start p.tags.items)) none)))
+    (sym (operands-unlike c.args.seq c.args.value c.args.start p.waiting p.tags.items p.values.items
+    (ne_eqb _ _ c.requires.producer) c.ranges.value.fits (omega (arith, c.self.invariant.as_many))
+    (omega (arith, c.self.invariant.few))
+    (omega (arith, rw (← c.self.view_is) at c.requires.within, length-column p c.self.invariant))
+    (none_like c.args.seq (take 8 (drop c.args.start p.tags.items)) none)))
 
 pub wake_from-woken-requires-clause-within : goal.wake_from-woken-requires-clause-within
 wake_from-woken-requires-clause-within c =
@@ -31,31 +38,47 @@ overflow_shl-self c = omega (arith, rw (← c.self.view_is) at c.requires.within
 room : (c : goal.After-self-3-1) → c.args.start + 8 ≤ length c.self.inside.tags.items
 room c = omega (arith, rw (← c.self.view_is) at c.requires.within, length-column c.self.inside c.self.invariant)
 
-tags_are : (c : goal.After-self-3-1) → (with_items c.self.inside.tags c.wake_from-woken.new.tags).items ≡ in_eight c.args.start (map (woken_tag c.args.seq)) c.self.inside.tags.items
+tags_are : (c : goal.After-self-3-1) →
+    (with_items c.self.inside.tags c.wake_from-woken.new.tags).items
+    ≡ in_eight c.args.start (map (woken_tag c.args.seq)) c.self.inside.tags.items
 tags_are c =
     with_items_is c.self.inside.tags c.wake_from-woken.new.tags (omega (arith, c.wake_from-woken.auto.tags, c.as_mut_slice.ensures.len))
     ∙ c.wake_from-woken.ensures.tags
     ∙ ap (in_eight c.args.start (map (woken_tag c.args.seq))) c.as_mut_slice.ensures.value
 
-values_are : (c : goal.After-self-3-1) → (with_items c.self.inside.values c.wake_from-woken.new.values).items ≡ in_eight c.args.start (zip2 (woken_value c.args.seq c.args.value) (take 8 (drop c.args.start c.self.inside.tags.items))) c.self.inside.values.items
+values_are : (c : goal.After-self-3-1) →
+    (with_items c.self.inside.values c.wake_from-woken.new.values).items
+    ≡ in_eight c.args.start
+    (zip2 (woken_value c.args.seq c.args.value) (take 8 (drop c.args.start c.self.inside.tags.items)))
+    c.self.inside.values.items
 values_are c =
     with_items_is c.self.inside.values c.wake_from-woken.new.values (omega (arith, c.wake_from-woken.auto.values, c.as_mut_slice-2.ensures.len))
     ∙ rw c.from.ensures at c.wake_from-woken.ensures.values
-    ∙ ap₂ (λ (ts vs : List ℕ). in_eight c.args.start (zip2 (woken_value c.args.seq c.args.value) (take 8 (drop c.args.start ts))) vs) c.as_mut_slice.ensures.value c.as_mut_slice-2.ensures.value
+    ∙ ap₂ (λ (ts vs : List ℕ). in_eight c.args.start
+    (zip2 (woken_value c.args.seq c.args.value) (take 8 (drop c.args.start ts))) vs) c.as_mut_slice.ensures.value
+    c.as_mut_slice-2.ensures.value
 
-woken_are : (c : goal.After-self-3-1) → c.wake_from-woken.result ≡ mask_l (map (λ t. eqb t c.args.seq) (take 8 (drop c.args.start c.self.inside.tags.items)))
-woken_are c = c.wake_from-woken.ensures.woken ∙ ap (λ ts. mask_l (map (λ t. eqb t c.args.seq) (take 8 (drop c.args.start ts)))) c.as_mut_slice.ensures.value
+woken_are : (c : goal.After-self-3-1) →
+    c.wake_from-woken.result
+    ≡ mask_l (map (λ t. eqb t c.args.seq) (take 8 (drop c.args.start c.self.inside.tags.items)))
+woken_are c =
+    c.wake_from-woken.ensures.woken
+    ∙ ap (λ ts. mask_l (map (λ t. eqb t c.args.seq) (take 8 (drop c.args.start ts)))) c.as_mut_slice.ensures.value
 
-told : (c : goal.After-self-3-1) → zip2 operand_of (with_items c.self.inside.tags c.wake_from-woken.new.tags).items (with_items c.self.inside.values c.wake_from-woken.new.values).items ≡ in_eight c.args.start (map (woken_operand c.args.seq c.args.value)) (operands c.self.inside)
-told c =
+operands_are : (c : goal.After-self-3-1) →
+    zip2 operand_of (with_items c.self.inside.tags c.wake_from-woken.new.tags).items
+    (with_items c.self.inside.values c.wake_from-woken.new.values).items
+    ≡ in_eight c.args.start (map (woken_operand c.args.seq c.args.value)) (operands c.self.inside)
+operands_are c =
     let p = c.self.inside in
     let as_many : length p.tags.items ≡ length p.values.items = omega (arith, c.self.invariant.as_many) in
     let few : length p.tags.items ≤ 64 = omega (arith, c.self.invariant.few) in
     ap₂ (zip2 operand_of) (tags_are c) (values_are c)
-    ∙ operands-in_eight c.args.seq c.args.value c.args.start p.waiting p.tags.items p.values.items (ne_eqb _ _ c.requires.producer) c.ranges.value.fits as_many few (room c)
+    ∙ operands-in_eight c.args.seq c.args.value c.args.start p.waiting p.tags.items p.values.items
+    (ne_eqb _ _ c.requires.producer) c.ranges.value.fits as_many few (room c)
 
 pub returns : goal.returns
-returns c = rw (← c.self.view_is) (told c)
+returns c = rw (← c.self.view_is) (operands_are c)
 
 pub invariant_of-self : goal.invariant_of-self
 invariant_of-self c =
@@ -67,6 +90,7 @@ invariant_of-self c =
       few = c.self.invariant.few;
       eights = c.self.invariant.eights;
       marked =
-          rw (told c, woken_are c)
-          (IsWaitMask-woken c.args.seq c.args.value c.args.start p.waiting p.tags.items p.values.items (ne_eqb _ _ c.requires.producer) c.ranges.value.fits as_many few (room c) c.self.invariant.marked);
+          rw (operands_are c, woken_are c)
+          (IsWaitMask-woken c.args.seq c.args.value c.args.start p.waiting p.tags.items p.values.items
+          (ne_eqb _ _ c.requires.producer) c.ranges.value.fits as_many few (room c) c.self.invariant.marked);
     }

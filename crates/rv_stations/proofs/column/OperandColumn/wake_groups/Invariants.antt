@@ -1,6 +1,6 @@
 -- The operands whose bits are cleared are woken.
 use Rattle.std.proofs.Common.{◌<◌, ◌^◌}
-use Rattle.rv_stations.proofs.ColumnLemmas.{Waking}
+use Rattle.rv_stations.proofs.WakingLemmas.{Waking}
 use Rattle.rv_stations.proofs.column.OperandColumn.wake_groups.Given as goal
 
 abbrev pub invariant-loop-left : goal.invariant-loop-left

@@ -14,8 +14,16 @@ returns-else-seq_at-from-clause-below c =
     let within : last < length ws = omega (arith, c.loop-count-test.true, i.0) in
     below-prefix seq_of c.args.from c.loop-count.count ws i.0
     (λ k d lt. elim (cases_lt k last) [
-      | inl before ↦ omega (arith, c.len-count.ensures.in_order k last d before within, seq-in_place ws last d c.seq_at.result c.seq_at.ensures within, c.if-seq_at-from.false)
-      | inr here ↦ let same : k ≡ last = omega arith in rw same (omega (arith, seq-in_place ws last d c.seq_at.result c.seq_at.ensures within, c.if-seq_at-from.false))
+      | inl before ↦
+          omega (
+            arith,
+            c.len-count.ensures.in_order k last d before within,
+            seq-in_place ws last d c.seq_at.result c.seq_at.ensures within,
+            c.if-seq_at-from.false,
+          )
+      | inr here ↦ let same : k ≡ last = omega arith in
+          rw same (omega
+          (arith, seq-in_place ws last d c.seq_at.result c.seq_at.ensures within, c.if-seq_at-from.false))
     ])
     i.1
 

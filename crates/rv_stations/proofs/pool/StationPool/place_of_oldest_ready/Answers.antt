@@ -6,7 +6,8 @@ use Rattle.rv_stations.specs.declared.waiting.Waiting.{Waiting}
 use Rattle.rv_stations.specs.declared.waiting.Verdict.TheVariants.{Goes, Waits, LoadsWait}
 use Rattle.rv_stations.specs.Pool.{Pool}
 use Rattle.rv_stations.proofs.PoolLemmas.{is_ready-in_place}
-use Rattle.rv_stations.proofs.SearchLemmas.{passed_next, passed_unasked, passed_whole, ready-asked, LoadsFail-after, LoadsFail-from, LoadsFail-later, Searching-from, Searching-found}
+use Rattle.rv_stations.proofs.SearchLemmas.{passed_next, passed_unasked, passed_whole, ready-asked, LoadsFail-after}
+use Rattle.rv_stations.proofs.SearchLemmas.{LoadsFail-from, LoadsFail-later, Searching-from, Searching-found}
 use Rattle.rv_stations.proofs.pool.StationPool.place_of_oldest_ready.Goals as goal
 use Rattle.rv_stations.proofs.pool.StationPool.place_of_oldest_ready.Goals.{in-Waits, in-LoadsWait}
 
@@ -24,7 +25,8 @@ returns-in-Goes-clause-oldest g c = λ test search.
     let low : c.loop-at.at < length ws = omega (arith, c.loop-at-test.true, c.len-end.ensures.len) in
     let ready = is_ready-in_place ws c.loop-at.at c.ready_at.result true c.ready_at.ensures (c.loop-at.invariant.0 low) in
     let passes = search.0 c.ready_at.result Goes (says_at g.F.Fn c.filter.ensures c.in-Goes.is) in
-    (Searching-found test ws c.loop-at.at c.ready_at.result c.ready_at.ensures (and_from _ _ ready passes) (Searching-from test c.loop-at.at ws (c.loop-at.invariant.1 test search))).0
+    (Searching-found test ws c.loop-at.at c.ready_at.result c.ready_at.ensures (and_from _ _ ready passes)
+    (Searching-from test c.loop-at.at ws (c.loop-at.invariant.1 test search))).0
 
 pub returns-in-Goes-clause-others : goal.returns-in-Goes-clause-others
 returns-in-Goes-clause-others g c = λ test search.
@@ -33,7 +35,8 @@ returns-in-Goes-clause-others g c = λ test search.
     let ready = is_ready-in_place ws c.loop-at.at c.ready_at.result true c.ready_at.ensures (c.loop-at.invariant.0 low) in
     let passes = search.0 c.ready_at.result Goes (says_at g.F.Fn c.filter.ensures c.in-Goes.is) in
     let pool : List Waiting → Pool = λ ws. record { waiting = ws; capacity = c.args.self.now.capacity } in
-    ap pool (Searching-found test ws c.loop-at.at c.ready_at.result c.ready_at.ensures (and_from _ _ ready passes) (Searching-from test c.loop-at.at ws (c.loop-at.invariant.1 test search))).1
+    ap pool (Searching-found test ws c.loop-at.at c.ready_at.result c.ready_at.ensures (and_from _ _ ready passes)
+    (Searching-from test c.loop-at.at ws (c.loop-at.invariant.1 test search))).1
 
 pub loop-at-preserved : goal.loop-at-preserved
 loop-at-preserved g c =
@@ -56,17 +59,23 @@ loop-at-preserved g c =
             (passed_next test ws at c.ready_at.result c.ready_at.ensures (and_right _ _ wait.0) (c.loop-at.invariant.1 test search))
       ]),
       λ test search. elim c.match-filter.branch [
-        | in-Waits w ↦ λ wait. LoadsFail-from test ws (at + 1) next later (LoadsFail-later test ws at (c.loop-at.invariant.2 test search (sym w.loads_wait-is ∙ wait)))
+        | in-Waits w ↦
+            λ wait. LoadsFail-from test ws (at + 1) next later
+            (LoadsFail-later test ws at (c.loop-at.invariant.2 test search (sym w.loads_wait-is ∙ wait)))
         | in-LoadsWait w ↦ λ wait.
-            LoadsFail-from test ws (at + 1) next later (LoadsFail-after test ws at c.ready_at.result c.len-end.ensures.in_order c.ready_at.ensures (search.0 c.ready_at.result LoadsWait (says_at g.F.Fn c.filter.ensures w.in-LoadsWait.is)))
+            LoadsFail-from test ws (at + 1) next later
+            (LoadsFail-after test ws at c.ready_at.result c.len-end.ensures.in_order c.ready_at.ensures
+            (search.0 c.ready_at.result LoadsWait (says_at g.F.Fn c.filter.ensures w.in-LoadsWait.is)))
       ],
     )
 
 pub returns-clause-oldest : goal.returns-clause-oldest
 returns-clause-oldest g c = λ test search.
-    (passed_whole test c.loop-at.at c.args.self.now.waiting (c.loop-at.invariant.1 test search) (omega (arith, c.loop-at-test.false, c.len-end.ensures.len))).0
+    (passed_whole test c.loop-at.at c.args.self.now.waiting (c.loop-at.invariant.1 test search)
+    (omega (arith, c.loop-at-test.false, c.len-end.ensures.len))).0
 
 pub returns-clause-others : goal.returns-clause-others
 returns-clause-others g c = λ test search.
     let pool : List Waiting → Pool = λ ws. record { waiting = ws; capacity = c.args.self.now.capacity } in
-    ap pool (passed_whole test c.loop-at.at c.args.self.now.waiting (c.loop-at.invariant.1 test search) (omega (arith, c.loop-at-test.false, c.len-end.ensures.len))).1
+    ap pool (passed_whole test c.loop-at.at c.args.self.now.waiting (c.loop-at.invariant.1 test search)
+    (omega (arith, c.loop-at-test.false, c.len-end.ensures.len))).1

@@ -14,8 +14,10 @@ use Rattle.rv_stations.proofs.pool.StationPool.squash.Goals as goal
 fewer : (c : goal.After-self-1) → c.count_below-self-inside.result ≤ c.self.inside.count
 fewer c = omega (arith, rw (← c.self.view_is) at c.count_below-self-inside.ensures.within, length-pool c.self.inside c.self.invariant)
 
-told : (c : goal.After-self-1) → in_places (in_all c.self.inside) (take c.count_below-self-inside.result c.self.inside.places.items) ≡ below seq_of c.args.from (in_places (in_all c.self.inside) (take c.self.inside.count c.self.inside.places.items))
-told c =
+waiting_are : (c : goal.After-self-1) →
+    in_places (in_all c.self.inside) (take c.count_below-self-inside.result c.self.inside.places.items)
+    ≡ below seq_of c.args.from (in_places (in_all c.self.inside) (take c.self.inside.count c.self.inside.places.items))
+waiting_are c =
     in_places-take (in_all c.self.inside) c.self.inside.places.items c.count_below-self-inside.result c.self.inside.count (fewer c)
     ∙ sym (rw (← c.self.view_is) at c.count_below-self-inside.ensures.below)
 
@@ -28,12 +30,14 @@ invariant_of-self c = record {
   second = c.self.invariant.second;
   there = c.self.invariant.there;
   apart = c.self.invariant.apart;
-  in_order = rw (told c) (IsInOrder-below seq_of c.args.from _ c.self.invariant.in_order);
-  held = marks-shorter (λ k. bit_at c.self.inside.held k ≡ 1) c.count_below-self-inside.result c.self.inside.count c.self.inside.places.items (fewer c) c.self.invariant.held;
-  others = marks-shorter (IsMarkedOther c.self.inside.dispatched.items c.self.inside.others) c.count_below-self-inside.result c.self.inside.count c.self.inside.places.items (fewer c) c.self.invariant.others;
+  in_order = rw (waiting_are c) (IsInOrder-below seq_of c.args.from _ c.self.invariant.in_order);
+  held = marks-shorter (λ k. bit_at c.self.inside.held k ≡ 1) c.count_below-self-inside.result c.self.inside.count
+      c.self.inside.places.items (fewer c) c.self.invariant.held;
+  others = marks-shorter (IsMarkedOther c.self.inside.dispatched.items c.self.inside.others)
+      c.count_below-self-inside.result c.self.inside.count c.self.inside.places.items (fewer c) c.self.invariant.others;
 }
 
 pub returns : goal.returns
 returns c =
     let pool : List Waiting → Pool = λ ws. record { waiting = ws; capacity = vec_len c.self.inside.places } in
-    rw (← c.self.view_is) (ap pool (told c))
+    rw (← c.self.view_is) (ap pool (waiting_are c))

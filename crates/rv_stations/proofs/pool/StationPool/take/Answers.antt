@@ -1,5 +1,6 @@
 -- The place moves after those whose instructions wait.
-use Rattle.std.proofs.Common.{◌≡◌, ◌<◌, ◌-◌, ◌∙◌, ℕ, suc, List, All, Some, refl, get_or, slice_get, length, take, remove, sym, ap, ap₂, vec_len, arith, length-take-le}
+use Rattle.std.proofs.Common.{◌≡◌, ◌<◌, ◌-◌, ◌∙◌, ℕ, suc, List, All, Some, refl, get_or, slice_get, length, take}
+use Rattle.std.proofs.Common.{remove, sym, ap, ap₂, vec_len, arith, length-take-le}
 use Rattle.std.specs.Int.{bit_at}
 use Rattle.std.proofs.lemmas.List.{get_or-take}
 use Rattle.std.proofs.lemmas.List.Elements.{All-take}
@@ -12,7 +13,8 @@ use Rattle.rv_stations.specs.Waiting.{seq_of}
 use Rattle.rv_stations.specs.Pool.{Pool}
 use Rattle.rv_stations.specs.PoolFields.{in_all, in_places, IsMarkedOther}
 use Rattle.rv_stations.proofs.MarkLemmas.{AreApart-take, marks-removed}
-use Rattle.rv_stations.proofs.PlaceLemmas.{All-insert, All-remove, All-others, AllPairs-insert, take-insert, take-remove}
+use Rattle.rv_stations.proofs.PlaceLemmas.{All-insert, All-remove, All-others, AllPairs-insert, take-insert}
+use Rattle.rv_stations.proofs.PlaceLemmas.{take-remove}
 use Rattle.rv_stations.proofs.PoolLemmas.{length-pool, in_places-remove, place_there}
 use Rattle.rv_stations.proofs.pool.StationPool.take.Goals as goal
 
@@ -22,7 +24,9 @@ low c = omega (arith, rw (← c.self.view_is) at c.requires, length-pool c.self.
 within : (c : goal.After-self-2-1) → c.args.at < length c.self.inside.places.items
 within c = omega (arith, low c, c.self.invariant.within)
 
-left : (c : goal.After-self-2-1) → take (c.self.inside.count - 1) c.move_back.new.places.items ≡ remove (take c.self.inside.count c.self.inside.places.items) c.args.at
+left : (c : goal.After-self-2-1) →
+    take (c.self.inside.count - 1) c.move_back.new.places.items
+    ≡ remove (take c.self.inside.count c.self.inside.places.items) c.args.at
 left c =
     let p = c.self.inside in
     let next : suc (p.count - 1) ≡ p.count = omega (arith, low c) in
@@ -51,8 +55,10 @@ module _ (c : goal.After-self-2-1) (P Q : ℕ → Type 0) (step : (k : ℕ) → 
       (get_or-take p.count p.places.items c.args.at 0 (low c) ∙ get_or_from_slice_get p.places.items c.args.at c.from-place.result 0 is)
       marks)
 
-told : (c : goal.After-self-2-1) → in_places (in_all c.self.inside) (take (c.self.inside.count - 1) c.move_back.new.places.items) ≡ remove (in_places (in_all c.self.inside) (take c.self.inside.count c.self.inside.places.items)) c.args.at
-told c =
+waiting_are : (c : goal.After-self-2-1) →
+    in_places (in_all c.self.inside) (take (c.self.inside.count - 1) c.move_back.new.places.items)
+    ≡ remove (in_places (in_all c.self.inside) (take c.self.inside.count c.self.inside.places.items)) c.args.at
+waiting_are c =
     let p = c.self.inside in
     ap (in_places (in_all p)) (left c)
     ∙ in_places-remove (in_all p) (take p.count p.places.items) c.args.at (in_front c)
@@ -72,27 +78,34 @@ invariant_of-self c =
       first = c.self.invariant.first;
       second = c.self.invariant.second;
       there = rw c.move_back.ensures.items (
-          All-insert (λ k. k < vec_len p.seqs) (p.count - 1) others place (All-remove (λ k. k < vec_len p.seqs) c.args.at p.places.items (within c) c.self.invariant.there) (c.self.invariant.there c.args.at 0 (within c))
+          All-insert (λ k. k < vec_len p.seqs) (p.count - 1) others place
+          (All-remove (λ k. k < vec_len p.seqs) c.args.at p.places.items (within c) c.self.invariant.there)
+          (c.self.invariant.there c.args.at 0 (within c))
           );
       apart = rw c.move_back.ensures.items (
           AllPairs-insert (λ a b. a ≡ b → ⊥) flip (p.count - 1) others place
           (All-others (λ a b. a ≡ b → ⊥) flip c.args.at p.places.items 0 (within c) c.self.invariant.apart)
           (all_pairs_remove (λ a b. a ≡ b → ⊥) p.places.items c.args.at (within c) c.self.invariant.apart)
           );
-      in_order = rw (told c) (IsInOrder-remove seq_of c.args.at _ (omega (arith, low c, length-pool p c.self.invariant)) c.self.invariant.in_order);
-      held = stay c (λ k. bit_at p.held k ≡ 1) (λ k. bit_at c.marked-self-inside.result k ≡ 1) (λ k few other set. c.marked-self-inside.ensures.others k few other ∙ set) c.self.invariant.held;
-      others = stay c (IsMarkedOther p.dispatched.items p.others) (IsMarkedOther p.dispatched.items p.others) (λ k few other set. set) c.self.invariant.others;
+      in_order = rw (waiting_are c)
+          (IsInOrder-remove seq_of c.args.at _ (omega (arith, low c, length-pool p c.self.invariant))
+          c.self.invariant.in_order);
+      held = stay c (λ k. bit_at p.held k ≡ 1) (λ k. bit_at c.marked-self-inside.result k ≡ 1)
+          (λ k few other set. c.marked-self-inside.ensures.others k few other ∙ set) c.self.invariant.held;
+      others = stay c (IsMarkedOther p.dispatched.items p.others) (IsMarkedOther p.dispatched.items p.others)
+          (λ k few other set. set) c.self.invariant.others;
     }
 
 pub returns-clause-others : goal.returns-clause-others
 returns-clause-others c =
     let pool : List Waiting → ℕ → Pool = λ ws n. record { waiting = ws; capacity = n } in
-    rw (← c.self.view_is) (ap₂ pool (told c) c.move_back.ensures.len)
+    rw (← c.self.view_is) (ap₂ pool (waiting_are c) c.move_back.ensures.len)
 
 pub marked-self-inside-requires : goal.marked-self-inside-requires
 marked-self-inside-requires c =
     let p = c.self.inside in
     let low : c.args.at < p.count = omega (arith, rw (← c.self.view_is) at c.requires, length-pool p c.self.invariant) in
     let is : slice_get p.places.items c.args.at ≡ Some c.from-place.result =
-    slice_get_read p.places.items _ c.args.at c.index.result.now refl (omega (arith, low, c.self.invariant.within)) c.index.ensures ∙ ap Some (sym c.from-place.ensures) in
+    slice_get_read p.places.items _ c.args.at c.index.result.now refl (omega (arith, low, c.self.invariant.within))
+    c.index.ensures ∙ ap Some (sym c.from-place.ensures) in
     omega (arith, place_there p c.self.invariant c.args.at c.from-place.result is, c.self.invariant.few)

@@ -12,10 +12,19 @@ use Rattle.rv_stations.proofs.pool.StationPool.wake.Goals as goal
 
 there : (c : goal.After-wake-2) → All (λ k. k < length (in_all c.self.inside)) (take c.self.inside.count c.self.inside.places.items)
 there c = λ i d lt.
-    omega (arith, All-take (λ k. k < vec_len c.self.inside.seqs) c.self.inside.count c.self.inside.places.items c.self.invariant.there i d lt, length-joined _ _ _ _ (same_lengths c.self.inside c.self.invariant))
+    omega (
+      arith,
+      All-take (λ k. k < vec_len c.self.inside.seqs) c.self.inside.count c.self.inside.places.items
+          c.self.invariant.there i d lt,
+      length-joined _ _ _ _ (same_lengths c.self.inside c.self.invariant),
+    )
 
-told : (c : goal.After-wake-2) → in_places (joined c.self.inside.seqs.items c.self.inside.dispatched.items c.wake.new.self c.wake-2.new.self) (take c.self.inside.count c.self.inside.places.items) ≡ map (woken c.args.seq c.args.value) (in_places (in_all c.self.inside) (take c.self.inside.count c.self.inside.places.items))
-told c =
+waiting_are : (c : goal.After-wake-2) →
+    in_places (joined c.self.inside.seqs.items c.self.inside.dispatched.items c.wake.new.self c.wake-2.new.self)
+    (take c.self.inside.count c.self.inside.places.items)
+    ≡ map (woken c.args.seq c.args.value)
+    (in_places (in_all c.self.inside) (take c.self.inside.count c.self.inside.places.items))
+waiting_are c =
     rw (c.wake.ensures, c.wake-2.ensures)
     (ap (λ ws. in_places ws (take c.self.inside.count c.self.inside.places.items)) (joined-woken c.args.seq c.args.value _ _ _ _)
     ∙ in_places-map (woken c.args.seq c.args.value) (in_all c.self.inside) (take c.self.inside.count c.self.inside.places.items) (there c))
@@ -29,7 +38,9 @@ invariant_of-self c = record {
   second = rw c.wake-2.ensures (length-map c.self.inside.second (woken_operand c.args.seq c.args.value) ∙ c.self.invariant.second);
   there = c.self.invariant.there;
   apart = c.self.invariant.apart;
-  in_order = rw (told c) (IsInOrder-map seq_of seq_of (woken c.args.seq c.args.value) (λ w. refl) _ c.self.invariant.in_order);
+  in_order =
+      rw (waiting_are c)
+      (IsInOrder-map seq_of seq_of (woken c.args.seq c.args.value) (λ w. refl) _ c.self.invariant.in_order);
   held = c.self.invariant.held;
   others = c.self.invariant.others;
 }
@@ -37,4 +48,4 @@ invariant_of-self c = record {
 pub returns : goal.returns
 returns c =
     let pool : List Waiting → Pool = λ ws. record { waiting = ws; capacity = vec_len c.self.inside.places } in
-    rw (← c.self.view_is) (ap pool (told c))
+    rw (← c.self.view_is) (ap pool (waiting_are c))
