@@ -1,6 +1,6 @@
 -- What a load takes from the older stores and the cache, and by which path, is what the definition gives it.
-pub mod Behind
 pub mod Bytes
+pub mod BytesAfter
 pub mod Effect
 pub mod Message
 pub mod Path

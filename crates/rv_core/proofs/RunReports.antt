@@ -1,5 +1,11 @@
--- What is counted of the cycles of a run is what their reports tell, with each cycle that comes.
-use Rattle.rv_core.proofs.Words.{◌≡◌, ℕ, ◌+◌, ◌-◌, ◌≤◌, take, drop, subst, lines_at, Lines, IsGuidedCycle, IsCommitStop, IsNextCycle, report_with, max, Bool, cond, not, List, [], ◌∷◌, ◌++◌, length, ◌==◌, None, Option, sym, refl, ap, ◌∙◌, append_assoc, append-nil, arith, length-append, Arrival, Report, NoneStops, busy_of, counted_stall, is_silent, longest_gap_from, stalls_from, stalls_of, steps_of, count_by-le-length, GuidedCycles, GuidedHardware, guided_ended as ended, Stall, StallCounts, Step, IsBounded, last_stall_of, progress_after, progress_of, silence_after, silence_from, IsRun, Progress}
+-- What is counted of the cycles of a run is what their reports say, with each cycle that comes.
+use Rattle.rv_core.proofs.Words.{◌≡◌, ℕ, ◌+◌, ◌-◌, ◌≤◌, take, drop, subst, lines_at, Lines, IsGuidedCycle, IsCommitStop}
+use Rattle.rv_core.proofs.Words.{IsNextCycle, report_with, max, Bool, cond, not, List, [], ◌∷◌, ◌++◌, length, ◌==◌}
+use Rattle.rv_core.proofs.Words.{None, Option, sym, refl, ap, ◌∙◌, append_assoc, append-nil, arith, length-append}
+use Rattle.rv_core.proofs.Words.{Arrival, Report, NoneStops, busy_of, counted_stall, is_silent, longest_gap_from}
+use Rattle.rv_core.proofs.Words.{stalls_from, stalls_of, steps_of, count_by-le-length, GuidedCycles, GuidedHardware}
+use Rattle.rv_core.proofs.Words.{guided_ended as ended, Stall, StallCounts, Step, IsBounded, last_stall_of}
+use Rattle.rv_core.proofs.Words.{progress_after, progress_of, silence_after, silence_from, IsRun, Progress}
 use Rattle.std.proofs.Math.Seq.{drop-append_seam}
 use Rattle.std.proofs.lemmas.List.{take_all}
 use Rattle.rv_core.specs.Told.{AppendsCycle}
@@ -78,7 +84,7 @@ progress-bounded rs = record {
   store = omega (arith, stalls-bound (λ c. c.store) (λ o c. grind arith) (stalls_of []) rs);
 }
 
--- ---- what is told of cycles
+-- ---- what is reported of cycles
 
 -- no cycle stops where those before do not and the last does not
 pub NoneStops-push : (rs : List Report) (r : Report) → NoneStops rs → r.stop ≡ None → NoneStops (rs ++ r ∷ [])
@@ -86,11 +92,11 @@ NoneStops-push [] r none is = (is, tt)
 NoneStops-push (x ∷ rs) r none is = (none.0, NoneStops-push rs r none.1 is)
 
 module _ (arrivals : List Arrival) where
-  -- what is told of cycles whose counts these are
-  pub told_of : (old now : GuidedHardware) (reports : List Report) (progress : Progress) (steps : List Step) →
+  -- what is reported of cycles whose counts these are
+  pub run_of_cycles : (old now : GuidedHardware) (reports : List Report) (progress : Progress) (steps : List Step) →
       GuidedCycles arrivals old reports now → progress ≡ progress_of reports → steps ≡ steps_of reports
       → IsRun arrivals old now reports steps progress.stalls progress.busy progress.cycles progress.longest_gap
-  told_of old now reports progress steps goes counted listed = record {
+  run_of_cycles old now reports progress steps goes counted listed = record {
     cycled = goes;
     steps_are = listed;
     stalls_are = ap (λ (p : Progress). p.stalls) counted;
@@ -99,10 +105,11 @@ module _ (arrivals : List Arrival) where
     longest_gap_is = ap (λ (p : Progress). p.longest_gap) counted;
   }
 
-  -- what is told of no cycle
-  pub told_nothing : (h : GuidedHardware) (progress : Progress) (steps : List Step) → progress ≡ progress_of [] → steps ≡ [] →
+  -- what is reported of no cycle
+  pub run_of_none : (h : GuidedHardware) (progress : Progress) (steps : List Step) → progress ≡ progress_of [] →
+      steps ≡ [] →
       IsRun arrivals h h [] steps progress.stalls progress.busy progress.cycles progress.longest_gap
-  told_nothing h progress steps counts none = told_of h h [] progress steps ended counts none
+  run_of_none h progress steps counts none = run_of_cycles h h [] progress steps ended counts none
 
 -- ---- a cycle of a run
 

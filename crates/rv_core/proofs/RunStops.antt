@@ -1,5 +1,6 @@
 -- The reason of a run's last cycle is a reason of the run.
-use Rattle.rv_core.proofs.Words.{◌≡◌, ℕ, ◌<◌, List, [], ◌∷◌, ◌++◌, length, Some, refl, arith, length-append, Stop, Hardware, Report, IsStop, NoneStops, IsCommitStop}
+use Rattle.rv_core.proofs.Words.{◌≡◌, ℕ, ◌<◌, List, [], ◌∷◌, ◌++◌, length, Some, refl, arith, length-append, Stop}
+use Rattle.rv_core.proofs.Words.{Hardware, Report, IsStop, NoneStops, IsCommitStop}
 use Rattle.rv_arch.specs.declared.outcome.Stop.TheVariants as stop
 
 -- the reason of a run's last cycle is a reason of the run

@@ -1,5 +1,11 @@
 -- What was shown of a run that is watched is what it reported, at each cycle and at its end.
-use Rattle.rv_core.proofs.Words.{◌≡◌, ℕ, ◌+◌, ◌^◌, ◌<◌, ◌≤◌, List, [], ◌∷◌, ◌++◌, length, Some, None, Option, sym, refl, ap, ◌∙◌, subst, arith, length-append, lines_at, Arrival, Lines, Stop, Hardware, Report, IsStop, NoneStops, Reachable, steps_of, Err, Ok, Result, Guide, GuidedCycles, GuidedHardware, IsGuidedCycle, guided_cycled, guided_ended, guided, History, Moment, cycled, ended, reports_of, Step, IsBounded, IsNextCycle, progress_after, progress_of, IsCommitStop, HaveFewSteps, IsEnd, IsShown, IsWatchedRun, Sight, Watched, watched, Progress}
+use Rattle.rv_core.proofs.Words.{◌≡◌, ℕ, ◌+◌, ◌^◌, ◌<◌, ◌≤◌, List, [], ◌∷◌, ◌++◌, length, Some, None, Option, sym, refl}
+use Rattle.rv_core.proofs.Words.{ap, ◌∙◌, subst, arith, length-append, lines_at, Arrival, Lines, Stop, Hardware, Report}
+use Rattle.rv_core.proofs.Words.{IsStop, NoneStops, Reachable, steps_of, Err, Ok, Result, Guide, GuidedCycles}
+use Rattle.rv_core.proofs.Words.{GuidedHardware, IsGuidedCycle, guided_cycled, guided_ended, guided, History, Moment}
+use Rattle.rv_core.proofs.Words.{cycled, ended, reports_of, Step, IsBounded, IsNextCycle, progress_after, progress_of}
+use Rattle.rv_core.proofs.Words.{IsCommitStop, HaveFewSteps, IsEnd, IsShown, IsWatchedRun, Sight, Watched, watched}
+use Rattle.rv_core.proofs.Words.{Progress}
 use Rattle.rv_hardware.proofs.AnyPrediction.{cycles_of}
 use Rattle.rv_hardware.proofs.Headline.Reached.{cycles_counted}
 use Rattle.rv_core.proofs.RunReports.{NoneStops-push, progress-bounded, progress_of-push, steps_of-push}

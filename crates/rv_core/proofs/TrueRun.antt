@@ -1,5 +1,8 @@
 -- The promise is kept by the run of the described hardware, and the reason why it stops is true.
-use Rattle.rv_core.proofs.Words.{ℕ, List, sym, subst, Arrival, Stop, OnlyLastStops, IsTrueStop, Report, IsStop, Reachable, layout_of, seen, IfOk, MatchResult, Result, GuidedHardware, StallCounts, Step, IsCutShort, IsOutcome, IsRun, KeepsPromise, reported, reported_so_far, OutOfMemory, Outcome}
+use Rattle.rv_core.proofs.Words.{ℕ, List, sym, subst, Arrival, Stop, OnlyLastStops, IsTrueStop, Report, IsStop}
+use Rattle.rv_core.proofs.Words.{Reachable, layout_of, seen, IfOk, MatchResult, Result, GuidedHardware, StallCounts}
+use Rattle.rv_core.proofs.Words.{Step, IsCutShort, IsOutcome, IsRun, KeepsPromise, reported, reported_so_far}
+use Rattle.rv_core.proofs.Words.{OutOfMemory, Outcome}
 use Rattle.std.proofs.lemmas.Result.{MatchResult-weaker}
 use Rattle.rv_hardware.proofs.AnyPrediction.{cycles_of}
 use Rattle.rv_hardware.proofs.Gap.Run.{none_stops-only_last, is_stop-only_last}

@@ -1,10 +1,20 @@
 -- What the execution of an instruction leaves is what the definition's start of it leaves.
-use Rattle.rv_core.proofs.Words.{◌≡◌, ℕ, ◌+◌, ◌^◌, ◌≤◌, Bool, true, List, [], ◌∷◌, map, length, is_some, Some, None, All, Option, option_and_then, sym, refl, ap, ◌∙◌, subst, arith, is_store, kind_of_word, sources_of, bytes_of, width_of, at_kind, with_kind, modulo_word, sum, Message, Instr, Load, Issue, Kind, PerKind, CacheValues, instruction_of, Memory, State, register_of, Contents, access_cost, cost_of_access, CacheLine, UnitPool, started, changed, Entry, Hardware, bytes_after, FromCache, Path, cost_of, issued, path, path_of_word, with_start, result_in, result_of_word, layout_of, state_after, stores_after, IsLegalCost, kind_of, Queue, older_than, Pool, taken_from, Ready, Pending, started_unit, Renaming, path_of_load, IsAfter, LieIn, cache_after, load_path, path_cost, port_after, operand_value, IsDescribedCache, IsLegalWrite, IsSoundEntry, IsSoundHardware, AreTied}
+use Rattle.rv_core.proofs.Words.{◌≡◌, ℕ, ◌+◌, ◌^◌, ◌≤◌, Bool, true, List, [], ◌∷◌, map, length, is_some, Some, None}
+use Rattle.rv_core.proofs.Words.{All, Option, option_and_then, sym, refl, ap, ◌∙◌, subst, arith, is_store, kind_of_word}
+use Rattle.rv_core.proofs.Words.{sources_of, bytes_of, width_of, at_kind, with_kind, modulo_word, sum, Message, Instr}
+use Rattle.rv_core.proofs.Words.{Load, Issue, Kind, PerKind, CacheValues, instruction_of, Memory, State, register_of}
+use Rattle.rv_core.proofs.Words.{Contents, access_cost, cost_of_access, CacheLine, UnitPool, started, changed, Entry}
+use Rattle.rv_core.proofs.Words.{Hardware, bytes_after, FromCache, Path, cost_of, issued, path, path_of_word}
+use Rattle.rv_core.proofs.Words.{with_start, result_in, result_of_word, layout_of, state_after, stores_after}
+use Rattle.rv_core.proofs.Words.{IsLegalCost, kind_of, Queue, older_than, Pool, taken_from, Ready, Pending}
+use Rattle.rv_core.proofs.Words.{started_unit, Renaming, path_of_load, IsAfter, LieIn, cache_after, load_path}
+use Rattle.rv_core.proofs.Words.{path_cost, port_after, operand_value, IsDescribedCache, IsLegalWrite, IsSoundEntry}
+use Rattle.rv_core.proofs.Words.{IsSoundHardware, AreTied}
 use Rattle.rv_units.specs.Bus.{with_result}
 use Rattle.rv_core.specs.Access.{IsExecuted, path_of_ready}
 use Rattle.rv_core.proofs.Issued.Found.{Leaving, test_of}
 use Rattle.rv_core.proofs.Issued.Ready.{All-left, kind_there}
-use Rattle.rv_core.proofs.Issued.Stores.{older_than-behind}
+use Rattle.rv_core.proofs.Issued.Stores.{older_than-stores_after}
 use Rattle.rv_core.proofs.Issued.Tied.{entry_sound, sound_started, tied_started}
 use Rattle.rv_core.proofs.Issued.Writes.{inside_after, result_writes}
 use Rattle.rv_core.proofs.Loads.Path.{access_is_defined, cost_is_defined, path_is_defined}
@@ -60,7 +70,7 @@ module _ {h : Hardware} (sound : IsSoundHardware h) where
   keeps _ = sound.cache
 
   module _ {kind : Kind} {ready : Ready} (leaving : Leaving h kind ready) {queue : Queue} (x : Execution h kind queue ready)
-      (told : queue.stores ≡ stores_after h h.rob.entries) where
+      (queued : queue.stores ≡ stores_after h h.rob.entries) where
     abbrev before : List Entry
     before = leaving.before
 
@@ -76,9 +86,9 @@ module _ {h : Hardware} (sound : IsSoundHardware h) where
 
     older : older_than ready.seq queue.stores ≡ stores_after h before
     older =
-        (λ j. older_than (leaving.number j) (told j))
+        (λ j. older_than (leaving.number j) (queued j))
         ∙ ap (λ es. older_than place (stores_after h es)) leaving.split
-        ∙ older_than-behind h sound.stores.older before (entry ∷ leaving.rest)
+        ∙ older_than-stores_after h sound.stores.older before (entry ∷ leaving.rest)
 
     -- the path in the code's words
     path_taken : path_of_ready h.cache queue ready ≡ path h before entry
@@ -87,8 +97,8 @@ module _ {h : Hardware} (sound : IsSoundHardware h) where
         ∙ load_path_defined h before s ready.instruction ready.first ready.second leaving.operands.values
         ∙ ap (path_of_word h before s) (sym leaving.decoded)
 
-    behind : IsAfter h.cache (older_than ready.seq queue.stores) s
-    behind = record {
+    after : IsAfter h.cache (older_than ready.seq queue.stores) s
+    after = record {
       inside =
           subst (LieIn h.cache.base (length h.cache.bytes)) (sym older)
           (subst (λ b. LieIn b (length h.cache.bytes) (stores_after h before)) (sym sound.cache.base)
@@ -109,7 +119,7 @@ module _ {h : Hardware} (sound : IsSoundHardware h) where
     has_kind = ap is_some (sym (ap kind_of_word leaving.decoded) ∙ kind_there kind entry leaving.there)
 
     gave : x.message ≡ result_in (layout_of h.values) s h.lines word.0 ready.instruction
-    gave = x.gives has_kind s h.lines word.0 leaving.operands behind
+    gave = x.gives has_kind s h.lines word.0 leaving.operands after
         ∙ ap (λ l. result_in l s h.lines word.0 ready.instruction) sound.cache.layout
 
     result : x.message ≡ result_of_word (layout_of h.values) s h.lines entry.word entry.instruction

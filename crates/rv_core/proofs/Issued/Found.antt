@@ -1,6 +1,11 @@
 -- The instruction that leaves its station is the definition's, with what it reads.
-use Rattle.rv_core.proofs.Words.{◌≡◌, ◌+◌, Bool, true, ◌⊎◌, List, [], ◌∷◌, ◌++◌, length, nat_le, Some, None, All, Option, option_and_then, sym, refl, ap, ◌∙◌, subst, inl, inr, arith, Message, Issue, Kind, started, Entry, is_stationed, Hardware, is_ready_entry, oldest, layout_of, state_after, stores_after, Mem, oldest_ready, ready_of, without_oldest_ready, Ready, Station, Reads, goes, IsSoundHardware, status_after, values_in, waiting_from, waiting_of}
-use Rattle.rv_core.proofs.Issued.Operands.{reads, ready_parts, tells_at}
+use Rattle.rv_core.proofs.Words.{◌≡◌, ◌+◌, Bool, true, ◌⊎◌, List, [], ◌∷◌, ◌++◌, length, nat_le, Some, None, All}
+use Rattle.rv_core.proofs.Words.{Option, option_and_then, sym, refl, ap, ◌∙◌, subst, inl, inr, arith, Message, Issue}
+use Rattle.rv_core.proofs.Words.{Kind, started, Entry, is_stationed, Hardware, is_ready_entry, oldest, layout_of}
+use Rattle.rv_core.proofs.Words.{state_after, stores_after, Mem, oldest_ready, ready_of, without_oldest_ready, Ready}
+use Rattle.rv_core.proofs.Words.{Station, Reads, goes, IsSoundHardware, status_after, values_in, waiting_from}
+use Rattle.rv_core.proofs.Words.{waiting_of}
+use Rattle.rv_core.proofs.Issued.Operands.{reads, ready_parts, shows_at}
 use Rattle.rv_core.proofs.Issued.Ready.{All-left, HasTarget, accesses_agree, operations_agree, passes_by}
 use Rattle.rv_core.proofs.Issued.Search.{Agree, Found, NoneFound, search_from}
 
@@ -20,7 +25,7 @@ module _ (h : Hardware) (kind : Kind) where
   abbrev pub test_of : Station → Bool
   test_of = goes kind (layout_of h.values) (stores_after h h.rob.entries) (nat_le h.port_free h.cycle)
 
-  -- the stations of the kind, as the instructions in flight tell them
+  -- the stations of the kind, as the instructions in flight determine them
   abbrev pub stationed_now : List Station
   stationed_now = waiting_from kind (values_in h.registers) h.rob.retired h.rob.entries
 
@@ -91,10 +96,11 @@ module _ (h : Hardware) (kind : Kind) where
         let taken : ready_of w ≡ Some ready = sym (ap (option_and_then ready_of) some) ∙ sym answer ∙ is in
         let parts = ready_parts w w.first w.second ready taken in
         let split : h.rob.entries ≡ f.prior ++ f.entry ∷ f.rest =
-        f.split ∙ ap (λ (es : List Entry). es ++ f.entry ∷ f.rest) (sym f.behind) in
-        let tells = tells_at f.prior h.registers h.rob.retired sound.registers
+        f.split ∙ ap (λ (es : List Entry). es ++ f.entry ∷ f.rest) (sym f.prior_is) in
+        let shows = shows_at f.prior h.registers h.rob.retired sound.registers
         (All-left HasTarget f.prior (f.entry ∷ f.rest) (subst (All HasTarget) split targets)) in
-        let given = reads status place f.entry.pc f.instruction (state_after h f.prior f.entry.pc) ready taken tells refl in
+        let given =
+        reads status place f.entry.pc f.instruction (state_after h f.prior f.entry.pc) ready taken shows refl in
         record {
           before = f.prior;
           entry = f.entry;
@@ -110,7 +116,7 @@ module _ (h : Hardware) (kind : Kind) where
               ∙ f.left issue message
               ∙ sym (from_first (f.before ++ started issue message f.entry ∷ f.rest))
               ∙ ap (λ (es : List Entry). waiting_from kind (values_in h.registers) h.rob.retired
-              (es ++ started issue message f.entry ∷ f.rest)) (sym f.behind);
+              (es ++ started issue message f.entry ∷ f.rest)) (sym f.prior_is);
         }
 
     -- what leaves is what the definition finds

@@ -1,5 +1,12 @@
 -- The operands in a station are what the definition reads after the older instructions.
-use Rattle.rv_core.proofs.Words.{◌≡◌, ℕ, ◌+◌, ◌<◌, cond, ◌≢◌, List, [], ◌∷◌, map, length, IfSome, slice_index, slice_index_or, Some, None, All, Option, sym, refl, ap, ◌∙◌, arith, get_or-set_other, get_or-set_same, eqb-true, ne_eqb, eqb-false, All-head, All-tail, is_target, target_of_word, sources_of, target_of, Message, Instr, Csr, Lui, State, Entry, broadcast_of, is_known_from, registers_after, with_value, has_operands, has_value, is_ready_station, ready_of, ready_with, Operand, Value, Ready, Station, is_known, Reads, operand_value, RegisterStatus, operand_by, operand_of, status_after, status_with, values_in, waiting_of}
+use Rattle.rv_core.proofs.Words.{◌≡◌, ℕ, ◌+◌, ◌<◌, cond, ◌≢◌, List, [], ◌∷◌, map, length, IfSome, slice_index}
+use Rattle.rv_core.proofs.Words.{slice_index_or, Some, None, All, Option, sym, refl, ap, ◌∙◌, arith, get_or-set_other}
+use Rattle.rv_core.proofs.Words.{get_or-set_same, eqb-true, ne_eqb, eqb-false, All-head, All-tail, is_target}
+use Rattle.rv_core.proofs.Words.{target_of_word, sources_of, target_of, Message, Instr, Csr, Lui, State, Entry}
+use Rattle.rv_core.proofs.Words.{broadcast_of, is_known_from, registers_after, with_value, has_operands, has_value}
+use Rattle.rv_core.proofs.Words.{is_ready_station, ready_of, ready_with, Operand, Value, Ready, Station, is_known}
+use Rattle.rv_core.proofs.Words.{Reads, operand_value, RegisterStatus, operand_by, operand_of, status_after}
+use Rattle.rv_core.proofs.Words.{status_with, values_in, waiting_of}
 use Rattle.rv_hardware.proofs.Headline.Known.{length-with_value}
 use Rattle.rv_isa.specs.declared.instructions.CsrSource.TheVariants as source
 
@@ -31,43 +38,46 @@ is_known-status registers seq older r = known_after older (values_in registers) 
 -- which value it is
 
 -- each value that a status has is the register's
-abbrev pub Tells : RegisterStatus → List ℕ → Type 0
-Tells status registers = (r v : ℕ) → status r ≡ Value v → slice_index registers r ≡ v
+abbrev pub ShowsRegisters : RegisterStatus → List ℕ → Type 0
+ShowsRegisters status registers = (r v : ℕ) → status r ≡ Value v → slice_index registers r ≡ v
 
-tells_by : (status : RegisterStatus) (registers : List ℕ) (seq : ℕ) (target : Option ℕ) (o : Option Message) →
-    IfSome target (λ t. t < length registers) → ((t : ℕ) → target ≡ Some t → t ≢ 0) → Tells status registers → (r v : ℕ) →
+shows_by : (status : RegisterStatus) (registers : List ℕ) (seq : ℕ) (target : Option ℕ) (o : Option Message) →
+    IfSome target (λ t. t < length registers) → ((t : ℕ) → target ≡ Some t → t ≢ 0) → ShowsRegisters status registers →
+    (r v : ℕ) →
     cond (is_target r target) (operand_by seq o) (status r) ≡ Value v → slice_index (with_value registers target o) r ≡ v
-tells_by status registers seq None o within positive tells r v is = tells r v is
-tells_by status registers seq (Some t) None within positive tells r v is = grind (arith, tells)
-tells_by status registers seq (Some t) (Some message) within positive tells r v is =
-    grind (arith, tells, positive t refl, within, eqb-true, eqb-false, ne_eqb, get_or-set_same, get_or-set_other)
+shows_by status registers seq None o within positive shows r v is = shows r v is
+shows_by status registers seq (Some t) None within positive shows r v is = grind (arith, shows)
+shows_by status registers seq (Some t) (Some message) within positive shows r v is =
+    grind (arith, shows, positive t refl, within, eqb-true, eqb-false, ne_eqb, get_or-set_same, get_or-set_other)
 
-pub tells_after : (es : List Entry) (status : RegisterStatus) (registers : List ℕ) (seq : ℕ) → length registers ≡ 32 →
-    All (λ e. IfSome (target_of_word e.instruction) (λ t. t < 32)) es → Tells status registers →
-    Tells (status_after status seq es) (registers_after registers es)
-tells_after [] status registers seq sized targets tells = tells
-tells_after (e ∷ es) status registers seq sized targets tells =
+pub shows_after : (es : List Entry) (status : RegisterStatus) (registers : List ℕ) (seq : ℕ) → length registers ≡ 32 →
+    All (λ e. IfSome (target_of_word e.instruction) (λ t. t < 32)) es → ShowsRegisters status registers →
+    ShowsRegisters (status_after status seq es) (registers_after registers es)
+shows_after [] status registers seq sized targets shows = shows
+shows_after (e ∷ es) status registers seq sized targets shows =
     let P : Entry → Type 0 = λ x. IfSome (target_of_word x.instruction) (λ t. t < 32) in
     let target : IfSome (target_of_word e.instruction) (λ t. t < length registers) = rw sized (All-head P e es targets) in
-    tells_after es (status_with status seq e) (with_value registers (target_of_word e.instruction) (broadcast_of e.stage))
+    shows_after es (status_with status seq e)
+    (with_value registers (target_of_word e.instruction) (broadcast_of e.stage))
     (seq + 1)
     (length-with_value registers (target_of_word e.instruction) (broadcast_of e.stage) ∙ sized)
     (All-tail P e es targets)
-    (tells_by status registers seq (target_of_word e.instruction) (broadcast_of e.stage) target
-    (target_of_word_nonzero e.instruction) tells)
+    (shows_by status registers seq (target_of_word e.instruction) (broadcast_of e.stage) target
+    (target_of_word_nonzero e.instruction) shows)
 
--- the status after older instructions tells what the registers are after them
-pub tells_at : (older : List Entry) (registers : List ℕ) (seq : ℕ) → length registers ≡ 32 →
+-- the status after older instructions shows what the registers are after them
+pub shows_at : (older : List Entry) (registers : List ℕ) (seq : ℕ) → length registers ≡ 32 →
     All (λ e. IfSome (target_of_word e.instruction) (λ t. t < 32)) older →
-    Tells (status_after (values_in registers) seq older) (registers_after registers older)
-tells_at older registers seq sized targets =
-    tells_after older (values_in registers) registers seq sized targets (λ r v is. cc)
+    ShowsRegisters (status_after (values_in registers) seq older) (registers_after registers older)
+shows_at older registers seq sized targets =
+    shows_after older (values_in registers) registers seq sized targets (λ r v is. cc)
 
 -- an instruction that is ready reads the values of its registers
 
-operand_value-told : (status : RegisterStatus) (s : State) (from : Option ℕ) (v : ℕ) → Tells status s.registers →
+operand_value-shown : (status : RegisterStatus) (s : State) (from : Option ℕ) (v : ℕ) →
+    ShowsRegisters status s.registers →
     operand_of status from ≡ Value v → operand_value s from ≡ v
-operand_value-told status s from v tells is = grind (arith, tells)
+operand_value-shown status s from v shows is = grind (arith, shows)
 
 -- what leaves a station has the two values of its operands, and its number, pc and instruction
 pub ready_parts : (w : Station) (a b : Operand) (ready : Ready) → ready_with w a b ≡ Some ready →
@@ -77,9 +87,9 @@ ready_parts w a b ready is = (grind arith, grind arith, grind arith, grind arith
 
 -- what leaves a station has what the instruction reads
 pub reads : (status : RegisterStatus) (seq pc : ℕ) (i : Instr) (s : State) (ready : Ready) →
-    ready_of (waiting_of status seq pc i) ≡ Some ready → Tells status s.registers → s.pc ≡ pc →
+    ready_of (waiting_of status seq pc i) ≡ Some ready → ShowsRegisters status s.registers → s.pc ≡ pc →
     Reads s ready.pc ready.first ready.second i
-reads status seq pc i s ready is tells at =
+reads status seq pc i s ready is shows at =
     let w = waiting_of status seq pc i in
     let parts = ready_parts w w.first w.second ready is in
     let a = slice_index_or (sources_of i) 0 None in
@@ -87,7 +97,8 @@ reads status seq pc i s ready is tells at =
     record {
       pc = at ∙ sym parts.3;
       values = ap (map (operand_value s)) (two_sources i)
-          ∙ (λ k. operand_value-told status s a ready.first tells parts.0 k ∷ operand_value-told status s b ready.second tells
+          ∙ (λ k. operand_value-shown status s a ready.first shows parts.0 k ∷ operand_value-shown status s b
+          ready.second shows
           parts.1 k ∷ []);
     }
 

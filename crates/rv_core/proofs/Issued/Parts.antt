@@ -1,5 +1,12 @@
 -- What the parts answer to a search in the stations is what the definition's turn finds and starts.
-use Rattle.rv_core.proofs.Words.{◌≡◌, ℕ, ◌+◌, ◌<◌, Bool, true, false, List, [], length, nat_le, take, Some, None, Option, option_and_then, sym, refl, ap, ◌∙◌, subst, inl, inr, cases_Bool, cond-false, cond-true, at_kind, with_kind, Kind, PerKind, UnitPool, is_free, started, ReorderBuffer, changed, Entry, Hardware, is_ready_entry, issue_oldest, issue_turn, oldest, Ends, GoesOn, stores_after, at_kind-by_kind, with_kind-back, Queue, Pool, taken_from, oldest_ready, ready_of, without_oldest_ready, Ready, Station, Pending, holds, started_unit, goes, IsSound, hardware_of, IsLegalCost, IsSoundHardware, AreTied, pool_of_kind, Inside}
+use Rattle.rv_core.proofs.Words.{◌≡◌, ℕ, ◌+◌, ◌<◌, Bool, true, false, List, [], length, nat_le, take, Some, None}
+use Rattle.rv_core.proofs.Words.{Option, option_and_then, sym, refl, ap, ◌∙◌, subst, inl, inr, cases_Bool, cond-false}
+use Rattle.rv_core.proofs.Words.{cond-true, at_kind, with_kind, Kind, PerKind, UnitPool, is_free, started}
+use Rattle.rv_core.proofs.Words.{ReorderBuffer, changed, Entry, Hardware, is_ready_entry, issue_oldest, issue_turn}
+use Rattle.rv_core.proofs.Words.{oldest, Ends, GoesOn, stores_after, at_kind-by_kind, with_kind-back, Queue, Pool}
+use Rattle.rv_core.proofs.Words.{taken_from, oldest_ready, ready_of, without_oldest_ready, Ready, Station, Pending}
+use Rattle.rv_core.proofs.Words.{holds, started_unit, goes, IsSound, hardware_of, IsLegalCost, IsSoundHardware, AreTied}
+use Rattle.rv_core.proofs.Words.{pool_of_kind, Inside}
 use Rattle.rv_units.specs.Bus.{with_result}
 use Rattle.rv_core.proofs.Issued.Executed.{Execution, is_issued, is_sound, is_tied, started_hardware}
 use Rattle.rv_core.proofs.Issued.Found.{Leaving, leaves, nothing_leaves, stationed_now, test_of}
@@ -14,7 +21,7 @@ test_in_code : {parts : Inside} → IsSound parts → (kind : Kind) {idle : Bool
     goes kind parts.cache.backing.layout parts.stores.stores idle ≡ test_of (hardware_of parts) kind
 test_in_code sound kind port = λ j. goes kind (sound.sound.cache.layout j) (sound.tied.queued j).stores (port j)
 
--- the stations hold what the instructions in flight tell
+-- the stations hold what the instructions in flight determine
 waiting_in_stations : {parts : Inside} → IsSound parts → (kind : Kind) →
     (at_kind kind parts.stations).waiting ≡ stationed_now (hardware_of parts) kind
 waiting_in_stations {parts = parts} sound kind =
@@ -103,22 +110,22 @@ module _ {parts : Inside} (sound : IsSound parts) {old : Hardware} (view : hardw
           rob = rob;
         }
 
-        told : parts.stores.stores ≡ stores_after h h.rob.entries
-        told = ap (λ (q : Queue). q.stores) sound.tied.queued
+        queued : parts.stores.stores ≡ stores_after h h.rob.entries
+        queued = ap (λ (q : Queue). q.stores) sound.tied.queued
 
         abbrev started_now : Hardware
-        started_now = started_hardware sound.sound leaving x told
+        started_now = started_hardware sound.sound leaving x queued
 
         seen : started_now ≡ hardware_of after
         seen = λ j. record h { cache = x.cache; port_free = x.port_free; units = sym held j; rob = sym changes j }
 
         tied : AreTied started_now parts.rename stations bus parts.stores
-        tied = rw (accepted, left, same_test) (is_tied sound.sound leaving x told sound.tied)
+        tied = rw (accepted, left, same_test) (is_tied sound.sound leaving x queued sound.tied)
 
         -- the parts that have started it are sound
         pub sound_after : IsSound after
         sound_after = record {
-          sound = subst IsSoundHardware seen (is_sound sound.sound leaving x told);
+          sound = subst IsSoundHardware seen (is_sound sound.sound leaving x queued);
           tied = subst (λ (y : Hardware). AreTied y parts.rename stations bus parts.stores) seen tied;
           stale_base = sound.stale_base;
           stale_size = sound.stale_size;
@@ -144,7 +151,7 @@ module _ {parts : Inside} (sound : IsSound parts) {old : Hardware} (view : hardw
         -- the hardware that they stand for is what the definition's turn goes on with
         pub turn_after : is_free parts.cycle (at_kind kind parts.units) ≡ true → GoesOn (hardware_of after) ≡ issue_turn kind old
         turn_after free =
-            ap (λ (y : Hardware). GoesOn y) (sym seen ∙ is_issued sound.sound leaving x told)
+            ap (λ (y : Hardware). GoesOn y) (sym seen ∙ is_issued sound.sound leaving x queued)
             ∙ turn_of_found free leaving.found
 
   -- where no instruction of the kind waits, a turn ends the phase and changes nothing

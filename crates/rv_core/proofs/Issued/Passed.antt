@@ -1,5 +1,7 @@
 -- What a search passed by, the next one of the phase may pass by: the port is no sooner idle after a start.
-use Rattle.rv_core.proofs.Words.{◌≡◌, ℕ, ◌+◌, ◌≤◌, Bool, true, List, [], ◌∷◌, nat_le, take, None, Option, refl, arith, leb-true, CacheLine, CacheValues, Kind, Memory, Contents, access_cost, cost_of_access, FromCache, Path, Mem, Store, Layout, oldest_ready, Station, port_after, goes}
+use Rattle.rv_core.proofs.Words.{◌≡◌, ℕ, ◌+◌, ◌≤◌, Bool, true, List, [], ◌∷◌, nat_le, take, None, Option, refl, arith}
+use Rattle.rv_core.proofs.Words.{leb-true, CacheLine, CacheValues, Kind, Memory, Contents, access_cost, cost_of_access}
+use Rattle.rv_core.proofs.Words.{FromCache, Path, Mem, Store, Layout, oldest_ready, Station, port_after, goes}
 use Rattle.rv_stations.specs.Waiting.{ArePassedBy}
 
 -- a test that passes no more than another finds nothing where the other does not

@@ -1,11 +1,20 @@
 -- A station is ready, and passes the code's test, where the definition finds its instruction ready.
-use Rattle.rv_core.proofs.Words.{◌≡◌, ℕ, ◌+◌, ◌<◌, Bool, true, false, not, ◌&&◌, ◌||◌, List, ◌∷◌, ◌++◌, length, ℤ, IfSome, nat_le, slice_index, Some, All, Option, sym, refl, ap, ◌∙◌, subst, arith, and_parts, list_all, is_load, is_of_kind, kind_of_word, sources_of_word, target_of_word, bytes_of, width_of, modulo_word, sum, Instr, Load, Kind, LoadForm, is_known_store, Store, Entry, is_stationed, Hardware, is_waiting, registers_after, has_operands, has_port, is_ready_entry, path_of_word, layout_of, state_after, stores_after, AreBelow, kind_of, Mem, first_unknown, older_than, has_value, is_ready_station, Operand, Tag, Value, Station, path_of_load, is_operation, is_known_before, may_go, needs_port, path_of, RegisterStatus, status_after, values_in, waiting_of}
+use Rattle.rv_core.proofs.Words.{◌≡◌, ℕ, ◌+◌, ◌<◌, Bool, true, false, not, ◌&&◌, ◌||◌, List, ◌∷◌, ◌++◌, length, ℤ}
+use Rattle.rv_core.proofs.Words.{IfSome, nat_le, slice_index, Some, All, Option, sym, refl, ap, ◌∙◌, subst, arith}
+use Rattle.rv_core.proofs.Words.{and_parts, list_all, is_load, is_of_kind, kind_of_word, sources_of_word}
+use Rattle.rv_core.proofs.Words.{target_of_word, bytes_of, width_of, modulo_word, sum, Instr, Load, Kind, LoadForm}
+use Rattle.rv_core.proofs.Words.{is_known_store, Store, Entry, is_stationed, Hardware, is_waiting, registers_after}
+use Rattle.rv_core.proofs.Words.{has_operands, has_port, is_ready_entry, path_of_word, layout_of, state_after}
+use Rattle.rv_core.proofs.Words.{stores_after, AreBelow, kind_of, Mem, first_unknown, older_than, has_value}
+use Rattle.rv_core.proofs.Words.{is_ready_station, Operand, Tag, Value, Station, path_of_load, is_operation}
+use Rattle.rv_core.proofs.Words.{is_known_before, may_go, needs_port, path_of, RegisterStatus, status_after, values_in}
+use Rattle.rv_core.proofs.Words.{waiting_of}
 use Rattle.std.proofs.Math.Seq.{take-append_seam}
 use Rattle.std.proofs.lemmas.List.Elements.{All-take}
 use Rattle.rv_hardware.proofs.Marks.Sound.{is_of_kind_is}
-use Rattle.rv_core.proofs.Issued.Operands.{Tells, is_known-status, is_ready-known, tells_at}
+use Rattle.rv_core.proofs.Issued.Operands.{ShowsRegisters, is_known-status, is_ready-known, shows_at}
 use Rattle.rv_core.proofs.Issued.Search.{Agree, PassBy}
-use Rattle.rv_core.proofs.Issued.Stores.{known-behind, older_than-behind}
+use Rattle.rv_core.proofs.Issued.Stores.{is_known_before-stores_after, older_than-stores_after}
 use Rattle.rv_core.proofs.Loads.Path.{path_is_defined, port_is_defined}
 
 -- what holds of all holds of a beginning
@@ -66,17 +75,19 @@ module _ (h : Hardware) where
         there (λ ready. passes ready ∙ ap may (sym decoded))
 
     module _ (all : older ++ e ∷ rest ≡ h.rob.entries) (retired : AreBelow (λ (s : Store). s.seq) h.rob.retired h.committed)
-        (tells : Tells status (registers_after h.registers older)) where
+        (shows : ShowsRegisters status (registers_after h.registers older)) where
       abbrev waiting_stores : List Store
       waiting_stores = stores_after h h.rob.entries
 
       known : is_known_before (first_unknown waiting_stores) number ≡ list_all is_known_store (stores_after h older)
       known =
           ap (λ es. is_known_before (first_unknown (stores_after h es)) number) (sym all)
-          ∙ known-behind h retired older (e ∷ rest)
+          ∙ is_known_before-stores_after h retired older (e ∷ rest)
 
       before : older_than number waiting_stores ≡ stores_after h older
-      before = ap (λ es. older_than number (stores_after h es)) (sym all) ∙ older_than-behind h retired older (e ∷ rest)
+      before =
+          ap (λ es. older_than number (stores_after h es)) (sym all)
+          ∙ older_than-stores_after h retired older (e ∷ rest)
 
       port : (form : LoadForm) (rs1 base offset : ℕ) → status rs1 ≡ Value base →
           (nat_le h.port_free h.cycle || not
@@ -90,7 +101,7 @@ module _ (h : Hardware) where
           (needs_port (path_of (layout_of h.values) ss (sum base offset) count))) before
           ∙ port_is_defined h (sum base offset) (path_of (layout_of h.values) (stores_after h older) (sum base offset) count)
           ∙ ap (has_port h) (path_is_defined h older (sum base offset) count)
-          ∙ ap (λ b. has_port h (path_of_load h older (sum b offset) count)) (sym (tells rs1 base is))
+          ∙ ap (λ b. has_port h (path_of_load h older (sum b offset) count)) (sym (shows rs1 base is))
 
       load_goes : (form : LoadForm) (rd rs1 : ℕ) (offset : ℤ) (first second : Operand) → status rs1 ≡ first →
           has_value first ≡ true →
@@ -117,5 +128,6 @@ module _ (h : Hardware) where
       AreBelow (λ (s : Store). s.seq) h.rob.retired h.committed →
       Agree Mem status0 h.rob.retired h.rob.entries goes (is_ready_entry h Mem)
   accesses_agree sized targets retired older rest e i all decoded there =
-      let tells = tells_at older h.registers h.rob.retired sized (All-left HasTarget older (e ∷ rest) (rw all targets)) in
-      agrees older rest e Mem goes i decoded there (all_go older rest e all retired tells i)
+      let shows =
+      shows_at older h.registers h.rob.retired sized (All-left HasTarget older (e ∷ rest) (rw all targets)) in
+      agrees older rest e Mem goes i decoded there (all_go older rest e all retired shows i)

@@ -1,5 +1,10 @@
 -- A search in the stations of a kind finds the oldest instruction that the definition finds.
-use Rattle.rv_core.proofs.Words.{◌≡◌, ℕ, ◌+◌, Bool, true, false, ◌&&◌, ◌⊎◌, List, [], ◌∷◌, ◌++◌, length, Some, None, Option, sym, refl, ap, ◌∙◌, inl, inr, append_assoc, append-nil, arith, length-append, and_parts, cases_Bool, cond-false, is_of_kind, kind_of_word, Message, Instr, Issue, Kind, started, Entry, is_stationed, is_waiting, oldest_from, is_ready_station, oldest_ready, without_oldest_ready, Station, RegisterStatus, status_after, status_with, waiting_at, waiting_from, waiting_of}
+use Rattle.rv_core.proofs.Words.{◌≡◌, ℕ, ◌+◌, Bool, true, false, ◌&&◌, ◌⊎◌, List, [], ◌∷◌, ◌++◌, length, Some, None}
+use Rattle.rv_core.proofs.Words.{Option, sym, refl, ap, ◌∙◌, inl, inr, append_assoc, append-nil, arith, length-append}
+use Rattle.rv_core.proofs.Words.{and_parts, cases_Bool, cond-false, is_of_kind, kind_of_word, Message, Instr, Issue}
+use Rattle.rv_core.proofs.Words.{Kind, started, Entry, is_stationed, is_waiting, oldest_from, is_ready_station}
+use Rattle.rv_core.proofs.Words.{oldest_ready, without_oldest_ready, Station, RegisterStatus, status_after, status_with}
+use Rattle.rv_core.proofs.Words.{waiting_at, waiting_from, waiting_of}
 
 -- an instruction gives no value to the status before it has a result, started or not
 pub status_started : (status : RegisterStatus) (seq : ℕ) (e : Entry) (issue : Issue) (message : Message) →
@@ -87,7 +92,7 @@ module _ (kind : Kind) (status0 : RegisterStatus) (n0 : ℕ) where
       pub entry : Entry
       pub instruction : Instr
       pub split : es ≡ before ++ entry ∷ rest
-      pub behind : prior ≡ older ++ before
+      pub prior_is : prior ≡ older ++ before
       pub decoded : entry.instruction ≡ Some instruction
       pub there : is_stationed kind entry ≡ true
       pub defined : oldest_from ready older es ≡ Some (prior, entry)
@@ -119,7 +124,7 @@ module _ (kind : Kind) (status0 : RegisterStatus) (n0 : ℕ) where
         entry = f.entry;
         instruction = f.instruction;
         split = ap (λ l. e ∷ l) f.split;
-        behind = f.behind ∙ append_assoc older (e ∷ []) f.before;
+        prior_is = f.prior_is ∙ append_assoc older (e ∷ []) f.before;
         decoded = f.decoded;
         there = f.there;
         defined = rw not f.defined;
@@ -161,7 +166,7 @@ module _ (kind : Kind) (status0 : RegisterStatus) (n0 : ℕ) where
                       entry = e;
                       instruction = i;
                       split = refl;
-                      behind = sym (append-nil older);
+                      prior_is = sym (append-nil older);
                       decoded = there.1;
                       there = there.3;
                       defined = rw (sym same ∙ passes) refl;

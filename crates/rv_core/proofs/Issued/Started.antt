@@ -1,5 +1,9 @@
--- The start of an instruction changes one of a list of entries, and what that list tells by this one alone.
-use Rattle.rv_core.proofs.Words.{◌≡◌, ℕ, ◌+◌, ◌<◌, ◌≤◌, true, false, ◌≢◌, List, [], ◌∷◌, ◌++◌, length, nat_lt, All, sym, refl, ap, ◌∙◌, append_assoc, arith, le-ltb, lt-ltb, ne_eqb, cond-true, All-append, All-cons, All-head, All-tail, Message, Issue, Kind, started, Entry, Stage, Running, is_stationed, is_waiting, stores_of, holds, placed, PendingResult, RegisterStatus, pending_from, pending_of, status_with, waiting_from}
+-- The start of an instruction changes one of a list of entries, and what follows from that list by this one alone.
+use Rattle.rv_core.proofs.Words.{◌≡◌, ℕ, ◌+◌, ◌<◌, ◌≤◌, true, false, ◌≢◌, List, [], ◌∷◌, ◌++◌, length, nat_lt, All, sym}
+use Rattle.rv_core.proofs.Words.{refl, ap, ◌∙◌, append_assoc, arith, le-ltb, lt-ltb, ne_eqb, cond-true, All-append}
+use Rattle.rv_core.proofs.Words.{All-cons, All-head, All-tail, Message, Issue, Kind, started, Entry, Stage, Running}
+use Rattle.rv_core.proofs.Words.{is_stationed, is_waiting, stores_of, holds, placed, PendingResult, RegisterStatus}
+use Rattle.rv_core.proofs.Words.{pending_from, pending_of, status_with, waiting_from}
 use Rattle.rv_core.proofs.Issued.Search.{status_started}
 
 module _ (issue : Issue) (message : Message) (e : Entry) (rest : List Entry) where

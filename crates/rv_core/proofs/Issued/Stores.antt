@@ -1,5 +1,10 @@
 -- The stores older than an instruction are the same in the queue and in the definition.
-use Rattle.rv_core.proofs.Words.{◌≡◌, ℕ, ◌+◌, ◌<◌, ◌≤◌, Bool, true, false, cond, List, [], ◌∷◌, ◌++◌, length, All, sym, refl, ap, ◌∙◌, append_assoc, arith, le-ltb, lt-ltb, All-cons, All-head, All-tail, list_all, is_store, is_known_store, Store, Entry, Hardware, broadcast_of, store_of_broadcast, stores_of, stores_after, AreBelow, AreBelow-append, AreBelow-head, AreBelow-tail, AreBelow-weaken, below-split, first_unknown, older_than, is_known_before}
+use Rattle.rv_core.proofs.Words.{◌≡◌, ℕ, ◌+◌, ◌<◌, ◌≤◌, Bool, true, false, cond, List, [], ◌∷◌, ◌++◌, length, All, sym}
+use Rattle.rv_core.proofs.Words.{refl, ap, ◌∙◌, append_assoc, arith, le-ltb, lt-ltb, All-cons, All-head, All-tail}
+use Rattle.rv_core.proofs.Words.{list_all, is_store, is_known_store, Store, Entry, Hardware, broadcast_of}
+use Rattle.rv_core.proofs.Words.{store_of_broadcast, stores_of, stores_after, AreBelow, AreBelow-append, AreBelow-head}
+use Rattle.rv_core.proofs.Words.{AreBelow-tail, AreBelow-weaken, below-split, first_unknown, older_than}
+use Rattle.rv_core.proofs.Words.{is_known_before}
 
 abbrev seq_of : Store → ℕ
 seq_of s = s.seq
@@ -60,12 +65,12 @@ module _ (h : Hardware) (retired : AreBelow seq_of h.rob.retired h.committed) (o
   high = stores_of-from place place rest (omega arith)
 
   -- the queue's stores below an instruction's number are those after the older ones
-  pub older_than-behind : older_than place (stores_after h (older ++ rest)) ≡ stores_after h older
-  older_than-behind = ap (older_than place) split
+  pub older_than-stores_after : older_than place (stores_after h (older ++ rest)) ≡ stores_after h older
+  older_than-stores_after = ap (older_than place) split
       ∙ below-split seq_of place (stores_after h older) (stores_of place rest) low high
 
   -- all older stores are known where the first that is not is no older one
-  pub known-behind : is_known_before (first_unknown (stores_after h (older ++ rest))) place
+  pub is_known_before-stores_after : is_known_before (first_unknown (stores_after h (older ++ rest))) place
       ≡ list_all is_known_store (stores_after h older)
-  known-behind = ap (λ l. is_known_before (first_unknown l) place) split
+  is_known_before-stores_after = ap (λ l. is_known_before (first_unknown l) place) split
       ∙ known_before place (stores_after h older) (stores_of place rest) low high

@@ -1,11 +1,19 @@
--- After the start of an instruction the parts are still told by the instructions in flight.
-use Rattle.rv_core.proofs.Words.{◌≡◌, ℕ, ◌+◌, ◌^◌, ◌<◌, ◌≤◌, true, false, ◌∷◌, ◌++◌, length, All, sym, refl, ap, ◌∙◌, subst, arith, and_right, All-head, is_of_kind, is_serialising, is_store, kind_of_word, at_kind, with_kind, Message, Issue, Kind, PerKind, Memory, Contents, UnitPool, started, ReorderBuffer, changed, Entry, is_stationed, Hardware, is_waiting, stores_of, All-right, at_kind-by_kind, with_kind-by_kind, Queue, Ready, Pool, taken_from, Pending, holds, placed, Renaming, AreSoundEntries, IsDescribedCache, IsLegalWrite, IsSoundEntry, IsSoundHardware, AreTied, bus_of, pending_from, pool_of_kind, stations_of, values_in, waiting_from}
+-- After the start of an instruction the parts are still what the instructions in flight determine.
+use Rattle.rv_core.proofs.Words.{◌≡◌, ℕ, ◌+◌, ◌^◌, ◌<◌, ◌≤◌, true, false, ◌∷◌, ◌++◌, length, All, sym, refl, ap, ◌∙◌}
+use Rattle.rv_core.proofs.Words.{subst, arith, and_right, All-head, is_of_kind, is_serialising, is_store, kind_of_word}
+use Rattle.rv_core.proofs.Words.{at_kind, with_kind, Message, Issue, Kind, PerKind, Memory, Contents, UnitPool, started}
+use Rattle.rv_core.proofs.Words.{ReorderBuffer, changed, Entry, is_stationed, Hardware, is_waiting, stores_of}
+use Rattle.rv_core.proofs.Words.{All-right, at_kind-by_kind, with_kind-by_kind, Queue, Ready, Pool, taken_from, Pending}
+use Rattle.rv_core.proofs.Words.{holds, placed, Renaming, AreSoundEntries, IsDescribedCache, IsLegalWrite, IsSoundEntry}
+use Rattle.rv_core.proofs.Words.{IsSoundHardware, AreTied, bus_of, pending_from, pool_of_kind, stations_of, values_in}
+use Rattle.rv_core.proofs.Words.{waiting_from}
 use Rattle.rv_hardware.proofs.Oldest.{with_entry-at}
 use Rattle.rv_units.specs.Bus.{with_result}
 use Rattle.rv_core.proofs.Issued.Found.{Leaving, test_of}
 use Rattle.rv_core.proofs.Issued.Ready.{kind_there}
 use Rattle.rv_core.proofs.Issued.Search.{waits}
-use Rattle.rv_core.proofs.Issued.Started.{All_started, others_started, pending_absent, pending_room, pending_started, stores_started}
+use Rattle.rv_core.proofs.Issued.Started.{All_started, others_started, pending_absent, pending_room, pending_started}
+use Rattle.rv_core.proofs.Issued.Started.{stores_started}
 use Rattle.rv_core.proofs.Ties.Entries.{length-with_entry, pairs-with_entry}
 use Rattle.rv_core.proofs.Ties.Renaming.{renaming-same}
 

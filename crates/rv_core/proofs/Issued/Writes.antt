@@ -1,5 +1,12 @@
 -- The stores older than an instruction write within RAM, and so does an instruction, or it faults.
-use Rattle.rv_core.proofs.Words.{◌≡◌, ℕ, ◌+◌, Bool, true, false, List, [], ◌∷◌, length, IfSome, Some, None, All, Option, sym, refl, subst, arith, All-append, All-head, All-tail, bytes_of_number, is_store, bytes_of, modulo_word, sum, Message, StoreAccess, Cause, Fault, Instr, Lines, Width, Values, Effect, Faults, Retires, effect, stores, State, register_of, IsAligned, Store as QueuedStore, Committed, Draining, StoreState, Entry, Stage, Finished, Hardware, broadcast_of, store_of_broadcast, store_of_message, stores_of, effect_message, result_in, layout_of, stores_after, LieIn, LiesIn, store_fault, IsLegalWrite, IsRetiredStore, IsSoundEntry, message_of}
+use Rattle.rv_core.proofs.Words.{◌≡◌, ℕ, ◌+◌, Bool, true, false, List, [], ◌∷◌, length, IfSome, Some, None, All, Option}
+use Rattle.rv_core.proofs.Words.{sym, refl, subst, arith, All-append, All-head, All-tail, bytes_of_number, is_store}
+use Rattle.rv_core.proofs.Words.{bytes_of, modulo_word, sum, Message, StoreAccess, Cause, Fault, Instr, Lines, Width}
+use Rattle.rv_core.proofs.Words.{Values, Effect, Faults, Retires, effect, stores, State, register_of, IsAligned}
+use Rattle.rv_core.proofs.Words.{Store as QueuedStore, Committed, Draining, StoreState, Entry, Stage, Finished}
+use Rattle.rv_core.proofs.Words.{Hardware, broadcast_of, store_of_broadcast, store_of_message, stores_of}
+use Rattle.rv_core.proofs.Words.{effect_message, result_in, layout_of, stores_after, LieIn, LiesIn, store_fault}
+use Rattle.rv_core.proofs.Words.{IsLegalWrite, IsRetiredStore, IsSoundEntry, message_of}
 use Rattle.rv_stores.specs.declared.store.StoreState.TheVariants as store
 use Rattle.rv_isa.specs.declared.instructions.Instr.TheVariants.{Store}
 use Rattle.rv_core.proofs.Issued.Stores.{All-one}

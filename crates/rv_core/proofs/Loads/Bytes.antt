@@ -1,6 +1,10 @@
 -- The bytes that a load takes from the older stores and the cache are those of memory after the stores.
-use Rattle.rv_core.proofs.Words.{◌≡◌, ℕ, zero, suc, ◌+◌, ◌-◌, ◌<◌, ◌≤◌, true, List, [], ◌∷◌, ◌++◌, length, take, drop, is_some, slice_index_or as get_or, slice_range, Option, unwrap_or, sym, refl, ap, ◌∙◌, arith, and_parts, bytes_of, Width, forwarded, youngest_byte, Store, bytes_after, drop_more, get_or_append_left, get_or-between, length-between, LieIn, bytes_over, is_forwarded}
-use Rattle.rv_core.proofs.Loads.Behind.{get_or-bytes_after, length-bytes_after}
+use Rattle.rv_core.proofs.Words.{◌≡◌, ℕ, zero, suc, ◌+◌, ◌-◌, ◌<◌, ◌≤◌, true, List, [], ◌∷◌, ◌++◌, length, take, drop}
+use Rattle.rv_core.proofs.Words.{is_some, slice_index_or as get_or, slice_range, Option, unwrap_or, sym, refl, ap, ◌∙◌}
+use Rattle.rv_core.proofs.Words.{arith, and_parts, bytes_of, Width, forwarded, youngest_byte, Store, bytes_after}
+use Rattle.rv_core.proofs.Words.{drop_more, get_or_append_left, get_or-between, length-between, LieIn, bytes_over}
+use Rattle.rv_core.proofs.Words.{is_forwarded}
+use Rattle.rv_core.proofs.Loads.BytesAfter.{get_or-bytes_after, length-bytes_after}
 
 -- so many numbers of a list, from a place on
 abbrev numbers : ℕ → ℕ → List ℕ → List ℕ
@@ -47,8 +51,9 @@ module _ (base size : ℕ) (ss : List Store) (bytes : List ℕ) (sized : length 
   within : place + bytes_of width ≤ length ram
   within = omega (arith, length-bytes_after base size ss bytes sized inside)
 
-  behind : (k : ℕ) → get_or ram (place + k) 0 ≡ unwrap_or (youngest_byte (address + k) ss) (get_or bytes (place + k) 0)
-  behind k =
+  byte_after : (k : ℕ) →
+      get_or ram (place + k) 0 ≡ unwrap_or (youngest_byte (address + k) ss) (get_or bytes (place + k) 0)
+  byte_after k =
       let at : place + k ≡ address + k - base = omega arith in
       ap (λ i. get_or ram i 0) at
       ∙ get_or-bytes_after base size (address + k) ss bytes sized inside (omega arith)
@@ -60,7 +65,9 @@ module _ (base size : ℕ) (ss : List Store) (bytes : List ℕ) (sized : length 
       ≡ take (bytes_of width) (bytes_over (forwarded ss address (bytes_of width)) below)
   bytes_from_stores below all =
       bytes_laid ram below ss address place width within
-      (λ k lt. behind k ∙ forwarded_some (youngest_byte (address + k) ss) (get_or bytes (place + k) 0) (get_or below k 0)
+      (λ k lt.
+      byte_after k
+      ∙ forwarded_some (youngest_byte (address + k) ss) (get_or bytes (place + k) 0) (get_or below k 0)
       (forwarded_all width ss address all k lt))
 
   -- those of the cache lie below
@@ -74,7 +81,7 @@ module _ (base size : ℕ) (ss : List Store) (bytes : List ℕ) (sized : length 
       length-between bytes place (place + bytes_of width) (omega arith) ∙ omega arith in
       bytes_laid ram (block ++ padding) ss address place width within
       (λ k lt.
-      behind k
+      byte_after k
       ∙ ap (unwrap_or (youngest_byte (address + k) ss))
       (sym (get_or_append_left block padding 0 k (omega (arith, long))
       ∙ get_or-between bytes place (place + bytes_of width) k 0 (omega arith))))

@@ -1,6 +1,9 @@
 -- A load or a store with a fault gives that fault, and one without lies in RAM and gives what it reads or writes.
 use Rattle.std.proofs.Common.{arith}
-use Rattle.rv_core.proofs.Words.{◌≡◌, ℕ, ◌+◌, ◌%◌, ◌≤◌, true, List, Some, None, Option, and_parts, bytes_of, is_sign_extended, width_of, pc_plus_4, StoreAccess, Cause, LoadForm, Width, Layout, number_at, extended, loads, stores, State, IsAligned, effect_message, fault_message, writes, is_forwarded, load_fault, path_unless, store_fault}
+use Rattle.rv_core.proofs.Words.{◌≡◌, ℕ, ◌+◌, ◌%◌, ◌≤◌, true, List, Some, None, Option, and_parts, bytes_of}
+use Rattle.rv_core.proofs.Words.{is_sign_extended, width_of, pc_plus_4, StoreAccess, Cause, LoadForm, Width, Layout}
+use Rattle.rv_core.proofs.Words.{number_at, extended, loads, stores, State, IsAligned, effect_message, fault_message}
+use Rattle.rv_core.proofs.Words.{writes, is_forwarded, load_fault, path_unless, store_fault}
 use Rattle.rv_core.specs.declared.load.Path.TheVariants.{Without, FromStores, FromCache}
 use Rattle.rv_core.specs.declared.load.Path.{Path}
 

@@ -1,5 +1,9 @@
 -- The value that a load takes from the older stores and the cache is that of its effect.
-use Rattle.rv_core.proofs.Words.{◌≡◌, ℕ, ◌+◌, ◌-◌, ◌≤◌, List, ◌++◌, length, take, slice_range, None, Option, sym, refl, ap, ◌∙◌, subst, arith, number_of, bytes_of, is_sign_extended, width_of, pc_plus_4, Cause, LoadForm, Width, Layout, fault_message, IsAccess, Memory, number_at, extended, loads, State, Contents, forwarded, Store, bytes_after, effect_message, writes, IsAfter, IsOverRam, bytes_over, load_fault, path_of}
+use Rattle.rv_core.proofs.Words.{◌≡◌, ℕ, ◌+◌, ◌-◌, ◌≤◌, List, ◌++◌, length, take, slice_range, None, Option, sym, refl}
+use Rattle.rv_core.proofs.Words.{ap, ◌∙◌, subst, arith, number_of, bytes_of, is_sign_extended, width_of, pc_plus_4}
+use Rattle.rv_core.proofs.Words.{Cause, LoadForm, Width, Layout, fault_message, IsAccess, Memory, number_at, extended}
+use Rattle.rv_core.proofs.Words.{loads, State, Contents, forwarded, Store, bytes_after, effect_message, writes, IsAfter}
+use Rattle.rv_core.proofs.Words.{IsOverRam, bytes_over, load_fault, path_of}
 use Rattle.rv_core.proofs.Loads.Bytes.{bytes_from_cache, bytes_from_stores}
 use Rattle.rv_core.proofs.Loads.Effect.{PathFacts, aligned_width, load_faults, load_gives, load_within, path_facts}
 use Rattle.rv_core.specs.declared.load.Path.{Path}
@@ -33,7 +37,7 @@ accesses cache ss over width address count overlay is same =
       (omega (arith, over.base, within.1), omega (arith, over.base, over.size, within.2)),
     )
 
-module _ (cache : Contents Memory) (ss : List Store) (over : IsOverRam cache) (s : State) (behind : IsAfter cache ss s)
+module _ (cache : Contents Memory) (ss : List Store) (over : IsOverRam cache) (s : State) (after : IsAfter cache ss s)
     (form : LoadForm) (rd address : ℕ) where
   abbrev count : ℕ
   count = bytes_of (width_of form)
@@ -55,7 +59,7 @@ module _ (cache : Contents Memory) (ss : List Store) (over : IsOverRam cache) (s
     number_after : number_at cache.backing.layout s.ram address count
         ≡ number_of (slice_range (bytes_after cache.base ss cache.bytes) place (place + count))
     number_after =
-        λ j. number_of (slice_range (behind.ram j) (address - sym over.base j) (address - sym over.base j + count))
+        λ j. number_of (slice_range (after.ram j) (address - sym over.base j) (address - sym over.base j + count))
 
     gives : (overlay : List (Option ℕ)) (below : List ℕ) → overlay ≡ forwarded ss address count →
         slice_range (bytes_after cache.base ss cache.bytes) place (place + count)
@@ -78,7 +82,8 @@ module _ (cache : Contents Memory) (ss : List Store) (over : IsOverRam cache) (s
   from_stores overlay below is =
       let known = found cache.backing.layout ss address count (FromStores overlay) is in
       gives known.0 overlay below known.1
-      (bytes_from_stores cache.base (length cache.bytes) ss cache.bytes refl behind.inside address (width_of form) (from known.0)
+      (bytes_from_stores cache.base (length cache.bytes) ss cache.bytes refl after.inside address (width_of form)
+      (from known.0)
       (to known.0) below known.2)
 
   -- and so does one with bytes from the cache
@@ -89,5 +94,6 @@ module _ (cache : Contents Memory) (ss : List Store) (over : IsOverRam cache) (s
   from_cache overlay padding is =
       let known = found cache.backing.layout ss address count (FromCache overlay) is in
       gives known.0 overlay (slice_range cache.bytes place (place + count) ++ padding) known.1
-      (bytes_from_cache cache.base (length cache.bytes) ss cache.bytes refl behind.inside address (width_of form) (from known.0)
+      (bytes_from_cache cache.base (length cache.bytes) ss cache.bytes refl after.inside address (width_of form)
+      (from known.0)
       (to known.0) padding)

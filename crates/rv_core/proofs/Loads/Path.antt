@@ -1,6 +1,8 @@
 -- The path of a load in the code is the definition's.
 use Rattle.std.proofs.Common.{arith}
-use Rattle.rv_core.proofs.Words.{◌≡◌, ℕ, not, ◌||◌, List, nat_le, at_kind, Kind, Entry, Hardware, Path as DefinedPath, cost_of, has_port, with_access, layout_of, stores_after, path_of_load, cache_after, defined_path, path_cost, port_after, needs_port, path_of}
+use Rattle.rv_core.proofs.Words.{◌≡◌, ℕ, not, ◌||◌, List, nat_le, at_kind, Kind, Entry, Hardware, Path as DefinedPath}
+use Rattle.rv_core.proofs.Words.{cost_of, has_port, with_access, layout_of, stores_after, path_of_load, cache_after}
+use Rattle.rv_core.proofs.Words.{defined_path, path_cost, port_after, needs_port, path_of}
 use Rattle.rv_core.specs.declared.load.Path.{Path}
 
 -- the code's path of a load is the definition's

@@ -1,6 +1,9 @@
 -- The byte that programs see is the youngest retired store's, else the cache's.
-use Rattle.rv_core.proofs.Words.{◌≡◌, ℕ, ◌-◌, ◌≤◌, false, nat_le, slice_get, slice_index_or as get_or, Some, None, Option, unwrap_or, sym, ap, ◌∙◌, arith, le-leb, and_from, cond-true, is_in_ram, youngest_byte, Hardware, layout_of, seen, slice_get_past, byte_seen, IsCached, LieIn, IsSoundHardware}
-use Rattle.rv_core.proofs.Loads.Behind.{length-bytes_after, slice_get-bytes_after}
+use Rattle.rv_core.proofs.Words.{◌≡◌, ℕ, ◌-◌, ◌≤◌, false, nat_le, slice_get, slice_index_or as get_or, Some, None}
+use Rattle.rv_core.proofs.Words.{Option, unwrap_or, sym, ap, ◌∙◌, arith, le-leb, and_from, cond-true, is_in_ram}
+use Rattle.rv_core.proofs.Words.{youngest_byte, Hardware, layout_of, seen, slice_get_past, byte_seen, IsCached, LieIn}
+use Rattle.rv_core.proofs.Words.{IsSoundHardware}
+use Rattle.rv_core.proofs.Loads.BytesAfter.{length-bytes_after, slice_get-bytes_after}
 use Rattle.rv_core.proofs.Issued.Writes.{committed_inside}
 
 module _ (h : Hardware) (sound : IsSoundHardware h) (address : ℕ) where

@@ -1,5 +1,7 @@
 -- The phases one after another are a cycle of the hardware.
-use Rattle.rv_core.proofs.Words.{◌≡◌, ℕ, ◌+◌, ◌≤◌, Option, refl, ap, ◌∙◌, subst, Lines, Stop, Answers, FetchesInto, FetchStop, Committing, IsCycle, commit_with, execute, with_lines, Dispatching, stall_of, Hardware, Stall, report_with}
+use Rattle.rv_core.proofs.Words.{◌≡◌, ℕ, ◌+◌, ◌≤◌, Option, refl, ap, ◌∙◌, subst, Lines, Stop, Answers, FetchesInto}
+use Rattle.rv_core.proofs.Words.{FetchStop, Committing, IsCycle, commit_with, execute, with_lines, Dispatching}
+use Rattle.rv_core.proofs.Words.{stall_of, Hardware, Stall, report_with}
 use Rattle.std.specs.FinSet as set
 use Rattle.rv_hardware.proofs.Gap.Execute.{execute-same}
 use Rattle.rv_core.proofs.Phases.Steps.{Commits, commit-now}
@@ -29,7 +31,7 @@ module _ (lines : Lines) (old committed : Hardware) (width : 1 ≤ old.values.co
     pub dispatched-now : dispatched.cycle ≡ old.cycle
     dispatched-now = ap (λ (h : Hardware). h.cycle) dispatched-is ∙ executing-now
 
-    -- with what the dispatch told, the stop and the fetch
+    -- with what the dispatch reported, the stop and the fetch
     pub cycle-done : (answers : Answers) (new : Hardware) (why : FetchStop) (count : ℕ) (stall : Option Stall)
         (stop : Option Stop) → count ≡ (execute committed).dispatched → stall ≡ stall_of (execute committed) →
         stop ≡ committing.stop

@@ -1,20 +1,25 @@
 -- The drain phase on the queue is that on the retired stores: what is in flight stays after them.
-use Rattle.rv_core.proofs.Words.{◌≡◌, ℕ, ◌+◌, ◌<◌, Bool, true, false, List, [], ◌∷◌, ◌++◌, if◌then◌else◌, Some, None, All, Option, refl, subst, arith, All-cons, All-head, All-tail, is_store, Message, StoreAccess, Values, oldest_to_drain, with_oldest_draining, without_drained, access_to_drain, draining, is_draining, Store as QueuedStore, Committed, Draining, Speculative, StoreState, Entry, broadcast_of, store_of_broadcast, store_of_message, stores_of, AreBelow, is_oldest_draining, IsLegalAccess, IsRetiredStore}
+use Rattle.rv_core.proofs.Words.{◌≡◌, ℕ, ◌+◌, ◌<◌, Bool, true, false, List, [], ◌∷◌, ◌++◌, if◌then◌else◌, Some, None}
+use Rattle.rv_core.proofs.Words.{All, Option, refl, subst, arith, All-cons, All-head, All-tail, is_store, Message}
+use Rattle.rv_core.proofs.Words.{StoreAccess, Values, oldest_to_drain, with_oldest_draining, without_drained}
+use Rattle.rv_core.proofs.Words.{access_to_drain, draining, is_draining, Store as QueuedStore, Committed, Draining}
+use Rattle.rv_core.proofs.Words.{Speculative, StoreState, Entry, broadcast_of, store_of_broadcast, store_of_message}
+use Rattle.rv_core.proofs.Words.{stores_of, AreBelow, is_oldest_draining, IsLegalAccess, IsRetiredStore}
 use Rattle.rv_stores.specs.declared.store.StoreState.TheVariants as store
 use Rattle.rv_core.proofs.Retired.Stores.{AreRetired}
 
 -- a store in flight does not drain, and has nothing to drain
-told : (seq : ℕ) (written : Option StoreAccess) →
+store_of_written : (seq : ℕ) (written : Option StoreAccess) →
     (is_draining (record { seq = seq; state = store_of_message written }) ≡ false)
     × (access_to_drain (record { seq = seq; state = store_of_message written }) ≡ None)
-told seq None = (refl, refl)
-told seq (Some access) = (refl, refl)
+store_of_written seq None = (refl, refl)
+store_of_written seq (Some access) = (refl, refl)
 
 in_flight : (seq : ℕ) (message : Option Message) →
     (is_draining (record { seq = seq; state = store_of_broadcast message }) ≡ false)
     × (access_to_drain (record { seq = seq; state = store_of_broadcast message }) ≡ None)
 in_flight seq None = (refl, refl)
-in_flight seq (Some message) = told seq message.store
+in_flight seq (Some message) = store_of_written seq message.store
 
 -- among the stores in flight none drains
 pub record NoneDrains (flight : List QueuedStore) : Type 0 where

@@ -1,5 +1,10 @@
--- The parts with an instruction that was dispatched into them are sound, and stand for the hardware with it; the turns of dispatch are the definition's.
-use Rattle.rv_core.proofs.Words.{◌≡◌, ℕ, ◌+◌, ◌<◌, ◌&&◌, sym, ap, ◌∙◌, Stall, dispatch_turn, GoesOn, dispatch_told, dispatching, List, [], ◌∷◌, drop, IfSome, slice_get, Some, None, All, refl, All-head, is_branch_or_jump, is_store, target_of_word, pushed, FetchBuffer, Fetched, mends_early, entry_of_fetched, reason_of, Hardware, All-drop, next_number, with_instruction, with_jump, with_store, with_target, IsSound, hardware_of, IsDecoded, status_after, values_in, Inside}
+-- The parts with a dispatched instruction are sound and stand for the hardware with it, by the definition's turns.
+use Rattle.rv_core.proofs.Words.{◌≡◌, ℕ, ◌+◌, ◌<◌, ◌&&◌, sym, ap, ◌∙◌, Stall, dispatch_turn, GoesOn, dispatch_told}
+use Rattle.rv_core.proofs.Words.{dispatching, List, [], ◌∷◌, drop, IfSome, slice_get, Some, None, All, refl, All-head}
+use Rattle.rv_core.proofs.Words.{is_branch_or_jump, is_store, target_of_word, pushed, FetchBuffer, Fetched, mends_early}
+use Rattle.rv_core.proofs.Words.{entry_of_fetched, reason_of, Hardware, All-drop, next_number, with_instruction}
+use Rattle.rv_core.proofs.Words.{with_jump, with_store, with_target, IsSound, hardware_of, IsDecoded, status_after}
+use Rattle.rv_core.proofs.Words.{values_in, Inside}
 use Rattle.rv_hardware.specs.Dispatch.{dispatch_turn_of, dispatch_unless}
 use Rattle.rv_hardware.specs.declared.report.Stall.TheVariants.{Fetch}
 use Rattle.rv_core.proofs.Ties.Closed.{closed-is, closed-sound}

@@ -1,5 +1,6 @@
 -- The fetch phase keeps what holds of the hardware.
-use Rattle.rv_core.proofs.Words.{ℕ, All, sym, subst, All-append, Memory, Answers, FetchBuffer, FetchesInto, FetchStop, All-Each, Each-weaker, IsSound, hardware_of, IsDecoded, Inside}
+use Rattle.rv_core.proofs.Words.{ℕ, All, sym, subst, All-append, Memory, Answers, FetchBuffer, FetchesInto, FetchStop}
+use Rattle.rv_core.proofs.Words.{All-Each, Each-weaker, IsSound, hardware_of, IsDecoded, Inside}
 use Rattle.rv_hardware.proofs.Turns.Fetch.{IsNew, fetch_phase}
 use Rattle.rv_core.proofs.Phases.InFlight.{sound_in_flight}
 

@@ -1,5 +1,6 @@
 -- The hardware with other instructions in flight, or with other fetched words, is as sound.
-use Rattle.rv_core.proofs.Words.{◌≡◌, ◌≤◌, false, List, length, All, AllPairs, is_serialising, Entry, FetchBuffer, Hardware, IsDecoded, IsSoundEntry, IsSoundHardware}
+use Rattle.rv_core.proofs.Words.{◌≡◌, ◌≤◌, false, List, length, All, AllPairs, is_serialising, Entry, FetchBuffer}
+use Rattle.rv_core.proofs.Words.{Hardware, IsDecoded, IsSoundEntry, IsSoundHardware}
 
 -- sound instructions and decoded words in place of others leave sound hardware
 pub sound_in_flight : (h : Hardware) (es : List Entry) (front : FetchBuffer) → IsSoundHardware h → length es ≤ h.values.rob →

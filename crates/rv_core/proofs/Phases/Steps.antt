@@ -1,9 +1,13 @@
 -- A commit phase takes no more steps than its width, keeps the cycle's number, and stops at a breakpoint or a stale word alone.
-use Rattle.rv_core.proofs.Words.{◌≡◌, ℕ, suc, ◌<◌, ◌≤◌, Bool, true, false, cond, [], ◌∷◌, ◌++◌, length, Some, None, Option, nat_cmp, refl, ap, ◌∙◌, arith, length-append, Cause, due, Committing, commit, commit_turn, commit_unless, stop_of, Hardware, Turn, row_of, written_of, is_breakpoint_cause, Leads, turns_within, Step, IsCommitStop}
+use Rattle.rv_core.proofs.Words.{◌≡◌, ℕ, suc, ◌<◌, ◌≤◌, Bool, true, false, cond, [], ◌∷◌, ◌++◌, length, Some, None}
+use Rattle.rv_core.proofs.Words.{Option, nat_cmp, refl, ap, ◌∙◌, arith, length-append, Cause, due, Committing, commit}
+use Rattle.rv_core.proofs.Words.{commit_turn, commit_unless, stop_of, Hardware, Turn, row_of, written_of}
+use Rattle.rv_core.proofs.Words.{is_breakpoint_cause, Leads, turns_within, Step, IsCommitStop}
 use Rattle.std.specs.FinSet as set
 use Rattle.rv_arch.specs.declared.outcome.Stop.TheVariants as stop
 use Rattle.rv_hardware.specs.declared.step.Step.TheVariants as step
-use Rattle.rv_hardware.proofs.Turns.Commit.{CommitTurn, stale_head, fence_retires, executes, serial_faults, traps, retires, retires_last, commit_turn_is}
+use Rattle.rv_hardware.proofs.Turns.Commit.{CommitTurn, stale_head, fence_retires, executes, serial_faults, traps}
+use Rattle.rv_hardware.proofs.Turns.Commit.{retires, retires_last, commit_turn_is}
 
 module _ (now : ℕ) where
   -- a commit that has taken at most so many steps

@@ -1,5 +1,7 @@
 -- Parts of which the retired stores, the cache and the port alone change are sound, and stand for the hardware so changed.
-use Rattle.rv_core.proofs.Words.{◌≡◌, ℕ, ◌^◌, ◌≤◌, List, refl, Memory, Contents, Store as QueuedStore, Hardware, AreBelow, Queue, IsSound, hardware_of, IsDescribedCache, IsSoundHardware, AreTied, queue_of, Inside}
+use Rattle.rv_core.proofs.Words.{◌≡◌, ℕ, ◌^◌, ◌≤◌, List, refl, Memory, Contents, Store as QueuedStore, Hardware}
+use Rattle.rv_core.proofs.Words.{AreBelow, Queue, IsSound, hardware_of, IsDescribedCache, IsSoundHardware, AreTied}
+use Rattle.rv_core.proofs.Words.{queue_of, Inside}
 use Rattle.rv_core.proofs.Ties.Closed.{closed-is, closed-sound}
 use Rattle.rv_core.proofs.Retired.Stores.{AreRetired}
 

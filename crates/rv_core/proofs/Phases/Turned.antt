@@ -1,5 +1,6 @@
 -- A loop that takes turns leads to the same as all turns, at each of them.
-use Rattle.rv_core.proofs.Words.{◌≡◌, ℕ, zero, suc, ◌+◌, ◌<◌, sym, refl, ap, ◌∙◌, arith, Ends, GoesOn, Turn, followed_by, repeated}
+use Rattle.rv_core.proofs.Words.{◌≡◌, ℕ, zero, suc, ◌+◌, ◌<◌, sym, refl, ap, ◌∙◌, arith, Ends, GoesOn, Turn}
+use Rattle.rv_core.proofs.Words.{followed_by, repeated}
 
 module _ {S : Type 0} (turn : S → Turn S) (final : S) where
   -- a turn that ends the phase

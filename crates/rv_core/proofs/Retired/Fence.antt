@@ -1,5 +1,9 @@
 -- FENCE.I at the head: it waits for the retired stores and the port, then for the write-back, and retires.
-use Rattle.rv_core.proofs.Words.{◌≡◌, ℕ, ◌<◌, ne_eqb, Bool, true, false, List, [], ◌∷◌, ◌++◌, nat_le, ◌==◌, Some, AllPairs, sym, refl, ap, ◌∙◌, subst, true≢false, append-nil, arith, is_serialising, FenceI, Store as QueuedStore, Entry, execute_head, fence_instructions, is_drained, with_write_back, write_back_time, Hardware, stores_of, Step, committing, IsSoundHardware, queue_of}
+use Rattle.rv_core.proofs.Words.{◌≡◌, ℕ, ◌<◌, ne_eqb, Bool, true, false, List, [], ◌∷◌, ◌++◌, nat_le, ◌==◌, Some}
+use Rattle.rv_core.proofs.Words.{AllPairs, sym, refl, ap, ◌∙◌, subst, true≢false, append-nil, arith, is_serialising}
+use Rattle.rv_core.proofs.Words.{FenceI, Store as QueuedStore, Entry, execute_head, fence_instructions, is_drained}
+use Rattle.rv_core.proofs.Words.{with_write_back, write_back_time, Hardware, stores_of, Step, committing}
+use Rattle.rv_core.proofs.Words.{IsSoundHardware, queue_of}
 
 -- nothing stands after a serialising head
 alone : (e : Entry) (es : List Entry) → AllPairs (λ (older younger : Entry). is_serialising older.instruction ≡ false) (e ∷ es) →

@@ -1,5 +1,8 @@
 -- Everything in flight is squashed: what is left is empty, but for the retired stores.
-use Rattle.rv_core.proofs.Words.{◌≡◌, ℕ, List, [], filter, sym, ap, ◌∙◌, append-nil, arith, at_kind, for_each, PerKind, Values, is_committed, ReorderBuffer, mends_early, Hardware, flushed, redirected, below, below-none, by_kind-same, Queue, Pool, squashed_pool, Pending, squashed_bus, Renaming, cleared, cut_from, IsSoundHardware, AreTied, bus_of, pool_of_kind, stations_of}
+use Rattle.rv_core.proofs.Words.{◌≡◌, ℕ, List, [], filter, sym, ap, ◌∙◌, append-nil, arith, at_kind, for_each, PerKind}
+use Rattle.rv_core.proofs.Words.{Values, is_committed, ReorderBuffer, mends_early, Hardware, flushed, redirected, below}
+use Rattle.rv_core.proofs.Words.{below-none, by_kind-same, Queue, Pool, squashed_pool, Pending, squashed_bus, Renaming}
+use Rattle.rv_core.proofs.Words.{cleared, cut_from, IsSoundHardware, AreTied, bus_of, pool_of_kind, stations_of}
 use Rattle.rv_core.proofs.Retired.Stores.{AreRetired}
 use Rattle.rv_core.proofs.Phases.InFlight.{sound_in_flight}
 use Rattle.rv_core.proofs.Ties.Entries.{entries_below-none}

@@ -1,5 +1,15 @@
 -- The head retires: rename map, stations, bus and queue are those of the instructions after it.
-use Rattle.rv_core.proofs.Words.{◌≡◌, ℕ, ◌+◌, ◌<◌, Bool, true, false, not, ◌≢◌, List, [], ◌∷◌, ◌++◌, map, length, IfSome, if◌then◌else◌, ◌==◌, Some, None, filter, Option, sym, refl, ap, ◌∙◌, arith, get_or-set_other, get_or-set_same, eq-eqb, ne_eqb, is_branch_or_jump, is_store, is_target, target_of_word, at_kind, Message, Kind, PerKind, Values, with_register, ReorderBuffer, after_head, head_retired, Entry, Stage, mends_early, Hardware, broadcast_of, is_waiting, stores_of, with_value, committed_store, with_result, by_kind-same, Queue, Pool, Pending, Checkpoint, Renaming, checkpoint_without_oldest, retired, without_checkpoint, without_oldest, Producer, with_commit, without_target, IsLegalWrite, AreTied, bus_of, checkpoints_of, operand_by, pending_of, pool_of_kind, producer_of, producers_of, producers_with, renaming_of, stations_of, status_with, values_in, waiting_from}
+use Rattle.rv_core.proofs.Words.{◌≡◌, ℕ, ◌+◌, ◌<◌, Bool, true, false, not, ◌≢◌, List, [], ◌∷◌, ◌++◌, map, length}
+use Rattle.rv_core.proofs.Words.{IfSome, if◌then◌else◌, ◌==◌, Some, None, filter, Option, sym, refl, ap, ◌∙◌, arith}
+use Rattle.rv_core.proofs.Words.{get_or-set_other, get_or-set_same, eq-eqb, ne_eqb, is_branch_or_jump, is_store}
+use Rattle.rv_core.proofs.Words.{is_target, target_of_word, at_kind, Message, Kind, PerKind, Values, with_register}
+use Rattle.rv_core.proofs.Words.{ReorderBuffer, after_head, head_retired, Entry, Stage, mends_early, Hardware}
+use Rattle.rv_core.proofs.Words.{broadcast_of, is_waiting, stores_of, with_value, committed_store, with_result}
+use Rattle.rv_core.proofs.Words.{by_kind-same, Queue, Pool, Pending, Checkpoint, Renaming, checkpoint_without_oldest}
+use Rattle.rv_core.proofs.Words.{retired, without_checkpoint, without_oldest, Producer, with_commit, without_target}
+use Rattle.rv_core.proofs.Words.{IsLegalWrite, AreTied, bus_of, checkpoints_of, operand_by, pending_of, pool_of_kind}
+use Rattle.rv_core.proofs.Words.{producer_of, producers_of, producers_with, renaming_of, stations_of, status_with}
+use Rattle.rv_core.proofs.Words.{values_in, waiting_from}
 use Rattle.rv_core.proofs.Ties.Stations.{busy-at}
 use Rattle.rv_core.proofs.Retired.Stores.{AreRetired, queued_after_head}
 

@@ -1,5 +1,8 @@
 -- What the turns of the commit phase have taken, with what is still to come, is the definition's commit phase.
-use Rattle.rv_core.proofs.Words.{◌≡◌, ℕ, ◌+◌, ◌*◌, ◌<◌, ◌≤◌, List, [], ◌++◌, length, Some, None, Option, sym, refl, ap, ◌∙◌, append_assoc, append-nil, arith, length-append, due, Committing, commit, commit_turn, commit_unless, Hardware, Ends, repeated, Step, IsKept, and_step, committing, turn_left, HeadTurn}
+use Rattle.rv_core.proofs.Words.{◌≡◌, ℕ, ◌+◌, ◌*◌, ◌<◌, ◌≤◌, List, [], ◌++◌, length, Some, None, Option, sym, refl, ap}
+use Rattle.rv_core.proofs.Words.{◌∙◌, append_assoc, append-nil, arith, length-append, due, Committing, commit}
+use Rattle.rv_core.proofs.Words.{commit_turn, commit_unless, Hardware, Ends, repeated, Step, IsKept, and_step}
+use Rattle.rv_core.proofs.Words.{committing, turn_left, HeadTurn}
 use Rattle.std.proofs.Common.{Fits, rules, w32}
 use Rattle.std.specs.FinSet as set
 use Rattle.rv_core.proofs.Phases.Turned.{turned-ends, turned-goes}

@@ -1,5 +1,10 @@
 -- The turn that a head has by its role is the definition's, and keeps what no turn changes.
-use Rattle.rv_core.proofs.Words.{◌≡◌, ℕ, ◌+◌, ◌≤◌, arith, Guide, IsKept, IsTurn, false, true, Stale, Stop, Message, stop_after, turn_ended, turn_left, flushed, with_result, eq-eqb, ne_eqb, ◌≢◌, row_of, List, [], ◌∷◌, slice_get, Some, None, Option, nat_cmp, sym, refl, ap, ◌∙◌, is_serialising, Instr, word_of, Entry, Committing, commit_turn, commit_turn_of, execute_head, finish_broadcast, head_turn, Hardware, broadcast_of, Ends, Step, IsHead, committing, instruction_of_access, role_of, CsrAccess as Access, WaitsForResult}
+use Rattle.rv_core.proofs.Words.{◌≡◌, ℕ, ◌+◌, ◌≤◌, arith, Guide, IsKept, IsTurn, false, true, Stale, Stop, Message}
+use Rattle.rv_core.proofs.Words.{stop_after, turn_ended, turn_left, flushed, with_result, eq-eqb, ne_eqb, ◌≢◌, row_of}
+use Rattle.rv_core.proofs.Words.{List, [], ◌∷◌, slice_get, Some, None, Option, nat_cmp, sym, refl, ap, ◌∙◌}
+use Rattle.rv_core.proofs.Words.{is_serialising, Instr, word_of, Entry, Committing, commit_turn, commit_turn_of}
+use Rattle.rv_core.proofs.Words.{execute_head, finish_broadcast, head_turn, Hardware, broadcast_of, Ends, Step, IsHead}
+use Rattle.rv_core.proofs.Words.{committing, instruction_of_access, role_of, CsrAccess as Access, WaitsForResult}
 use Rattle.std.specs.FinSet as set
 use Rattle.rv_isa.specs.declared.causes.Fault.{Fault}
 use Rattle.rv_hardware.specs.Commit.{finish_head, with_fault}

@@ -1,5 +1,7 @@
 -- The hardware of which a serialising head has left is sound, and so it is with other CSRs and stale words.
-use Rattle.rv_core.proofs.Words.{◌≡◌, ℕ, ◌+◌, ◌*◌, ◌<◌, List, ◌∷◌, length, Option, ap, ◌∙◌, arith, length-set, Store as QueuedStore, ReorderBuffer, head_retired, Entry, Hardware, AreBelow-weaken, registers_with, IsSoundHardware, IsSound, StaleWords, Inside}
+use Rattle.rv_core.proofs.Words.{◌≡◌, ℕ, ◌+◌, ◌*◌, ◌<◌, List, ◌∷◌, length, Option, ap, ◌∙◌, arith, length-set}
+use Rattle.rv_core.proofs.Words.{Store as QueuedStore, ReorderBuffer, head_retired, Entry, Hardware, AreBelow-weaken}
+use Rattle.rv_core.proofs.Words.{registers_with, IsSoundHardware, IsSound, StaleWords, Inside}
 use Rattle.rv_arch.specs.Csr.{Kept}
 use Rattle.rv_core.proofs.Retired.Head.{buffer_after}
 use Rattle.rv_core.proofs.Retired.Sound.{entries_after_head}

@@ -1,5 +1,10 @@
 -- The head retires: what holds of the hardware goes on to hold.
-use Rattle.rv_core.proofs.Words.{◌≡◌, ℕ, suc, ◌+◌, ◌*◌, ◌<◌, Bool, false, List, ◌∷◌, ◌++◌, length, Some, None, All, Option, AllPairs, sym, ap, ◌∙◌, subst, append-nil, arith, All-tail, is_serialising, is_store, target_of_word, Message, StoreAccess, Values, Store as QueuedStore, Committed, Filled, ReorderBuffer, head_retired, Entry, Hardware, committed_store, with_result, All-push, AreBelow-push, AreBelow-weaken, AreSoundEntries, AreSoundStores, IsLegalWrite, IsRetiredStore, IsSoundEntry, IsSoundHardware}
+use Rattle.rv_core.proofs.Words.{◌≡◌, ℕ, suc, ◌+◌, ◌*◌, ◌<◌, Bool, false, List, ◌∷◌, ◌++◌, length, Some, None, All}
+use Rattle.rv_core.proofs.Words.{Option, AllPairs, sym, ap, ◌∙◌, subst, append-nil, arith, All-tail, is_serialising}
+use Rattle.rv_core.proofs.Words.{is_store, target_of_word, Message, StoreAccess, Values, Store as QueuedStore}
+use Rattle.rv_core.proofs.Words.{Committed, Filled, ReorderBuffer, head_retired, Entry, Hardware, committed_store}
+use Rattle.rv_core.proofs.Words.{with_result, All-push, AreBelow-push, AreBelow-weaken, AreSoundEntries, AreSoundStores}
+use Rattle.rv_core.proofs.Words.{IsLegalWrite, IsRetiredStore, IsSoundEntry, IsSoundHardware}
 use Rattle.rv_hardware.proofs.Headline.Known.{length-with_value}
 use Rattle.rv_core.proofs.Retired.Head.{buffer_after}
 use Rattle.rv_core.proofs.Retired.Stores.{AreRetired}

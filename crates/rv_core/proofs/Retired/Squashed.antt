@@ -1,5 +1,7 @@
 -- Parts of which everything in flight was squashed are sound, and stand for the flushed hardware.
-use Rattle.rv_core.proofs.Words.{◌≡◌, ℕ, List, filter, ◌∙◌, for_each, is_committed, ReorderBuffer, Hardware, flushed, squashed_pool, squashed_bus, cleared, IsSound, hardware_of, IsSoundHardware, AreTied, Inside}
+use Rattle.rv_core.proofs.Words.{◌≡◌, ℕ, List, filter, ◌∙◌, for_each, is_committed, ReorderBuffer, Hardware, flushed}
+use Rattle.rv_core.proofs.Words.{squashed_pool, squashed_bus, cleared, IsSound, hardware_of, IsSoundHardware, AreTied}
+use Rattle.rv_core.proofs.Words.{Inside}
 use Rattle.rv_core.proofs.Ties.Closed.{closed-is, closed-sound}
 use Rattle.rv_core.proofs.Retired.Flushed.{sound_when_flushed, tied_when_flushed}
 

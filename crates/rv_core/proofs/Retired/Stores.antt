@@ -1,5 +1,9 @@
 -- A store retires: it is the oldest in the queue that has not.
-use Rattle.rv_core.proofs.Words.{◌≡◌, ℕ, ◌+◌, Bool, true, false, List, [], ◌∷◌, ◌++◌, if◌then◌else◌, Some, None, All, Option, sym, refl, ap, append_assoc, append-nil, All-head, All-tail, is_store, Message, StoreAccess, Values, is_committed, Store as QueuedStore, Committed, Draining, Speculative, StoreState, Entry, broadcast_of, store_of_broadcast, stores_of, committed_store, with_oldest_retired, with_commit, IsLegalWrite, IsRetiredStore}
+use Rattle.rv_core.proofs.Words.{◌≡◌, ℕ, ◌+◌, Bool, true, false, List, [], ◌∷◌, ◌++◌, if◌then◌else◌, Some, None, All}
+use Rattle.rv_core.proofs.Words.{Option, sym, refl, ap, append_assoc, append-nil, All-head, All-tail, is_store, Message}
+use Rattle.rv_core.proofs.Words.{StoreAccess, Values, is_committed, Store as QueuedStore, Committed, Draining}
+use Rattle.rv_core.proofs.Words.{Speculative, StoreState, Entry, broadcast_of, store_of_broadcast, stores_of}
+use Rattle.rv_core.proofs.Words.{committed_store, with_oldest_retired, with_commit, IsLegalWrite, IsRetiredStore}
 use Rattle.rv_stores.specs.declared.store.StoreState.TheVariants as store
 
 -- retired stores, each with its access

@@ -1,5 +1,9 @@
 -- What the commit phase teaches the predictor, turn by turn, is what its steps' lessons teach.
-use Rattle.rv_core.proofs.Words.{◌≡◌, ℕ, List, [], ◌∷◌, ◌++◌, None, Option, sym, refl, ap, ◌∙◌, subst, append_assoc, append-nil, Lines, due, State, Committing, commit_turn, commit_with, execute, with_lines, Hardware, GoesOn, Turn, Reachable, seen, pc_of, Leads as LeavesEither, fold, AreTaught, after_lesson, Guide, first_pc, lesson_of, lessons_of, Step, and_step, committing, lessons_left, turn_left, IsBegun, HeadTurn, Some}
+use Rattle.rv_core.proofs.Words.{◌≡◌, ℕ, List, [], ◌∷◌, ◌++◌, None, Option, sym, refl, ap, ◌∙◌, subst, append_assoc}
+use Rattle.rv_core.proofs.Words.{append-nil, Lines, due, State, Committing, commit_turn, commit_with, execute}
+use Rattle.rv_core.proofs.Words.{with_lines, Hardware, GoesOn, Turn, Reachable, seen, pc_of, Leads as LeavesEither}
+use Rattle.rv_core.proofs.Words.{fold, AreTaught, after_lesson, Guide, first_pc, lesson_of, lessons_of, Step, and_step}
+use Rattle.rv_core.proofs.Words.{committing, lessons_left, turn_left, IsBegun, HeadTurn, Some}
 use Rattle.std.specs.FinSet as set
 use Rattle.std.proofs.lemmas.List.Sums.{fold-append}
 use Rattle.rv_hardware.proofs.Headline.Commit.{IsDone, IsGoing, begins_going, commit_done, turn_done}

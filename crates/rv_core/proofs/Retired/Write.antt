@@ -1,5 +1,8 @@
 -- What a head that retires writes is legal: its target lies in the registers, and its store in RAM.
-use Rattle.rv_core.proofs.Words.{◌≡◌, ℕ, Bool, true, false, List, ◌∷◌, IfSome, Some, None, All, Option, option_map, subst, arith, ne_eqb, All-head, is_store, Message, StoreAccess, Fault, Values, Entry, Stage, Hardware, broadcast_of, with_value, IsTrue, StaleWords, is_covered, registers_with, IsLegalAccess, IsLegalWrite, IsSoundEntry, IsSoundHardware, message_of}
+use Rattle.rv_core.proofs.Words.{◌≡◌, ℕ, Bool, true, false, List, ◌∷◌, IfSome, Some, None, All, Option, option_map}
+use Rattle.rv_core.proofs.Words.{subst, arith, ne_eqb, All-head, is_store, Message, StoreAccess, Fault, Values, Entry}
+use Rattle.rv_core.proofs.Words.{Stage, Hardware, broadcast_of, with_value, IsTrue, StaleWords, is_covered}
+use Rattle.rv_core.proofs.Words.{registers_with, IsLegalAccess, IsLegalWrite, IsSoundEntry, IsSoundHardware, message_of}
 use Rattle.rv_core.proofs.Retired.Head.{IsTarget}
 
 known_message : (stage : Stage) (m : Message) → broadcast_of stage ≡ Some m → message_of stage ≡ Some m

@@ -1,9 +1,18 @@
 -- A broadcast and the squash after a wrong prediction keep the ties of the parts and the soundness of the hardware.
-use Rattle.rv_core.proofs.Words.{◌≡◌, ℕ, ◌+◌, true, false, ◌&&◌, [], ◌++◌, map, length, IfSome, Some, None, sym, refl, ap, ◌∙◌, subst, arith, is_branch_or_jump, is_serialising, is_store, for_each, finished, predicting, ReorderBuffer, changed, entries_below, with_entry, Entry, broadcast_oldest, broadcast_result, broadcast_turn, is_mispredicted, mends_early, with_broadcast, with_recovery, Hardware, broadcast_of, is_waiting, store_of_message, Ends, GoesOn, redirected, find, Queue, older_than, answered, squashed_pool, woken_pool, Pending, granted_one, is_ready_result, squashed_bus, PendingResult, restored, cut_from, entry_of, broadcast_entry, IsSound, hardware_of, IsLegalWrite, IsSoundEntry, IsSoundHardware, message_of, AreTied, bus_of, Inside}
+use Rattle.rv_core.proofs.Words.{◌≡◌, ℕ, ◌+◌, true, false, ◌&&◌, [], ◌++◌, map, length, IfSome, Some, None, sym, refl}
+use Rattle.rv_core.proofs.Words.{ap, ◌∙◌, subst, arith, is_branch_or_jump, is_serialising, is_store, for_each, finished}
+use Rattle.rv_core.proofs.Words.{predicting, ReorderBuffer, changed, entries_below, with_entry, Entry, broadcast_oldest}
+use Rattle.rv_core.proofs.Words.{broadcast_result, broadcast_turn, is_mispredicted, mends_early, with_broadcast}
+use Rattle.rv_core.proofs.Words.{with_recovery, Hardware, broadcast_of, is_waiting, store_of_message, Ends, GoesOn}
+use Rattle.rv_core.proofs.Words.{redirected, find, Queue, older_than, answered, squashed_pool, woken_pool, Pending}
+use Rattle.rv_core.proofs.Words.{granted_one, is_ready_result, squashed_bus, PendingResult, restored, cut_from}
+use Rattle.rv_core.proofs.Words.{entry_of, broadcast_entry, IsSound, hardware_of, IsLegalWrite, IsSoundEntry}
+use Rattle.rv_core.proofs.Words.{IsSoundHardware, message_of, AreTied, bus_of, Inside}
 use Rattle.rv_core.proofs.Ties.Closed.{closed-is, closed-sound}
 use Rattle.rv_core.proofs.Phases.InFlight.{sound_in_flight}
 use Rattle.rv_core.proofs.Ties.Bus.{IsGranted, bus-predicting, bus-squashed, granted, granted-none, without-none}
-use Rattle.rv_core.proofs.Ties.Entries.{All-entries_below, All-with_entry, entry_of-changed, entry_of-from, length-entries_below, length-with_entry, pairs-entries_below, pairs-with_entry}
+use Rattle.rv_core.proofs.Ties.Entries.{All-entries_below, All-with_entry, entry_of-changed, entry_of-from}
+use Rattle.rv_core.proofs.Ties.Entries.{length-entries_below, length-with_entry, pairs-entries_below, pairs-with_entry}
 use Rattle.rv_core.proofs.Ties.Queue.{queue-answered, queue-squashed, stores-predicting}
 use Rattle.rv_core.proofs.Ties.Renaming.{renaming-restored, renaming-same}
 use Rattle.rv_core.proofs.Ties.Stations.{stations-predicting, stations-squashed, stations-woken}

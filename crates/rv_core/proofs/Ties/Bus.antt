@@ -1,5 +1,11 @@
--- The common data bus is what the instructions in flight tell, through a dispatch, a broadcast and a squash.
-use Rattle.rv_core.proofs.Words.{◌≡◌, ℕ, ◌+◌, Bool, false, cond, List, [], ◌∷◌, ◌++◌, length, nat_le, ◌==◌, Some, None, All, Option, sym, refl, ap, ◌∙◌, inl, inr, append-nil, arith, length-append, eq-eqb, ne_eqb, cases_Bool, All-cons, Message, Issue, Kind, Values, finished, predicting, ReorderBuffer, changed, entries_below, pushed, with_entry, Entry, Stage, Finished, Running, has_result, result_at, stage_by, oldest_from, find, below, is_ready_result, seq_of, squashed_bus, without_first_ready, PendingResult, cut_from, entry_of, next_number, bus_of, pending_from, pending_of}
+-- The common data bus is what the instructions in flight determine, through a dispatch, a broadcast and a squash.
+use Rattle.rv_core.proofs.Words.{◌≡◌, ℕ, ◌+◌, Bool, false, cond, List, [], ◌∷◌, ◌++◌, length, nat_le, ◌==◌, Some, None}
+use Rattle.rv_core.proofs.Words.{All, Option, sym, refl, ap, ◌∙◌, inl, inr, append-nil, arith, length-append, eq-eqb}
+use Rattle.rv_core.proofs.Words.{ne_eqb, cases_Bool, All-cons, Message, Issue, Kind, Values, finished, predicting}
+use Rattle.rv_core.proofs.Words.{ReorderBuffer, changed, entries_below, pushed, with_entry, Entry, Stage, Finished}
+use Rattle.rv_core.proofs.Words.{Running, has_result, result_at, stage_by, oldest_from, find, below, is_ready_result}
+use Rattle.rv_core.proofs.Words.{seq_of, squashed_bus, without_first_ready, PendingResult, cut_from, entry_of}
+use Rattle.rv_core.proofs.Words.{next_number, bus_of, pending_from, pending_of}
 use Rattle.rv_core.proofs.Ties.Gathered.{nothing, gathered, gathered-cut, gathered-push, gathered-same}
 use Rattle.rv_core.proofs.Ties.Entries.{entry_of-from}
 

@@ -1,10 +1,11 @@
 -- Parts that are tied to a hardware stand for it.
-use Rattle.rv_core.proofs.Words.{◌≡◌, filter, sym, ap, ◌∙◌, subst, is_committed, Hardware, Queue, IsSound, hardware_of, IsSoundHardware, AreTied, Inside}
+use Rattle.rv_core.proofs.Words.{◌≡◌, filter, sym, ap, ◌∙◌, subst, is_committed, Hardware, Queue, IsSound, hardware_of}
+use Rattle.rv_core.proofs.Words.{IsSoundHardware, AreTied, Inside}
 use Rattle.rv_core.proofs.Ties.Queue.{retired_of_queue}
 
 module _ (p : Inside) (h : Hardware) (same : record (hardware_of p) { committed = h.committed } ≡ h)
     (tied : AreTied h p.rename p.stations p.bus p.stores) (sound : IsSoundHardware h) where
-  -- the retired stores are told by the queue, all else is there
+  -- the retired stores are those of the queue, all else is there
   pub closed-is : hardware_of p ≡ h
   closed-is =
       ap (λ committed. record (hardware_of p) { committed = committed })

@@ -1,5 +1,14 @@
 -- A dispatch keeps the ties of the parts and the soundness of the hardware.
-use Rattle.rv_core.proofs.Words.{◌≡◌, ℕ, suc, ◌-◌, ◌<◌, Bool, false, cond, ◌&&◌, List, [], ◌∷◌, ◌++◌, length, IfSome, nat_le, slice_get, Some, None, All, Option, AllPairs, sym, refl, ap, ◌∙◌, arith, length-append, leb-false, All-cons, list_any, is_branch_or_jump, is_serialising, is_store, kind_of_word, target_of_word, Instr, Lines, Kind, PerKind, Values, Layout, State, pushed, Entry, Finished, Fetched, mends_early, entry_of_fetched, has_full_stations, reason_of, stage_by, Hardware, result_of_word, layout_of, state_after, stores_after, or-false, All-push, all_pairs_push, at_kind-by_kind, Queue, Pool, Pending, Renaming, next_number, are_full_for, with_instruction, with_jump, with_store, with_target, IsDecoded, IsLegalWrite, IsSoundEntry, IsSoundHardware, message_of, AreTied, stations_of, status_after, values_in}
+use Rattle.rv_core.proofs.Words.{◌≡◌, ℕ, suc, ◌-◌, ◌<◌, Bool, false, cond, ◌&&◌, List, [], ◌∷◌, ◌++◌, length, IfSome}
+use Rattle.rv_core.proofs.Words.{nat_le, slice_get, Some, None, All, Option, AllPairs, sym, refl, ap, ◌∙◌, arith}
+use Rattle.rv_core.proofs.Words.{length-append, leb-false, All-cons, list_any, is_branch_or_jump, is_serialising}
+use Rattle.rv_core.proofs.Words.{is_store, kind_of_word, target_of_word, Instr, Lines, Kind, PerKind, Values, Layout}
+use Rattle.rv_core.proofs.Words.{State, pushed, Entry, Finished, Fetched, mends_early, entry_of_fetched}
+use Rattle.rv_core.proofs.Words.{has_full_stations, reason_of, stage_by, Hardware, result_of_word, layout_of}
+use Rattle.rv_core.proofs.Words.{state_after, stores_after, or-false, All-push, all_pairs_push, at_kind-by_kind, Queue}
+use Rattle.rv_core.proofs.Words.{Pool, Pending, Renaming, next_number, are_full_for, with_instruction, with_jump}
+use Rattle.rv_core.proofs.Words.{with_store, with_target, IsDecoded, IsLegalWrite, IsSoundEntry, IsSoundHardware}
+use Rattle.rv_core.proofs.Words.{message_of, AreTied, stations_of, status_after, values_in}
 use Rattle.rv_hardware.specs.declared.report.Stall.TheVariants as stall
 use Rattle.rv_rob.specs.ReorderBuffer.{youngest}
 use Rattle.rv_core.proofs.Phases.InFlight.{sound_in_flight}

@@ -1,5 +1,8 @@
 -- A change of the entry of a number, and a cut at one, keep what holds of the entries.
-use Rattle.rv_core.proofs.Words.{◌-◌, ◌≡◌, ℕ, suc, ◌+◌, ◌<◌, ◌≤◌, true, false, cond, List, [], ◌∷◌, length, ◌==◌, slice_index_or as get_or, Some, All, AllPairs, sym, refl, ap, ◌∙◌, inl, inr, arith, eqb-true, cases_Bool, All-cons, All-head, All-tail, AllPairs-cons, entries_below, with_entry, Entry, entry_of}
+use Rattle.rv_core.proofs.Words.{◌-◌, ◌≡◌, ℕ, suc, ◌+◌, ◌<◌, ◌≤◌, true, false, cond, List, [], ◌∷◌, length, ◌==◌}
+use Rattle.rv_core.proofs.Words.{slice_index_or as get_or, Some, All, AllPairs, sym, refl, ap, ◌∙◌, inl, inr, arith}
+use Rattle.rv_core.proofs.Words.{eqb-true, cases_Bool, All-cons, All-head, All-tail, AllPairs-cons, entries_below}
+use Rattle.rv_core.proofs.Words.{with_entry, Entry, entry_of}
 use Rattle.std.proofs.lemmas.List.{get_or-take, length-take}
 use Rattle.std.proofs.lemmas.List.Elements.{All-take}
 use Rattle.rv_rob.proofs.Places.{entries_below-take}

@@ -1,5 +1,8 @@
 -- What instructions in flight give, one after another, keeps its numbers, and a cut or a push of them is one of it.
-use Rattle.rv_core.proofs.Words.{◌≡◌, ℕ, ◌+◌, ◌≤◌, List, [], ◌∷◌, ◌++◌, length, All, refl, ◌∙◌, inl, inr, append_assoc, append-nil, arith, length-append, le-ltb, lt-ltb, cases_lt, All-append, entries_below, with_entry, Entry, AreBelow, below, AreBelow-append, below-all, below-append, below-none}
+use Rattle.rv_core.proofs.Words.{◌≡◌, ℕ, ◌+◌, ◌≤◌, List, [], ◌∷◌, ◌++◌, length, All, refl, ◌∙◌, inl, inr, append_assoc}
+use Rattle.rv_core.proofs.Words.{append-nil, arith, length-append, le-ltb, lt-ltb, cases_lt, All-append, entries_below}
+use Rattle.rv_core.proofs.Words.{with_entry, Entry, AreBelow, below, AreBelow-append, below-all, below-append}
+use Rattle.rv_core.proofs.Words.{below-none}
 
 -- the state of what needs none
 abbrev pub nothing : Unit {0} → ℕ → Entry → Unit {0}
@@ -7,9 +10,9 @@ nothing st s e = tt
 
 module _ {S : Type 0} (next : S → ℕ → Entry → S) where
   -- the state after some instructions, the first of which has a sequence number
-  abbrev pub behind : S → ℕ → List Entry → S
-  behind st s [] = st
-  behind st s (e ∷ es) = behind (next st s e) (s + 1) es
+  abbrev pub after_entries : S → ℕ → List Entry → S
+  after_entries st s [] = st
+  after_entries st s (e ∷ es) = after_entries (next st s e) (s + 1) es
 
   module _ {X : Type 0} (own : S → ℕ → Entry → List X) where
     -- what the instructions give, one after another
@@ -19,7 +22,7 @@ module _ {S : Type 0} (next : S → ℕ → Entry → S) where
 
     -- one instruction more
     pub gathered-push : (st : S) (s n : ℕ) (es : List Entry) (e : Entry) → n ≡ s + length es →
-        gathered st s (es ++ e ∷ []) ≡ gathered st s es ++ own (behind st s es) n e
+        gathered st s (es ++ e ∷ []) ≡ gathered st s es ++ own (after_entries st s es) n e
     gathered-push st s n [] e is = grind (arith, append-nil)
     gathered-push st s n (d ∷ es) e is = grind (arith, append_assoc, gathered-push (next st s d) (s + 1) n es e)
 

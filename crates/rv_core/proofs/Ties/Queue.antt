@@ -1,8 +1,17 @@
--- The store queue is what the retired stores and the instructions in flight tell, through a dispatch, a broadcast and a squash.
-use Rattle.rv_core.proofs.Words.{◌≡◌, ℕ, ◌+◌, ◌<◌, ◌≤◌, Bool, true, false, cond, List, [], ◌∷◌, ◌++◌, map, length, ◌==◌, Some, None, All, filter, Option, sym, refl, ap, ◌∙◌, true≢false, append_assoc, append-nil, arith, eq-eqb, ne_eqb, eqb-false, map-append, All-append, All-cons, All-head, All-tail, filter-append, is_store, kind_of_word, Message, Instr, Values, is_committed, is_committed_state, Store, StoreState, finished, predicting, ReorderBuffer, entries_below, with_entry, Entry, Stage, Finished, stage_by, Hardware, broadcast_of, store_of_broadcast, store_of_message, stores_of, AreBelow, AreBelow-append, AreBelow-weaken, below-all, below-append, CanEnter, Queue, older_than, answered, entry_of, next_number, with_store, IsRetiredStore, queue_of}
+-- The store queue is what retired stores and instructions in flight determine, through dispatch, broadcast and squash.
+use Rattle.rv_core.proofs.Words.{◌≡◌, ℕ, ◌+◌, ◌<◌, ◌≤◌, Bool, true, false, cond, List, [], ◌∷◌, ◌++◌, map, length, ◌==◌}
+use Rattle.rv_core.proofs.Words.{Some, None, All, filter, Option, sym, refl, ap, ◌∙◌, true≢false, append_assoc}
+use Rattle.rv_core.proofs.Words.{append-nil, arith, eq-eqb, ne_eqb, eqb-false, map-append, All-append, All-cons}
+use Rattle.rv_core.proofs.Words.{All-head, All-tail, filter-append, is_store, kind_of_word, Message, Instr, Values}
+use Rattle.rv_core.proofs.Words.{is_committed, is_committed_state, Store, StoreState, finished, predicting}
+use Rattle.rv_core.proofs.Words.{ReorderBuffer, entries_below, with_entry, Entry, Stage, Finished, stage_by, Hardware}
+use Rattle.rv_core.proofs.Words.{broadcast_of, store_of_broadcast, store_of_message, stores_of, AreBelow}
+use Rattle.rv_core.proofs.Words.{AreBelow-append, AreBelow-weaken, below-all, below-append, CanEnter, Queue, older_than}
+use Rattle.rv_core.proofs.Words.{answered, entry_of, next_number, with_store, IsRetiredStore, queue_of}
 use Rattle.rv_stores.specs.declared.store.StoreState.TheVariants as store
 use Rattle.rv_core.specs.InExecution.{AreOthers}
-use Rattle.rv_core.proofs.Ties.Gathered.{nothing, gathered, gathered-below, gathered-cut, gathered-from, gathered-push, gathered-same}
+use Rattle.rv_core.proofs.Ties.Gathered.{nothing, gathered, gathered-below, gathered-cut, gathered-from, gathered-push}
+use Rattle.rv_core.proofs.Ties.Gathered.{gathered-same}
 use Rattle.rv_core.proofs.Retired.Stores.{AreRetired, retired_is_committed}
 use Rattle.rv_core.proofs.Ties.Entries.{at_head, entry_of-from, held_at, in_tail}
 
@@ -150,37 +159,42 @@ module _ (n cycle : ℕ) (message : Message) where
         (rw (ne_eqb s n (λ back. eqb-false n s other (sym back))) refl) (stores-answered (s + 1) es e is silent))
   ]
 
--- an instruction in flight that is no store has no place in the queue
-others-older : (n s : ℕ) (ss : List Store) → s ≤ n → AreBelow (λ (x : Store). x.seq) s ss → AreOthers n ss
-others-older n s ss le older =
+-- ---- an instruction in flight that is no store has no place in the queue
+older_are_others : (n s : ℕ) (ss : List Store) → s ≤ n → AreBelow (λ (x : Store). x.seq) s ss → AreOthers n ss
+older_are_others n s ss le older =
     λ k d lt. ne_eqb _ n (λ same. let below = older k d lt in absurd (omega (arith, same, below, le)))
 
-others-later : (n s : ℕ) (es : List Entry) → n < s → AreOthers n (stores_of s es)
-others-later n s es lt =
-    λ k d within. ne_eqb _ n (λ same. let from = stores-from s s es (omega arith) k d within in absurd (omega (arith, same, from, lt)))
+later_are_others : (n s : ℕ) (es : List Entry) → n < s → AreOthers n (stores_of s es)
+later_are_others n s es lt =
+    λ k d within. ne_eqb _ n
+    (λ same. let from = stores-from s s es (omega arith) k d within in absurd (omega (arith, same, from, lt)))
 
-others-with : (n : ℕ) (b : Bool) (x : Store) (xs : List Store) → (x.seq == n) ≡ false → AreOthers n xs → AreOthers n (cond b (x ∷ xs) xs)
-others-with n true x xs other others = All-cons (λ (y : Store). (y.seq == n) ≡ false) x xs other others
-others-with n false x xs other others = others
+are_others_with : (n : ℕ) (b : Bool) (x : Store) (xs : List Store) → (x.seq == n) ≡ false → AreOthers n xs →
+    AreOthers n (cond b (x ∷ xs) xs)
+are_others_with n true x xs other others = All-cons (λ (y : Store). (y.seq == n) ≡ false) x xs other others
+are_others_with n false x xs other others = others
 
-others-in_flight : (n s : ℕ) (es : List Entry) (e : Entry) → entry_of n s es ≡ Some e → is_store e.instruction ≡ false → AreOthers n (stores_of s es)
-others-in_flight n s [] e held no_store = absurd (cc)
-others-in_flight n s (d ∷ es) e held no_store = elim (held_at n s d es e held) [
+in_flight_are_others : (n s : ℕ) (es : List Entry) (e : Entry) → entry_of n s es ≡ Some e →
+    is_store e.instruction ≡ false → AreOthers n (stores_of s es)
+in_flight_are_others n s [] e held no_store = absurd (cc)
+in_flight_are_others n s (d ∷ es) e held no_store = elim (held_at n s d es e held) [
   | at_head equal number one ↦
       let none : is_store d.instruction ≡ false = rw one no_store in
-      rw none (others-later n (s + 1) es (omega (arith, number)))
+      rw none (later_are_others n (s + 1) es (omega (arith, number)))
   | in_tail other is ↦
-      others-with n (is_store d.instruction) (store_at s d) (stores_of (s + 1) es)
-      (ne_eqb s n (λ back. eqb-false n s other (sym back))) (others-in_flight n (s + 1) es e is no_store)
+      are_others_with n (is_store d.instruction) (store_at s d) (stores_of (s + 1) es)
+      (ne_eqb s n (λ back. eqb-false n s other (sym back))) (in_flight_are_others n (s + 1) es e is no_store)
 ]
 
-pub others-queued : (n : ℕ) (committed : List Store) (s : ℕ) (es : List Entry) (e : Entry) → AreBelow (λ (x : Store). x.seq) s committed →
-    entry_of n s es ≡ Some e → is_store e.instruction ≡ false → AreOthers n (committed ++ stores_of s es)
-others-queued n committed s es e older held no_store =
+-- each store of the queue has another number than an instruction in flight that is no store
+pub queued_are_others : (n : ℕ) (committed : List Store) (s : ℕ) (es : List Entry) (e : Entry) →
+    AreBelow (λ (x : Store). x.seq) s committed → entry_of n s es ≡ Some e → is_store e.instruction ≡ false →
+    AreOthers n (committed ++ stores_of s es)
+queued_are_others n committed s es e older held no_store =
     All-append (λ (x : Store). (x.seq == n) ≡ false) committed (stores_of s es)
-    (others-older n s committed (entry_of-from n s es e held).0 older) (others-in_flight n s es e held no_store)
+    (older_are_others n s committed (entry_of-from n s es e held).0 older) (in_flight_are_others n s es e held no_store)
 
--- the queue with a broadcast told to it
+-- the queue after a broadcast
 pub queue-answered : (n cycle : ℕ) (message : Message) (committed : List Store) (s : ℕ) (es : List Entry) (e : Entry) →
     AreBelow (λ (x : Store). x.seq) s committed → entry_of n s es ≡ Some e → broadcast_of e.stage ≡ None
     → map (answered n (store_of_message message.store)) (committed ++ stores_of s es)

@@ -1,5 +1,9 @@
 -- What a register gives is the value or the tag of the youngest instruction that writes it.
-use Rattle.rv_core.proofs.Words.{◌≡◌, ℕ, ◌+◌, ◌<◌, ◌≤◌, Bool, cond, List, [], ◌∷◌, ◌++◌, length, ◌==◌, Some, None, All, Option, refl, ◌∙◌, arith, eq-eqb, ne_eqb, eqb-true, eqb-false, All-head, All-tail, option_or, is_target, target_of_word, Entry, broadcast_of, Operand, Value, youngest, Producer, entry_of, RegisterStatus, operand_by, producer_of, producers_of, status_after, status_with}
+use Rattle.rv_core.proofs.Words.{◌≡◌, ℕ, ◌+◌, ◌<◌, ◌≤◌, Bool, cond, List, [], ◌∷◌, ◌++◌, length, ◌==◌, Some, None, All}
+use Rattle.rv_core.proofs.Words.{Option, refl, ◌∙◌, arith, eq-eqb, ne_eqb, eqb-true, eqb-false, All-head, All-tail}
+use Rattle.rv_core.proofs.Words.{option_or, is_target, target_of_word, Entry, broadcast_of, Operand, Value, youngest}
+use Rattle.rv_core.proofs.Words.{Producer, entry_of, RegisterStatus, operand_by, producer_of, producers_of}
+use Rattle.rv_core.proofs.Words.{status_after, status_with}
 use Rattle.rv_core.proofs.Ties.Renaming.{producers-below, producers-from}
 
 -- what the entry of a producer gives

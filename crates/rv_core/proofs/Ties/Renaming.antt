@@ -1,6 +1,13 @@
--- The rename map is what the instructions in flight tell, through a dispatch and a squash.
-use Rattle.rv_core.proofs.Words.{◌≡◌, ℕ, ◌+◌, ◌<◌, ◌≤◌, Bool, true, false, cond, ◌&&◌, List, [], ◌∷◌, ◌++◌, length, ◌==◌, Some, All, Option, sym, refl, ap, ◌∙◌, append_assoc, append-nil, arith, lt-ltb, All-cons, is_branch_or_jump, target_of_word, Values, ReorderBuffer, changed, entries_below, pushed, with_entry, Entry, mends_early, AreBelow, below, AreBelow-append, CanCheckpoint, CanDefine, Checkpoint, Renaming, producers_at, restored, Producer, cut_from, entry_of, next_number, with_jump, with_target, checkpoints_of, producer_of, producers_of, producers_with, renaming_of}
-use Rattle.rv_core.proofs.Ties.Gathered.{nothing, behind, gathered, gathered-below, gathered-cut, gathered-from, gathered-length, gathered-push, gathered-same}
+-- The rename map is what the instructions in flight determine, through a dispatch and a squash.
+use Rattle.rv_core.proofs.Words.{◌≡◌, ℕ, ◌+◌, ◌<◌, ◌≤◌, Bool, true, false, cond, ◌&&◌, List, [], ◌∷◌, ◌++◌, length}
+use Rattle.rv_core.proofs.Words.{◌==◌, Some, All, Option, sym, refl, ap, ◌∙◌, append_assoc, append-nil, arith, lt-ltb}
+use Rattle.rv_core.proofs.Words.{All-cons, is_branch_or_jump, target_of_word, Values, ReorderBuffer, changed}
+use Rattle.rv_core.proofs.Words.{entries_below, pushed, with_entry, Entry, mends_early, AreBelow, below}
+use Rattle.rv_core.proofs.Words.{AreBelow-append, CanCheckpoint, CanDefine, Checkpoint, Renaming, producers_at}
+use Rattle.rv_core.proofs.Words.{restored, Producer, cut_from, entry_of, next_number, with_jump, with_target}
+use Rattle.rv_core.proofs.Words.{checkpoints_of, producer_of, producers_of, producers_with, renaming_of}
+use Rattle.rv_core.proofs.Ties.Gathered.{nothing, after_entries, gathered, gathered-below, gathered-cut, gathered-from}
+use Rattle.rv_core.proofs.Ties.Gathered.{gathered-length, gathered-push, gathered-same}
 use Rattle.rv_core.proofs.Ties.Entries.{at_head, entries_below-none, entry_of-from, held_at, in_tail}
 
 -- ---- producers, one after another
@@ -67,16 +74,17 @@ checkpoint-one : (b : Bool) (c : Checkpoint) → length (cond b (c ∷ []) []) �
 checkpoint-one b c = grind arith
 
 -- the producers after some instructions
-behind-producers : (older : List Producer) (s : ℕ) (es : List Entry) →
-    behind producers_with older s es ≡ older ++ producers_of s es
-behind-producers older s [] = sym (append-nil older)
-behind-producers older s (e ∷ es) = grind (arith, append_assoc, behind-producers (producers_with older s e) (s + 1) es)
+after_entries-producers : (older : List Producer) (s : ℕ) (es : List Entry) →
+    after_entries producers_with older s es ≡ older ++ producers_of s es
+after_entries-producers older s [] = sym (append-nil older)
+after_entries-producers older s (e ∷ es) =
+    grind (arith, append_assoc, after_entries-producers (producers_with older s e) (s + 1) es)
 
 checkpoints-push : (s n : ℕ) (es : List Entry) (e : Entry) → n ≡ s + length es →
     checkpoints_of [] s (es ++ e ∷ []) ≡ checkpoints_of [] s es ++ own_checkpoint (producers_of s es) n e
 checkpoints-push s n es e is =
     checkpoints-gathered [] s (es ++ e ∷ []) ∙ gathered-push producers_with own_checkpoint [] s n es e is ∙
-    (λ i. sym (checkpoints-gathered [] s es) i ++ own_checkpoint (behind-producers [] s es i) n e)
+    (λ i. sym (checkpoints-gathered [] s es) i ++ own_checkpoint (after_entries-producers [] s es i) n e)
 
 pub checkpoints-below : (n s : ℕ) (es : List Entry) → s + length es ≤ n →
     AreBelow (λ (c : Checkpoint). c.seq) n (checkpoints_of [] s es)

@@ -1,7 +1,11 @@
 -- At reset memory holds the image, and zeros after it, and the parts with nothing in flight are sound.
 use Rattle.std.proofs.Common.{rules}
 use Rattle.std.proofs.lemmas.List.{length-replicate}
-use Rattle.rv_core.proofs.Words.{◌≡◌, ℕ, ◌+◌, ◌-◌, ◌≤◌, sym, refl, ◌∙◌, subst, Bool, true, false, if◌then◌else◌, [], List, ◌++◌, IsLegal, Values, Hardware, reset_hardware, mends_early, for_each, empty, empty_pool, empty_bus, Renaming, bus_of, hardware_of, queue_of, renaming_of, stations_of, IsSound, IsSoundHardware, Inside, length-append, length, drop, replicate, ap, arith, drop-replicate}
+use Rattle.rv_core.proofs.Words.{◌≡◌, ℕ, ◌+◌, ◌-◌, ◌≤◌, sym, refl, ◌∙◌, subst, Bool, true, false, if◌then◌else◌, []}
+use Rattle.rv_core.proofs.Words.{List, ◌++◌, IsLegal, Values, Hardware, reset_hardware, mends_early, for_each, empty}
+use Rattle.rv_core.proofs.Words.{empty_pool, empty_bus, Renaming, bus_of, hardware_of, queue_of, renaming_of}
+use Rattle.rv_core.proofs.Words.{stations_of, IsSound, IsSoundHardware, Inside, length-append, length, drop, replicate}
+use Rattle.rv_core.proofs.Words.{ap, arith, drop-replicate}
 
 -- an image that is written over zeros has zeros after it
 pub image_over_zeros : (size : ℕ) (image : List ℕ) →

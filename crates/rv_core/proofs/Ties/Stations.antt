@@ -1,9 +1,20 @@
--- The reservation stations are what the instructions in flight tell, through a dispatch, a broadcast and a squash.
-use Rattle.rv_core.proofs.Words.{◌≡◌, ℕ, ◌+◌, ◌<◌, ◌≤◌, Bool, true, false, cond, ◌&&◌, List, [], ◌∷◌, ◌++◌, map, length, ◌==◌, slice_index_or, Some, None, All, filter, Option, sym, refl, ap, ◌∙◌, subst, append-nil, arith, eq-eqb, ne_eqb, and_right, eqb-false, map-append, All-cons, is_same-own, is_of_kind, kind_of_word, sources_of, at_kind, for_each, Message, Instr, Kind, PerKind, Values, finished, predicting, ReorderBuffer, changed, entries_below, pushed, with_entry, Entry, Stage, is_stationed, stage_by, broadcast_of, is_waiting, AreBelow, below, by_kind, at_kind-by_kind, by_kind-same, with_kind-by_kind, Pool, squashed_pool, woken_pool, woken, woken_operand, Station, cut_from, entry_of, next_number, with_instruction, with_station, RegisterStatus, operand_by, operand_of, pool_of_kind, stations_of, status_after, status_with, values_in, waiting_at, waiting_from, waiting_of}
+-- The reservation stations are what the instructions in flight determine, through a dispatch, a broadcast and a squash.
+use Rattle.rv_core.proofs.Words.{◌≡◌, ℕ, ◌+◌, ◌<◌, ◌≤◌, Bool, true, false, cond, ◌&&◌, List, [], ◌∷◌, ◌++◌, map, length}
+use Rattle.rv_core.proofs.Words.{◌==◌, slice_index_or, Some, None, All, filter, Option, sym, refl, ap, ◌∙◌, subst}
+use Rattle.rv_core.proofs.Words.{append-nil, arith, eq-eqb, ne_eqb, and_right, eqb-false, map-append, All-cons}
+use Rattle.rv_core.proofs.Words.{is_same-own, is_of_kind, kind_of_word, sources_of, at_kind, for_each, Message, Instr}
+use Rattle.rv_core.proofs.Words.{Kind, PerKind, Values, finished, predicting, ReorderBuffer, changed, entries_below}
+use Rattle.rv_core.proofs.Words.{pushed, with_entry, Entry, Stage, is_stationed, stage_by, broadcast_of, is_waiting}
+use Rattle.rv_core.proofs.Words.{AreBelow, below, by_kind, at_kind-by_kind, by_kind-same, with_kind-by_kind, Pool}
+use Rattle.rv_core.proofs.Words.{squashed_pool, woken_pool, woken, woken_operand, Station, cut_from, entry_of}
+use Rattle.rv_core.proofs.Words.{next_number, with_instruction, with_station, RegisterStatus, operand_by, operand_of}
+use Rattle.rv_core.proofs.Words.{pool_of_kind, stations_of, status_after, status_with, values_in, waiting_at}
+use Rattle.rv_core.proofs.Words.{waiting_from, waiting_of}
 use Rattle.rv_rob.specs.declared.entry.Stage.TheVariants as stage
 use Rattle.rv_stations.specs.Waiting.{seq_of}
 use Rattle.rv_core.proofs.Ties.Entries.{at_head, held_at, in_tail}
-use Rattle.rv_core.proofs.Ties.Gathered.{behind, gathered, gathered-below, gathered-cut, gathered-push, gathered-same}
+use Rattle.rv_core.proofs.Ties.Gathered.{after_entries, gathered, gathered-below, gathered-cut, gathered-push}
+use Rattle.rv_core.proofs.Ties.Gathered.{gathered-same}
 
 -- ---- the waiting instructions, one after another
 module _ (unit : Kind) where
@@ -21,15 +32,17 @@ module _ (unit : Kind) where
       All (λ w. seq_of w ≡ s) (waiting_at unit status s e o)
   waiting-at status s e o = grind (arith, waiting-at_if)
 
-  behind-status : (status : RegisterStatus) (s : ℕ) (es : List Entry) → behind status_with status s es ≡ status_after status s es
-  behind-status status s es = grind arith
+  after_entries-status : (status : RegisterStatus) (s : ℕ) (es : List Entry) →
+      after_entries status_with status s es ≡ status_after status s es
+  after_entries-status status s es = grind arith
 
   waiting-push : (status : RegisterStatus) (s n : ℕ) (es : List Entry) (e : Entry) → n ≡ s + length es →
       waiting_from unit status s (es ++ e ∷ [])
       ≡ waiting_from unit status s es ++ waiting_at unit (status_after status s es) n e e.instruction
   waiting-push status s n es e is =
       waiting-gathered status s (es ++ e ∷ []) ∙ gathered-push status_with own_waiting status s n es e is ∙
-      (λ i. sym (waiting-gathered status s es) i ++ waiting_at unit (behind-status status s es i) n e e.instruction)
+      (λ i. sym (waiting-gathered status s es) i ++
+      waiting_at unit (after_entries-status status s es i) n e e.instruction)
 
   pub waiting-below : (n : ℕ) (status : RegisterStatus) (s : ℕ) (es : List Entry) → s + length es ≤ n →
       AreBelow seq_of n (waiting_from unit status s es)

@@ -1,5 +1,5 @@
 use Rattle.rv_core.proofs.Words.{None, sym, subst, guided, reports_of, IsCutShort, IsOutcome, OutOfMemory, Outcome}
-use Rattle.rv_core.proofs.RunReports.{told_of}
+use Rattle.rv_core.proofs.RunReports.{run_of_cycles}
 use Rattle.rv_core.proofs.Shown.{cut_short_by, cycles_shown, stops_by}
 use Rattle.rv_core.proofs.cycles.collect.Goals as goal
 
@@ -14,7 +14,7 @@ returns-in-Ok g c =
     let run = c.watch-ended.ensures in
     subst (λ (o : Outcome). IsOutcome c.args.arrivals.now c.args.limit old new o) (sym c.outcome.ensures) (
       reports_of run.moments,
-      told_of c.args.arrivals.now old new (reports_of run.moments) c.watch-ended.result.progress _
+      run_of_cycles c.args.arrivals.now old new (reports_of run.moments) c.watch-ended.result.progress _
           (cycles_shown run.passes) run.counted (run.seen None c.new-collector.ensures),
       stops_by run c.in-Ok.stop c.in-Ok.is,
     )
@@ -28,7 +28,7 @@ returns-in-Err g c =
     let short = cut_short_by run _ c.in-Err.is in
     subst (λ (o : OutOfMemory). IsCutShort c.args.arrivals.now c.args.limit old new o) (sym c.out_of_memory.ensures) (
       reports_of run.moments,
-      told_of c.args.arrivals.now old new (reports_of run.moments) c.watch-ended.result.progress _
+      run_of_cycles c.args.arrivals.now old new (reports_of run.moments) c.watch-ended.result.progress _
           (cycles_shown run.passes) run.counted (run.seen None c.new-collector.ensures),
       short.0,
       short.1,

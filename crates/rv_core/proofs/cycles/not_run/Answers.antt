@@ -1,12 +1,13 @@
 use Rattle.rv_core.proofs.Words.{[], sym, subst, arith, IsCutShort, IsOutcome, OutOfMemory, Outcome}
-use Rattle.rv_core.proofs.RunReports.{told_nothing}
+use Rattle.rv_core.proofs.RunReports.{run_of_none}
 use Rattle.rv_core.proofs.cycles.not_run.Goals as goal
 
 pub returns-then-limit-eq0 : goal.returns-then-limit-eq0
 returns-then-limit-eq0 c arrivals h =
     subst (λ (o : Outcome). IsOutcome arrivals c.args.limit h h o) (sym c.outcome.ensures) (
       [],
-      told_nothing arrivals h c.new-progress.result c.new-steps.result.items c.new-progress.ensures c.new-steps.ensures.items,
+      run_of_none arrivals h c.new-progress.result c.new-steps.result.items c.new-progress.ensures
+          c.new-steps.ensures.items,
       (tt, sym c.if-limit-eq0.true),
     )
 
@@ -14,7 +15,8 @@ pub returns : goal.returns
 returns c arrivals h =
     subst (λ (o : OutOfMemory). IsCutShort arrivals c.args.limit h h o) (sym c.out_of_memory.ensures) (
       [],
-      told_nothing arrivals h c.new-progress.result c.new-steps.result.items c.new-progress.ensures c.new-steps.ensures.items,
+      run_of_none arrivals h c.new-progress.result c.new-steps.result.items c.new-progress.ensures
+          c.new-steps.ensures.items,
       tt,
       omega (arith, c.if-limit-eq0.false),
     )

@@ -1,4 +1,6 @@
-use Rattle.rv_core.proofs.Words.{◌≡◌, ℕ, false, Some, None, Option, sym, refl, ap, ◌∙◌, is_serialising, kind_of_word, pc_plus_4, Message, Instr, Ebreak, Ecall, Lines, Layout, goes_to, State, effect_message, result_in, result_of_word}
+use Rattle.rv_core.proofs.Words.{◌≡◌, ℕ, false, Some, None, Option, sym, refl, ap, ◌∙◌, is_serialising, kind_of_word}
+use Rattle.rv_core.proofs.Words.{pc_plus_4, Message, Instr, Ebreak, Ecall, Lines, Layout, goes_to, State}
+use Rattle.rv_core.proofs.Words.{effect_message, result_in, result_of_word}
 use Rattle.rv_core.proofs.execute.result_at_dispatch.Goals as goal
 
 -- an instruction without a unit that neither serialises nor faults only goes on

@@ -1,9 +1,11 @@
-use Rattle.rv_core.proofs.Words.{◌≡◌, ◌+◌, ◌-◌, [], ◌∷◌, ◌++◌, take, replicate, slice_range, None, sym, ap, ◌∙◌, number_of, bytes_of, is_sign_extended, width_of, modulo_word, pc_plus_4, sum, extended, effect_message, fault_message, writes, older_than, bytes_over, path_of}
+use Rattle.rv_core.proofs.Words.{◌≡◌, ◌+◌, ◌-◌, [], ◌∷◌, ◌++◌, take, replicate, slice_range, None, sym, ap, ◌∙◌}
+use Rattle.rv_core.proofs.Words.{number_of, bytes_of, is_sign_extended, width_of, modulo_word, pc_plus_4, sum, extended}
+use Rattle.rv_core.proofs.Words.{effect_message, fault_message, writes, older_than, bytes_over, path_of}
 use Rattle.rv_core.proofs.Loads.Message.{accesses, from_cache, from_fault, from_stores}
 use Rattle.rv_core.proofs.load.load.Goals as goal
 
 pub returns-in-FromStores-clause-message : goal.returns-in-FromStores-clause-message
-returns-in-FromStores-clause-message c = λ s at behind.
+returns-in-FromStores-clause-message c = λ s at after.
     let cache = c.args.cache.now in
     let stores = older_than c.args.ready.now.seq c.args.queue.now.stores in
     let form = c.args.form in
@@ -13,13 +15,13 @@ returns-in-FromStores-clause-message c = λ s at behind.
     ∙ ap (λ b. extended (is_sign_extended form) count (number_of (take count b))) c.laid_over.ensures in
     c.computed.ensures s at
     ∙ ap (λ v. effect_message None (writes s rd v (pc_plus_4 s.pc))) value
-    ∙ from_stores cache stores c.requires.over_ram s behind form rd
+    ∙ from_stores cache stores c.requires.over_ram s after form rd
     (sum c.args.ready.now.first (modulo_word c.args.offset)) c.in-FromStores.overlay (0 ∷ 0 ∷ 0 ∷ 0 ∷ [])
     ((λ j. path_of cache.backing.layout stores (sym c.address-place.ensures j) (bytes_of (sym c.width-width.ensures j)))
     ∙ sym c.path_of.ensures ∙ c.in-FromStores.is)
 
 pub returns-in-FromCache-clause-message : goal.returns-in-FromCache-clause-message
-returns-in-FromCache-clause-message c = λ s at behind.
+returns-in-FromCache-clause-message c = λ s at after.
     let cache = c.args.cache.now in
     let stores = older_than c.args.ready.now.seq c.args.queue.now.stores in
     let form = c.args.form in
@@ -36,7 +38,7 @@ returns-in-FromCache-clause-message c = λ s at behind.
     (c.laid_over-in-FromCache.ensures ∙ ap (bytes_over c.in-FromCache.overlay) bytes) in
     c.computed-in-FromCache.ensures s at
     ∙ ap (λ v. effect_message None (writes s rd v (pc_plus_4 s.pc))) value
-    ∙ from_cache cache stores c.requires.over_ram s behind form rd address c.in-FromCache.overlay padding
+    ∙ from_cache cache stores c.requires.over_ram s after form rd address c.in-FromCache.overlay padding
     ((λ j. path_of cache.backing.layout stores (sym c.address-place.ensures j) (bytes_of (sym c.width-width.ensures j)))
     ∙ sym c.path_of.ensures ∙ c.in-FromCache.is)
 
@@ -48,7 +50,7 @@ read-cost-requires c = record {
 }
 
 pub returns-in-Without-clause-message : goal.returns-in-Without-clause-message
-returns-in-Without-clause-message c = λ s at behind.
+returns-in-Without-clause-message c = λ s at after.
     let cache = c.args.cache.now in
     let stores = older_than c.args.ready.now.seq c.args.queue.now.stores in
     c.faulted.ensures

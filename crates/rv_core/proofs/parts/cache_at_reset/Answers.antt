@@ -1,4 +1,5 @@
-use Rattle.rv_core.proofs.Words.{◌≡◌, ℕ, ◌%◌, ◌<◌, [], length, replicate, sym, ap, ◌∙◌, arith, overwritten, Memory, Contents, memory_at_reset as reset_bytes, layout_of, base_divides, line_divides}
+use Rattle.rv_core.proofs.Words.{◌≡◌, ℕ, ◌%◌, ◌<◌, [], length, replicate, sym, ap, ◌∙◌, arith, overwritten, Memory}
+use Rattle.rv_core.proofs.Words.{Contents, memory_at_reset as reset_bytes, layout_of, base_divides, line_divides}
 use Rattle.std.proofs.lemmas.Result.{IfOk-weaker}
 use Rattle.rv_core.proofs.Ties.Reset.{image_over_zeros}
 use Rattle.rv_core.proofs.parts.cache_at_reset.Goals as goal

@@ -1,5 +1,6 @@
 use Rattle.rv_core.proofs.Words.{◌+◌, sym, ap, ◌∙◌, arith, leb-false, leb-true, Err, Ok, Exhausted, Limit, Progress}
-use Rattle.rv_core.proofs.Shown.{bounded_so_far, ended_as, shown_now, so_many_shown, watched_to, watched_to_stop, watching_nothing, watching_on, watching_still}
+use Rattle.rv_core.proofs.Shown.{bounded_so_far, ended_as, shown_now, so_many_shown, watched_to, watched_to_stop}
+use Rattle.rv_core.proofs.Shown.{watching_nothing, watching_on, watching_still}
 use Rattle.rv_core.proofs.watching.watch.Goals as goal
 
 pub loop-init : goal.loop-init

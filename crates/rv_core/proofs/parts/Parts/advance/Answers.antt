@@ -1,4 +1,6 @@
-use Rattle.rv_core.proofs.Words.{◌≡◌, ◌+◌, ◌++◌, sym, refl, ap, ◌∙◌, subst, arith, IsLegal, broadcast, commit, IsCycle, commit_with, execute, with_lines, dispatch, stall_of, Hardware, Reachable, hardware_of, IsCommitStop, report_with}
+use Rattle.rv_core.proofs.Words.{◌≡◌, ◌+◌, ◌++◌, sym, refl, ap, ◌∙◌, subst, arith, IsLegal, broadcast, commit, IsCycle}
+use Rattle.rv_core.proofs.Words.{commit_with, execute, with_lines, dispatch, stall_of, Hardware, Reachable, hardware_of}
+use Rattle.rv_core.proofs.Words.{IsCommitStop, report_with}
 use Rattle.std.specs.FinSet as set
 use Rattle.rv_hardware.specs.Drain.{drain}
 use Rattle.rv_hardware.specs.Issue.{issue}

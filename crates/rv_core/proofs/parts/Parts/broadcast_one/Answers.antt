@@ -1,8 +1,12 @@
-use Rattle.rv_core.proofs.Words.{◌≡◌, ℕ, ◌+◌, Bool, true, false, cond, predicting, cut_from, redirected, ◌&&◌, [], Some, None, sym, ap, ◌∙◌, subst, arith, and_parts, finished, changed, is_mispredicted, mends_early, with_recovery, Hardware, Ends, GoesOn, find, Queue, is_ready_result, IsSound, hardware_of, Inside}
-use Rattle.rv_core.proofs.Ties.Broadcast.{grant, sent_parts, sent-goes_on, sent-is, sent-recovers, sent-sound, sent_to, unsent, unsent_bus}
+use Rattle.rv_core.proofs.Words.{◌≡◌, ℕ, ◌+◌, Bool, true, false, cond, predicting, cut_from, redirected, ◌&&◌, [], Some}
+use Rattle.rv_core.proofs.Words.{None, sym, ap, ◌∙◌, subst, arith, and_parts, finished, changed, is_mispredicted}
+use Rattle.rv_core.proofs.Words.{mends_early, with_recovery, Hardware, Ends, GoesOn, find, Queue, is_ready_result}
+use Rattle.rv_core.proofs.Words.{IsSound, hardware_of, Inside}
+use Rattle.rv_core.proofs.Ties.Broadcast.{grant, sent_parts, sent-goes_on, sent-is, sent-recovers, sent-sound, sent_to}
+use Rattle.rv_core.proofs.Ties.Broadcast.{unsent, unsent_bus}
 use Rattle.rv_core.proofs.Ties.Bus.{IsGranted}
 use Rattle.rv_core.proofs.Ties.Entries.{entry_of-changed, with_entry-alike}
-use Rattle.rv_core.proofs.Ties.Queue.{others-queued}
+use Rattle.rv_core.proofs.Ties.Queue.{queued_are_others}
 use Rattle.rv_core.specs.InExecution.{AreOthers}
 use Rattle.rv_rob.specs.Entry.{broadcast_in, ended, issue_of}
 use Rattle.rv_rob.specs.declared.entry.Stage.TheVariants.{Finished}
@@ -30,7 +34,8 @@ send-goes_on-requires c =
     let seq = c.in-Some.pending.seq in record {
       apart = λ e held no_store.
           subst (λ (queue : Queue). AreOthers seq queue.stores) (sym c.self.invariant.tied.queued)
-          (others-queued seq h.committed h.rob.retired h.rob.entries e c.self.invariant.sound.stores.older held no_store);
+          (queued_are_others seq h.committed h.rob.retired h.rob.entries e c.self.invariant.sound.stores.older held
+          no_store);
     }
 
 -- the parts once the oldest result was sent
@@ -82,8 +87,9 @@ goes_on c =
 none-mends : (mends : Bool) (next_pc : ℕ) → cond mends (Some next_pc) None ≡ None → mends ≡ false
 none-mends mends next_pc is = grind arith
 
-some-mends : (mends : Bool) (next_pc told : ℕ) → cond mends (Some next_pc) None ≡ Some told → (mends ≡ true) × (told ≡ next_pc)
-some-mends mends next_pc told is = (grind arith, grind arith)
+some-mends : (mends : Bool) (next_pc found : ℕ) → cond mends (Some next_pc) None ≡ Some found → (mends ≡ true) ×
+    (found ≡ next_pc)
+some-mends mends next_pc found is = (grind arith, grind arith)
 
 mended : (c : After-finish) (next_pc : ℕ) → c.send-goes_on.result ≡ Some next_pc → (mends c ≡ true) × (next_pc ≡ (sent c).message.next_pc)
 mended c next_pc is = some-mends (mends c) (sent c).message.next_pc next_pc (sym (goes_on c) ∙ is)

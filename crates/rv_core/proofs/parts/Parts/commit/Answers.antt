@@ -1,6 +1,9 @@
-use Rattle.rv_core.proofs.Words.{◌≡◌, ◌+◌, ◌-◌, ◌<◌, ◌≤◌, vec_capacity, [], ◌∷◌, ◌++◌, Some, sym, refl, ap, ◌∙◌, subst, arith, Committing, commit, commit_unless, Hardware, AreTaught, lessons_of, Step, and_step, committing, turn_left}
+use Rattle.rv_core.proofs.Words.{◌≡◌, ◌+◌, ◌-◌, ◌<◌, ◌≤◌, vec_capacity, [], ◌∷◌, ◌++◌, Some, sym, refl, ap, ◌∙◌, subst}
+use Rattle.rv_core.proofs.Words.{arith, Committing, commit, commit_unless, Hardware, AreTaught, lessons_of, Step}
+use Rattle.rv_core.proofs.Words.{and_step, committing, turn_left}
 use Rattle.std.specs.FinSet as set
-use Rattle.rv_core.proofs.Retired.Loop.{none_committed, committed_all, committed_whole, committed_more, counts_one, has_room, interrupt_fits, interrupted, steps_with}
+use Rattle.rv_core.proofs.Retired.Loop.{none_committed, committed_all, committed_whole, committed_more, counts_one}
+use Rattle.rv_core.proofs.Retired.Loop.{has_room, interrupt_fits, interrupted, steps_with}
 use Rattle.rv_core.proofs.Retired.Taught.{none_taught, taught_all, taught_at_end, teaching_begins, teaching_goes}
 use Rattle.rv_core.proofs.parts.Parts.commit.Goals as goal
 use Rattle.rv_core.proofs.parts.Parts.commit.Goals.{After-loop, In-Some, In-Ends}

@@ -1,6 +1,8 @@
-use Rattle.rv_core.proofs.Words.{◌≡◌, true, false, None, slice_get, sym, ap, ◌∙◌, subst, word_of, is_serialising, Entry, Hardware, IsHead, turn_left}
+use Rattle.rv_core.proofs.Words.{◌≡◌, true, false, None, slice_get, sym, ap, ◌∙◌, subst, word_of, is_serialising, Entry}
+use Rattle.rv_core.proofs.Words.{Hardware, IsHead, turn_left}
 use Rattle.std.specs.FinSet as set
-use Rattle.rv_core.proofs.Retired.Roles.{ended_as, first_is_head, heads_agree, kept, turn_ends, turn_finishes, turn_of_none, turn_of_stale}
+use Rattle.rv_core.proofs.Retired.Roles.{ended_as, first_is_head, heads_agree, kept, turn_ends, turn_finishes}
+use Rattle.rv_core.proofs.Retired.Roles.{turn_of_none, turn_of_stale}
 use Rattle.rv_core.proofs.Retired.Taught.{learns_at}
 use Rattle.rv_core.proofs.parts.Parts.commit_head.Goals as goal
 use Rattle.rv_core.proofs.parts.Parts.commit_head.Goals.{After-is_stale}

@@ -1,4 +1,5 @@
-use Rattle.rv_core.proofs.Words.{◌≡◌, ◌+◌, ◌-◌, Some, ap, ◌∙◌, arith, dispatch, dispatch_turn, Dispatching, stall_of, dispatch_told, dispatching}
+use Rattle.rv_core.proofs.Words.{◌≡◌, ◌+◌, ◌-◌, Some, ap, ◌∙◌, arith, dispatch, dispatch_turn, Dispatching, stall_of}
+use Rattle.rv_core.proofs.Words.{dispatch_told, dispatching}
 use Rattle.rv_core.proofs.Phases.Turned.{turned-ends, turned-goes}
 use Rattle.rv_core.proofs.parts.Parts.dispatch.Goals as goal
 use Rattle.rv_core.proofs.parts.Parts.dispatch.Goals.{After-reason_for}

@@ -1,5 +1,6 @@
 use Rattle.rv_core.proofs.Words.{◌∙◌, sym, ap, kind_of_word, Fetched}
-use Rattle.rv_core.proofs.Phases.Entered.{decoded-first, one_first, sound-taken, turn_enters, turn_waits, turn_without, waits_not_taken}
+use Rattle.rv_core.proofs.Phases.Entered.{decoded-first, one_first, sound-taken, turn_enters, turn_waits, turn_without}
+use Rattle.rv_core.proofs.Phases.Entered.{waits_not_taken}
 use Rattle.rv_core.proofs.parts.Parts.dispatch_one.Goals as goal
 
 pub returns-in_default : goal.returns-in_default

@@ -1,4 +1,6 @@
-use Rattle.rv_core.proofs.Words.{◌≡◌, ◌<◌, ap, ◌∙◌, without_drained, Store as QueuedStore, end_drain, Hardware, stores_of, Queue, IsSound, hardware_of, IsRetiredStore, IsSoundHardware, queue_of, Inside}
+use Rattle.rv_core.proofs.Words.{◌≡◌, ◌<◌, ap, ◌∙◌, without_drained, Store as QueuedStore, end_drain, Hardware}
+use Rattle.rv_core.proofs.Words.{stores_of, Queue, IsSound, hardware_of, IsRetiredStore, IsSoundHardware, queue_of}
+use Rattle.rv_core.proofs.Words.{Inside}
 use Rattle.rv_core.proofs.Phases.Drained.{kept_when_drained, none_drains, without_drained_after}
 use Rattle.rv_core.proofs.Phases.Stored.{sound_with_cache, parts_with_cache, view_with_cache}
 use Rattle.rv_core.proofs.parts.Parts.end_drain.Goals as goal

@@ -1,4 +1,7 @@
-use Rattle.rv_core.proofs.Words.{◌≡◌, ◌<◌, ◌&&◌, length, None, sym, refl, ap, ◌∙◌, subst, arith, leb-false, is_branch_or_jump, is_store, kind_of_word, target_of_word, pushed, mends_early, entry_of_fetched, reason_of, Hardware, are_full_for, with_instruction, with_jump, with_store, with_target, IsSound, hardware_of, status_after, values_in}
+use Rattle.rv_core.proofs.Words.{◌≡◌, ◌<◌, ◌&&◌, length, None, sym, refl, ap, ◌∙◌, subst, arith, leb-false}
+use Rattle.rv_core.proofs.Words.{is_branch_or_jump, is_store, kind_of_word, target_of_word, pushed, mends_early}
+use Rattle.rv_core.proofs.Words.{entry_of_fetched, reason_of, Hardware, are_full_for, with_instruction, with_jump}
+use Rattle.rv_core.proofs.Words.{with_store, with_target, IsSound, hardware_of, status_after, values_in}
 use Rattle.rv_core.proofs.Phases.Entered.{entered_parts, entered-is, entered-sound}
 use Rattle.rv_core.proofs.Ties.Dispatch.{Goes, full-is, goes}
 use Rattle.rv_core.proofs.Ties.Queue.{can_enter}

@@ -1,22 +1,26 @@
-use Rattle.rv_core.proofs.Words.{◌≡◌, Bool, false, filter, is_committed, committing, with_write_back, StaleWords, [], Some, sym, ap, ◌∙◌, subst, true≢false, FenceI, Entry, Hardware, Ends, IsTrue, Queue, IsHead, IsSound, hardware_of, Inside}
-use Rattle.rv_core.proofs.Retired.Fence.{fence_waits_for_cache, fence_waits_for_stores, fence_waits_for_port, queue_beside_fence, takes_time}
+use Rattle.rv_core.proofs.Words.{◌≡◌, Bool, false, filter, is_committed, committing, with_write_back, StaleWords, []}
+use Rattle.rv_core.proofs.Words.{Some, sym, ap, ◌∙◌, subst, true≢false, FenceI, Entry, Hardware, Ends, IsTrue, Queue}
+use Rattle.rv_core.proofs.Words.{IsHead, IsSound, hardware_of, Inside}
+use Rattle.rv_core.proofs.Retired.Fence.{fence_waits_for_cache, fence_waits_for_stores, fence_waits_for_port}
+use Rattle.rv_core.proofs.Retired.Fence.{queue_beside_fence, takes_time}
 use Rattle.rv_core.proofs.Retired.Roles.{kept, kept_as, kept_from, kept_serial}
 use Rattle.rv_core.proofs.Retired.Serial.{sound_apart}
 use Rattle.rv_core.proofs.parts.Parts.fence_instructions.Goals as goal
-use Rattle.rv_core.proofs.parts.Parts.fence_instructions.Goals.{then-not-is_empty-via-then-not-is_empty, then-not-is_empty-via-else-not-is_empty+then-not-is_port_idle}
+use Rattle.rv_core.proofs.parts.Parts.fence_instructions.Goals.{then-not-is_empty-via-then-not-is_empty}
+use Rattle.rv_core.proofs.parts.Parts.fence_instructions.Goals.{then-not-is_empty-via-else-not-is_empty+then-not-is_port_idle}
 
 -- the queue is not empty, and so a retired store is left
 store_left : (p : Inside) (h : Hardware) (e : Entry) (is_empty : Bool) → IsSound p → hardware_of p ≡ h → IsHead h e →
     e.instruction ≡ Some FenceI →
     (p.stores.stores ≡ [] → IsTrue is_empty) → is_empty ≡ false → h.committed ≡ [] → ⊥
-store_left p h e is_empty sound view head fence tells not none =
+store_left p h e is_empty sound view head fence is_given not none =
     let at = subst (λ (x : Hardware). IsHead x e) (sym view) head in
     let queue : p.stores.stores ≡ [] =
     ap (λ (q : Queue). q.stores) sound.tied.queued
     ∙ queue_beside_fence (hardware_of p) e at.0 sound.sound at.1 fence
     ∙ ap (λ (x : Hardware). x.committed) view
     ∙ none in
-    absurd (true≢false (sym (tells queue) ∙ not))
+    absurd (true≢false (sym (is_given queue) ∙ not))
 
 pub returns-then-not-is_empty-clause-turn : goal.returns-then-not-is_empty-clause-turn
 returns-then-not-is_empty-clause-turn c steps =

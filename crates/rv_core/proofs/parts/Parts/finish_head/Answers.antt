@@ -1,7 +1,9 @@
-use Rattle.rv_core.proofs.Words.{◌≡◌, ◌∷◌, [], ◌++◌, ℕ, Some, None, slice_get, option_map, sym, ap, ◌∙◌, Hardware, IsHead, committing, row_of, flushed, turn_ended, turn_left}
+use Rattle.rv_core.proofs.Words.{◌≡◌, ◌∷◌, [], ◌++◌, ℕ, Some, None, slice_get, option_map, sym, ap, ◌∙◌, Hardware}
+use Rattle.rv_core.proofs.Words.{IsHead, committing, row_of, flushed, turn_ended, turn_left}
 use Rattle.rv_hardware.specs.Retirement.{written_of}
 use Rattle.rv_core.specs.declared.head.HeadTurn.TheVariants as turn
-use Rattle.rv_core.proofs.Retired.Roles.{ended_as, first_is_head, kept_flushed, kept_retired, kept_trapped, retires_last, retires_on, traps_by, turn_ends, turn_finishes, turn_of_none}
+use Rattle.rv_core.proofs.Retired.Roles.{ended_as, first_is_head, kept_flushed, kept_retired, kept_trapped}
+use Rattle.rv_core.proofs.Retired.Roles.{retires_last, retires_on, traps_by, turn_ends, turn_finishes, turn_of_none}
 use Rattle.rv_core.proofs.Retired.Taught.{learns_at}
 use Rattle.rv_core.proofs.parts.Parts.finish_head.Goals as goal
 use Rattle.rv_core.proofs.parts.Parts.finish_head.Goals.{After-append, In-Some}
@@ -109,7 +111,8 @@ pub returns-in-Some-fault-clause-kept : goal.returns-in-Some-fault-clause-kept
 returns-in-Some-fault-clause-kept g c = kept_trapped c.args.self.now c.trap-step.new.self _ _ c.trap-step.ensures.hardware
 
 pub returns-then-message-entry-clause-kept : goal.returns-then-message-entry-clause-kept
-returns-then-message-entry-clause-kept g c = kept_retired c.args.self.now c.retire.new.self c.in-Some.head.now c.in-Some-message_of.message c.retire.ensures
+returns-then-message-entry-clause-kept g c =
+    kept_retired c.args.self.now c.retire.new.self c.in-Some.head.now c.in-Some-message_of.message c.retire.ensures
 
 pub returns-clause-kept : goal.returns-clause-kept
 returns-clause-kept g c = kept_flushed c.args.self.now c.flush.new.self c.in-Some.head.now c.in-Some-message_of.message

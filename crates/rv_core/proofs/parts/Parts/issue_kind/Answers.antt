@@ -1,5 +1,6 @@
 use Rattle.std.proofs.Common.{rules}
-use Rattle.rv_core.proofs.Words.{◌+◌, ◌-◌, is_some, sym, refl, ap, ◌∙◌, arith, at_kind, Hardware, issue_kind, issue_turn, Ends, turn_of}
+use Rattle.rv_core.proofs.Words.{◌+◌, ◌-◌, is_some, sym, refl, ap, ◌∙◌, arith, at_kind, Hardware, issue_kind}
+use Rattle.rv_core.proofs.Words.{issue_turn, Ends, turn_of}
 use Rattle.rv_core.proofs.Issued.Parts.{turn_empty}
 use Rattle.rv_core.proofs.Phases.Turned.{turned-ends, turned-goes, turned-none}
 use Rattle.rv_core.proofs.parts.Parts.issue_kind.Goals as goal

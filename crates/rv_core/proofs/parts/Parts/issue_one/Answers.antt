@@ -2,7 +2,8 @@ use Rattle.rv_core.proofs.Words.{ap, ◌∙◌, sym, hardware_of, KindValues, La
 use Rattle.rv_stations.specs.Waiting.{ready_taken}
 use Rattle.rv_core.specs.Access.{path_of_ready}
 use Rattle.rv_core.proofs.Issued.Executed.{Execution}
-use Rattle.rv_core.proofs.Issued.Parts.{absent, passed_after, passed_in_code, room, sound_after, sound_still, turn_after, turn_ends}
+use Rattle.rv_core.proofs.Issued.Parts.{absent, passed_after, passed_in_code, room, sound_after, sound_still}
+use Rattle.rv_core.proofs.Issued.Parts.{turn_after, turn_ends}
 use Rattle.rv_core.proofs.parts.Parts.issue_one.Goals as goal
 use Rattle.rv_core.proofs.parts.Parts.issue_one.Goals.{After-start}
 

@@ -1,4 +1,5 @@
-use Rattle.rv_core.proofs.Words.{◌≡◌, ap, ◌∙◌, subst, filter, replicate, is_committed, IsLegal, StaleWords, reset_hardware, hardware_of, Inside, Ok, Values, []}
+use Rattle.rv_core.proofs.Words.{◌≡◌, ap, ◌∙◌, subst, filter, replicate, is_committed, IsLegal, StaleWords}
+use Rattle.rv_core.proofs.Words.{reset_hardware, hardware_of, Inside, Ok, Values, []}
 use Rattle.std.specs.FinSet.{empty}
 use Rattle.std.proofs.lemmas.Result.{IfOk-at_ok}
 use Rattle.rv_core.proofs.Ties.Reset.{reset-sound}
@@ -41,7 +42,9 @@ execution : (c : After-default) →
     × (c.new-8.result ≡ Ok c.in_ok-front.bus)
 execution c = IfOk-at_ok _ c.in_ok-front.ensures.made.2 c.all_three-execution.ensures.made
 
-stale : (c : After-default) → c.in_ok-front.stale ≡ record { base = c.values-values.result.ram_base; size = c.values-values.result.ram_size; words = empty }
+stale : (c : After-default) →
+    c.in_ok-front.stale
+    ≡ record { base = c.values-values.result.ram_base; size = c.values-values.result.ram_size; words = empty }
 stale c = IfOk-at_ok _ (memory c).2 c.new-2.ensures.fresh
 
 stores : (c : After-default) → c.in_ok-front.stores ≡ record { stores = []; capacity = c.args.description.now.store_queue }

@@ -1,4 +1,5 @@
-use Rattle.rv_core.proofs.Words.{◌≡◌, true, false, ◌&&◌, length, nat_le, sym, refl, ap, ◌∙◌, is_store, kind_of_word, has_full_stations, stores_after, are_full_for, hardware_of}
+use Rattle.rv_core.proofs.Words.{◌≡◌, true, false, ◌&&◌, length, nat_le, sym, refl, ap, ◌∙◌, is_store, kind_of_word}
+use Rattle.rv_core.proofs.Words.{has_full_stations, stores_after, are_full_for, hardware_of}
 use Rattle.rv_core.proofs.Ties.Dispatch.{full-is, reason-is}
 use Rattle.rv_core.proofs.parts.Parts.reason_to_wait.Goals as goal
 use Rattle.rv_core.proofs.parts.Parts.reason_to_wait.Goals.{After-are_full_for, After-waits_for_queue}

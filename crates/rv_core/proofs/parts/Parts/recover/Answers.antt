@@ -1,4 +1,5 @@
-use Rattle.rv_core.proofs.Words.{◌+◌, sym, ap, ◌∙◌, subst, arith, predicting, changed, Hardware, redirected, cut_from, IsSound, hardware_of}
+use Rattle.rv_core.proofs.Words.{◌+◌, sym, ap, ◌∙◌, subst, arith, predicting, changed, Hardware, redirected, cut_from}
+use Rattle.rv_core.proofs.Words.{IsSound, hardware_of}
 use Rattle.rv_core.proofs.Ties.Broadcast.{recovered-is, recovered-sound}
 use Rattle.rv_core.proofs.Ties.Entries.{entry_of-from}
 use Rattle.rv_core.proofs.parts.Parts.recover.Goals as goal

@@ -1,4 +1,7 @@
-use Rattle.rv_core.proofs.Words.{◌≡◌, ℕ, ◌+◌, ◌*◌, ◌<◌, ◌≢◌, length, IfSome, Some, None, Option, option_map, sym, ap, ◌∙◌, subst, is_store, target_of_word, Message, Entry, Hardware, broadcast_of, with_result, StaleWords, without_checkpoint, IsHead, IsSound, hardware_of, registers_with, without_target, IsLegalWrite, IsSoundHardware, AreTied, Inside}
+use Rattle.rv_core.proofs.Words.{◌≡◌, ℕ, ◌+◌, ◌*◌, ◌<◌, ◌≢◌, length, IfSome, Some, None, Option, option_map, sym, ap}
+use Rattle.rv_core.proofs.Words.{◌∙◌, subst, is_store, target_of_word, Message, Entry, Hardware, broadcast_of}
+use Rattle.rv_core.proofs.Words.{with_result, StaleWords, without_checkpoint, IsHead, IsSound, hardware_of}
+use Rattle.rv_core.proofs.Words.{registers_with, without_target, IsLegalWrite, IsSoundHardware, AreTied, Inside}
 use Rattle.rv_core.proofs.Ties.Closed.{closed-is, closed-sound}
 use Rattle.rv_core.proofs.Retired.Head.{IsTarget, tied_after_head}
 use Rattle.rv_core.proofs.Retired.Sound.{sound_after_head}
@@ -54,17 +57,17 @@ tied c =
     let p = c.self.inside in
     let at = head p c.self.view_is c.requires.head in
     let seq = p.rob.retired in
-    let behind =
+    let after_head =
     tied_after_head (hardware_of p) c.args.entry.now at.0 c.args.message.now p.rename p.stations p.bus p.stores
     c.self.invariant.tied c.self.invariant.sound.stores.each at.1 c.requires.known
     (target c) (write c) in
     record {
       renamed = c.retire_oldest.ensures.rename
           ∙ ap (λ (o : Option ℕ). without_checkpoint seq (without_target seq o p.rename)) c.requires.target
-          ∙ behind.renamed;
-      stationed = behind.stationed;
-      pending = behind.pending;
-      queued = c.commit_store.ensures.stores ∙ behind.queued;
+          ∙ after_head.renamed;
+      stationed = after_head.stationed;
+      pending = after_head.pending;
+      queued = c.commit_store.ensures.stores ∙ after_head.queued;
     }
 
 same : (c : goal.After-self-1) → record (hardware_of (left c)) { committed = (next c).committed } ≡ next c

@@ -1,4 +1,5 @@
-use Rattle.rv_core.proofs.Words.{◌≡◌, List, slice_get, sym, ap, ◌∙◌, commit_turn, head_turn, Hardware, Step, IsHead, committing}
+use Rattle.rv_core.proofs.Words.{◌≡◌, List, slice_get, sym, ap, ◌∙◌, commit_turn, head_turn, Hardware, Step, IsHead}
+use Rattle.rv_core.proofs.Words.{committing}
 use Rattle.std.specs.FinSet as set
 use Rattle.rv_core.specs.HeadTurn.{role_of}
 use Rattle.rv_core.proofs.Retired.Roles.{ends_with_none, first_is_head, kept, turn_of_head, turn_accesses, waits_not}

@@ -1,4 +1,5 @@
-use Rattle.rv_core.proofs.Words.{◌≡◌, ◌+◌, ◌*◌, ◌<◌, [], sym, ap, ◌∙◌, subst, ReorderBuffer, head_retired, Hardware, flushed, IsHead, hardware_of, registers_with, IsSoundHardware, Inside}
+use Rattle.rv_core.proofs.Words.{◌≡◌, ◌+◌, ◌*◌, ◌<◌, [], sym, ap, ◌∙◌, subst, ReorderBuffer, head_retired, Hardware}
+use Rattle.rv_core.proofs.Words.{flushed, IsHead, hardware_of, registers_with, IsSoundHardware, Inside}
 use Rattle.rv_core.proofs.Retired.Flushed.{emptied}
 use Rattle.rv_core.proofs.Retired.Serial.{sound_after_serial}
 use Rattle.rv_core.proofs.Retired.Squashed.{AreSquashed, squashed-is, squashed-sound}

@@ -1,5 +1,10 @@
-use Rattle.rv_core.proofs.Words.{◌≡◌, ◌+◌, Bool, true, false, List, length, Some, None, Option, sym, refl, ap, ◌∙◌, subst, true≢false, arith, StoreAccess, Memory, Contents, access_cost, accessed_sets, oldest_to_drain, with_oldest_draining, Store as QueuedStore, start_drain, with_drained, Hardware, stores_of, IsSome, IsTrue, IsAccess, seen_after, Queue, IsSound, hardware_of, IsDescribedCache, IsSoundHardware, queue_of, Inside}
-use Rattle.rv_core.proofs.Phases.Drained.{below_when_draining, draining_after, none_drains, oldest_after, oldest_is_legal, retired_when_draining}
+use Rattle.rv_core.proofs.Words.{◌≡◌, ◌+◌, Bool, true, false, List, length, Some, None, Option, sym, refl, ap, ◌∙◌}
+use Rattle.rv_core.proofs.Words.{subst, true≢false, arith, StoreAccess, Memory, Contents, access_cost, accessed_sets}
+use Rattle.rv_core.proofs.Words.{oldest_to_drain, with_oldest_draining, Store as QueuedStore, start_drain, with_drained}
+use Rattle.rv_core.proofs.Words.{Hardware, stores_of, IsSome, IsTrue, IsAccess, seen_after, Queue, IsSound, hardware_of}
+use Rattle.rv_core.proofs.Words.{IsDescribedCache, IsSoundHardware, queue_of, Inside}
+use Rattle.rv_core.proofs.Phases.Drained.{below_when_draining, draining_after, none_drains, oldest_after}
+use Rattle.rv_core.proofs.Phases.Drained.{oldest_is_legal, retired_when_draining}
 use Rattle.rv_core.proofs.Phases.Stored.{sound_with_cache, parts_with_cache, view_with_cache, with_cache}
 use Rattle.rv_core.proofs.parts.Parts.start_drain.Goals as goal
 
@@ -12,8 +17,8 @@ oldest {p = p} before =
 
 nothing_starts : (h : Hardware) (found : Option StoreAccess) (can_drain : Bool) → (IsSome found → IsTrue can_drain) →
     can_drain ≡ false → h ≡ start_drain found h
-nothing_starts h None can_drain tells not = refl
-nothing_starts h (Some access) can_drain tells not = absurd (true≢false (sym (tells refl) ∙ not))
+nothing_starts h None can_drain is_given not = refl
+nothing_starts h (Some access) can_drain is_given not = absurd (true≢false (sym (is_given refl) ∙ not))
 
 pub returns-then-not-can_drain : goal.returns-then-not-can_drain
 returns-then-not-can_drain c =

@@ -1,4 +1,5 @@
-use Rattle.rv_core.proofs.Words.{◌≡◌, ◌^◌, ◌≤◌, false, ◌++◌, length, nat_le, sym, ap, ◌∙◌, subst, arith, leb-false, leb-true, Hardware, by_cycle, report_with}
+use Rattle.rv_core.proofs.Words.{◌≡◌, ◌^◌, ◌≤◌, false, ◌++◌, length, nat_le, sym, ap, ◌∙◌, subst, arith, leb-false}
+use Rattle.rv_core.proofs.Words.{leb-true, Hardware, by_cycle, report_with}
 use Rattle.rv_hardware.proofs.AnyPrediction.{any_cycle}
 use Rattle.rv_core.proofs.Guiding.{cycle_from, cycle_with}
 use Rattle.rv_core.proofs.pipeline.Pipeline.next_cycle.Goals as goal
