@@ -1,4 +1,6 @@
 -- What loads and stores take from each other, from the cache and from its port.
+-- A row: pc, word, the written register and its value, the cycles of fetch, dispatch and issue, the cost, the cycles of
+-- broadcast and retirement. One that is serialised has no unit, so neither issue, cost nor broadcast.
 use Rattle.rv_hardware.proofs.Words.{◌≡◌, [], ◌∷◌, Some, None, refl}
 use Rattle.rv_isa.specs.Csr as csr
 use Rattle.rv_isa.specs.declared.operations.Kind.TheVariants as kind

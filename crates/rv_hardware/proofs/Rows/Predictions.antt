@@ -1,4 +1,6 @@
 -- What a bimodal predictor learns, and when: programs on one of one entry.
+-- A row: pc, word, the written register and its value, the cycles of fetch, dispatch and issue, the cost, the cycles of
+-- broadcast and retirement.
 use Rattle.rv_hardware.proofs.Words.{◌≡◌, [], ◌∷◌, Some, None, refl, Trap}
 use Rattle.rv_isa.specs.declared.causes.Cause.TheVariants.{InstructionAddressMisaligned}
 use Rattle.rv_isa.specs.declared.operations.Kind.TheVariants as kind

@@ -1,4 +1,6 @@
 -- Stamps and reasons of stalls of short programs, worked out by hand.
+-- A row: pc, word, the written register and its value, the cycles of fetch, dispatch and issue, the cost, the cycles of
+-- broadcast and retirement. One that is serialised has no unit, so neither issue, cost nor broadcast.
 use Rattle.rv_hardware.proofs.Words.{◌≡◌, [], ◌∷◌, false, Some, None, refl, Trap}
 use Rattle.rv_isa.specs.Csr as csr
 use Rattle.rv_isa.specs.declared.causes.Cause.TheVariants.{InstructionAccessFault, IllegalInstruction, LoadAccessFault}
