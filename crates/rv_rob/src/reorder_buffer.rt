@@ -92,6 +92,13 @@ impl Rob {
         self.entries.back()
     }
 
+    /// The entries, oldest first, in two runs: those of the second are younger.
+    pub fn entries(&self) -> (&[Entry], &[Entry])
+        ensures { result.0.now ++ result.1.now ≡ self.now.entries }
+    {
+        self.entries.as_slices()
+    }
+
     /// The entry with this number.
     pub fn get(&self, seq: u64) -> Option<&Entry>
         ensures { option_copied result ≡ entry_of seq self.now.retired self.now.entries }
