@@ -167,22 +167,42 @@ fn second_after(first: &Option<Producer>, second: Option<Producer>) -> Option<Pr
     }
 }
 
-fn producers_for(older: &[Passage], sources: &[Option<Reg>; 2]) -> Producers
-    ensures { result ≡ producers_for older.now sources.now }
+// Puts a producer, if there is one. Most wait for one at most.
+#[inline(always)]
+fn put_producer(to: &mut Option<Producer>, producer: Option<Producer>)
+    ensures { to.new ≡ producer }
 {
-    let [first, second] = sources;
-    let first = producer_among(older, *first);
-    let second = second_after(&first, producer_among(older, *second));
-    Producers { first, second }
+    match producer {
+        Some(_) => *to = producer,
+        None => {
+            if to.is_some() {
+                *to = None;
+            }
+        }
+    }
 }
 
-// Those of an instruction that is dispatched after the older ones.
-fn producers_among(older: &[Passage], instruction: &Decoded) -> Producers
-    ensures { result ≡ producers_among older.now instruction.now }
-{
-    match instruction.instruction() {
-        Some(_) if instruction.kind().is_some() => producers_for(older, &instruction.sources()),
-        _ => Producers::NONE,
+impl Producers {
+    // Puts those for the registers that are read.
+    fn note_for(&mut self, older: &[Passage], sources: &[Option<Reg>; 2])
+        ensures { self.new ≡ producers_for older.now sources.now }
+    {
+        let [first, second] = sources;
+        put_producer(&mut self.first, producer_among(older, *first));
+        let second = second_after(&self.first, producer_among(older, *second));
+        put_producer(&mut self.second, second);
+    }
+
+    // Puts those of an instruction that is dispatched after the older ones.
+    fn note(&mut self, older: &[Passage], instruction: &Decoded)
+        ensures { self.new ≡ producers_among older.now instruction.now }
+    {
+        match instruction.instruction() {
+            Some(_) if instruction.kind().is_some() => {
+                self.note_for(older, &instruction.sources());
+            }
+            _ => self.clear(),
+        }
     }
 }
 
@@ -196,7 +216,7 @@ impl Passage {
     fn note_producers(&mut self, older: &[Passage], instruction: &Decoded)
         ensures { self.new ≡ record self.old { producers = producers_among older.now instruction.now } }
     {
-        self.producers = producers_among(older, instruction);
+        self.producers.note(older, instruction);
     }
 
     // It has come so far.
