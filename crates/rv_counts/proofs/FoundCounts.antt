@@ -1,9 +1,8 @@
 -- How many there are of a sort, place by place, and whether there is one.
-use Rattle.std.proofs.Common.{◌≡◌, ◌∙◌, ℕ, ◌+◌, ◌≤◌, ◌==◌, Bool, not, List, [], ◌∷◌, take, Some, count_by, cond, refl, ap, sym, arith, inl, inr, ne_eqb}
+use Rattle.std.proofs.Common.{◌≡◌, ◌∙◌, ℕ, ◌+◌, ◌<◌, ◌≤◌, ◌==◌, Bool, not, List, [], ◌∷◌, ◌++◌, get_or, length, take, count_by, cond, refl, ap, sym, arith, inl, inr, ne_eqb}
 use Rattle.std.proofs.lemmas.Bool.{cases_Bool}
-use Rattle.std.proofs.lemmas.List.Sums.{count_by_more_no, count_by_more_yes, sum_by-cons}
-use Rattle.std.proofs.lemmas.Option.{get_or_from_slice_get, slice_get_within}
-use Rattle.std.specs.List.{list_any, slice_get}
+use Rattle.std.proofs.lemmas.List.Sums.{count_by_more_no, count_by_more_yes, sum_by-append, sum_by-cons}
+use Rattle.std.specs.List.{list_any}
 
 module _ {X : Type 0} (test : X → Bool) where
   -- some pass a test where their count is not 0
@@ -21,20 +20,25 @@ module _ {X : Type 0} (test : X → Bool) where
             ap (λ n. not (n == 0)) same ∙ any_counted xs ∙ sym (rw fails refl)
       ]
 
+  -- of two runs their counts together
+  pub counted_runs : (old young all : List X) (first second : ℕ) → old ++ young ≡ all → first ≡ count_by test old → second ≡ count_by test young →
+      first + second ≡ count_by test all
+  counted_runs old young all first second are olds youngs =
+      (λ i. olds i + youngs i) ∙ sym (sum_by-append (λ (x : X). cond (test x) 1 0) old young) ∙ ap (count_by test) are
+
   -- the count goes on by a place
-  pub counted_on : (xs : List X) (place found found' : ℕ) (x : X) (answer : Bool) → slice_get xs place ≡ Some x →
+  pub counted_on : (xs : List X) (place found found' : ℕ) (x d : X) (answer : Bool) → place < length xs → x ≡ get_or xs place d →
       answer ≡ test x → (found ≡ count_by test (take place xs)) × (found ≤ place) → found' ≡ cond answer (found + 1) found →
       (found' ≡ count_by test (take (place + 1) xs)) × (found' ≤ place + 1)
-  counted_on xs place found found' x answer is answered so_far more =
-      let within = slice_get_within xs place x is in
-      let here = ap test (get_or_from_slice_get xs place x x is) in
+  counted_on xs place found found' x d answer within is answered so_far more =
+      let here = sym (ap test is) in
       elim (cases_Bool (test x)) [
         | inl passes ↦
             let one = more ∙ ap (λ b. cond b (found + 1) found) (answered ∙ passes) in
-            let next = count_by_more_yes test xs place x within (here ∙ passes) in
+            let next = count_by_more_yes test xs place d within (here ∙ passes) in
             (omega (arith, so_far.0, one, next), omega (arith, so_far.1, one))
         | inr fails ↦
             let none = more ∙ ap (λ b. cond b (found + 1) found) (answered ∙ fails) in
-            let next = count_by_more_no test xs place x within (here ∙ fails) in
+            let next = count_by_more_no test xs place d within (here ∙ fails) in
             (omega (arith, so_far.0, none, next), omega (arith, so_far.1, none))
       ]

@@ -1,8 +1,0 @@
-use Rattle.std.proofs.Common.{◌∙◌, arith}
-use Rattle.rv_rob.proofs.Places.{entry_of-distance}
-use Rattle.rv_counts.proofs.in_flight.found_at.Goals as goal
-
-pub returns : goal.returns
-returns c =
-    let rob = c.args.buffer.now in
-    c.get.ensures ∙ entry_of-distance c.args.place _ rob.retired rob.entries (omega (arith, c.requires, c.next_number.ensures, c.len.ensures.count))
