@@ -24,7 +24,6 @@ use Rattle.rv_text.specs.Written.{AppendsBeginning}
 use Rattle.rv_report.specs.declared.options.Options.{Options}
 use Rattle.rv_report.specs.declared.totals.StepCounts.{StepCounts}
 use Rattle.rv_report.specs.declared.totals.Totals.{Totals}
-use Rattle.rv_text.proofs.Saying.{extends_nothing}
 use Rattle.rv_text.proofs.Writing.{Appends-nothing, Appends-same}
 
 trace_of-none : (shown : Bool) → trace_of shown [] ≡ []
@@ -66,13 +65,6 @@ said_in_part before first is said extended = rw is at (extended.extends before f
 
 pub said_to_the_end : {was failed : Bool} (before : Option (List ℕ)) {mid now : Option (List ℕ)} (first : List ℕ) {text : List ℕ} → failed ≡ false → IsSaid was before mid first → Extends was failed mid now text → Appends before now (first ++ text)
 said_to_the_end before first is said extended = rw is at (extended.extends before first said)
-
--- shown lines are the trace, and it is empty where none are shown
-pub extends_shown : {was is : Bool} {old new : Option (List ℕ)} (shown : Bool) (steps : List Step) → shown ≡ true → Extends was is old new (trace_lines steps) → Extends was is old new (trace_of shown steps)
-extends_shown shown steps are extended = rw are extended
-
-pub extends_hidden : (shown failed : Bool) (known : Option (List ℕ)) (steps : List Step) → shown ≡ false → Extends failed failed known known (trace_of shown steps)
-extends_hidden shown failed known steps are = rw are (extends_nothing failed known)
 
 -- no step yet
 pub traced_nothing : (is_shown : Bool) (counts : StepCounts) (output : Option (List ℕ)) → (counts.retired ≡ 0) × ((counts.traps ≡ 0) × (counts.interrupts ≡ 0)) → HasTraced is_shown is_shown counts false [] output output

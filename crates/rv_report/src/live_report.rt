@@ -1,12 +1,9 @@
-ghost use Rattle.std.specs.Prelude.{◌≡◌, ◌≤◌, vec_capacity};
+ghost use Rattle.std.specs.Prelude.{◌≤◌, vec_capacity};
 ghost use Rattle.rv_hardware.specs.Guided.{guided};
 ghost use Rattle.rv_report.specs.LiveReport.{IsRunReport, IsTraced, Reports};
-ghost use Rattle.rv_report.specs.Rows.{trace_lines};
-ghost use Rattle.rv_text.specs.Said.{Extends};
 
 use crate::options::Options;
-use crate::rows::write_steps;
-use crate::run_report::say_totals;
+use crate::run_report::{say_totals, say_trace};
 use crate::totals::{StepCounts, Totals};
 use rv_arch::Stop;
 use rv_core::{Pipeline, Progress, Watcher, watch};
@@ -48,21 +45,10 @@ impl Watcher for Trace {
         output: &mut W,
     ) {
         self.counts.count_all(steps);
-        if self.is_shown {
-            self.has_failed = write_lines(output, self.has_failed, steps);
-        }
+        let mut out = Sink::after(output, self.has_failed);
+        say_trace(&mut out, self.is_shown, steps);
+        self.has_failed = out.has_failed();
     }
-}
-
-// Writes the lines of some steps, where no write failed before, and returns whether one failed. A run without a trace has
-// none of the variables that this takes.
-#[inline(never)]
-fn write_lines<W: Write>(output: &mut W, has_failed: bool, steps: &[Step]) -> bool
-    ensures { Extends has_failed result (W.contents output.old) (W.contents output.new) (trace_lines steps.now) }
-{
-    let mut out = Sink::after(output, has_failed);
-    write_steps(&mut out, steps);
-    out.has_failed()
 }
 
 // A pipeline at the end of a run, what the run came to, and whether a write of its trace failed.
