@@ -5,9 +5,8 @@ ghost use Rattle.rv_isa.specs.Instruction.{is_serialising};
 ghost use Rattle.rv_counts.specs.Places.{flush_by, flush_of};
 
 use crate::run_places::Flush;
-use rv_decode::decode;
+use rv_decode::Decoded;
 use rv_hardware::Step;
-use rv_isa::Instr;
 
 /// How many instructions trapped in some steps.
 pub fn count_traps(steps: &[Step]) -> usize
@@ -35,22 +34,13 @@ pub fn count_retired(steps: &[Step]) -> usize
     retired
 }
 
-// Whether an instruction waits to be the oldest, with nothing younger in flight beside it.
-fn is_serialising(instruction: Option<Instr>) -> bool
-    ensures { result ≡ is_serialising instruction }
-{
-    matches!(
-        instruction,
-        Some(Instr::FenceI | Instr::Csr { .. } | Instr::Mret)
-    )
-}
-
 // Unprivileged ISA 20191213, 24: the opcodes of fence.i, and of CSR instructions and mret.
 const MISC_MEM: u32 = 0b000_1111;
 
 const SYSTEM: u32 = 0b111_0011;
 
-// Whether a word is serialising. One with another opcode is not decoded: most are no such instruction.
+// Whether the instruction of a word waits to be the oldest, with nothing younger in flight beside it. A word with another opcode is not
+// decoded: most are no such instruction.
 fn is_serialising_word(word: u32) -> bool
     ensures { result ≡ is_serialising (instruction_of word) }
 {
@@ -58,7 +48,7 @@ fn is_serialising_word(word: u32) -> bool
     if opcode != MISC_MEM && opcode != SYSTEM {
         return false;
     }
-    is_serialising(decode(word))
+    Decoded::of(word).is_serialising()
 }
 
 // What squashes the instructions after a step.
