@@ -68,9 +68,30 @@ module _ (costs : LoadCosts) (ps : List Passage) (p : Passage) (notes : Notes Ou
 
 -- ---- the counts can go on
 
-pub can_add_fewer : {work : Work} {loads : Accesses} {branches mispredicted : Notes ℕ} {outcomes : Notes Outcomes} (fewer more : ℕ) → fewer ≤ more → CanAdd work loads branches mispredicted outcomes more
-    → CanAdd work loads branches mispredicted outcomes fewer
-can_add_fewer {outcomes = outcomes} fewer more under can = record {
+-- what is counted of the instructions that left
+pub record Counts : Type 0 where
+  pub work : Work
+  pub loads : Accesses
+  pub branches : Notes ℕ
+  pub mispredicted : Notes ℕ
+  pub outcomes : Notes Outcomes
+
+-- the same with one more instruction
+abbrev pub counts_with : LoadCosts → Passage → Counts → Counts
+counts_with costs p counts = record {
+  work = work_with p counts.work;
+  loads = loads_with costs p counts.loads;
+  branches = with_one (word_in Branch p) counts.branches;
+  mispredicted = with_one (word_in Mispredicted p) counts.mispredicted;
+  outcomes = with_change (outcomes_with costs p) counts.outcomes (word_of p.pc);
+}
+
+-- none comes to 2^64 with so many instructions more
+abbrev pub CanCount : Counts → ℕ → Type 0
+CanCount counts more = CanAdd counts.work counts.loads counts.branches counts.mispredicted counts.outcomes more
+
+pub can_add_fewer : (counts : Counts) (fewer more : ℕ) → fewer ≤ more → CanCount counts more → CanCount counts fewer
+can_add_fewer counts fewer more under can = record {
   left = omega (arith, under, can.left);
   squashed = omega (arith, under, can.squashed);
   branches = omega (arith, under, can.branches);
@@ -79,21 +100,22 @@ can_add_fewer {outcomes = outcomes} fewer more under can = record {
   quick = omega (arith, under, can.quick);
   branch_words = omega (arith, under, can.branch_words);
   mispredicted_words = omega (arith, under, can.mispredicted_words);
-  outcomes = can_take_fewer outcomes fewer more under can.outcomes;
+  outcomes = can_take_fewer counts.outcomes fewer more under can.outcomes;
 }
 
 -- with one more by so many fewer
-pub can_add_others : (costs : LoadCosts) (p : Passage) {work : Work} {loads : Accesses} {branches mispredicted : Notes ℕ} {outcomes : Notes Outcomes} (fewer more : ℕ)
-    → fewer + 1 ≤ more → CanAdd work loads branches mispredicted outcomes more
-    → CanAdd (work_with p work) (loads_with costs p loads) (with_one (word_in Branch p) branches) (with_one (word_in Mispredicted p) mispredicted) (with_change (outcomes_with costs p) outcomes (word_of p.pc)) fewer
-can_add_others costs p {work = work} {loads = loads} {branches = branches} {mispredicted = mispredicted} {outcomes = outcomes} fewer more under can = record {
-  left = omega (arith, under, can.left, one_more-within (has_left p) work.left);
-  squashed = omega (arith, under, can.squashed, one_more-within (is_squash p.ending) work.squashed);
-  branches = omega (arith, under, can.branches, one_more-within (is_retired_branch p) work.branches);
-  mispredicted = omega (arith, under, can.mispredicted, one_more-within (is_mispredicted_branch p) work.mispredicted);
-  loads = omega (arith, under, can.loads, one_more-within (is_some (retired_load_cost p)) loads.all);
-  quick = omega (arith, under, can.quick, one_more-within (is_hit costs (retired_load_cost p)) loads.quick);
-  branch_words = omega (arith, under, can.branch_words, sum_with_one (word_in Branch p) branches);
-  mispredicted_words = omega (arith, under, can.mispredicted_words, sum_with_one (word_in Mispredicted p) mispredicted);
-  outcomes = can_take_others costs p outcomes (with_change (outcomes_with costs p) outcomes (word_of p.pc)) (word_of p.pc) fewer more refl under can.outcomes;
-}
+module _ (costs : LoadCosts) (p : Passage) (counts : Counts) (fewer more : ℕ) (under : fewer + 1 ≤ more) (can : CanCount counts more) where
+  pub can_add_others : CanCount (counts_with costs p counts) fewer
+  can_add_others = record {
+    left = omega (arith, under, can.left, one_more-within (has_left p) counts.work.left);
+    squashed = omega (arith, under, can.squashed, one_more-within (is_squash p.ending) counts.work.squashed);
+    branches = omega (arith, under, can.branches, one_more-within (is_retired_branch p) counts.work.branches);
+    mispredicted = omega (arith, under, can.mispredicted, one_more-within (is_mispredicted_branch p) counts.work.mispredicted);
+    loads = omega (arith, under, can.loads, one_more-within (is_some (retired_load_cost p)) counts.loads.all);
+    quick = omega (arith, under, can.quick, one_more-within (is_hit costs (retired_load_cost p)) counts.loads.quick);
+    branch_words = omega (arith, under, can.branch_words, sum_with_one (word_in Branch p) counts.branches);
+    mispredicted_words = omega (arith, under, can.mispredicted_words, sum_with_one (word_in Mispredicted p) counts.mispredicted);
+    outcomes =
+        let changed = with_change (outcomes_with costs p) counts.outcomes (word_of p.pc) in
+        can_take_others costs p counts.outcomes changed (word_of p.pc) fewer more refl under can.outcomes;
+  }
