@@ -1,5 +1,5 @@
 ghost use Rattle.std.specs.Prelude.{◌≡◌, ◌+◌, ◌==◌, count_by};
-ghost use Rattle.rv_isa.specs.Instruction.{is_fence_i, is_store};
+ghost use Rattle.rv_isa.specs.Instruction.{is_fence_i};
 ghost use Rattle.rv_passage.specs.Result.{ready_in};
 ghost use Rattle.rv_path.specs.Lookup.{first_of, last_of, one_before};
 ghost use Rattle.rv_path.specs.Sought.{is_at, is_before, is_end, is_just_before, is_sought, uses};
@@ -87,12 +87,6 @@ pub(crate) fn is_ready_at(cycle: u64, row: &Passage) -> bool
         Some(ready) => ready == u128::from(cycle),
         None => false,
     }
-}
-
-pub(crate) fn is_store(instruction: &Option<Instr>) -> bool
-    ensures { result ≡ is_store instruction.now }
-{
-    matches!(instruction, Some(Instr::Store { .. }))
 }
 
 pub(crate) fn is_fence_i(instruction: &Option<Instr>) -> bool

@@ -2,9 +2,8 @@ ghost use Rattle.std.specs.Prelude.{◌≡◌, [], option_copied};
 ghost use Rattle.rv_path.specs.WaitingStores.{entered, oldest, still_waiting, store_in, with_queue, with_queued, with_retired, with_steps};
 
 use crate::before::is_waiting;
-use crate::sought::is_store;
 use arrayvec::ArrayVec;
-use rv_decode::decode;
+use rv_decode::Decoded;
 use rv_hardware::Step;
 use rv_stores::{Store, StoreQueue};
 use std::marker::Model;
@@ -14,7 +13,7 @@ fn store_in(step: &Step) -> Option<u32>
     ensures { result ≡ store_in step.now }
 {
     match step {
-        Step::Retired(row) if is_store(&decode(row.word)) => Some(row.pc),
+        Step::Retired(row) if Decoded::of(row.word).is_store() => Some(row.pc),
         _ => None,
     }
 }
