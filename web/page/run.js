@@ -2,11 +2,20 @@
 const PROBE = 20000; // cycles of a first call, which tells how long a long run will take
 let runner, checker, turn = 0, results = new Map(), isStale = false;
 
+// Puts the text of a refusal into its box. The line at fault and the caret below it are not wrapped, so that it stands below the token; they
+// are scrolled to it.
+function fillBox(box, text) {
+  const [pointed] = /^ {4}.*\n +\^\n?/m.exec(text) || [""], [before, ...after] = pointed ? text.split(pointed) : [text];
+  const lines = element("span", { className: "pointed", textContent: pointed }), [line, caret] = pointed.split("\n");
+  box.replaceChildren(before, ...(pointed ? [lines, after.join(pointed)] : []));
+  if (pointed) lines.scrollLeft = (lines.scrollWidth * caret.length) / Math.max(line.length, caret.length) - lines.clientWidth / 2;
+}
+
 function showFault(refusal) {
   for (const part of PARTS) {
     const box = byId("fault-" + part), isHere = refusal !== undefined && refusal.part === part;
     box.hidden = !isHere;
-    box.textContent = isHere ? refusal.text : "";
+    fillBox(box, isHere ? refusal.text : "");
     editors[part].mark(isHere ? refusal.faults : []);
   }
   const key = refusal && (/^error: description: \w+ (\S+)/.exec(refusal.errors) || [])[1];
