@@ -1,5 +1,6 @@
 mod Counts
 pub mod InOrder
+mod Learned
 mod LiveReport
 mod MemoryLines
 mod Placed

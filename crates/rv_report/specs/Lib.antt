@@ -4,6 +4,7 @@ pub mod ReferenceReport
 pub mod Rows
 pub mod Totals
 pub mod RunReport
+pub mod Learned
 pub mod LiveReport
 pub mod Speculation
 pub mod Events

@@ -1,8 +1,9 @@
-ghost use Rattle.std.specs.Prelude.{◌≡◌, ◌+◌, ◌≤◌, ◌<◌, ◌^◌, [], IfOk, IfSome, length};
+ghost use Rattle.std.specs.Prelude.{◌≡◌, ◌+◌, ◌≤◌, ◌<◌, ◌^◌, [], IfErr, IfOk, IfSome, length};
 ghost use Rattle.std.specs.Option.{option_map};
 ghost use Rattle.rv_counts.specs.Places.{CanPlace, placed_after, run_places};
 ghost use Rattle.rv_hardware.specs.Guided.{guided};
 ghost use Rattle.rv_report.specs.Comparison.{RunsTo};
+ghost use Rattle.rv_report.specs.Learned.{IsTaughtByRun};
 ghost use Rattle.rv_report.specs.Shown.{places_shown};
 ghost use Rattle.rv_report.specs.Speculation.{in_flight, speculated_at};
 ghost use Rattle.rv_report.specs.Tally.{losses_with};
@@ -147,8 +148,9 @@ fn losses(tally: &Tally, left: u64) -> Losses
 }
 
 /// Runs a pipeline that a predictor guides, each cycle with the lines of its number, up to a breakpoint, a stale word,
-/// exhaustion or the limit of cycles. Answers what the run came to, with the words that are to be shown at its end, and with what
-/// became of the places for dispatch where that is to be shown. The only error is out of memory, in which nothing was run.
+/// exhaustion or the limit of cycles. Answers what the run came to, with the words that are to be shown at its end, and
+/// with what became of the places for dispatch where that is to be shown. The predictor learns what the run teaches it.
+/// The only error is out of memory, in which nothing was run.
 pub fn run_totals(
     alloc: Global,
     pipeline: Pipeline,
@@ -156,7 +158,10 @@ pub fn run_totals(
     arrivals: &Arrivals,
     options: &TableOptions,
 ) -> Result<ComparedRun, AllocError>
-    ensures { IfOk result (RunsTo arrivals.now options.now (guided pipeline (known predictor.old))) }
+    ensures run { IfOk result (RunsTo arrivals.now options.now (guided pipeline (known predictor.old))) }
+    ensures learned { IfOk result (λ _. IsTaughtByRun arrivals.now options.now.limit
+        (guided pipeline (known predictor.old)) (known predictor.new)) }
+    ensures not_run { IfErr result (λ _. known predictor.new ≡ known predictor.old) }
 {
     // Of hardware that a reset and cycles lead to, what it does is known.
     let _ = pipeline.cycles_done();

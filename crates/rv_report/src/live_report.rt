@@ -1,5 +1,6 @@
 ghost use Rattle.std.specs.Prelude.{◌≤◌, vec_capacity};
 ghost use Rattle.rv_hardware.specs.Guided.{guided};
+ghost use Rattle.rv_report.specs.Learned.{IsTaughtByRun};
 ghost use Rattle.rv_report.specs.LiveReport.{IsRunReport, IsTraced, Reports};
 
 use crate::options::Options;
@@ -62,7 +63,7 @@ struct Traced {
 /// Runs a pipeline that a predictor guides, each cycle with the lines of its number, up to a breakpoint, a stale word,
 /// exhaustion or the options' limit of cycles, and writes the report of the run: where a trace is asked for, the lines
 /// of a cycle's steps after the cycle. `steps` is a list with room for the eight steps of a cycle. Asks for no memory.
-/// Answers why the run ended.
+/// Answers why the run ended. The predictor learns what the run teaches it.
 ///
 /// Fails by `WriteFailed` alone, and what was written is then a beginning of the report: the run is done to its end, but
 /// nothing more is written.
@@ -75,7 +76,10 @@ pub fn write_run<W: Write>(
     writer: &mut W,
 ) -> Result<Stop, ReportError>
     requires room { 8 ≤ vec_capacity steps }
-    ensures { Reports (IsRunReport arrivals.now options.now (guided pipeline (known predictor.old))) result (W.contents writer.old) (W.contents writer.new) }
+    ensures report { Reports (IsRunReport arrivals.now options.now (guided pipeline (known predictor.old)))
+        result (W.contents writer.old) (W.contents writer.new) }
+    ensures learned { IsTaughtByRun arrivals.now options.now.limit (guided pipeline (known predictor.old))
+        (known predictor.new) }
 {
     let run = run_traced(pipeline, predictor, arrivals, options, steps, writer);
     let mut out = Sink::after(writer, run.has_failed);
@@ -97,7 +101,9 @@ fn run_traced<W: Write>(
     writer: &mut W,
 ) -> Traced
     requires room { 8 ≤ vec_capacity steps }
-    ensures { IsTraced arrivals.now options.now (guided pipeline (known predictor.old)) (guided result.pipeline (known predictor.new)) result.totals result.has_failed (W.contents writer.old) (W.contents writer.new) }
+    ensures { IsTraced arrivals.now options.now (guided pipeline (known predictor.old))
+        (guided result.pipeline (known predictor.new)) result.totals result.has_failed
+        (W.contents writer.old) (W.contents writer.new) }
 {
     let mut pipeline = pipeline;
     let mut trace = Trace {

@@ -12,7 +12,7 @@ returns-in_err-steps-clause-report g c = answered_on (IsSimulation c.args.job.no
 
 pub returns-in_err-write_run-clause-report : goal.returns-in_err-write_run-clause-report
 returns-in_err-write_run-clause-report g c =
-    let (stop, text, run, written) = c.in_err-write_run.ensures in
+    let (stop, text, run, written) = c.in_err-write_run.ensures.report in
     let told = run_simulated c.args.job.now _ c.args.options.now c.with_dump-options.result c.values.result c.in-Ok.pipeline stop text c.values.ensures.values c.values.ensures.legal c.in-Ok.ensures.fits c.in-Ok.ensures.made c.with_dump-options.ensures run in
     let before = g.W.Write.contents c.args.writer.now in
     let after = g.W.Write.contents c.write_run.new.writer in
@@ -22,7 +22,7 @@ returns-in_err-write_run-clause-report g c =
 
 pub returns-clause-report : goal.returns-clause-report
 returns-clause-report g c =
-    let (text, run, written) = c.in_ok-write_run.ensures in
+    let (text, run, written) = c.in_ok-write_run.ensures.report in
     let told = run_simulated c.args.job.now _ c.args.options.now c.with_dump-options.result c.values.result c.in-Ok.pipeline c.in_ok-write_run.field-0 text c.values.ensures.values c.values.ensures.legal c.in-Ok.ensures.fits c.in-Ok.ensures.made c.with_dump-options.ensures run in
     let before = g.W.Write.contents c.args.writer.now in
     let after = g.W.Write.contents c.write_run.new.writer in

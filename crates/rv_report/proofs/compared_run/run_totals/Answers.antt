@@ -2,6 +2,7 @@ use Rattle.std.proofs.Common.{◌≡◌, ◌≤◌, [], None, arith, length, ref
 use Rattle.rv_core.proofs.Shown.{stops_by}
 use Rattle.rv_counts.proofs.LossReasons.{lost_for}
 use Rattle.rv_report.specs.Totals.{counts_of}
+use Rattle.rv_report.proofs.Learned.{taught_by_run}
 use Rattle.rv_report.proofs.Placed.{placed_at_end, placed_nothing}
 use Rattle.rv_report.proofs.Tallied.{room_at_end, tallied_nothing, tallied_to_the_end}
 use Rattle.rv_report.proofs.compared_run.run_totals.Goals as goal
@@ -15,8 +16,8 @@ losses-requires g c =
     let placed = placed_nothing c.args.arrivals.now c.args.options.now.shown _ c.no_places.result c.no_places.ensures few in
     room_at_end (c.watch-ended.ensures.seen None (begun, placed)).0 c.count_in_flight.result c.count_in_flight.ensures.few c.is_exhausted.ensures.within
 
-pub returns : goal.returns
-returns g c =
+pub returns-clause-run : goal.returns-clause-run
+returns-clause-run g c =
     let zeros = c.default.ensures in
     let none : c.default.result ≡ counts_of [] = λ i. record { retired = zeros.0 i; traps = zeros.1.0 i; interrupts = zeros.1.1 i } in
     let begun = tallied_nothing c.args.arrivals.now _ c.default.result c.in_ok-speculation.speculation c.begin-2.result none c.in_ok-speculation.ensures.speculated c.in_ok-speculation.ensures.few c.begin-2.ensures in
@@ -26,3 +27,8 @@ returns g c =
     let both = run.seen None (begun, placed) in
     tallied_to_the_end both.0 c.args.options.now c.count_in_flight.result run.passes run.counted (stops_by run c.in-Ok.stop c.in-Ok.is) c.new.ensures c.count_in_flight.ensures.count c.losses.ensures refl c.words.ensures
     (placed_at_end c.args.options.now.shown c.no_places.result _ c.no_places.ensures both.1) both.1.places_add_up (lost_for c.cycles_done.ensures.reached run.passes c.is_exhausted.ensures.within)
+
+pub returns-clause-learned : goal.returns-clause-learned
+returns-clause-learned g c =
+    let run = c.watch-ended.ensures in
+    taught_by_run run.passes c.in-Ok.stop (stops_by run c.in-Ok.stop c.in-Ok.is)
