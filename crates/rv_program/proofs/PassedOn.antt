@@ -1,5 +1,5 @@
 -- What an output holds once the buffer before it is gone.
-use Rattle.std.proofs.Common.{◌≡◌, ℕ, List, [], ◌++◌, length, take, drop, Option, Some, None, sym, ap, ◌∙◌, subst, refl, arith, append-nil, append_assoc}
+use Rattle.std.proofs.Common.{◌≡◌, ℕ, List, [], ◌++◌, length, take, drop, Option, Some, None, sym, ap, ◌∙◌, subst, refl, append-nil, append_assoc}
 use Rattle.std.specs.Prelude.{Result, Ok, Err}
 use Rattle.std.specs.Io.Buffered.{writer_buffer, writer_contents, writer_inner}
 use Rattle.std.specs.Io.KnownBytes.{Appends, Keeps, append_known}
@@ -10,7 +10,6 @@ use Rattle.rv_front.specs.Guide.{Guide}
 use Rattle.rv_job.specs.declared.errors.SimError.{SimError}
 use Rattle.rv_job.specs.declared.errors.SimError.TheVariants.{Memory, WriteFailed}
 use Rattle.rv_text.proofs.Writing.{Appends-kept, Appends-same}
-use Rattle.rv_text.specs.Written.{AppendsBeginning}
 use Rattle.rv_program.specs.Output.{HoldsBeginning, PassesOn}
 use Rattle.rv_program.specs.Program.{EndsPassedOn}
 use Rattle.rv_program.specs.Task.{Ends}
@@ -36,11 +35,6 @@ before_buffer contents buffer output is =
     beginning None = tt
     beginning (Some bytes) = (writer_buffer buffer, sym (append-nil _))
 
--- a text that was appended and kept then is a beginning of itself
-pub beginning-kept : (old held new : Option (List ℕ)) (text : List ℕ) → Appends old held text → Keeps held new → AppendsBeginning old new text
-beginning-kept old held new text appended kept =
-    (length text, omega arith, Appends-same old new text (take (length text) text) (sym (take-length text)) (Appends-kept old held new text appended kept))
-
 -- what is kept is a beginning of itself
 pub whole_left : (held new : Option (List ℕ)) → Keeps held new → HoldsBeginning held new []
 whole_left None new kept = tt
@@ -54,12 +48,12 @@ kept_left (Some old) None new kept left = absurd kept
 kept_left (Some old) (Some held) None kept left = absurd left
 kept_left (Some old) (Some held) (Some new) kept (rest, is) = (rest, is ∙ ap (λ l. l ++ []) kept)
 
--- a beginning of what had grown by a beginning of a text
-grown_left : (old held new : Option (List ℕ)) (text : List ℕ) → AppendsBeginning old held text → HoldsBeginning held new [] → HoldsBeginning old new text
-grown_left None held new text grown left = tt
-grown_left (Some old) None new text (n, within, grown) left = absurd grown
-grown_left (Some old) (Some held) None text grown left = absurd left
-grown_left (Some old) (Some held) (Some new) text (n, within, grown) (rest, is) = (
+-- a beginning of what had grown by the front of a text
+grown_left : (old held new : Option (List ℕ)) (n : ℕ) (text : List ℕ) → Appends old held (take n text) → HoldsBeginning held new [] → HoldsBeginning old new text
+grown_left None held new n text grown left = tt
+grown_left (Some old) None new n text grown left = absurd grown
+grown_left (Some old) (Some held) None n text grown left = absurd left
+grown_left (Some old) (Some held) (Some new) n text grown (rest, is) = (
   rest ++ drop n text,
   sym (append_assoc new rest (drop n text))
       ∙ ap (λ l. l ++ drop n text) (is ∙ append-nil held ∙ grown)
@@ -86,11 +80,11 @@ pub ended_passed_on : (task : Task) (predictor : Guide) (old held new : Option (
 ended_passed_on task predictor old held new (Ok ended) (Ok _) (text, shows, appended) (same, kept) =
     subst (λ s. EndsPassedOn task predictor old new (Ok s)) (sym same) (text, shows, Appends-kept old held new text appended kept)
 ended_passed_on task predictor old held new (Ok ended) (Err WriteFailed) (text, shows, appended) left =
-    (text, ended, shows, grown_left old held new text (length text, omega arith, Appends-same old held _ _ (sym (take-length text)) appended) left)
+    (text, ended, shows, grown_left old held new (length text) text (Appends-same old held _ _ (sym (take-length text)) appended) left)
 ended_passed_on task predictor old held new (Ok ended) (Err _) ends never = absurd never
 ended_passed_on task predictor old held new (Err error) (Ok _) ends never = absurd never
-ended_passed_on task predictor old held new (Err WriteFailed) (Err outcome) (text, ended, shows, grown) (same, left) =
-    subst (λ e. EndsPassedOn task predictor old new (Err e)) (sym same) (text, ended, shows, grown_left old held new text grown left)
+ended_passed_on task predictor old held new (Err WriteFailed) (Err outcome) (text, ended, shows, (n, within, grown)) (same, left) =
+    subst (λ e. EndsPassedOn task predictor old new (Err e)) (sym same) (text, ended, shows, grown_left old held new n text grown left)
 ended_passed_on task predictor old held new (Err Memory) (Err outcome) (asks, kept) (same, left) =
     subst (λ e. EndsPassedOn task predictor old new (Err e)) (sym same) (asks, kept_left old held new kept left)
 ended_passed_on task predictor old held new (Err _) (Err outcome) never passes = absurd never

@@ -1,8 +1,7 @@
 //! What the output gets of an input that is refused.
 ghost use Rattle.std.specs.Prelude.{◌≡◌, Some};
 ghost use Rattle.rv_refusal.specs.Refusal.{refusal_text};
-ghost use Rattle.rv_text.specs.IsText.{IsText};
-ghost use Rattle.rv_program.specs.Refused.{HandsBack};
+ghost use Rattle.rv_program.specs.Refused.{HandsBack, IsFlushed};
 
 use rv_command::Command;
 use rv_job::SimError;
@@ -18,7 +17,7 @@ fn show_refusal<W: Write>(
     error: SimError,
     output: &mut W,
 ) -> Result<(), TextError>
-    ensures { IsText (λ _ text. text ≡ refusal_text input.now error) result (W.contents output.old) (W.contents output.new) }
+    ensures { IsFlushed (refusal_text input.now error) result (W.contents output.old) (W.contents output.new) }
 {
     match write_refusal(alloc, input, error, output) {
         Ok(()) => match output.flush() {
@@ -31,7 +30,7 @@ fn show_refusal<W: Write>(
 
 /// Hands back the output of an input that a command refuses: as it was given, but where the job was to be explained. Then it has
 /// got why the job is refused, and was flushed. What is answered says whether memory or a write failed: then the output has got
-/// nothing, or a beginning of that text.
+/// nothing, or a beginning of that text, or all of it where the flush failed.
 pub(crate) fn hand_back<W: Write + Drop>(
     alloc: Global,
     command: &Command,
