@@ -3,6 +3,7 @@ marks and keys beside examples/python/path, a second reader of the rules, which 
 import importlib.util
 import json
 import re
+import time
 from importlib.machinery import SourceFileLoader
 from pathlib import Path
 
@@ -249,9 +250,9 @@ class PathCheck:
     def waits(self, numbers):
         """The events of a followed instruction, and what each waited for."""
         for number in numbers:
-            self.browser.tell(f"follow({number})")
-            rows, word = self.browser.tell(READ_PATH)["waits"], self.known.run.words[number]
+            word = self.known.run.words[number]
             events = [(kind, word) for kind in STAGES if self.has(kind, word)]
+            rows = self.rows_of(number, len(events))
             known = [(LETTERS_OF.get(name_of(event), name_of(event)), str(self.known.at(event))) for event in events]
             self.same(f"events of #{number}", [(row[0], row[1]) for row in rows], known)
             for row, event in zip(rows, events):
@@ -265,6 +266,16 @@ class PathCheck:
                     words = [f"{words_of(before[0], number)} in {since}", f"{letter_of(cause)} {cause}", str(self.known.at(event) - since)]
                     self.same(f"wait of #{number}'s {event[0]}", row[2:5], words)
                 self.same(f"whether #{number}'s {event[0]} is on the path", row[5], "on" if self.is_on(event) else "")
+
+    def rows_of(self, number, count):
+        """What the panel says of a followed instruction, as soon as it has so many rows, or what it says after three seconds."""
+        until = time.monotonic() + 3
+        while True:
+            self.browser.tell(f"follow({number})")
+            rows = self.browser.tell(READ_PATH)["waits"]
+            if len(rows) == count or time.monotonic() > until:
+                return rows
+            time.sleep(0.05)
 
     def telling(self):
         """Instructions whose events waited for what those of others did not."""
