@@ -1,4 +1,4 @@
-ghost use Rattle.std.specs.Prelude.{◌≡◌, ◌≤◌, ◌<◌, Some, drop, is_some, length, option_copied, slice_get};
+ghost use Rattle.std.specs.Prelude.{◌≡◌, ◌+◌, ◌++◌, ◌≤◌, ◌<◌, [], ◌∷◌, Some, drop, is_some, length, option_copied, slice_get, vec_capacity};
 ghost use Rattle.std.specs.Option.{option_map, option_to_list};
 ghost use Rattle.rv_passage.specs.Numbers.{kept_through};
 ghost use Rattle.rv_passage.specs.Passage.{in_buffers, of_entry, of_fetched};
@@ -6,6 +6,7 @@ ghost use Rattle.rv_passage.specs.Table.{AreShort, next_before};
 ghost use Rattle.rv_passage.specs.declared.passage.Passage.{Passage};
 
 use crate::passage::Passage;
+use crate::put::put_last;
 use rv_front::{Fetched, Front};
 use rv_rob::{Entry, Rob};
 
@@ -30,20 +31,32 @@ pub(crate) fn entry_at(rob: &Rob, place: usize) -> Option<&Entry>
     rob.get(rob.next_number() - behind as u64)
 }
 
-// The instruction at a place among those in flight, the oldest at place 0, under a number.
-pub(crate) fn present_at(rob: &Rob, front: &Front, place: usize, number: u64) -> Passage
-    requires { place < length (in_buffers rob.now front.now) }
-    ensures { (now : Passage) → slice_get (in_buffers rob.now front.now) place ≡ Some now → result ≡ record now { number = number } }
+// Puts the instruction at a place among those in flight, the oldest at place 0, under a number at the end of rows that
+// have room for it. It is made where it lies.
+#[inline(always)]
+pub(crate) fn put_present(
+    rows: &mut Vec<Passage>,
+    rob: &Rob,
+    front: &Front,
+    place: usize,
+    number: u64,
+)
+    requires within { place < length (in_buffers rob.now front.now) }
+    requires room { length rows.old.items < vec_capacity rows.old }
+    ensures items { (now : Passage) → slice_get (in_buffers rob.now front.now) place ≡ Some now
+        → rows.new.items ≡ rows.old.items ++ record now { number = number } ∷ [] }
+    ensures len { length rows.new.items ≡ length rows.old.items + 1 }
+    ensures capacity { vec_capacity rows.new ≡ vec_capacity rows.old }
 {
     let dispatched = rob.len();
     if place < dispatched {
         match entry_at(rob, place) {
-            Some(entry) => Passage::of_entry(entry, number),
+            Some(entry) => put_last(rows, Passage::of_entry(entry, number)),
             None => unreachable!(),
         }
     } else {
         match front.get(place - dispatched) {
-            Some(word) => Passage::of_fetched(word, number),
+            Some(word) => put_last(rows, Passage::of_fetched(word, number)),
             None => unreachable!(),
         }
     }

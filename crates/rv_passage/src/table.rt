@@ -4,7 +4,7 @@ ghost use Rattle.rv_hardware.specs.Lessons.{first_pc};
 ghost use Rattle.rv_passage.specs.Passage.{in_buffers, is_in_flight, trapped_by};
 ghost use Rattle.rv_passage.specs.declared.passage.Passage.{Passage};
 
-use crate::in_flight::{MOST_IN_FLIGHT, count_in_flight, count_kept, present_at};
+use crate::in_flight::{MOST_IN_FLIGHT, count_in_flight, count_kept, put_present};
 use crate::kept::{move_kept_on, retire_kept, trap_kept};
 use crate::passage::Passage;
 use crate::put::put_last;
@@ -316,7 +316,7 @@ impl Table {
         ensures interrupts { self.new.interrupts ≡ self.old.interrupts }
     {
         self.in_flight = 0;
-        put_last(&mut self.rows, present_at(rob, front, place, self.fetched));
+        put_present(&mut self.rows, rob, front, place, self.fetched);
         self.fetched += 1;
     }
 
