@@ -1,13 +1,14 @@
 -- Why a list of arrivals is refused.
-use Rattle.std.specs.Prelude.{ℕ, ◌+◌, ◌==◌, List, [], ◌∷◌, ◌++◌, codes, decimal, if◌then◌else◌, Option}
+use Rattle.std.specs.Prelude.{ℕ, ◌+◌, ◌==◌, List, [], ◌++◌, codes, decimal, if◌then◌else◌, Option}
 use Rattle.std.specs.{Option.option_map_or, Option.option_or}
 use Rattle.rv_describe.specs.Entries.{entry_of, field_of}
 use Rattle.rv_describe.specs.declared.{arrivals_error.ArrivalsError.ArrivalsError, field.Field.Field}
-use Rattle.rv_describe.specs.declared.arrivals_error.ArrivalsError.TheVariants.{NotToml, UnknownKey, Memory}
+use Rattle.rv_describe.specs.declared.arrivals_error.ArrivalsError.TheVariants.{NotToml, UnknownKey, WrongKind, Memory}
 use Rattle.rv_describe.specs.declared.field.Field.TheVariants.{Cycle, Line, Level}
 use Rattle.rv_job.specs.Parts.{Parts}
 use Rattle.rv_refusal.specs.Caret.{caret_below}
-use Rattle.rv_refusal.specs.EntryLine.{EntryLine, anywhere, entry_on, field_on, first_sought, in_entry, unknown_on}
+use Rattle.rv_refusal.specs.EntryLine.{EntryLine, entry_on, field_names, field_on, first_sought, heading_names, in_entry, unknown_on}
+use Rattle.rv_refusal.specs.KeyLine.{is_none_of}
 use Rattle.rv_refusal.specs.Lines.{line_feeds}
 use Rattle.rv_refusal.specs.Near.{hint_line}
 use Rattle.rv_refusal.specs.Place.{line_place, shown_line}
@@ -49,28 +50,47 @@ unfoldable pub field_lines : ℕ → List ℕ → ℕ → Field → List ℕ
 field_lines before part entry field =
     option_map_or (entry_line_text before) (line_of_field field entry part) (entry_text entry) ++ field_line field
 
+-- the line that gives `arrival` no array: its heading, which has one bracket, or else the key
+unfoldable pub line_of_list : List ℕ → Option EntryLine
+line_of_list part =
+    option_or (first_sought (in_entry 1 entry_on) part) (first_sought (in_entry 0 (field_on (codes "arrival"))) part)
+
+-- why arrivals are refused that are no array: the line that gives them, and which heading an entry has
+unfoldable pub heading_lines : ℕ → List ℕ → List ℕ
+heading_lines before part =
+    option_map_or (entry_line_text before) (line_of_list part) [] ++ codes "expected: the heading of each entry is [[arrival]]\n"
+
+-- why arrivals are refused by the list itself: it is no array, or has too many entries
+unfoldable pub list_lines : ℕ → List ℕ → ArrivalsError → List ℕ
+list_lines before part (WrongKind entry field) = heading_lines before part
+list_lines before part _ = codes "expected: at most 100000 entries [[arrival]]\n"
+
 -- why arrivals are refused by an entry: by the first field with this fault, or by the list
 unfoldable pub entry_lines : ℕ → List ℕ → ArrivalsError → List ℕ
 entry_lines before part error =
-    option_map_or (field_lines before part (entry_of error)) (field_of error) (codes "expected: at most 100000 entries [[arrival]]\n")
+    option_map_or (field_lines before part (entry_of error)) (field_of error) (list_lines before part error)
 
 -- the names that a list of arrivals may have
-unfoldable pub arrival_names : List (List ℕ)
-arrival_names = codes "arrival" ∷ codes "cycle" ∷ codes "line" ∷ codes "level" ∷ []
+abbrev pub arrival_names : List (List ℕ)
+arrival_names = heading_names ++ field_names
 
 -- what was expected in place of an unknown name
 unfoldable pub arrival_expected : List ℕ
 arrival_expected = codes "expected: entries [[arrival]], each with cycle, line and level\n"
 
+-- the known names that an unknown one may stand for; a known one stands where it is not known
+abbrev pub name_hint : List ℕ → List ℕ
+name_hint name = if is_none_of arrival_names name then hint_line name arrival_names else []
+
 -- a line with an unknown name, what was expected there, and the known names that it may stand for
 unfoldable pub unknown_line : ℕ → EntryLine → List ℕ
 unknown_line before found =
-    entry_line_text before found ++ (arrival_expected ++ hint_line found.name arrival_names)
+    entry_line_text before found ++ (arrival_expected ++ name_hint found.name)
 
--- the first line of a list of arrivals with a name that is not known
+-- the first line of a list of arrivals with a name that is not known there
 unfoldable pub unknown_lines : ℕ → List ℕ → List ℕ
 unknown_lines before part =
-    option_map_or (unknown_line before) (first_sought (anywhere (unknown_on arrival_names)) part) arrival_expected
+    option_map_or (unknown_line before) (first_sought unknown_on part) arrival_expected
 
 -- why arrivals are refused that so many lines of the job stand before
 unfoldable pub part_lines : ℕ → List ℕ → ArrivalsError → List ℕ

@@ -1,8 +1,8 @@
 -- The lines on which the entries of a list of arrivals stand, and their fields.
-use Rattle.std.specs.Prelude.{ℕ, ◌+◌, ◌==◌, ◌&&◌, Bool, is_some, List, [], ◌∷◌, drop, map, take, if◌then◌else◌, Option, Some, None, option_map, option_and_then, codes}
+use Rattle.std.specs.Prelude.{ℕ, ◌+◌, ◌==◌, ◌&&◌, Bool, is_some, List, [], ◌∷◌, drop, take, if◌then◌else◌, Option, Some, None, option_map, option_and_then, codes}
 use Rattle.std.specs.{List.slice_split, Option.option_or, Str.bytes_eq}
 use Rattle.rv_refusal.specs.KeyLine.{is_none_of}
-use Rattle.rv_refusal.specs.NameOn.{NameOn, begins_with, blanks, key_on, name_after}
+use Rattle.rv_refusal.specs.NameOn.{NameOn, begins_with, blanks, key_on, name_after, table_on}
 use Rattle.rv_refusal.specs.declared.entry_line.{EntryLine.EntryLine as Found, Sought.Sought}
 use Rattle.rv_refusal.specs.declared.entry_line.Sought.TheVariants.{Entry, Field, Unknown}
 
@@ -29,17 +29,37 @@ element_on line =
 abbrev pub if_passes : (List ℕ → Bool) → NameOn → Option NameOn
 if_passes test on = if test on.name then Some on else None
 
--- the name of an entry that a line begins
+-- the name in the brackets of a heading, one before and behind it or two
+abbrev pub heading_on : List ℕ → Option NameOn
+heading_on line = option_or (element_on line) (table_on line)
+
+-- the name of an entry that a line begins; one bracket is a mistake there
 abbrev pub entry_on : List ℕ → Option NameOn
-entry_on line = option_and_then (if_passes (λ name. bytes_eq name (codes "arrival"))) (element_on line)
+entry_on line = option_and_then (if_passes (λ name. bytes_eq name (codes "arrival"))) (heading_on line)
 
 -- the name of a field to which a line gives a value, if it is this one
 abbrev pub field_on : List ℕ → List ℕ → Option NameOn
 field_on field line = option_and_then (if_passes (λ name. bytes_eq name field)) (key_on line)
 
--- the name on a line, if it is none of these
-abbrev pub unknown_on : List (List ℕ) → List ℕ → Option NameOn
-unknown_on known line = option_and_then (if_passes (is_none_of known)) (option_or (element_on line) (key_on line))
+-- the names of a heading
+unfoldable pub heading_names : List (List ℕ)
+heading_names = codes "arrival" ∷ []
+
+-- the names of an entry's fields
+unfoldable pub field_names : List (List ℕ)
+field_names = codes "cycle" ∷ codes "line" ∷ codes "level" ∷ []
+
+-- the names before `=` on the lines of an entry with a number; those before the first entry are a heading's
+abbrev pub key_names : ℕ → List (List ℕ)
+key_names entry = if entry == 0 then heading_names else field_names
+
+-- a name, if it is none of these
+abbrev pub if_unknown : List (List ℕ) → Option NameOn → Option NameOn
+if_unknown known on = option_and_then (if_passes (is_none_of known)) on
+
+-- the name on a line that is not known there, given how many entries have begun up to the line
+abbrev pub unknown_on : ℕ → List ℕ → Option NameOn
+unknown_on count line = option_or (if_unknown heading_names (heading_on line)) (if_unknown (key_names count) (key_on line))
 
 -- how many entries have begun up to a line, of which so many have before it
 abbrev pub count_after : ℕ → List ℕ → ℕ
@@ -49,15 +69,11 @@ count_after count line = if is_some (entry_on line) then count + 1 else count
 abbrev pub in_entry : ℕ → (List ℕ → Option NameOn) → ℕ → List ℕ → Option NameOn
 in_entry entry on count line = if count == entry then on line else None
 
--- what is looked for on each line
-abbrev pub anywhere : (List ℕ → Option NameOn) → ℕ → List ℕ → Option NameOn
-anywhere on count line = on line
-
 -- what is looked for
 abbrev pub sought_on : Sought → ℕ → List ℕ → Option NameOn
 sought_on (Entry entry) count line = in_entry entry entry_on count line
 sought_on (Field entry name) count line = in_entry entry (field_on name.now) count line
-sought_on (Unknown known) count line = anywhere (unknown_on (map (λ name. name.now) known.now)) count line
+sought_on Unknown count line = unknown_on count line
 
 -- the line with a number, up to which so many entries have begun, with a name on it
 abbrev pub line_of : ℕ → ℕ → List ℕ → NameOn → EntryLine

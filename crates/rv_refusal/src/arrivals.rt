@@ -1,11 +1,12 @@
-ghost use Rattle.std.specs.Prelude.{◌≡◌, ◌++◌, OnOk, map, option_map};
+ghost use Rattle.std.specs.Prelude.{◌≡◌, ◌++◌, OnOk, [], map, option_map};
 ghost use Rattle.std.specs.Option.{option_map_or};
 ghost use Rattle.rv_job.specs.ReadParts.{parts_in};
-ghost use Rattle.rv_refusal.specs.Arrivals.{arrival_expected, arrival_names, arrivals_lines, entry_line_text, entry_lines, entry_text, field_line, field_lines, field_name, in_entry_text, line_of_field, part_lines, unknown_line, unknown_lines};
+ghost use Rattle.rv_refusal.specs.Arrivals.{arrival_expected, arrival_names, arrivals_lines, entry_line_text, entry_lines, entry_text, field_line, field_lines, field_name, heading_lines, in_entry_text, line_of_field, line_of_list, list_lines, name_hint, part_lines, unknown_line, unknown_lines};
 ghost use Rattle.rv_refusal.specs.EntryLine.{entry_line};
 
 use crate::caret::add_marked_line;
 use crate::entry_line::{EntryLine, Sought, first_sought};
+use crate::key_line::is_among;
 use crate::lines::line_feeds;
 use crate::near::add_hint;
 use crate::place::add_line_place;
@@ -117,6 +118,53 @@ fn add_field_lines(
     add_text(out, field_line(field))
 }
 
+// The line that gives `arrival` no array: its heading, which has one bracket, or else the key.
+#[tactic(auto, unfolding(crate::specs::Arrivals::line_of_list))]
+fn line_of_list(part: &[u8]) -> Option<EntryLine<'_>>
+    ensures { option_map entry_line result ≡ line_of_list part.entry.now }
+{
+    match first_sought(Sought::Entry(1), part) {
+        Some(found) => Some(found),
+        None => first_sought(Sought::Field(0, b"arrival"), part),
+    }
+}
+
+// Appends the line that gives `arrival` no array, if it is found.
+fn add_line_of_list(out: &mut Vec<u8>, before: usize, part: &[u8]) -> Result<(), AllocError>
+    ensures { OnOk result (out.new.items
+        ≡ out.old.items ++ option_map_or (entry_line_text before) (line_of_list part.now) []) }
+{
+    match line_of_list(part) {
+        Some(found) => add_entry_line(out, before, found),
+        None => Ok(()),
+    }
+}
+
+// Appends why arrivals are refused that are no array: the line that gives them, and which heading an entry has.
+#[tactic(auto, unfolding(crate::specs::Arrivals::heading_lines))]
+fn add_heading_lines(out: &mut Vec<u8>, before: usize, part: &[u8]) -> Result<(), AllocError>
+    ensures { OnOk result (out.new.items ≡ out.old.items ++ heading_lines before part.now) }
+{
+    add_line_of_list(out, before, part)?;
+    add_text(out, b"expected: the heading of each entry is [[arrival]]\n")
+}
+
+// Appends why arrivals are refused by the list itself: it is no array, or has too many entries.
+#[tactic(auto, unfolding(crate::specs::Arrivals::list_lines))]
+fn add_list_lines(
+    out: &mut Vec<u8>,
+    before: usize,
+    part: &[u8],
+    error: ArrivalsError,
+) -> Result<(), AllocError>
+    ensures { OnOk result (out.new.items ≡ out.old.items ++ list_lines before part.now error) }
+{
+    if let ArrivalsError::WrongKind { .. } = error {
+        return add_heading_lines(out, before, part);
+    }
+    add_text(out, b"expected: at most 100000 entries [[arrival]]\n")
+}
+
 // Appends why arrivals are refused by an entry: by the first field with this fault, or by the list.
 #[tactic(auto, unfolding(crate::specs::Arrivals::entry_lines))]
 fn add_entry_lines(
@@ -129,7 +177,7 @@ fn add_entry_lines(
 {
     match error.field() {
         Some(field) => add_field_lines(out, before, part, error.entry(), field),
-        None => add_text(out, b"expected: at most 100000 entries [[arrival]]\n"),
+        None => add_list_lines(out, before, part, error),
     }
 }
 
@@ -144,11 +192,21 @@ fn arrival_expected() -> &'static [u8]
 const NAMES: [&[u8]; 4] = [b"arrival", b"cycle", b"line", b"level"];
 
 // The names that a list of arrivals may have.
-#[tactic(auto, unfolding(crate::specs::Arrivals::arrival_names))]
+#[tactic(auto, unfolding(crate::specs::EntryLine::heading_names, crate::specs::EntryLine::field_names))]
 fn arrival_names() -> &'static [&'static [u8]]
     ensures { map (λ name. name.now) result.now ≡ arrival_names }
 {
     &NAMES
+}
+
+// Appends the known names that an unknown one may stand for; a known one stands where it is not known.
+fn add_name_hint(alloc: Global, out: &mut Vec<u8>, name: &[u8]) -> Result<(), AllocError>
+    ensures { OnOk result (out.new.items ≡ out.old.items ++ name_hint name.now) }
+{
+    if is_among(name, arrival_names()) {
+        return Ok(());
+    }
+    add_hint(alloc, out, name, arrival_names())
 }
 
 // Appends a line with an unknown name, what was expected there, and the known names that it may stand for.
@@ -163,10 +221,10 @@ fn add_unknown_line(
 {
     add_entry_line(out, before, found)?;
     add_text(out, arrival_expected())?;
-    add_hint(alloc, out, found.name, arrival_names())
+    add_name_hint(alloc, out, found.name)
 }
 
-// Appends the first line of a list of arrivals with a name that is not known.
+// Appends the first line of a list of arrivals with a name that is not known there.
 #[tactic(auto, unfolding(crate::specs::Arrivals::unknown_lines))]
 fn add_unknown_lines(
     alloc: Global,
@@ -176,7 +234,7 @@ fn add_unknown_lines(
 ) -> Result<(), AllocError>
     ensures { OnOk result (out.new.items ≡ out.old.items ++ unknown_lines before part.now) }
 {
-    match first_sought(Sought::Unknown(arrival_names()), part) {
+    match first_sought(Sought::Unknown, part) {
         Some(found) => add_unknown_line(alloc, out, before, found),
         None => add_text(out, arrival_expected()),
     }

@@ -28,7 +28,7 @@ fn add_line_text(
     add_line(out, line)?;
     add_caret_line(out, error.fault, line, tokens)?;
     add_expected(out, error.fault, tokens)?;
-    add_separator_question(out, before, error.fault, line)
+    add_separator_question(out, before, line)
 }
 
 /// Appends the fault of an assembly that so many lines of the job stand before, the known names that are near, and the lines after it

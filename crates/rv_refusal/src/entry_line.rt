@@ -1,11 +1,10 @@
 ghost use Rattle.std.specs.Prelude.{◌≡◌, ◌<◌, ◌≤◌, ◌+◌, ◌^◌, ◌==◌, codes, map, option_map};
 ghost use Rattle.std.specs.{List.slice_split, Str.bytes_eq};
-ghost use Rattle.rv_refusal.specs.EntryLine.{count_after, element_on, entry_line, entry_on, field_on, first_from, first_sought, if_passes, sought_line, sought_on, unknown_on, without_mark};
+ghost use Rattle.rv_refusal.specs.EntryLine.{count_after, element_on, entry_line, entry_on, field_names, field_on, first_from, first_sought, heading_names, heading_on, if_passes, if_unknown, key_names, sought_line, sought_on, unknown_on, without_mark};
 ghost use Rattle.rv_refusal.specs.HeldName.{name_in};
-ghost use Rattle.rv_refusal.specs.KeyLine.{is_none_of};
 
 use crate::key_line::is_among;
-use crate::name_on::{NameOn, begins_with, blanks, key_on, name_after};
+use crate::name_on::{NameOn, begins_with, blanks, key_on, name_after, table_on};
 use rv_asm::first_line;
 
 /// A line of a list of arrivals with its number, how many entries have begun up to it, a name on it, and how many bytes stand before
@@ -26,8 +25,8 @@ pub(crate) enum Sought<'a> {
     Entry(usize),
     /// The field with this name of the entry with this number.
     Field(usize, &'a [u8]),
-    /// A name that is none of these.
-    Unknown(&'a [&'a [u8]]),
+    /// A name that is not known where it stands.
+    Unknown,
 }
 
 // The element of an array of tables that a line begins: the array's name stands in two brackets.
@@ -48,6 +47,16 @@ fn element_on(line: &[u8]) -> Option<NameOn<'_>>
     name_after(before + 2, b']', inner)
 }
 
+// The name in the brackets of a heading, one before and behind it or two.
+fn heading_on(line: &[u8]) -> Option<NameOn<'_>>
+    ensures { option_map name_in result ≡ heading_on line.entry.now }
+{
+    match element_on(line) {
+        Some(on) => Some(on),
+        None => table_on(line),
+    }
+}
+
 // A name on a line, if it is this one.
 fn if_same<'a>(name: &[u8], on: NameOn<'a>) -> Option<NameOn<'a>>
     ensures { option_map name_in result ≡ if_passes (λ other. bytes_eq other name.now) (name_in on.entry) }
@@ -59,7 +68,7 @@ fn if_same<'a>(name: &[u8], on: NameOn<'a>) -> Option<NameOn<'a>>
 fn entry_on(line: &[u8]) -> Option<NameOn<'_>>
     ensures { option_map name_in result ≡ entry_on line.entry.now }
 {
-    match element_on(line) {
+    match heading_on(line) {
         Some(on) => if_same(b"arrival", on),
         None => None,
     }
@@ -75,10 +84,34 @@ fn field_on<'a>(field: &[u8], line: &'a [u8]) -> Option<NameOn<'a>>
     }
 }
 
-// A name on a line, if it is none of these.
-fn if_unknown<'a>(known: &[&[u8]], on: NameOn<'a>) -> Option<NameOn<'a>>
-    ensures { option_map name_in result ≡ if_passes (is_none_of (map (λ name. name.now) known.now)) (name_in on.entry) }
+static HEADING_NAMES: [&[u8]; 1] = [b"arrival"];
+
+static FIELD_NAMES: [&[u8]; 3] = [b"cycle", b"line", b"level"];
+
+// The names of a heading.
+#[tactic(auto, unfolding(crate::specs::EntryLine::heading_names))]
+fn heading_names() -> &'static [&'static [u8]]
+    ensures { map (λ name. name.now) result.now ≡ heading_names }
 {
+    &HEADING_NAMES
+}
+
+// The names before `=` on the lines of an entry with a number; those before the first entry are a heading's.
+#[tactic(auto, unfolding(crate::specs::EntryLine::field_names))]
+fn key_names(entry: usize) -> &'static [&'static [u8]]
+    ensures { map (λ name. name.now) result.now ≡ key_names entry }
+{
+    if entry == 0 {
+        return heading_names();
+    }
+    &FIELD_NAMES
+}
+
+// A name on a line, if it is none of these.
+fn if_unknown<'a>(known: &[&[u8]], on: Option<NameOn<'a>>) -> Option<NameOn<'a>>
+    ensures { option_map name_in result ≡ if_unknown (map (λ name. name.now) known.now) (option_map name_in on.entry) }
+{
+    let on = on?;
     if is_among(on.name, known) {
         None
     } else {
@@ -86,16 +119,13 @@ fn if_unknown<'a>(known: &[&[u8]], on: NameOn<'a>) -> Option<NameOn<'a>>
     }
 }
 
-// The name on a line, if it is none of these.
-fn unknown_on<'a>(known: &[&[u8]], line: &'a [u8]) -> Option<NameOn<'a>>
-    ensures { option_map name_in result ≡ unknown_on (map (λ name. name.now) known.now) line.entry.now }
+// The name on a line that is not known there, given how many entries have begun up to the line.
+fn unknown_on(count: usize, line: &[u8]) -> Option<NameOn<'_>>
+    ensures { option_map name_in result ≡ unknown_on count line.entry.now }
 {
-    if let Some(on) = element_on(line) {
-        return if_unknown(known, on);
-    }
-    match key_on(line) {
-        Some(on) => if_unknown(known, on),
-        None => None,
+    match if_unknown(heading_names(), heading_on(line)) {
+        Some(on) => Some(on),
+        None => if_unknown(key_names(count), key_on(line)),
     }
 }
 
@@ -125,7 +155,7 @@ fn sought_on<'a>(sought: Sought<'_>, count: usize, line: &'a [u8]) -> Option<Nam
                 None
             }
         }
-        Sought::Unknown(known) => unknown_on(known, line),
+        Sought::Unknown => unknown_on(count, line),
     }
 }
 

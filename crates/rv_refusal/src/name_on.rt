@@ -58,8 +58,8 @@ pub(crate) fn begins_with(mark: u8, text: &[u8]) -> bool
     }
 }
 
-// Whether a text begins with a byte, after blanks.
-fn goes_on_with(mark: u8, text: &[u8]) -> bool
+/// Whether a text begins with a byte, after blanks.
+pub(crate) fn goes_on_with(mark: u8, text: &[u8]) -> bool
     ensures { result ≡ goes_on_with mark text.now }
 {
     let (_, rest) = text.split_at(blanks(text));

@@ -78,7 +78,7 @@ expected: level is 0 or 1, by default 1
 ];
 
 // Lists of arrivals that are refused by a field that is missing or stands on no line of its own, or by the list itself.
-const MISSING: [Refused; 6] = [
+const MISSING: [Refused; 7] = [
     Refused {
         job: b"%%\n[[arrival]]\ncycle = 1\nline = \"timer\"\n [[ arrival ]] # the second\nline = \"timer\"\n%%\nebreak\n",
         why: b"\
@@ -113,7 +113,21 @@ expected: cycle is a number from 0 to 1000000, no less than that of the entry be
     },
     Refused {
         job: b"%%\narrival = 3\n%%\nebreak\n",
-        why: b"expected: at most 100000 entries [[arrival]]\n",
+        why: b"\
+line 2 of the job, line 1 of its arrivals
+    arrival = 3
+    ^
+expected: the heading of each entry is [[arrival]]
+",
+    },
+    Refused {
+        job: b"rob = 8\n%%\n# one\n[arrival]\ncycle = 5\nline = \"timer\"\n%%\nebreak\n",
+        why: b"\
+line 4 of the job, line 2 of its arrivals, entry 1
+    [arrival]
+     ^
+expected: the heading of each entry is [[arrival]]
+",
     },
     Refused {
         job: b"%%\n[[arrival]]\ncycle 5\n%%\nebreak\n",
@@ -127,7 +141,54 @@ expected: TOML, as in '[[arrival]]': a value for each key, strings and brackets 
 ];
 
 // Lists of arrivals with names that are not known.
-const NAMES: [Refused; 5] = [
+const NAMES: [Refused; 10] = [
+    Refused {
+        job: b"%%\ncycle=5\n%%\nebreak\n",
+        why: b"\
+line 2 of the job, line 1 of its arrivals
+    cycle=5
+    ^
+expected: entries [[arrival]], each with cycle, line and level
+",
+    },
+    Refused {
+        job: b"%%\nLEVEL = 1\n[[arrival]]\ncycle = 5\n%%\nebreak\n",
+        why: b"\
+line 2 of the job, line 1 of its arrivals
+    LEVEL = 1
+    ^
+expected: entries [[arrival]], each with cycle, line and level
+names are written in small letters: level
+",
+    },
+    Refused {
+        job: b"%%\n[[arrival]]\ncycle = 5\narrival = 1\n%%\nebreak\n",
+        why: b"\
+line 4 of the job, line 3 of its arrivals, entry 1
+    arrival = 1
+    ^
+expected: entries [[arrival]], each with cycle, line and level
+",
+    },
+    Refused {
+        job: b"%%\n[arrival]\ncycle = 5\n[arrivel]\ncycle = 6\n%%\nebreak\n",
+        why: b"\
+line 4 of the job, line 3 of its arrivals, entry 1
+    [arrivel]
+     ^
+expected: entries [[arrival]], each with cycle, line and level
+nearest: arrival
+",
+    },
+    Refused {
+        job: b"%%\n[[arrival]]\ncycle = 5\n[[cycle]]\nat = 6\n%%\nebreak\n",
+        why: b"\
+line 4 of the job, line 3 of its arrivals, entry 1
+    [[cycle]]
+      ^
+expected: entries [[arrival]], each with cycle, line and level
+",
+    },
     Refused {
         job: b"rob = 8\n%%\n[[arrival]]\ncycle = 5\nline = \"timer\"\n[[arrival]]\ncycle = 6\nlevels = 1\n%%\nebreak\n",
         why: b"\
