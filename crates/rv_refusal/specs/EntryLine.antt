@@ -1,7 +1,8 @@
 -- The lines on which the entries of a list of arrivals stand, and their fields.
-use Rattle.std.specs.Prelude.{ℕ, ◌+◌, ◌==◌, ◌&&◌, Bool, is_some, List, [], ◌∷◌, drop, take, if◌then◌else◌, Option, Some, None, option_map, option_and_then, codes}
+use Rattle.std.specs.Prelude.{ℕ, ◌+◌, ◌==◌, ◌&&◌, Bool, is_some, List, [], ◌∷◌, drop, if◌then◌else◌, Option, Some, None, option_map, option_and_then, codes}
 use Rattle.std.specs.{List.slice_split, Option.option_or, Str.bytes_eq}
 use Rattle.rv_refusal.specs.KeyLine.{is_none_of}
+use Rattle.rv_refusal.specs.Lines.{without_mark}
 use Rattle.rv_refusal.specs.NameOn.{NameOn, begins_with, blanks, key_on, name_after, table_on}
 use Rattle.rv_refusal.specs.declared.entry_line.{EntryLine.EntryLine as Found, Sought.Sought}
 use Rattle.rv_refusal.specs.declared.entry_line.Sought.TheVariants.{Entry, Field, Unknown}
@@ -88,10 +89,6 @@ abbrev pub first_from : (ℕ → List ℕ → Option NameOn) → ℕ → ℕ →
 first_from on number count [] = None
 first_from on number count (line ∷ others) =
     option_or (sought_line on number (count_after count line) line) (first_from on (number + 1) (count_after count line) others)
-
--- a text without the byte order mark that may stand before it
-unfoldable pub without_mark : List ℕ → List ℕ
-without_mark text = if bytes_eq (take 3 text) (239 ∷ 187 ∷ 191 ∷ []) then drop 3 text else text
 
 -- the first line of a text on which that stands which is looked for
 unfoldable pub first_sought : (ℕ → List ℕ → Option NameOn) → List ℕ → Option EntryLine

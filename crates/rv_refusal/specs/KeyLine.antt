@@ -2,6 +2,7 @@
 use Rattle.std.specs.Prelude.{ℕ, ◌+◌, ◌==◌, Bool, not, List, [], ◌∷◌, map, if◌then◌else◌, Option, Some, None, option_map, option_and_then, option_copied}
 use Rattle.std.specs.{List.list_any, List.slice_split, Option.option_map_or, Option.option_or, Str.bytes_eq}
 use Rattle.rv_isa.specs.Key.{joined}
+use Rattle.rv_refusal.specs.Lines.{without_mark}
 use Rattle.rv_refusal.specs.NameOn.{NameOn, key_on, table_on}
 use Rattle.rv_refusal.specs.declared.key_line.{KeyLine.KeyLine as Found, Wanted.Wanted}
 use Rattle.rv_refusal.specs.declared.key_line.Wanted.TheVariants.{Unknown, Named}
@@ -45,7 +46,7 @@ first_from test number table (line ∷ others) =
 
 -- the first line of a text with a name that passes a test
 unfoldable pub first_named : (List ℕ → Bool) → List ℕ → Option KeyLine
-first_named test text = first_from test 1 None (slice_split (λ byte. byte == 10) text)
+first_named test text = first_from test 1 None (slice_split (λ byte. byte == 10) (without_mark text))
 
 -- a name is none of these
 abbrev pub is_none_of : List (List ℕ) → List ℕ → Bool

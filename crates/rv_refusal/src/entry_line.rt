@@ -1,9 +1,10 @@
 ghost use Rattle.std.specs.Prelude.{◌≡◌, ◌<◌, ◌≤◌, ◌+◌, ◌^◌, ◌==◌, codes, map, option_map};
 ghost use Rattle.std.specs.{List.slice_split, Str.bytes_eq};
-ghost use Rattle.rv_refusal.specs.EntryLine.{count_after, element_on, entry_line, entry_on, field_names, field_on, first_from, first_sought, heading_names, heading_on, if_passes, if_unknown, key_names, sought_line, sought_on, unknown_on, without_mark};
+ghost use Rattle.rv_refusal.specs.EntryLine.{count_after, element_on, entry_line, entry_on, field_names, field_on, first_from, first_sought, heading_names, heading_on, if_passes, if_unknown, key_names, sought_line, sought_on, unknown_on};
 ghost use Rattle.rv_refusal.specs.HeldName.{name_in};
 
 use crate::key_line::is_among;
+use crate::lines::without_mark;
 use crate::name_on::{NameOn, begins_with, blanks, key_on, name_after, table_on};
 use rv_asm::first_line;
 
@@ -177,17 +178,6 @@ fn sought_line<'a>(
             name: on.name,
         }),
         None => None,
-    }
-}
-
-// A text without the byte order mark that may stand before it.
-#[tactic(auto, unfolding(crate::specs::EntryLine::without_mark))]
-fn without_mark(text: &[u8]) -> &[u8]
-    ensures { result.now ≡ without_mark text.entry.now }
-{
-    match text.strip_prefix(b"\xef\xbb\xbf".as_slice()) {
-        Some(rest) => rest,
-        None => text,
     }
 }
 

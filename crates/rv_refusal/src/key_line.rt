@@ -1,7 +1,8 @@
-ghost use Rattle.std.specs.Prelude.{◌≡◌, ◌+◌, ◌≤◌, ◌==◌, ◌^◌, IfOk, length, map, option_copied, option_map};
+ghost use Rattle.std.specs.Prelude.{◌≡◌, ◌+◌, ◌≤◌, ◌==◌, ◌^◌, IfOk, None, length, map, option_copied, option_map};
 ghost use Rattle.std.specs.{List.list_any, List.slice_split, Str.bytes_eq};
-ghost use Rattle.rv_refusal.specs.KeyLine.{first_named, is_wanted, key_line, named_line, table_after, wanted_line};
+ghost use Rattle.rv_refusal.specs.KeyLine.{first_from, first_named, is_wanted, key_line, named_line, table_after, wanted_line};
 
+use crate::lines::without_mark;
 use crate::name_on::{key_on, table_on};
 use crate::text::add_all;
 use rv_asm::first_line;
@@ -117,14 +118,14 @@ fn wanted_line<'a>(
     }
 }
 
-/// The first line of a text on which a name stands that is looked for.
-#[tactic(auto, unfolding(crate::specs::KeyLine::first_named))]
-pub(crate) fn first_named<'a>(
+// The first of the lines of a text on which a name stands that is looked for.
+fn first_line_named<'a>(
     alloc: Global,
     wanted: Wanted<'_>,
     text: &'a [u8],
 ) -> Result<Option<KeyLine<'a>>, AllocError>
-    ensures { IfOk result (λ found. option_map key_line found ≡ first_named (is_wanted wanted.entry) text.entry.now) }
+    ensures { IfOk result (λ found. option_map key_line found
+        ≡ first_from (is_wanted wanted.entry) 1 None (slice_split (λ byte. byte == 10) text.entry.now)) }
 {
     let mut number = 1;
     let mut table = None;
@@ -139,4 +140,16 @@ pub(crate) fn first_named<'a>(
         rest = behind;
     }
     Ok(None)
+}
+
+/// The first line of a text on which a name stands that is looked for.
+#[tactic(auto, unfolding(crate::specs::KeyLine::first_named))]
+pub(crate) fn first_named<'a>(
+    alloc: Global,
+    wanted: Wanted<'_>,
+    text: &'a [u8],
+) -> Result<Option<KeyLine<'a>>, AllocError>
+    ensures { IfOk result (λ found. option_map key_line found ≡ first_named (is_wanted wanted.entry) text.entry.now) }
+{
+    first_line_named(alloc, wanted, without_mark(text))
 }

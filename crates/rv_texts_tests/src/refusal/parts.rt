@@ -2,7 +2,16 @@ use crate::refusal::{Refused, check_whole};
 use std::test::Fail;
 
 // Descriptions that are refused by the value at a key, and why.
-const VALUES: [Refused; 10] = [
+const VALUES: [Refused; 11] = [
+    Refused {
+        job: b"\xef\xbb\xbf[cache]\nsets = 3\n%%\nebreak\n",
+        why: b"\
+line 2 of the job, line 2 of its description
+    sets = 3
+    ^
+expected: cache.sets is a power of two from 1 to 256, by default 16
+",
+    },
     Refused {
         job: b"rob = 0\n%%\nebreak\n",
         why: b"\
@@ -96,7 +105,17 @@ expected: predictor.kind is \"not_taken\", \"backward_taken\" or \"bimodal\", by
 ];
 
 // Descriptions with names that are not known, one without the line's name, and one that is no TOML.
-const NAMES: [Refused; 6] = [
+const NAMES: [Refused; 7] = [
+    Refused {
+        job: b"\xef\xbb\xbfrbo = 8\nrob = 8\n%%\n",
+        why: b"\
+line 1 of the job, line 1 of its description
+    rbo = 8
+    ^
+expected: a key or a table of a description
+nearest: rob
+",
+    },
     Refused {
         job: b"rob = 8\nrbo = 8\n%%\n",
         why: b"\

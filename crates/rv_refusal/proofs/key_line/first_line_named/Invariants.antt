@@ -3,7 +3,7 @@ use Rattle.std.specs.List.{slice_split}
 use Rattle.std.specs.Option.{option_map_or}
 use Rattle.rv_asm.specs.Kept.{lines_left}
 use Rattle.rv_refusal.specs.KeyLine.{first_from, is_wanted}
-use Rattle.rv_refusal.proofs.key_line.first_named.Given as goal
+use Rattle.rv_refusal.proofs.key_line.first_line_named.Given as goal
 
 -- what is left of the text has the line
 abbrev pub invariant-loop-rest : goal.invariant-loop-rest
