@@ -6,7 +6,8 @@ pub mod DrainCounts
 pub mod DrainsGrow
 pub mod LastStores
 pub mod InterruptsGrow
-mod Joined
+mod LineCounts
+mod LineSpots
 mod LargestFirst
 pub mod LeftGrows
 pub mod KindsGrow

@@ -13,8 +13,8 @@ use Rattle.rv_sentences.specs.declared.spot.Spot.{Spot}
 -- a line, and beneath it how many branches and jumps of it retired, how many of them were mispredicted, and what part that is
 unfoldable pub worst_line : Listed → Notes ℕ → Spot → List ℕ
 worst_line listing branches worst =
-    place_text listing worst.address ++
-    part_text (codes "       retired ") (count_in branches (word_of worst.address)) (codes " mispredicted") worst.count
+    let retired = count_in (line_counts listing branches) (word_of worst.address) in
+    place_text listing worst.address ++ part_text (codes "       retired ") retired (codes " mispredicted") worst.count
 
 -- some lines, if there are any
 unfoldable pub worst_lines : Listed → Notes ℕ → List Spot → List ℕ
@@ -25,4 +25,4 @@ worst_lines listing branches (spot ∷ spots) =
 -- the lines with the most wrong predictions, at most three, by what retired and what was mispredicted at each word
 unfoldable pub worst_text : Listed → Notes ℕ → Notes ℕ → List ℕ
 worst_text listing branches mispredicted =
-    worst_lines listing (line_counts listing branches) (greatest_lines listing 3 mispredicted)
+    worst_lines listing branches (greatest_lines listing 3 mispredicted)

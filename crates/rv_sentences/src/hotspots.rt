@@ -93,9 +93,9 @@ fn write_idle<W: Write>(out: &mut Sink<'_, W>, all: u64, idle: u64)
     write_empty(out, all, idle);
 }
 
-/// Writes the five lines that stood longest at the head, or had flushed the empty buffer, by the cycles on account of each word, each
-/// with its loads and stores, and leaves no count of theirs; and how many cycles were idle, on account of none. The cycles of all words are no
-/// more than there were.
+/// Writes the five lines that stood longest at the head, or had flushed the empty buffer, by the cycles on account of
+/// each word, each with its loads and stores; and how many cycles were idle, on account of none. The cycles of all
+/// words are no more than there were.
 pub fn write_hotspots<W: Write>(
     out: &mut Sink<'_, W>,
     listing: &Listing,
@@ -103,10 +103,10 @@ pub fn write_hotspots<W: Write>(
     idle: u64,
     outcomes: &WordNotes<Outcomes>,
     stores: &StoreCounts,
-    heads: &mut WordNotes<u64>,
+    heads: &WordNotes<u64>,
 )
-    requires heads { sum heads.old.words ≤ all }
-    ensures { Says W.contents out.old out.new (hotspots_text listing.now all idle heads.old outcomes.now stores.now) }
+    requires heads { sum heads.now.words ≤ all }
+    ensures { Says W.contents out.old out.new (hotspots_text listing.now all idle heads.now outcomes.now stores.now) }
 {
     out.put(
         b"The lines that stood longest at the head of the reorder buffer, or had flushed it, in cycles:\n",

@@ -1,46 +1,51 @@
-ghost use Rattle.std.specs.Prelude.{◌≡◌, ◌+◌, ◌≤◌, ◌<◌, ◌^◌, length, sum};
-ghost use Rattle.rv_sentences.specs.Spot.{by_line, is_one_line, number_of, with_next_at};
+ghost use Rattle.std.specs.Prelude.{◌≡◌, ◌+◌, ◌≤◌, ◌<◌, ◌^◌, drop, get_or, length, sum};
+ghost use Rattle.rv_sentences.specs.Spot.{by_line, goes_on, line_count};
 
 use rv_source::Listing;
 
-// Whether two words come from one line.
-fn is_one_line(listing: &Listing, word: u32, other: u32) -> bool
-    requires word { word < 2 ^ 30 }
-    requires other { other < 2 ^ 30 }
-    ensures { result ≡ is_one_line (number_of listing.now word) (number_of listing.now other) }
+/// Whether a word and the next one come from one line.
+pub fn goes_on(listing: &Listing, word: u32) -> bool
+    requires { word + 1 < 2 ^ 30 }
+    ensures { result ≡ goes_on listing.now word }
 {
-    match (listing.number_at(4 * word), listing.number_at(4 * other)) {
+    match (
+        listing.number_at(4 * word),
+        listing.number_at(4 * (word + 1)),
+    ) {
         (Some(number), Some(other)) => number == other,
         _ => false,
     }
 }
 
-// Gives the count after a place to the place.
-fn join_next(counts: &mut [u64], place: usize)
-    requires within { place + 1 < length counts.old }
-    requires room { sum counts.old < 2 ^ 64 }
-    ensures counts { counts.new ≡ with_next_at place counts.old }
-    ensures len { length counts.new ≡ length counts.old }
+// How much is counted from a place on at the words of its line.
+fn count_from(counts: &[u64], first: u32, listing: &Listing, place: usize) -> u64
+    requires within { place < length counts.now }
+    requires reach { first + length counts.now ≤ 2 ^ 30 }
+    requires room { sum counts.now < 2 ^ 64 }
+    ensures { result ≡ line_count listing.now (first + place) (drop place counts.now) }
 {
-    let next = counts[place + 1];
-    counts[place] += next;
-    counts[place + 1] = 0;
+    let mut last = place;
+    let mut count = counts[last];
+    while last + 1 < counts.len() {
+        if !goes_on(listing, first + last as u32) {
+            return count;
+        }
+        last += 1;
+        count += counts[last];
+    }
+    count
 }
 
-/// Gives the counts of all words of a line to its first word. The number of the first of all words is given.
-pub fn join_lines(counts: &mut [u64], first: u32, listing: &Listing)
-    requires some { 0 < length counts.old }
-    requires reach { first + length counts.old ≤ 2 ^ 30 }
-    requires room { sum counts.old < 2 ^ 64 }
-    ensures counts { counts.new ≡ by_line listing.now first counts.old }
-    ensures len { length counts.new ≡ length counts.old }
+/// How much is counted at the line whose first word is at a place, nothing at the other places of a line. The number of
+/// the first of all words is given.
+pub fn count_of_line(counts: &[u64], first: u32, listing: &Listing, place: usize) -> u64
+    requires within { place < length counts.now }
+    requires reach { first + length counts.now ≤ 2 ^ 30 }
+    requires room { sum counts.now < 2 ^ 64 }
+    ensures { result ≡ get_or (by_line listing.now first counts.now) place 0 }
 {
-    let mut place = counts.len() - 1;
-    while place > 0 {
-        place -= 1;
-        let word = first + place as u32;
-        if is_one_line(listing, word, word + 1) {
-            join_next(counts, place);
-        }
+    if place > 0 && goes_on(listing, first + (place - 1) as u32) {
+        return 0;
     }
+    count_from(counts, first, listing, place)
 }

@@ -252,17 +252,17 @@ fn write_each<W: Write>(
 }
 
 /// Writes the line of the program whose result was awaited most, if any was, with its loads, by how often each word was the one that
-/// the oldest instruction in wait for an operand awaited: once at most in each of so many cycles. Leaves no count of that line.
+/// the oldest instruction in wait for an operand awaited: once at most in each of so many cycles.
 #[tactic(auto, unfolding(crate::specs::StayLines::awaited_text))]
 pub fn write_awaited<W: Write>(
     out: &mut Sink<'_, W>,
     listing: &Listing,
     all: u64,
     outcomes: &WordNotes<Outcomes>,
-    awaited: &mut WordNotes<u64>,
+    awaited: &WordNotes<u64>,
 )
-    requires awaited { sum awaited.old.words ≤ all }
-    ensures { Says W.contents out.old out.new (awaited_text listing.now all outcomes.now awaited.old) }
+    requires awaited { sum awaited.now.words ≤ all }
+    ensures { Says W.contents out.old out.new (awaited_text listing.now all outcomes.now awaited.now) }
 {
     let spots = greatest_lines(awaited, listing, 1);
     write_each(out, listing, all, outcomes, spots.as_slice());

@@ -1,10 +1,10 @@
-ghost use Rattle.std.specs.Prelude.{◌≡◌, ◌+◌, ◌<◌, ◌^◌, IfOk, Some, slice_set, sum};
-ghost use Rattle.rv_sentences.specs.Spot.{first_greatest, line_counts, spot_at};
+ghost use Rattle.std.specs.Prelude.{◌≡◌, ◌+◌, ◌≤◌, ◌<◌, ◌^◌, IfOk, Some, length, slice_set, sum};
+ghost use Rattle.rv_sentences.specs.Spot.{first_greatest, line_counts};
 ghost use Rattle.rv_sentences.specs.WordCount.{count_in, with_one};
 ghost use Rattle.rv_sentences.specs.WordNotes.{note_at, notes_of, with_note};
 
-use crate::lines::join_lines;
-use crate::spot::{Greatest, Spot};
+use crate::lines::count_of_line;
+use crate::spot::Greatest;
 use rv_isa::Description;
 use rv_source::Listing;
 use std::alloc::{AllocError, Global};
@@ -56,6 +56,22 @@ impl<X: Copy + Drop> WordNotes<X> {
         self.words.get(place as usize).copied()
     }
 
+    /// The number of the first word.
+    pub(crate) fn first(&self) -> u32
+        ensures { result ≡ self.now.first }
+    {
+        self.first
+    }
+
+    /// What is kept of all words, of which there is one at least.
+    pub(crate) fn words(&self) -> &[X]
+        ensures words { result.now ≡ self.now.words }
+        ensures some { 0 < length result.now }
+        ensures reach { self.now.first + length result.now ≤ 2 ^ 30 }
+    {
+        self.words.as_slice()
+    }
+
     /// Keeps something else of a word, if it lies in RAM.
     pub fn set(&mut self, word: u32, note: X)
         ensures { self.new ≡ with_note self.old word note }
@@ -101,12 +117,21 @@ pub fn count_in(counts: &WordNotes<u64>, word: u32) -> u64
     }
 }
 
-/// Gives the counts of all words of a line to its first word.
-pub fn count_by_line(counts: &mut WordNotes<u64>, listing: &Listing)
-    requires room { sum counts.old.words < 2 ^ 64 }
-    ensures { counts.new ≡ line_counts listing.now counts.old }
+/// How much is counted at the line whose first word that is, nothing at any other word and outside RAM.
+pub fn count_in_line(counts: &WordNotes<u64>, listing: &Listing, word: u32) -> u64
+    requires room { sum counts.now.words < 2 ^ 64 }
+    ensures { result ≡ count_in (line_counts listing.now counts.now) word }
 {
-    join_lines(counts.words.as_mut_slice(), counts.first, listing);
+    let first = counts.first();
+    if word < first {
+        return 0;
+    }
+    let words = counts.words();
+    let place = (word - first) as usize;
+    if place >= words.len() {
+        return 0;
+    }
+    count_of_line(words, first, listing, place)
 }
 
 /// The greatest of some counts, and its first place.
@@ -136,19 +161,5 @@ pub fn clear(counts: &mut [u64], place: usize)
 {
     if place < counts.len() {
         counts[place] = 0;
-    }
-}
-
-/// Takes the count of the first word that has the greatest, and answers it; with no count left, it is any word.
-pub fn take_greatest(counts: &mut WordNotes<u64>) -> Spot
-    ensures spot { result ≡ spot_at counts.old.first (first_greatest counts.old.words) }
-    ensures first { counts.new.first ≡ counts.old.first }
-    ensures words { counts.new.words ≡ slice_set counts.old.words (first_greatest counts.old.words).place 0 }
-{
-    let greatest = first_greatest(counts.words.as_slice());
-    clear(counts.words.as_mut_slice(), greatest.place);
-    Spot {
-        address: 4 * (counts.first + greatest.place as u32),
-        count: greatest.count,
     }
 }

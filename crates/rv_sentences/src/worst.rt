@@ -5,7 +5,7 @@ ghost use Rattle.rv_text.specs.Said.{Says};
 
 use crate::greatest_lines::greatest_lines;
 use crate::spot::Spot;
-use crate::word_notes::{WordNotes, count_by_line, count_in};
+use crate::word_notes::{WordNotes, count_in_line};
 use crate::work::write_part;
 use rv_source::{Listing, write_place};
 use rv_text::Sink;
@@ -18,13 +18,14 @@ fn write_line<W: Write>(
     branches: &WordNotes<u64>,
     worst: &Spot,
 )
+    requires branches { sum branches.now.words < 2 ^ 64 }
     ensures { Says W.contents out.old out.new (worst_line listing.now branches.now worst.now) }
 {
     write_place(out, listing, worst.address);
     write_part(
         out,
         b"       retired ",
-        count_in(branches, worst.address / 4),
+        count_in_line(branches, listing, worst.address / 4),
         b" mispredicted",
         worst.count,
     );
@@ -37,6 +38,7 @@ fn write_each<W: Write>(
     branches: &WordNotes<u64>,
     worst: &[Spot],
 )
+    requires branches { sum branches.now.words < 2 ^ 64 }
     ensures { Says W.contents out.old out.new (flat_map (worst_line listing.now branches.now) worst.now) }
 {
     for spot in worst {
@@ -52,6 +54,7 @@ fn write_lines<W: Write>(
     branches: &WordNotes<u64>,
     worst: &[Spot],
 )
+    requires branches { sum branches.now.words < 2 ^ 64 }
     ensures { Says W.contents out.old out.new (worst_lines listing.now branches.now worst.now) }
 {
     if worst.is_empty() {
@@ -62,19 +65,18 @@ fn write_lines<W: Write>(
 }
 
 /// Writes the three lines with the most wrong predictions, if there were any, by how often a branch or jump in each word retired, and
-/// how often one was mispredicted. Leaves the counts line by line, and none of what was mispredicted in those three.
+/// how often one was mispredicted.
 #[tactic(auto, using(rv_text::proofs::Saying::saying), unfolding(crate::specs::Worst::worst_text))]
 pub fn write_worst<W: Write>(
     out: &mut Sink<'_, W>,
     listing: &Listing,
-    branches: &mut WordNotes<u64>,
-    mispredicted: &mut WordNotes<u64>,
+    branches: &WordNotes<u64>,
+    mispredicted: &WordNotes<u64>,
 )
-    requires branches { sum branches.old.words < 2 ^ 64 }
-    requires mispredicted { sum mispredicted.old.words < 2 ^ 64 }
-    ensures { Says W.contents out.old out.new (worst_text listing.now branches.old mispredicted.old) }
+    requires branches { sum branches.now.words < 2 ^ 64 }
+    requires mispredicted { sum mispredicted.now.words < 2 ^ 64 }
+    ensures { Says W.contents out.old out.new (worst_text listing.now branches.now mispredicted.now) }
 {
-    count_by_line(branches, listing);
     let worst = greatest_lines(mispredicted, listing, 3);
     write_lines(out, listing, branches, worst.as_slice());
 }
