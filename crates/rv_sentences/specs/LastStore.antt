@@ -25,6 +25,11 @@ registers_after registers (Retired row) = with_written registers row.written
 registers_after registers (Trap pc cause value cycle) = registers
 registers_after registers (Interrupt pc cause cycle) = registers
 
+-- the registers after some steps
+abbrev pub registers_since : List ℕ → List Step → List ℕ
+registers_since registers [] = registers
+registers_since registers (step ∷ steps) = registers_since (registers_after registers step) steps
+
 -- Unprivileged ISA 20191213, 2.6: the address of a store is its base register plus its offset
 abbrev pub stored_at : List ℕ → ℕ → Option Instr → Option Stored
 stored_at registers pc (Some (Store width rs1 rs2 offset)) =

@@ -4,7 +4,7 @@ ghost use Rattle.rv_isa.specs.Operands.{sources_of};
 ghost use Rattle.std.specs.Option.{option_to_list};
 ghost use Rattle.rv_decode.specs.Decodes.{instruction_of};
 ghost use Rattle.rv_sentences.specs.Drained.{with_waiting};
-ghost use Rattle.rv_sentences.specs.LastStore.{registers_after, store_of, stored_at, stores_in, with_stores};
+ghost use Rattle.rv_sentences.specs.LastStore.{registers_after, registers_since, store_of, stored_at, stores_in, with_stores};
 
 use crate::stored::Stored;
 use crate::waiting_stores::WaitingStores;
@@ -100,6 +100,7 @@ fn note_store(
 }
 
 /// Keeps the stores that retired in some steps, by the registers before them: the last to each word, and those that wait for their drains.
+/// Leaves the registers after those steps.
 pub fn note_stores(
     last_stores: &mut WordNotes<Option<u32>>,
     waiting: &mut WaitingStores,
@@ -108,6 +109,7 @@ pub fn note_stores(
 )
     ensures last { last_stores.new ≡ with_stores (stores_in registers.old steps.now) last_stores.old }
     ensures waiting { waiting.new ≡ with_waiting (stores_in registers.old steps.now) waiting.old }
+    ensures registers { registers.new ≡ registers_since registers.old steps.now }
 {
     match steps {
         [] => {}
