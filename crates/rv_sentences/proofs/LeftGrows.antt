@@ -2,7 +2,6 @@
 use Rattle.std.proofs.Common.{◌≡◌, ◌∙◌, ℕ, ◌+◌, ◌≤◌, Bool, true, false, List, [], ◌∷◌, ◌++◌, length, filter, count_by, is_some, cond, refl, ap, sym, arith, append-nil}
 use Rattle.std.proofs.lemmas.List.Elements.{filter-append}
 use Rattle.std.proofs.lemmas.List.Sums.{length-filter, sum_by_push}
-use Rattle.std.specs.Prelude.{sum}
 use Rattle.rv_memory.specs.Memory.{word_of}
 use Rattle.rv_passage.specs.Passage.{is_squash}
 use Rattle.rv_passage.specs.declared.passage.Passage.{Passage}
@@ -75,6 +74,16 @@ pub record Counts : Type 0 where
   pub branches : Notes ℕ
   pub mispredicted : Notes ℕ
   pub outcomes : Notes Outcomes
+
+-- those that are counted one by one
+abbrev pub counts_of : Work → Accesses → Notes ℕ → Notes ℕ → Notes Outcomes → Counts
+counts_of work loads branches mispredicted outcomes = record {
+  work = work;
+  loads = loads;
+  branches = branches;
+  mispredicted = mispredicted;
+  outcomes = outcomes;
+}
 
 -- the same with one more instruction
 abbrev pub counts_with : LoadCosts → Passage → Counts → Counts

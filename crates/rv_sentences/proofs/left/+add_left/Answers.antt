@@ -6,18 +6,13 @@ use Rattle.rv_sentences.specs.WordCount.{with_all}
 use Rattle.rv_sentences.specs.Work.{word_in}
 use Rattle.rv_sentences.specs.declared.work.Class.TheVariants.{Branch, Mispredicted}
 use Rattle.rv_sentences.proofs.CountsGrow.{with_all-last}
-use Rattle.rv_sentences.proofs.LeftGrows.{CanCount, Counts, can_add_fewer, can_add_others, outcomes-last}
+use Rattle.rv_sentences.proofs.LeftGrows.{CanCount, Counts, can_add_fewer, can_add_others, counts_of, outcomes-last}
 use Rattle.rv_sentences.proofs.left.+add_left.Goals as goal
 
 pub add_row-requires : goal.add_row-requires
 add_row-requires t c =
-    let counts : Counts = record {
-      work = c.args.work.now;
-      loads = c.args.loads.now;
-      branches = c.args.branches.now;
-      mispredicted = c.args.mispredicted.now;
-      outcomes = c.args.outcomes.now;
-    } in
+    let counts =
+    counts_of c.args.work.now c.args.loads.now c.args.branches.now c.args.mispredicted.now c.args.outcomes.now in
     let shorter = ap length c.in-Some.ensures.cases.0 ∙ length-append c.in-Some.before.now (c.in-Some.row.now ∷ []) in
     can_add_fewer counts 1 (length c.args.rows.now) (omega (arith, shorter)) c.requires
 
@@ -27,24 +22,14 @@ add_left-requires t c =
     let before : List Passage = c.in-Some.before.now in
     let all = length c.args.rows.now in
     let shorter : all ≡ length before + 1 = omega (arith, ap length c.in-Some.ensures.cases.0, length-append before (row ∷ [])) in
-    let counts : Counts = record {
-      work = c.args.work.now;
-      loads = c.args.loads.now;
-      branches = c.args.branches.now;
-      mispredicted = c.args.mispredicted.now;
-      outcomes = c.args.outcomes.now;
-    } in
+    let counts =
+    counts_of c.args.work.now c.args.loads.now c.args.branches.now c.args.mispredicted.now c.args.outcomes.now in
     let can = can_add_others c.args.costs.now row counts (length before) all (omega (arith, shorter)) c.requires in
     let added = c.add_row.ensures in (
       omega (arith, shorter),
       subst (λ (counts : Counts). CanCount counts (length before))
-          (λ i. record {
-            work = sym added.work i;
-            loads = sym added.loads i;
-            branches = sym added.branches i;
-            mispredicted = sym added.mispredicted i;
-            outcomes = sym added.outcomes i;
-          })
+          (λ i. counts_of (sym added.work i) (sym added.loads i) (sym added.branches i) (sym added.mispredicted i)
+          (sym added.outcomes i))
           can,
     )
 
