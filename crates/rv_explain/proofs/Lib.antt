@@ -1,3 +1,4 @@
+mod AtEnd
 mod Explained
 mod InFlight
 pub mod OneExplanation

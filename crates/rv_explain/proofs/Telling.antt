@@ -20,13 +20,14 @@ use Rattle.rv_hardware.proofs.Always.Sound.{sound}
 use Rattle.rv_hardware.proofs.AnyPrediction.{any_cycle}
 use Rattle.rv_passage.specs.EndedRun.{IsEndedRun}
 use Rattle.rv_passage.specs.Followed.{HasOpen}
-use Rattle.rv_passage.specs.Table.{Passages, passages_of, still_open}
+use Rattle.rv_passage.specs.Table.{Passages, after_cycle, passages_of, still_open}
 use Rattle.rv_passage.specs.Walk.{passages_after}
 use Rattle.rv_passage.specs.declared.{passage.Passage.Passage, table.Table.Table}
 use Rattle.rv_passage.proofs.EndedRun.{length-reports_of}
 use Rattle.rv_counts.specs.Left.{left_after}
 use Rattle.rv_counts.proofs.Left.{left-push, some_left-push}
 use Rattle.rv_sentences.specs.Drain.{begun, drain_in}
+use Rattle.rv_explain.specs.AtEnd.{AreAtEnd}
 use Rattle.rv_explain.specs.Explanation.{IsTold}
 use Rattle.rv_explain.specs.Tale.{HasRoom, IsTelling, tale_after, tale_of}
 use Rattle.rv_counts.specs.Places.{cycle_total, places_by, places_in}
@@ -38,6 +39,7 @@ use Rattle.rv_counts.proofs.LossReasons.{lost_for}
 use Rattle.rv_counts.proofs.PlacesGrow.{add_up-push, add_up_nothing, few_seen, places_counted, places_seen}
 use Rattle.rv_counts.proofs.PlacesOfCycle.{ArePlaced, placed}
 use Rattle.rv_sentences.proofs.StaysGrow.{few_more_stays, stays_add_up}
+use Rattle.rv_explain.proofs.AtEnd.{at_end}
 use Rattle.rv_explain.proofs.Tales.{has_room, tale-push}
 use Rattle.rv_view.specs.Viewing.{IsNextCycle}
 use Rattle.rv_view.specs.declared.shown_cycle.ShownCycle.{ShownCycle}
@@ -92,6 +94,17 @@ module _ {seen : Watched} {cycle : ShownCycle} (next : IsNextCycle seen cycle) {
       (omega (arith, places_counted seen.first.hardware seen.moments seen.now.hardware telling.places_add_up (omega (arith, ap (λ (v : Values). v.dispatch_width) placed_now.values, placed_now.wide)) telling.few_before, length-reports_of seen.moments, counted, shown.number, shown.counted))
       (omega (arith, telling.some_left, shown.number, shown.counted)) shown.few next.few
       (omega (arith, telling.few_stays, ap (λ (t : Tale). all_stays t.stays) (telling.told telling.values telling.untold), shown.number, shown.counted)))
+
+  -- its passages are those at its end
+  pub ended : AreAtEnd cycle.number cycle.pipeline.now cycle.rows.now
+  ended =
+      let number = seen.now.hardware.cycle in
+      let steps = next.shown.report.steps in
+      let after = cycle.pipeline.now in
+      let kept = passages_after still_open seen.first.hardware seen.moments in
+      subst (AreAtEnd cycle.number after) (sym next.rows_are)
+      (subst (λ n. AreAtEnd n after (after_cycle number steps after kept).rows) (sym next.shown.number)
+      (at_end number steps after kept))
 
   -- and are told
   pub telling_on : (drain : Option ℕ) (tale' : Tale) (registers' : List ℕ) (end' : Option ℕ) (in_flight' : ℕ) (places : CyclePlaces) (lines : Lines) → lines ≡ cycle.pipeline.now.lines → places ≡ places_now → drain ≡ begun cycle.number end end'

@@ -1,3 +1,4 @@
+pub mod AtEnd
 pub mod Ending
 pub mod Crash
 pub mod Tale

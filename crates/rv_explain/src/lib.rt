@@ -4,6 +4,7 @@
 //! program.
 #![tactic(auto)]
 
+mod at_end;
 mod crash;
 mod cycle_places;
 mod ending;

@@ -1,9 +1,11 @@
 ghost use Rattle.std.specs.Prelude.{◌≡◌, ◌≤◌, List, [], length, IfOk};
 ghost use Rattle.rv_hardware.specs.Hardware.{Hardware};
 ghost use Rattle.rv_isa.specs.declared.lines.Arrival.{Arrival};
+ghost use Rattle.rv_explain.specs.AtEnd.{AreAtEnd};
 ghost use Rattle.rv_explain.specs.Tale.{HasRoom, tale_after, tale_of};
 ghost use Rattle.rv_counts.specs.Places.{cycle_total};
 
+use crate::at_end::{left_among, without_waiting};
 use crate::head::accounts_of;
 use crate::high_lines::follow_lines;
 use crate::traps::note_steps;
@@ -11,7 +13,7 @@ use rv_core::Pipeline;
 use rv_counts::{CyclePlaces, LoadCosts, Places};
 use rv_hardware::Step;
 use rv_isa::{Description, Kind, Lines};
-use rv_passage::{Passage, up_to_youngest_left};
+use rv_passage::Passage;
 use rv_sentences::{
     Accesses, Dispatches, Exceptions, Interrupts, Outcomes, Raised, Stays, StoreCounts,
     WaitingStores, WordNotes, Work, add_drain, add_left, add_stays, count_one, idle_with,
@@ -103,6 +105,7 @@ impl Tale {
     )
         requires room { HasRoom self.old (length steps.now) (length rows.now) }
         requires few { cycle_total places.now ≤ 264 }
+        requires end { AreAtEnd cycle pipeline.now rows.now }
         ensures { self.new ≡ tale_after cycle registers.old steps.now places.now drain lines pipeline.now rows.now self.old }
     {
         let has_unit = pipeline.units().free(Kind::Mem, cycle);
@@ -112,7 +115,7 @@ impl Tale {
             cycle,
             has_unit,
             true,
-            rows,
+            without_waiting(rows, pipeline),
         );
         let (account, flusher) = accounts_of(pipeline, rows, self.flusher);
         count_one(&mut self.heads, account);
@@ -124,7 +127,7 @@ impl Tale {
         self.places.add(places);
         self.dispatches.add(steps);
         // Those in flight after them add nothing.
-        let left = up_to_youngest_left(rows);
+        let left = left_among(rows, cycle, pipeline);
         add_left(
             &mut self.work,
             &mut self.loads,

@@ -1,11 +1,11 @@
 pub mod InFlight
 mod YoungestLeft
 mod Moving
-mod MovesOn
+pub mod MovesOn
 mod View
 pub mod Numbers
 pub mod Plain
-mod Dropped
+pub mod Dropped
 mod Youngest
 pub mod Walk
 pub mod Followed

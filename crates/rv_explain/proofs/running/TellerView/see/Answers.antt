@@ -1,11 +1,17 @@
 use Rattle.std.proofs.Common.{[], ap, arith, refl}
 use Rattle.rv_text.proofs.Saying.{says_nothing}
 use Rattle.rv_counts.specs.Places.{cycle_total}
-use Rattle.rv_explain.proofs.Telling.{few_places, room, telling_on}
+use Rattle.rv_explain.proofs.Telling.{ended, few_places, room, telling_on}
 use Rattle.rv_explain.proofs.running.TellerView.see.Goals as goal
 
 pub add-requires : goal.add-requires
-add-requires g c = let (start, seen, next, telling) = c.requires.shown in record { room = room next telling; few = omega (arith, few_places next telling, ap cycle_total c.cycle_places-places.ensures) }
+add-requires g c =
+    let (start, seen, next, telling) = c.requires.shown in
+    record {
+      room = room next telling;
+      few = omega (arith, few_places next telling, ap cycle_total c.cycle_places-places.ensures);
+      end = ended next telling;
+    }
 
 pub returns-clause-seen : goal.returns-clause-seen
 returns-clause-seen g c start seen next telling =

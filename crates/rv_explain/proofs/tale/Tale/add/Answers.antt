@@ -14,6 +14,7 @@ use Rattle.rv_sentences.specs.Outcome.{with_passages}
 use Rattle.rv_sentences.specs.Work.{both_work, word_in, work_of}
 use Rattle.rv_sentences.specs.declared.work.Class.TheVariants.{Branch, Mispredicted}
 use Rattle.rv_sentences.proofs.LeftGrows.{Counts, can_add_fewer}
+use Rattle.rv_explain.proofs.AtEnd.{oldest_of_first, stays_of_first}
 use Rattle.rv_explain.proofs.InFlight.{loads_same, no_branch, no_mispredicted, noted_same}
 use Rattle.rv_explain.proofs.tale.Tale.add.Goals as goal
 
@@ -27,16 +28,29 @@ add_left-requires c =
       mispredicted = before.mispredicted;
       outcomes = before.outcomes;
     } in
-    can_add_fewer counts _ _ c.up_to_youngest_left-left.ensures.few c.requires.room.left
+    can_add_fewer counts _ _ c.left_among-left.ensures.few c.requires.room.left
 
 pub returns : goal.returns
 returns c =
     let before = c.args.self.now in
     let rows = c.args.rows.now in
-    let kept = c.up_to_youngest_left-left.result.now in
-    let up = c.up_to_youngest_left-left.ensures.kept in
+    let kept = c.left_among-left.result.now in
+    let up = c.left_among-left.ensures.left in
+    let unit = c.free-has_unit.result in
+    let first = c.without_waiting.result.now in
+    let first_are = c.without_waiting.ensures.first in
+    let cycle = c.args.cycle in
+    let end = c.requires.end in
+    let stays_first = stays_of_first cycle unit c.args.pipeline.now rows first end first_are before.stays in
+    let oldest_first = oldest_of_first cycle unit c.args.pipeline.now rows first end first_are in
     let left = left_same rows kept up in
     let free = c.free-has_unit.ensures ∙ ap (λ (units : PerKind Pool). is_free c.args.cycle (at_kind Mem units)) c.units.ensures in
+    let stays =
+    c.add_stays.ensures.stays ∙ stays_first
+    ∙ ap (λ free. with_stays (stays_among cycle free true rows) before.stays) free in
+    let awaited =
+    c.add_stays.ensures.awaited ∙ ap (λ word. with_one word before.awaited) oldest_first
+    ∙ ap (λ free. with_one (oldest_awaited (stays_among cycle free true rows)) before.awaited) free in
     let drained = c.drain-drained.ensures.drained ∙ ap (oldest_drained c.args.drain) c.note_stores.ensures.waiting in
     let heads = c.count_one.ensures ∙ ap (λ word. with_one word before.heads) c.accounts_of-account.ensures.account in
     λ i. record {
@@ -46,8 +60,8 @@ returns c =
       raised = c.follow_lines.ensures i;
       places = c.add.ensures i;
       dispatches = c.add-2.ensures i;
-      stays = (c.add_stays.ensures.stays ∙ ap (λ free. with_stays (stays_among c.args.cycle free true rows) before.stays) free) i;
-      awaited = (c.add_stays.ensures.awaited ∙ ap (λ free. with_one (oldest_awaited (stays_among c.args.cycle free true rows)) before.awaited) free) i;
+      stays = stays i;
+      awaited = awaited i;
       work = (c.add_left.ensures.work ∙ ap (λ l. both_work before.work (work_of l)) left) i;
       costs = before.costs;
       loads = (c.add_left.ensures.loads ∙ ap (both before.loads) (loads_same before.costs rows kept up)) i;
