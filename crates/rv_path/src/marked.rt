@@ -1,6 +1,7 @@
-ghost use Rattle.std.specs.Prelude.{IfOk};
+ghost use Rattle.std.specs.Prelude.{IfOk, OnErr};
 ghost use Rattle.rv_hardware.specs.Guided.{guided};
 ghost use Rattle.rv_path.specs.Marking.{HasOneMarking, IsMarked};
+ghost use Rattle.rv_view.specs.Run.{HasRun};
 
 use crate::marking::run_marked;
 use rv_core::Pipeline;
@@ -13,7 +14,7 @@ use std::alloc::{AllocError, Global};
 /// `from + cycles` cycles, and answers the marks of the critical path, that to the last retirement, trap or interrupt of the run, in the
 /// window of the cycles from `from` on: one for each fetch, dispatch, issue, broadcast and commit of an instruction that is on the path,
 /// the newest first. The number of the instruction is that in the picture of the window. The only error is out of memory: then the run
-/// was cut short or not begun.
+/// was cut short or not begun, and the pipeline stands at the end of a cycle.
 pub fn path_marks(
     alloc: Global,
     pipeline: &mut Pipeline,
@@ -25,6 +26,8 @@ pub fn path_marks(
     ensures marked { IfOk result (λ marks. IsMarked arrivals.now from cycles (guided pipeline.old (known predictor.old)) (guided pipeline.new (known predictor.new)) marks.items) }
     // With a described predictor the marks are a function of what they are of.
     ensures one_marking { HasOneMarking arrivals.now from cycles }
+    ensures run { OnErr result (HasRun arrivals.now (guided pipeline.old (known predictor.old))
+        (guided pipeline.new (known predictor.new))) }
 {
     run_marked(alloc, pipeline, predictor, arrivals, from, cycles)
 }

@@ -1,6 +1,7 @@
-ghost use Rattle.std.specs.Prelude.{◌≡◌, ◌+◌, ◌-◌, ◌^◌, ◌<◌, ◌≤◌, IfOk};
+ghost use Rattle.std.specs.Prelude.{◌≡◌, ◌+◌, ◌-◌, ◌^◌, ◌<◌, ◌≤◌, IfOk, OnErr};
 ghost use Rattle.rv_hardware.specs.Guided.{guided};
 ghost use Rattle.rv_path.specs.Marking.{IsMarked};
+ghost use Rattle.rv_view.specs.Run.{HasRun};
 
 use crate::marks::marks_of;
 use crate::numbering::Numbering;
@@ -60,7 +61,8 @@ fn limit_of(from: u64, cycles: u64) -> u64
 }
 
 /// Runs a pipeline that a predictor guides up to so many cycles after others, and answers the marks of its path in the former, the newest
-/// first. The only error is out of memory, which may come in the middle of the run.
+/// first. The only error is out of memory, which may come in the middle of the run. The pipeline stands at the end of
+/// a cycle then.
 pub(crate) fn run_marked(
     alloc: Global,
     pipeline: &mut Pipeline,
@@ -70,6 +72,8 @@ pub(crate) fn run_marked(
     cycles: u64,
 ) -> Result<Vec<Mark>, AllocError>
     ensures marked { IfOk result (λ marks. IsMarked arrivals.now from cycles (guided pipeline.old (known predictor.old)) (guided pipeline.new (known predictor.new)) marks.items) }
+    ensures run { OnErr result (HasRun arrivals.now (guided pipeline.old (known predictor.old))
+        (guided pipeline.new (known predictor.new))) }
 {
     let following = Following::begin(alloc, pipeline)?;
     let rows = following.rows();

@@ -1,7 +1,8 @@
-ghost use Rattle.std.specs.Prelude.{◌≡◌, take, IfOk};
+ghost use Rattle.std.specs.Prelude.{◌≡◌, take, IfOk, OnErr};
 ghost use Rattle.rv_hardware.specs.Guided.{guided};
 ghost use Rattle.rv_path.specs.PathAccount.{HasOneAccount, IsPathAccount};
 ghost use Rattle.rv_path.specs.Text.{ranked};
+ghost use Rattle.rv_view.specs.Run.{HasRun};
 
 use crate::account::Account;
 use crate::running::run_accounted;
@@ -65,7 +66,7 @@ impl PathAccount {
 
 /// Runs a pipeline that a predictor guides, each cycle with the lines of its number, up to a breakpoint, a stale word, exhaustion or
 /// so many cycles, and answers the account of its critical path, that to its last retirement, trap or interrupt. The only error is out of
-/// memory: then the run was cut short or not begun.
+/// memory: then the run was cut short or not begun, and the pipeline stands at the end of a cycle.
 pub fn account_path(
     alloc: Global,
     pipeline: &mut Pipeline,
@@ -76,6 +77,8 @@ pub fn account_path(
     ensures accounted { IfOk result (λ path. IsPathAccount arrivals.now limit (guided pipeline.old (known predictor.old)) (guided pipeline.new (known predictor.new)) path) }
     // With a described predictor the account is a function of what it is the account of.
     ensures one_account { HasOneAccount arrivals.now limit }
+    ensures run { OnErr result (HasRun arrivals.now (guided pipeline.old (known predictor.old))
+        (guided pipeline.new (known predictor.new))) }
 {
     let mut shares = Vec::with_capacity(alloc, MOST_RANKED)?;
     let done = run_accounted(alloc, pipeline, predictor, arrivals, limit)?;

@@ -1,7 +1,8 @@
-ghost use Rattle.std.specs.Prelude.{IfOk};
+ghost use Rattle.std.specs.Prelude.{IfOk, OnErr};
 ghost use Rattle.rv_hardware.specs.Guided.{guided};
 ghost use Rattle.rv_path.specs.Run.{IsAccounted};
 ghost use Rattle.rv_path.specs.Window.{accounted};
+ghost use Rattle.rv_view.specs.Run.{HasRun};
 
 use crate::account::Account;
 use crate::path::Path;
@@ -53,7 +54,8 @@ impl View for Walker {
 }
 
 /// Runs a pipeline that a predictor guides up to so many cycles, and follows its path to the last retirement, trap or interrupt. The
-/// only error is out of memory, which may come in the middle of the run.
+/// only error is out of memory, which may come in the middle of the run. The pipeline stands at the end of a cycle
+/// then.
 pub(crate) fn run_accounted(
     alloc: Global,
     pipeline: &mut Pipeline,
@@ -62,6 +64,8 @@ pub(crate) fn run_accounted(
     limit: u64,
 ) -> Result<Accounted, AllocError>
     ensures accounted { IfOk result (λ done. IsAccounted arrivals.now limit (guided pipeline.old (known predictor.old)) (guided pipeline.new (known predictor.new)) done.stop done.cycles (accounted done.account)) }
+    ensures run { OnErr result (HasRun arrivals.now (guided pipeline.old (known predictor.old))
+        (guided pipeline.new (known predictor.new))) }
 {
     let following = Following::begin(alloc, pipeline)?;
     let path = Path::begin(alloc, pipeline, following.rows().len())?;

@@ -1,8 +1,10 @@
+ghost use Rattle.std.specs.Prelude.{◌≡◌, Err};
 ghost use Rattle.rv_hardware.specs.Guided.{guided};
 ghost use Rattle.rv_path.specs.Causes.{CausesAreSo};
 ghost use Rattle.rv_path.specs.Run.{HasOnePath, IsPath};
 ghost use Rattle.rv_path.specs.Within.{ComesInTime};
 ghost use Rattle.rv_text.specs.IsText.{IsText};
+ghost use Rattle.rv_view.specs.Run.{HasRun};
 
 use crate::account_text::{Ranks, write_account};
 use crate::running::run_accounted;
@@ -26,8 +28,9 @@ use std::io::Write;
 ///
 /// # Errors
 ///
-/// `Memory` when out of memory: then nothing was written, and the run was cut short or not begun. `WriteFailed` where a write fails:
-/// then what was written is a beginning of the text, and the run is done to its end.
+/// `Memory` when out of memory: then nothing was written, the run was cut short or not begun, and the pipeline stands
+/// at the end of a cycle. `WriteFailed` where a write fails: then what was written is a beginning of the text, and the
+/// run is done to its end.
 pub fn write_path<W: Write>(
     alloc: Global,
     pipeline: &mut Pipeline,
@@ -44,6 +47,8 @@ pub fn write_path<W: Write>(
     ensures in_time { ComesInTime }
     // Each event waited for an older one, and what the cause that is named says is so of the two.
     ensures causes { CausesAreSo }
+    ensures run { result ≡ Err TextError.Memory → HasRun arrivals.now (guided pipeline.old (known predictor.old))
+        (guided pipeline.new (known predictor.new)) }
 {
     let Ok(mut ranks) = Ranks::new(alloc) else {
         return Err(TextError::Memory);

@@ -3,7 +3,6 @@ use Rattle.std.proofs.Common.{◌≡◌, ◌∙◌, ℕ, ◌+◌, ◌≤◌, ◌
 use Rattle.std.proofs.Math.Seq.{drop-append_seam, take-append_seam}
 use Rattle.std.proofs.lemmas.Bool.{false≢true}
 use Rattle.std.proofs.lemmas.List.{drop_all, take-append-drop, take_all}
-use Rattle.std.specs.Prelude.{OnErr, Result, Ok, Err}
 use Rattle.rv_isa.specs.declared.lines.Arrival.{Arrival}
 use Rattle.rv_arch.specs.declared.outcome.Stop.{Stop}
 use Rattle.rv_arch.specs.declared.outcome.Stop.TheVariants as stop
@@ -13,34 +12,16 @@ use Rattle.rv_core.proofs.RunReports.{progress_of-push}
 use Rattle.rv_core.proofs.Shown.{cycle_counts, moments_counted, reports_of-push}
 use Rattle.rv_hardware.specs.Guided.{GuidedHardware}
 use Rattle.rv_hardware.specs.Hardware.{Hardware}
-use Rattle.rv_hardware.specs.History.{History, Moment, reports_of, ended}
+use Rattle.rv_hardware.specs.History.{History, Moment, reports_of}
 use Rattle.rv_hardware.specs.Report.{Report}
 use Rattle.rv_hardware.specs.declared.report.Stall.{Stall}
 use Rattle.rv_hardware.specs.declared.step.Step.{Step}
 use Rattle.rv_passage.specs.EndedRun.{IsEndedRun}
 use Rattle.rv_passage.specs.Table.{CanCount, Passages, after_cycle, table_at}
 use Rattle.rv_passage.specs.Walk.{all_kept, hardware_after}
-use Rattle.rv_passage.proofs.EndedRun.{History-append, History-split, history_end, length-reports_of, length-run, run_earlier, run_on}
+use Rattle.rv_passage.proofs.EndedRun.{History-split, history_end, length-reports_of, length-run, run_earlier, run_on}
 use Rattle.rv_passage.proofs.Followed.{can_count, followed_nothing, followed_on}
-use Rattle.rv_picture.specs.Recording.{HasRun, IsRecorded, IsRecording, Recorded, is_limit, recorded_from, stalls_in, stopped_at}
-
--- what holds of an error
-pub on_err : {T E P : Type 0} (r : Result T E) → P → OnErr r P
-on_err (Ok value) holds = tt
-on_err (Err error) holds = holds
-
-pub on_err_by : {T E P Q : Type 0} (r : Result T E) → (P → Q) → OnErr r P → OnErr r Q
-on_err_by (Ok value) then holds = tt
-on_err_by (Err error) then holds = then holds
-
-pub has_not_run : (arrivals : List Arrival) (h : GuidedHardware) → HasRun arrivals h h
-has_not_run arrivals h = ([], ended)
-
-pub has_run : {arrivals : List Arrival} {old new : GuidedHardware} {moments : List Moment} → History arrivals old moments new → HasRun arrivals old new
-has_run {moments = moments} goes = (moments, goes)
-
-pub has_run_on : {arrivals : List Arrival} {old middle new : GuidedHardware} → HasRun arrivals old middle → HasRun arrivals middle new → HasRun arrivals old new
-has_run_on (moments, goes) (more, behind) = (moments ++ more, History-append goes behind)
+use Rattle.rv_picture.specs.Recording.{IsRecorded, IsRecording, Recorded, is_limit, recorded_from, stalls_in, stopped_at}
 
 pub is_by_limit : (reason : Stop) → is_limit reason ≡ true → reason ≡ stop.Limit
 is_by_limit stop.Limit is = refl

@@ -7,7 +7,7 @@ use Rattle.rv_arch.specs.declared.outcome.Stop.{Stop}
 use Rattle.rv_arch.specs.declared.outcome.Stop.TheVariants as stop
 use Rattle.rv_hardware.specs.Guided.{GuidedHardware}
 use Rattle.rv_hardware.specs.Hardware.{Hardware}
-use Rattle.rv_hardware.specs.History.{History, Moment, reports_of}
+use Rattle.rv_hardware.specs.History.{Moment, reports_of}
 use Rattle.rv_hardware.specs.Report.{Report}
 use Rattle.rv_hardware.specs.declared.report.Stall.{Stall}
 use Rattle.rv_core.specs.Watching.{Watched}
@@ -19,10 +19,6 @@ use Rattle.rv_passage.specs.Walk.{all_kept, hardware_after, passages_after}
 use Rattle.rv_passage.specs.declared.passage.Passage.{Passage}
 use Rattle.rv_drawing.specs.declared.window.Window.{Window}
 use Rattle.rv_picture.specs.declared.recording.Recording.{Recording}
-
--- some cycles that a predictor guides, each with the lines of its number, and nothing else
-abbrev pub HasRun : List Arrival → GuidedHardware → GuidedHardware → Type 0
-HasRun arrivals old new = (moments : List Moment) × History arrivals old moments new
 
 -- what each cycle waited for, where it dispatched nothing
 abbrev pub stalls_in : List Report → List (Option Stall)

@@ -6,7 +6,8 @@ ghost use Rattle.std.specs.Option.{option_copied};
 ghost use Rattle.rv_passage.specs.EndedRun.{IsEndedRun};
 ghost use Rattle.rv_passage.specs.Passage.{is_in_flight};
 ghost use Rattle.rv_passage.specs.Table.{passages_of};
-ghost use Rattle.rv_picture.specs.Recording.{HasRun, IsRecorded, held_by, is_limit, recorded_from, stopped_at};
+ghost use Rattle.rv_picture.specs.Recording.{IsRecorded, held_by, is_limit, recorded_from, stopped_at};
+ghost use Rattle.rv_view.specs.Run.{HasRun};
 
 use rv_arch::Stop;
 use rv_core::{Pipeline, Progress, Watcher, watch};

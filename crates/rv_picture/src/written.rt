@@ -3,9 +3,9 @@ ghost use Rattle.rv_hardware.specs.Guided.{guided};
 ghost use Rattle.rv_passage.specs.Table.{passages_of};
 ghost use Rattle.rv_drawing.specs.Over.{over_of};
 ghost use Rattle.rv_picture.specs.Picture.{HasOnePicture, IsPicture, picture_of, with_rows};
-ghost use Rattle.rv_picture.specs.Recording.{HasRun};
 ghost use Rattle.rv_text.specs.IsText.{IsText};
 ghost use Rattle.rv_text.specs.Written.{IsWritten};
+ghost use Rattle.rv_view.specs.Run.{HasRun};
 
 use crate::picture::{Form, Rows, RunEnd, View};
 use crate::recording::{Recording, record_window};

@@ -1,7 +1,8 @@
-ghost use Rattle.std.specs.Prelude.{◌≡◌, IfOk};
+ghost use Rattle.std.specs.Prelude.{◌≡◌, IfOk, OnErr};
 ghost use Rattle.rv_hardware.specs.Guided.{guided};
 ghost use Rattle.rv_counts.specs.Head.{head_of};
 ghost use Rattle.rv_profile.specs.Run.{IsCounted};
+ghost use Rattle.rv_view.specs.Run.{HasRun};
 
 use rv_arch::Stop;
 use rv_core::Pipeline;
@@ -59,7 +60,7 @@ fn head_of(pipeline: &Pipeline) -> Option<u32>
 
 /// Runs a pipeline that a predictor guides up to so many cycles, and counts what leaves the hardware in them and what is in
 /// flight at their end. The description says what loads cost. The only error is out of memory, which may come in the middle of
-/// the run.
+/// the run; the pipeline stands at the end of a cycle then.
 pub(crate) fn run_profiled(
     alloc: Global,
     pipeline: &mut Pipeline,
@@ -68,7 +69,11 @@ pub(crate) fn run_profiled(
     arrivals: &Arrivals,
     limit: u64,
 ) -> Result<Counted, AllocError>
-    ensures { IfOk result (λ counted. IsCounted arrivals.now limit description.now (guided pipeline.old (known predictor.old)) (guided pipeline.new (known predictor.new)) counted.stop counted.profile.words) }
+    ensures counted { IfOk result (λ counted. IsCounted arrivals.now limit description.now
+        (guided pipeline.old (known predictor.old)) (guided pipeline.new (known predictor.new))
+        counted.stop counted.profile.words) }
+    ensures run { OnErr result (HasRun arrivals.now (guided pipeline.old (known predictor.old))
+        (guided pipeline.new (known predictor.new))) }
 {
     let following = Following::begin(alloc, pipeline)?;
     let profiler = Profiler {

@@ -1,7 +1,8 @@
-ghost use Rattle.std.specs.Prelude.{option_copied};
+ghost use Rattle.std.specs.Prelude.{◌≡◌, Err, option_copied};
 ghost use Rattle.rv_hardware.specs.Guided.{guided};
 ghost use Rattle.rv_profile.specs.Run.{HasOneProfile, IsProfile};
 ghost use Rattle.rv_text.specs.IsText.{IsText};
+ghost use Rattle.rv_view.specs.Run.{HasRun};
 
 use crate::running::run_profiled;
 use crate::text::write_table;
@@ -28,8 +29,9 @@ use std::io::Write;
 ///
 /// # Errors
 ///
-/// `Memory` when out of memory: then nothing was written, and the run was cut short. `WriteFailed` where a write fails: then
-/// what was written is a beginning of the table, and the run is done to its end.
+/// `Memory` when out of memory: then nothing was written, the run was cut short or not begun, and the pipeline stands
+/// at the end of a cycle. `WriteFailed` where a write fails: then what was written is a beginning of the table, and the
+/// run is done to its end.
 pub fn write_profile<W: Write>(
     alloc: Global,
     pipeline: &mut Pipeline,
@@ -44,6 +46,8 @@ pub fn write_profile<W: Write>(
     ensures written { IsText (IsProfile arrivals.now limit description.now (option_copied path.entry) listing.now (guided pipeline.old (known predictor.old)) (guided pipeline.new (known predictor.new))) result (W.contents writer.old) (W.contents writer.new) }
     // With a described predictor a profile is a function of what it is a profile of.
     ensures one_profile { HasOneProfile arrivals.now limit description.now (option_copied path.entry) listing.now }
+    ensures run { result ≡ Err TextError.Memory → HasRun arrivals.now (guided pipeline.old (known predictor.old))
+        (guided pipeline.new (known predictor.new)) }
 {
     let Ok(counted) = run_profiled(alloc, pipeline, predictor, description, arrivals, limit) else {
         return Err(TextError::Memory);

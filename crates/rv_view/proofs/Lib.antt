@@ -1,3 +1,4 @@
 mod Begun
 mod Viewing
 pub mod EndedView
+pub mod HasRun

@@ -1,7 +1,11 @@
 use Rattle.rv_path.proofs.Caused.{causes_are_so}
 use Rattle.rv_path.proofs.OnePath.{one_path}
 use Rattle.rv_path.proofs.Within.{comes_in_time}
+use Rattle.rv_view.proofs.HasRun.{has_not_run}
 use Rattle.rv_path.proofs.written.write_path.Goals as goal
+
+pub returns-in_default-clause-run : goal.returns-in_default-clause-run
+returns-in_default-clause-run g c refused = has_not_run c.args.arrivals.now _
 
 -- whatever was written
 pub returns-in_default-clause-one_path : goal.returns-in_default-clause-one_path

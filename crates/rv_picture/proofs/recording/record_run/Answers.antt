@@ -5,7 +5,8 @@ use Rattle.rv_hardware.specs.Guided.{guided}
 use Rattle.rv_passage.specs.Table.{passages_of}
 use Rattle.rv_picture.specs.Recording.{IsRecorded, held_by}
 use Rattle.rv_picture.specs.declared.recording.Recording.{Recording}
-use Rattle.rv_picture.proofs.UnderWay.{has_not_run, has_run, on_err, recorded_to_the_end, recording_nothing}
+use Rattle.rv_picture.proofs.UnderWay.{recorded_to_the_end, recording_nothing}
+use Rattle.rv_view.proofs.HasRun.{has_not_run, has_run, on_err}
 use Rattle.rv_picture.proofs.recording.record_run.Goals as goal
 
 pub returns-in_err-table-clause-run : goal.returns-in_err-table-clause-run

@@ -1,10 +1,12 @@
 use Rattle.std.proofs.Common.{◌≡◌, ◌∙◌, ◌+◌, sym, subst}
+use Rattle.std.proofs.lemmas.Result.{on_err_weaker}
 use Rattle.rv_arch.specs.declared.outcome.Stop.TheVariants.{Limit}
 use Rattle.rv_hardware.specs.Guided.{guided}
 use Rattle.rv_passage.specs.EndedRun.{IsEndedRun}
 use Rattle.rv_passage.proofs.Followed.{if_ok_by}
 use Rattle.rv_picture.specs.Recording.{IsRecorded, held_by}
-use Rattle.rv_picture.proofs.UnderWay.{has_not_run, has_run, has_run_on, on_err, on_err_by, is_by_limit, is_not_by_limit, recorded_behind, recorded_nothing}
+use Rattle.rv_picture.proofs.UnderWay.{is_by_limit, is_not_by_limit, recorded_behind, recorded_nothing}
+use Rattle.rv_view.proofs.HasRun.{has_not_run, has_run, has_run_on, on_err}
 use Rattle.rv_picture.proofs.recording.record_window.Goals as goal
 
 pub returns-in_err-steps-clause-run : goal.returns-in_err-steps-clause-run
@@ -29,7 +31,9 @@ returns-else-is_limit-clause-recording g c =
     c.nothing_shown.ensures
 
 pub returns-then-is_limit-clause-run : goal.returns-then-is_limit-clause-run
-returns-then-is_limit-clause-run g c = on_err_by c.record_run.result (λ more. has_run_on (has_run c.run_on-stop.ensures.1.passes) more) c.record_run.ensures.run
+returns-then-is_limit-clause-run g c =
+    let before = has_run c.run_on-stop.ensures.1.passes in
+    on_err_weaker c.record_run.result (has_run_on before) c.record_run.ensures.run
 
 pub returns-else-is_limit-clause-run : goal.returns-else-is_limit-clause-run
 returns-else-is_limit-clause-run g c = on_err _ (has_run c.run_on-stop.ensures.1.passes)
