@@ -1,5 +1,6 @@
-ghost use Rattle.std.specs.Prelude.{IfOk};
-ghost use Rattle.rv_job.specs.Input.{IsInputOf};
+ghost use Rattle.std.specs.Prelude.{IfOk, OnErr};
+ghost use Rattle.std.specs.Io.KnownBytes.{Consumes};
+ghost use Rattle.rv_job.specs.Input.{HasRead, IsInputOf};
 
 use crate::job::MOST_BYTES;
 use std::alloc::Global;
@@ -36,9 +37,12 @@ impl fmt::Display for InputError {
 
 impl Error for InputError {}
 
-/// Reads to the end, or until 33,554,433 bytes are held, one more than a job may have.
+/// Reads to the end, or until 33,554,433 bytes are held, one more than a job may have. The reader has all else left.
+/// Where it fails, what was read before is lost.
 pub fn read_input<R: Read>(alloc: Global, reader: &mut R) -> Result<Vec<u8>, InputError>
     ensures bytes { IfOk result (λ input. IsInputOf (R.remaining reader.old) input.items) }
+    ensures taken { IfOk result (λ input. Consumes (R.remaining reader.old) (R.remaining reader.new) input.items) }
+    ensures lost { OnErr result (HasRead (R.remaining reader.old) (R.remaining reader.new)) }
 {
     let mut input = Vec::new(alloc);
     let mut chunk = [0; CHUNK];

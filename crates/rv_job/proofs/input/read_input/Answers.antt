@@ -16,11 +16,24 @@ returns-then-count-eq0 g c =
     let nothing = ap (λ n. items ++ take n c.read.new.buf) c.if-count-eq0.true ∙ append-nil items in
     let consumed = Consumes-same _ _ _ _ nothing (Consumes-both _ _ _ _ _ c.loop-chunk.invariant.consumed c.in-Ok.ensures.bytes.0) in
     let at_end = c.in-Ok.ensures.bytes.1 c.if-count-eq0.true (omega (arith, c.min-room.ensures, c.read.auto, c.min-room.array_long, length-take c.min-room.result c.loop-chunk.chunk)) in
-    record { bytes = taken_to_end (most_bytes + 1) _ _ items consumed at_end (omega (arith, c.loop-chunk.input.ok.0)) }
+    record {
+      bytes = taken_to_end (most_bytes + 1) _ _ items consumed at_end (omega (arith, c.loop-chunk.input.ok.0));
+      taken = consumed;
+      lost = tt;
+    }
+
+pub returns-in_default-extend_from_slice-clause-lost : goal.returns-in_default-extend_from_slice-clause-lost
+returns-in_default-extend_from_slice-clause-lost g c =
+    (_, Consumes-both _ _ _ _ _ c.loop-chunk.invariant.consumed c.in-Ok.ensures.bytes.0)
 
 pub returns : goal.returns
 returns g c =
-    record { bytes = taken_most (most_bytes + 1) _ _ _ c.loop-chunk.invariant.consumed (omega (arith, c.loop-chunk.input.ok.0)) }
+    let consumed = c.loop-chunk.invariant.consumed in
+    record {
+      bytes = taken_most (most_bytes + 1) _ _ _ consumed (omega (arith, c.loop-chunk.input.ok.0));
+      taken = consumed;
+      lost = tt;
+    }
 
 pub loop-chunk-preserved : goal.loop-chunk-preserved
 loop-chunk-preserved g c = record {
