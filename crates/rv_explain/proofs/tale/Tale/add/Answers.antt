@@ -13,7 +13,7 @@ use Rattle.rv_sentences.specs.Access.{both}
 use Rattle.rv_sentences.specs.Outcome.{with_passages}
 use Rattle.rv_sentences.specs.Work.{both_work, word_in, work_of}
 use Rattle.rv_sentences.specs.declared.work.Class.TheVariants.{Branch, Mispredicted}
-use Rattle.rv_sentences.proofs.LeftGrows.{Counts, can_add_fewer}
+use Rattle.rv_sentences.proofs.LeftGrows.{can_add_fewer, counts_of}
 use Rattle.rv_explain.proofs.AtEnd.{oldest_of_first, stays_of_first}
 use Rattle.rv_explain.proofs.InFlight.{loads_same, no_branch, no_mispredicted, noted_same}
 use Rattle.rv_explain.proofs.tale.Tale.add.Goals as goal
@@ -21,13 +21,7 @@ use Rattle.rv_explain.proofs.tale.Tale.add.Goals as goal
 pub add_left-requires : goal.add_left-requires
 add_left-requires c =
     let before = c.args.self.now in
-    let counts : Counts = record {
-      work = before.work;
-      loads = before.loads;
-      branches = before.branches;
-      mispredicted = before.mispredicted;
-      outcomes = before.outcomes;
-    } in
+    let counts = counts_of before.work before.loads before.branches before.mispredicted before.outcomes in
     can_add_fewer counts _ _ c.left_among-left.ensures.few c.requires.room.left
 
 pub returns : goal.returns
