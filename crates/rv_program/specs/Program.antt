@@ -1,10 +1,10 @@
 -- What the program does with a command, from the bytes of its input to those of its output.
 use Rattle.std.specs.Prelude.{◌≡◌, ◌⊎◌, ℕ, List, [], Option, None, Some, Result, Ok, Err}
-use Rattle.std.specs.Io.KnownBytes.{Appends}
+use Rattle.std.specs.Io.KnownBytes.{Appends, Consumes}
 use Rattle.rv_front.specs.Guide.{Guide}
 use Rattle.rv_job.specs.Fault.{fault_line, fault_status, input_fault_line, input_fault_status}
 use Rattle.rv_job.specs.FaultStream.{FaultStream, Tells, TellsError}
-use Rattle.rv_job.specs.Input.{IsInputOf}
+use Rattle.rv_job.specs.Input.{HasRead, IsInputOf}
 use Rattle.rv_program.specs.CoreReport.{untaught_of}
 use Rattle.rv_program.specs.Ended.{ReportsEnding, exit_status}
 use Rattle.rv_program.specs.Output.{HoldsBeginning}
@@ -52,11 +52,13 @@ abbrev pub IsEnded : {W : Type 0} → (W → Option (List ℕ)) → Command → 
 IsEnded contents command input given handed old new status =
     (task : Task) × Asks command input task × EndsWithin contents task given handed old new status
 
--- the program with a command, the bytes that remain of its input, and its output, whose known bytes are its contents: which output is handed
--- back, whether it has got whole why the input is refused, where that was to be explained, how the fault lines change, and the exit status
-abbrev pub Runs : {W : Type 0} → (W → Option (List ℕ)) → Command → Option (List ℕ) → W → Option W → Result Unit TextError → FaultStream → FaultStream → ℕ → Type 0
-Runs contents command remaining given handed refusal old new status =
-    ((handed ≡ Some given) × (refusal ≡ Ok tt) × IsUnread old new status)
-    ⊎ ((input : List ℕ) × IsInputOf remaining input
+-- the program with a command, the bytes that remain of its input before and after it, and its output, whose known
+-- bytes are its contents: which output is handed back, whether it has got whole why the input is refused, where that was
+-- to be explained, how the fault lines change, and the exit status
+abbrev pub Runs : {W : Type 0} → (W → Option (List ℕ)) → Command → Option (List ℕ) → Option (List ℕ)
+    → W → Option W → Result Unit TextError → FaultStream → FaultStream → ℕ → Type 0
+Runs contents command remaining left given handed refusal old new status =
+    ((handed ≡ Some given) × (refusal ≡ Ok tt) × HasRead remaining left × IsUnread old new status)
+    ⊎ ((input : List ℕ) × IsInputOf remaining input × Consumes remaining left input
     × (IsRefused contents command input given handed refusal old new status
     ⊎ ((refusal ≡ Ok tt) × IsEnded contents command input given handed old new status)))

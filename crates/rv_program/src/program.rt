@@ -1,7 +1,8 @@
-ghost use Rattle.std.specs.Prelude.{◌≡◌, Ok, IfOk, OnOk, IfErr};
+ghost use Rattle.std.specs.Prelude.{◌≡◌, Ok, IfOk, OnOk, IfErr, OnErr};
+ghost use Rattle.std.specs.Io.KnownBytes.{Consumes};
 ghost use Rattle.rv_job.specs.Fault.{input_fault_line, input_fault_status};
 ghost use Rattle.rv_job.specs.FaultStream.{Tells};
-ghost use Rattle.rv_job.specs.Input.{IsInputOf};
+ghost use Rattle.rv_job.specs.Input.{HasRead, IsInputOf};
 ghost use Rattle.rv_program.specs.CoreReport.{untaught_of};
 ghost use Rattle.rv_program.specs.Program.{EndsWithin, Runs};
 ghost use Rattle.rv_program.specs.Task.{predictor_of};
@@ -36,6 +37,8 @@ fn take_input<R: Read, E: Write>(
     errors: &mut FaultLines<E>,
 ) -> Result<Vec<u8>, u8>
     ensures input { IfOk result (λ input. IsInputOf (R.remaining reader.old) input.items) }
+    ensures taken { IfOk result (λ input. Consumes (R.remaining reader.old) (R.remaining reader.new) input.items) }
+    ensures lost { OnErr result (HasRead (R.remaining reader.old) (R.remaining reader.new)) }
     ensures nothing_told { OnOk result (errors.new ≡ errors.old) }
     ensures unread { IfErr result (λ status. (error : OneError)
         × Tells errors.old errors.new (input_fault_line error)
@@ -124,7 +127,8 @@ pub fn run<R: Read, W: Write + Drop, E: Write>(
     output: W,
     errors: &mut FaultLines<E>,
 ) -> Exit<W>
-    ensures { Runs W.contents command.now (R.remaining reader.old) output result.output result.refusal errors.old errors.new result.status }
+    ensures { Runs W.contents command.now (R.remaining reader.old) (R.remaining reader.new)
+        output result.output result.refusal errors.old errors.new result.status }
 {
     let input = match take_input(alloc, reader, errors) {
         Ok(input) => input,
