@@ -16,3 +16,4 @@ pub mod Marks
 pub mod Promise
 pub mod AnyPrediction
 pub mod Determined
+pub mod Onward

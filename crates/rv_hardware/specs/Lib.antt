@@ -3,6 +3,7 @@ pub mod Report
 pub mod Repeated
 pub mod Hardware
 pub mod InFlight
+pub mod Onward
 pub mod Seen
 pub mod Result
 pub mod Squash
