@@ -9,7 +9,7 @@ use Rattle.rv_hardware.proofs.Words.{Each-place, Each-push}
 use Rattle.rv_hardware.proofs.Words.{Each-change, Leaves, kept_by_turns, always, Reachable, execute, row_of}
 use Rattle.rv_hardware.proofs.Words.{head_retired, written_of, each_image, each_then, Bool}
 use Rattle.std.specs.FinSet as set
-use Rattle.rv_hardware.specs.Onward.{Flight, GoOn, IsLater, StaysAtStage, StaysDispatched, fetched_now, flights}
+use Rattle.rv_hardware.specs.Onward.{Flight, GoOn, IsLater, Stays, StaysAtStage, fetched_now, flights}
 use Rattle.rv_hardware.specs.Onward.{goes_on, IsFetchedBefore, IsFetchedIn, left_by, of_entry, of_fetched}
 use Rattle.rv_hardware.specs.declared.step.Step.TheVariants as step
 use Rattle.rv_hardware.proofs.Turns.Commit.{CommitTurn, commit_turn_is, head_retired_entries, retires}
@@ -33,13 +33,13 @@ stage-then (Running issue message) b c (inl is) two = subst (λ s. StaysAtStage 
 stage-then (Running issue message) b c (inr is) two = inr (is.0, subst (λ s. StaysAtStage s c) is.1 two)
 stage-then (Finished issue cycle message) b c is two = subst (λ s. StaysAtStage s c) is two
 
-dispatched-self : (d : Option ℕ) → StaysDispatched d d
-dispatched-self None = tt
-dispatched-self (Some cycle) = refl
+pub stays-self : {X : Type 0} (a : Option X) → Stays a a
+stays-self None = tt
+stays-self (Some x) = refl
 
-dispatched-then : (a b c : Option ℕ) → StaysDispatched a b → StaysDispatched b c → StaysDispatched a c
-dispatched-then None b c one two = tt
-dispatched-then (Some cycle) b c is two = subst (λ d. StaysDispatched d c) is two
+stays-then : {X : Type 0} (a b c : Option X) → Stays a b → Stays b c → Stays a c
+stays-then None b c one two = tt
+stays-then (Some x) b c is two = subst (λ o. Stays o c) is two
 
 -- what is later than what is later is later
 pub later-then : {a b c : Flight} → IsLater a b → IsLater b c → IsLater a c
@@ -48,7 +48,7 @@ later-then {a} {b} {c} one two = record {
   word = two.word ∙ one.word;
   instruction = two.instruction ∙ one.instruction;
   fetched = two.fetched ∙ one.fetched;
-  dispatched = dispatched-then a.dispatched b.dispatched c.dispatched one.dispatched two.dispatched;
+  dispatched = stays-then a.dispatched b.dispatched c.dispatched one.dispatched two.dispatched;
   stage = stage-then a.stage b.stage c.stage one.stage two.stage;
 }
 
@@ -232,7 +232,7 @@ go_on-self cycle (f ∷ fs) = goes_on (record {
   word = refl;
   instruction = refl;
   fetched = refl;
-  dispatched = dispatched-self f.dispatched;
+  dispatched = stays-self f.dispatched;
   stage = stage-self f.stage;
 }) (go_on-self cycle fs)
 

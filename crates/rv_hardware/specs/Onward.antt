@@ -59,10 +59,10 @@ left_by (step.Retired row ∷ steps) xs = left_by steps (drop 1 xs)
 left_by (step.Trap pc cause value cycle ∷ steps) xs = left_by steps (drop 1 xs)
 left_by (step.Interrupt pc cause cycle ∷ steps) xs = left_by steps xs
 
--- it stays dispatched in the same cycle, if it was
-abbrev pub StaysDispatched : Option ℕ → Option ℕ → Type 0
-StaysDispatched None new = Unit {0}
-StaysDispatched (Some cycle) new = new ≡ Some cycle
+-- what is there stays
+abbrev pub Stays : {X : Type 0} → Option X → Option X → Type 0
+Stays None new = Unit {0}
+Stays (Some x) new = new ≡ Some x
 
 -- an execution goes on with its issue and its message until they are broadcast, and what is finished stays as it is
 abbrev pub StaysAtStage : Stage → Stage → Type 0
@@ -77,7 +77,7 @@ pub record IsLater (old new : Flight) : Type 0 where
   pub word : new.word ≡ old.word
   pub instruction : new.instruction ≡ old.instruction
   pub fetched : new.fetched ≡ old.fetched
-  pub dispatched : StaysDispatched old.dispatched new.dispatched
+  pub dispatched : Stays old.dispatched new.dispatched
   pub stage : StaysAtStage old.stage new.stage
 
 -- The first ones go on, in order; those after them are squashed, and what comes then was fetched in the cycle.
