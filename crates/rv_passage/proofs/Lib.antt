@@ -11,3 +11,5 @@ pub mod Walk
 pub mod Followed
 pub mod EndedRun
 pub mod OneRun
+pub mod Still
+pub mod Shown

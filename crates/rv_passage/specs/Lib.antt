@@ -7,5 +7,6 @@ pub mod Producers
 pub mod Result
 pub mod Table
 pub mod Walk
+pub mod Shown
 pub mod EndedRun
 pub mod Followed
