@@ -1,5 +1,6 @@
-ghost use Rattle.std.specs.Prelude.{◌≡◌, ◌≤◌, drop, length};
+ghost use Rattle.std.specs.Prelude.{◌≡◌, ◌≤◌, true, drop, length};
 ghost use Rattle.rv_passage.specs.Passage.{in_buffers, retired_by, trapped_by};
+ghost use Rattle.rv_passage.specs.Shown.{AreStill};
 ghost use Rattle.rv_passage.specs.Table.{AreMovedOn, with_oldest};
 
 use crate::passage::Passage;
@@ -35,10 +36,12 @@ pub(crate) fn move_kept_on(
     cycle: u64,
     rob: &Rob,
     front: &Front,
+    shown: bool,
 ) -> usize
-    requires { dropped ≤ length rows.old }
+    requires dropped { dropped ≤ length rows.old }
+    requires still { shown ≡ true → AreStill cycle (drop dropped rows.old) (in_buffers rob.now front.now) }
     ensures { AreMovedOn cycle (in_buffers rob.now front.now) (drop dropped rows.old) (drop dropped rows.new) result }
 {
     let (_, kept) = rows.split_at_mut(dropped);
-    move_on(kept, cycle, rob, front)
+    move_on(kept, cycle, rob, front, shown)
 }

@@ -210,6 +210,7 @@ impl Passage {
     ghost use Rattle.rv_rob.specs.Entry.{issue_of};
     ghost use Rattle.rv_passage.specs.Passage.{broadcast_of, is_in_flight, of_entry, of_fetched};
     ghost use Rattle.rv_passage.specs.Producers.{standing_at};
+    ghost use Rattle.rv_passage.specs.Shown.{IsStill};
 
     // It is dispatched after the older ones.
     #[inline(never)]
@@ -255,6 +256,23 @@ impl Passage {
         self.fetched = entry.fetched;
         self.dispatched = Some(entry.dispatched);
         self.reach(&entry.stage);
+    }
+
+    // The same of one that is still what it was, but for its dispatch, its issue and its broadcast.
+    pub(crate) fn stand_on_as_entry(&mut self, older: &[Passage], entry: &Entry)
+        requires { IsStill self.old (of_entry entry.now) }
+        ensures { self.new ≡ standing_at older.now (of_entry entry.now) self.old }
+    {
+        if self.dispatched.is_none() {
+            self.note_producers(older, &entry.instruction);
+            self.dispatched = Some(entry.dispatched);
+            self.reach(&entry.stage);
+            return;
+        }
+        self.producers.follow(older);
+        if self.broadcast.is_none() {
+            self.reach(&entry.stage);
+        }
     }
 
     // It stands in the fetch buffer at the end of a cycle, after the older ones.

@@ -3,6 +3,7 @@ ghost use Rattle.std.specs.Option.{option_map, option_to_list};
 ghost use Rattle.std.specs.List.{list_all, position, position_or_len};
 ghost use Rattle.rv_passage.specs.Passage.{in_buffers, is_in_flight, of_entry, of_fetched, retired_by, trapped_by};
 ghost use Rattle.rv_passage.specs.declared.passage.Passage.{Passage};
+ghost use Rattle.rv_passage.specs.Shown.{AreStill, IsStillNext};
 ghost use Rattle.rv_passage.specs.Table.{AreMovedOn, gone_on, left_after, moved, next_before, with_oldest};
 
 use crate::in_flight::entry_at;
@@ -55,15 +56,28 @@ pub(crate) fn trap_oldest(rows: &mut [Passage], cause: Cause, cycle: u64)
 }
 
 // An instruction in flight goes on as an entry, if there is one that was fetched before the cycle, or was squashed in it.
-// Answers whether it went on.
-fn go_on_as_entry(row: &mut Passage, older: &[Passage], cycle: u64, entry: Option<&Entry>) -> bool
-    requires { is_in_flight row.old ≡ true }
+// Answers whether it went on. Where the row is said to show how it stood at the end of the cycle before, only what may be new
+// since then is written.
+fn go_on_as_entry(
+    row: &mut Passage,
+    older: &[Passage],
+    cycle: u64,
+    entry: Option<&Entry>,
+    shown: bool,
+) -> bool
+    requires flies { is_in_flight row.old ≡ true }
+    requires still { shown ≡ true → IsStillNext row.old
+        (next_before cycle (option_to_list (option_map of_entry (option_copied entry)))) }
     ensures gone { row.new ≡ gone_on cycle older.now (next_before cycle (option_to_list (option_map of_entry (option_copied entry.entry)))) row.old }
     ensures went { result ≡ is_some (next_before cycle (option_to_list (option_map of_entry (option_copied entry.entry)))) }
 {
     match entry {
         Some(entry) if entry.fetched < cycle => {
-            row.stand_as_entry(older, entry);
+            if shown {
+                row.stand_on_as_entry(older, entry);
+            } else {
+                row.stand_as_entry(older, entry);
+            }
             true
         }
         _ => {
@@ -79,14 +93,19 @@ fn go_on_as_fetched(
     older: &[Passage],
     cycle: u64,
     fetched: Option<&Fetched>,
+    shown: bool,
 ) -> bool
-    requires { is_in_flight row.old ≡ true }
+    requires flies { is_in_flight row.old ≡ true }
+    requires still { shown ≡ true → IsStillNext row.old
+        (next_before cycle (option_to_list (option_map of_fetched (option_copied fetched)))) }
     ensures gone { row.new ≡ gone_on cycle older.now (next_before cycle (option_to_list (option_map of_fetched (option_copied fetched.entry)))) row.old }
     ensures went { result ≡ is_some (next_before cycle (option_to_list (option_map of_fetched (option_copied fetched.entry)))) }
 {
     match fetched {
         Some(fetched) if fetched.cycle < cycle => {
-            row.stand_as_fetched(older, fetched);
+            if !shown {
+                row.stand_as_fetched(older, fetched);
+            }
             true
         }
         _ => {
@@ -104,16 +123,18 @@ fn go_on(
     rob: &Rob,
     front: &Front,
     next: usize,
+    shown: bool,
 ) -> bool
-    requires { is_in_flight row.old ≡ true }
+    requires flies { is_in_flight row.old ≡ true }
+    requires still { shown ≡ true → IsStillNext row.old (next_before cycle (drop next (in_buffers rob.now front.now))) }
     ensures gone { row.new ≡ gone_on cycle older.now (next_before cycle (drop next (in_buffers rob.now front.now))) row.old }
     ensures went { result ≡ is_some (next_before cycle (drop next (in_buffers rob.now front.now))) }
 {
     let dispatched = rob.len();
     if next < dispatched {
-        go_on_as_entry(row, older, cycle, entry_at(rob, next))
+        go_on_as_entry(row, older, cycle, entry_at(rob, next), shown)
     } else {
-        go_on_as_fetched(row, older, cycle, front.get(next - dispatched))
+        go_on_as_fetched(row, older, cycle, front.get(next - dispatched), shown)
     }
 }
 
@@ -126,8 +147,11 @@ fn move_next(
     rob: &Rob,
     front: &Front,
     next: usize,
+    shown: bool,
 ) -> usize
-    requires { next + 1 < 2 ^ 64 }
+    requires room { next + 1 < 2 ^ 64 }
+    requires still { shown ≡ true → is_in_flight row.old ≡ true
+        → IsStillNext row.old (next_before cycle (drop next (in_buffers rob.now front.now))) }
     ensures moved { row.new ≡ moved cycle older.now (drop next (in_buffers rob.now front.now)) row.old }
     ensures left { drop result (in_buffers rob.now front.now) ≡ left_after cycle (drop next (in_buffers rob.now front.now)) row.old }
     ensures few { result ≤ next + 1 }
@@ -135,7 +159,7 @@ fn move_next(
     if !row.is_in_flight() {
         return next;
     }
-    if go_on(row, older, cycle, rob, front, next) {
+    if go_on(row, older, cycle, rob, front, next, shown) {
         next + 1
     } else {
         next
@@ -150,25 +174,35 @@ fn move_at(
     rob: &Rob,
     front: &Front,
     next: usize,
+    shown: bool,
 ) -> usize
     requires within { place < length rows.old }
     requires behind { next ≤ place }
+    requires still { shown ≡ true → (p : Passage) → slice_get rows.old place ≡ Some p → is_in_flight p ≡ true
+        → IsStillNext p (next_before cycle (drop next (in_buffers rob.now front.now))) }
     ensures moved { (p : Passage) → slice_get rows.old place ≡ Some p → rows.new ≡ slice_set rows.old place (moved cycle (take place rows.old) (drop next (in_buffers rob.now front.now)) p) }
     ensures left { (p : Passage) → slice_get rows.old place ≡ Some p → drop result (in_buffers rob.now front.now) ≡ left_after cycle (drop next (in_buffers rob.now front.now)) p }
     ensures few { result ≤ next + 1 }
 {
     let (older, rest) = rows.split_at_mut(place);
-    move_next(&mut rest[0], older, cycle, rob, front, next)
+    move_next(&mut rest[0], older, cycle, rob, front, next, shown)
 }
 
 // What was in flight before a cycle goes on as it stands at the cycle's end, or was squashed in it. Answers the place of the
 // first that was fetched in the cycle, among those in flight.
-pub(crate) fn move_on(rows: &mut [Passage], cycle: u64, rob: &Rob, front: &Front) -> usize
+pub(crate) fn move_on(
+    rows: &mut [Passage],
+    cycle: u64,
+    rob: &Rob,
+    front: &Front,
+    shown: bool,
+) -> usize
+    requires { shown ≡ true → AreStill cycle rows.old (in_buffers rob.now front.now) }
     ensures { AreMovedOn cycle (in_buffers rob.now front.now) rows.old rows.new result }
 {
     let mut next = 0;
     for place in 0..rows.len() {
-        next = move_at(rows, place, cycle, rob, front, next);
+        next = move_at(rows, place, cycle, rob, front, next, shown);
     }
     next
 }

@@ -1,4 +1,4 @@
-ghost use Rattle.std.specs.Prelude.{◌≡◌, ◌+◌, ◌≤◌, ◌<◌, ◌^◌, [], ◌∷◌, Some, drop, filter, length, slice_get, take, vec_capacity, IfOk};
+ghost use Rattle.std.specs.Prelude.{◌≡◌, ◌+◌, ◌≤◌, ◌<◌, ◌^◌, [], ◌∷◌, true, Some, drop, filter, length, slice_get, take, vec_capacity, IfOk};
 ghost use Rattle.std.specs.List.{list_all, position_or_len};
 ghost use Rattle.rv_hardware.specs.Lessons.{first_pc};
 ghost use Rattle.rv_passage.specs.Passage.{in_buffers, is_in_flight, trapped_by};
@@ -43,6 +43,7 @@ pub struct Table {
 
 impl Table {
     ghost use Rattle.rv_passage.specs.Numbers.{numbers_of};
+    ghost use Rattle.rv_passage.specs.Shown.{AreStill};
     ghost use Rattle.rv_passage.specs.Table.{AreMovedOn, AreShort, CanCount, HasRoom, after_steps, passages_of, still_open, table_from, with_fetched, with_oldest, with_rows, with_step, with_steps, without_squashed};
 
     /// A table that begins with what is in flight in two buffers, numbered from 0. It has room for two cycles.
@@ -114,18 +115,73 @@ impl Table {
         ensures open { length (still_open (passages_of self.new)).rows ≤ 288 }
         ensures counted { self.new.in_flight ≡ length (filter is_in_flight (passages_of self.new).rows) }
     {
+        self.follow_as(cycle, steps, rob, front, pc, false);
+    }
+
+    /// The same of a table whose rows show what was in flight before the cycle.
+    pub fn follow_on(&mut self, cycle: u64, steps: &[Step], rob: &Rob, front: &Front, pc: u32)
+        requires short { AreShort rob.now front.now }
+        requires room { HasRoom self.old }
+        requires countable { CanCount (passages_of self.old) }
+        requires few { length steps.now ≤ 8 }
+        requires still { AreStill cycle (with_steps steps.now pc (passages_of self.old)).rows (in_buffers rob.now front.now) }
+        ensures followed { passages_of self.new ≡ after_steps cycle steps.now rob.now front.now pc (passages_of self.old) }
+        ensures rows { vec_capacity self.new.rows ≡ vec_capacity self.old.rows }
+        ensures interrupts { vec_capacity self.new.interrupts ≡ vec_capacity self.old.interrupts }
+        ensures fetched { self.new.fetched ≤ self.old.fetched + 288 }
+        ensures retired { self.new.retired ≤ self.old.retired + 8 }
+        ensures open { length (still_open (passages_of self.new)).rows ≤ 288 }
+        ensures counted { self.new.in_flight ≡ length (filter is_in_flight (passages_of self.new).rows) }
+    {
+        self.follow_as(cycle, steps, rob, front, pc, true);
+    }
+
+    // The same, where `shown` may say that the rows show what was in flight before the cycle.
+    fn follow_as(
+        &mut self,
+        cycle: u64,
+        steps: &[Step],
+        rob: &Rob,
+        front: &Front,
+        pc: u32,
+        shown: bool,
+    )
+        requires short { AreShort rob.now front.now }
+        requires room { HasRoom self.old }
+        requires countable { CanCount (passages_of self.old) }
+        requires few { length steps.now ≤ 8 }
+        requires still { shown ≡ true
+            → AreStill cycle (with_steps steps.now pc (passages_of self.old)).rows (in_buffers rob.now front.now) }
+        ensures followed { passages_of self.new ≡ after_steps cycle steps.now rob.now front.now pc (passages_of self.old) }
+        ensures rows { vec_capacity self.new.rows ≡ vec_capacity self.old.rows }
+        ensures interrupts { vec_capacity self.new.interrupts ≡ vec_capacity self.old.interrupts }
+        ensures fetched { self.new.fetched ≤ self.old.fetched + 288 }
+        ensures retired { self.new.retired ≤ self.old.retired + 8 }
+        ensures open { length (still_open (passages_of self.new)).rows ≤ 288 }
+        ensures counted { self.new.in_flight ≡ length (filter is_in_flight (passages_of self.new).rows) }
+    {
         self.clear_space();
-        self.follow_in_space(cycle, steps, rob, front, pc);
+        self.follow_in_space(cycle, steps, rob, front, pc, shown);
         self.in_flight = count_in_flight(rob, front);
     }
 
     // The same where there is room after the rows for a cycle.
-    fn follow_in_space(&mut self, cycle: u64, steps: &[Step], rob: &Rob, front: &Front, pc: u32)
+    fn follow_in_space(
+        &mut self,
+        cycle: u64,
+        steps: &[Step],
+        rob: &Rob,
+        front: &Front,
+        pc: u32,
+        shown: bool,
+    )
         requires short { AreShort rob.now front.now }
         requires room { length self.old.rows.items + 288 ≤ vec_capacity self.old.rows }
         requires interrupts { length self.old.interrupts.items + 8 ≤ vec_capacity self.old.interrupts }
         requires countable { CanCount (passages_of self.old) }
         requires few { length steps.now ≤ 8 }
+        requires still { shown ≡ true
+            → AreStill cycle (with_steps steps.now pc (passages_of self.old)).rows (in_buffers rob.now front.now) }
         ensures followed { passages_of self.new ≡ after_steps cycle steps.now rob.now front.now pc (passages_of self.old) }
         ensures rows { vec_capacity self.new.rows ≡ vec_capacity self.old.rows }
         ensures interrupts { vec_capacity self.new.interrupts ≡ vec_capacity self.old.interrupts }
@@ -134,7 +190,7 @@ impl Table {
         ensures open { length (still_open (passages_of self.new)).rows ≤ 288 }
     {
         self.take_steps(steps, pc);
-        let fetched = self.move_rows_on(cycle, rob, front);
+        let fetched = self.move_rows_on(cycle, rob, front, shown);
         self.append_fetched(fetched, rob, front);
     }
 
@@ -235,7 +291,8 @@ impl Table {
     }
 
     // What was in flight before a cycle goes on, or was squashed in it.
-    fn move_rows_on(&mut self, cycle: u64, rob: &Rob, front: &Front) -> usize
+    fn move_rows_on(&mut self, cycle: u64, rob: &Rob, front: &Front, shown: bool) -> usize
+        requires { shown ≡ true → AreStill cycle (passages_of self.old).rows (in_buffers rob.now front.now) }
         ensures rows { AreMovedOn cycle (in_buffers rob.now front.now) (passages_of self.old).rows (passages_of self.new).rows result }
         ensures kept { length (passages_of self.new).rows ≡ length (passages_of self.old).rows }
         ensures others { passages_of self.new ≡ with_rows (passages_of self.new).rows (passages_of self.old) }
@@ -244,7 +301,14 @@ impl Table {
         ensures interrupts { self.new.interrupts ≡ self.old.interrupts }
     {
         self.in_flight = 0;
-        move_kept_on(self.rows.as_mut_slice(), self.dropped, cycle, rob, front)
+        move_kept_on(
+            self.rows.as_mut_slice(),
+            self.dropped,
+            cycle,
+            rob,
+            front,
+            shown,
+        )
     }
 
     // The oldest instruction in flight, if one is, retires as its row reports, and the program goes on at `next`.

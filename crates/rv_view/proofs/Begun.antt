@@ -1,11 +1,12 @@
 -- What a table begins with, and a cycle of it, in terms of the hardware.
-use Rattle.std.proofs.Common.{◌≡◌, ◌∙◌, ℕ, ◌≤◌, List, length, vec_capacity}
+use Rattle.std.proofs.Common.{◌≡◌, ◌∙◌, ℕ, ◌≤◌, List, length, vec_capacity, subst, sym}
 use Rattle.std.specs.Prelude.{IfOk, Result, Ok, Err}
 use Rattle.rv_front.specs.FetchBuffer.{FetchBuffer}
 use Rattle.rv_hardware.specs.Hardware.{Hardware}
 use Rattle.rv_hardware.specs.declared.step.Step.{Step}
-use Rattle.rv_passage.specs.Passage.{in_buffers}
-use Rattle.rv_passage.specs.Table.{HasRoom, Passages, after_cycle, after_steps, passages_of, table_from}
+use Rattle.rv_passage.specs.Passage.{in_buffers, in_flight}
+use Rattle.rv_passage.specs.Shown.{AreStill}
+use Rattle.rv_passage.specs.Table.{HasRoom, Passages, after_cycle, after_steps, passages_of, table_from, with_steps}
 use Rattle.rv_passage.specs.declared.table.Table.{Table}
 use Rattle.rv_rob.specs.ReorderBuffer.{ReorderBuffer}
 use Rattle.rv_view.specs.Following.{BeginsAt}
@@ -25,3 +26,14 @@ begins_at h (Ok table) rob_is front_is is few room rows interrupts = record {
 pub goes_on : {rob : ReorderBuffer} {front : FetchBuffer} {pc : ℕ} {new : Passages} (cycle : ℕ) (steps : List Step) (h : Hardware) (old : Passages) → rob ≡ h.rob → front ≡ h.front → pc ≡ h.pc
     → new ≡ after_steps cycle steps rob front pc old → new ≡ after_cycle cycle steps h old
 goes_on cycle steps h old rob_is front_is pc_is is = is ∙ (λ i. after_steps cycle steps (rob_is i) (front_is i) (pc_is i) old)
+
+-- each row is still what it stands as in its buffers, where it is so in the hardware whose buffers they are
+pub stills : {rob : ReorderBuffer} {front : FetchBuffer} {pc : ℕ} (cycle : ℕ) (steps : List Step) (h : Hardware)
+    (old : Passages) → rob ≡ h.rob → front ≡ h.front → pc ≡ h.pc →
+    AreStill cycle (with_steps steps h.pc old).rows (in_flight h) →
+    AreStill cycle (with_steps steps pc old).rows (in_buffers rob front)
+stills {rob} {front} {pc} cycle steps h old rob_is front_is pc_is still =
+    let with_pc = subst (λ n. AreStill cycle (with_steps steps n old).rows (in_flight h)) (sym pc_is) still in
+    let with_rob =
+    subst (λ r. AreStill cycle (with_steps steps pc old).rows (in_buffers r h.front)) (sym rob_is) with_pc in
+    subst (λ f. AreStill cycle (with_steps steps pc old).rows (in_buffers rob f)) (sym front_is) with_rob

@@ -9,10 +9,13 @@ use Rattle.rv_hardware.specs.Guided.{GuidedHardware}
 use Rattle.rv_hardware.specs.Hardware.{Hardware}
 use Rattle.rv_hardware.specs.History.{Moment}
 use Rattle.rv_hardware.specs.declared.step.Step.{Step}
-use Rattle.rv_passage.specs.Table.{CanCount, Passages, passages_of, still_open}
+use Rattle.rv_passage.specs.Passage.{in_flight}
+use Rattle.rv_passage.specs.Shown.{AreStill}
+use Rattle.rv_passage.specs.Table.{CanCount, Passages, passages_of, still_open, with_steps}
 use Rattle.rv_passage.specs.declared.passage.Passage.{Passage}
 use Rattle.rv_passage.specs.declared.table.Table.{Table}
 use Rattle.rv_passage.proofs.Followed.{can_count, few_rows, full_is, open_nothing, open_on}
+use Rattle.rv_passage.proofs.Shown.{open-still}
 use Rattle.rv_passage.proofs.Walk.{walk-push}
 use Rattle.rv_text.specs.Said.{Extends}
 use Rattle.rv_text.proofs.Saying.{extends_both, extends_nothing, extends_same}
@@ -41,6 +44,10 @@ module _ {V : Type 0} (has_seen : Seeing V) (text : Saying V) where
     -- the counts of the table can go on
     pub can_count_on : CanCount (passages_of table)
     can_count_on = can_count viewing.kept.followed (omega (arith, shown.number, shown.counted))
+
+    -- each of its rows is still what it stands as at the end of the next cycle
+    pub still_on : AreStill cycle (with_steps steps after.pc (passages_of table)).rows (in_flight after)
+    still_on = open-still shown.passes shown.cycled shown.number shown.steps_are viewing.kept
 
     abbrev last : Moment
     last = record { report = shown.report; after = after }

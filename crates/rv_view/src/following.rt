@@ -1,5 +1,7 @@
 ghost use Rattle.std.specs.Prelude.{◌≡◌, ◌≤◌, IfOk, length};
-ghost use Rattle.rv_passage.specs.Table.{CanCount, HasRoom, passages_of};
+ghost use Rattle.rv_passage.specs.Passage.{in_flight};
+ghost use Rattle.rv_passage.specs.Shown.{AreStill};
+ghost use Rattle.rv_passage.specs.Table.{CanCount, HasRoom, passages_of, with_steps};
 ghost use Rattle.rv_view.specs.Following.{BeginsAt, FollowsFrom, IsFollowedOn, IsNumberedOn};
 
 use rv_core::Pipeline;
@@ -53,6 +55,26 @@ pub fn follow(table: &mut Table, cycle: u64, steps: &[Step], pipeline: &Pipeline
     let _ = pipeline.cycles_done();
     let pc = pipeline.observe().pc;
     table.follow(
+        cycle,
+        steps,
+        pipeline.reorder_buffer(),
+        pipeline.front(),
+        pc,
+    );
+}
+
+/// The same of a table whose rows show what was in flight before the cycle.
+pub fn follow_on(table: &mut Table, cycle: u64, steps: &[Step], pipeline: &Pipeline)
+    requires room { HasRoom table.old }
+    requires countable { CanCount (passages_of table.old) }
+    requires few { length steps.now ≤ 8 }
+    requires still { AreStill cycle (with_steps steps.now pipeline.now.pc (passages_of table.old)).rows (in_flight pipeline.now) }
+    ensures { IsFollowedOn cycle steps.now pipeline.now table.old table.new }
+{
+    // Of hardware that a reset and cycles lead to, the buffers are as long as described.
+    let _ = pipeline.cycles_done();
+    let pc = pipeline.observe().pc;
+    table.follow_on(
         cycle,
         steps,
         pipeline.reorder_buffer(),

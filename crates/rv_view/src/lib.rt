@@ -7,7 +7,7 @@ mod shown_cycle;
 mod view;
 mod viewed;
 
-pub use following::{Following, begin_table, follow, follow_numbers};
+pub use following::{Following, begin_table, follow, follow_numbers, follow_on};
 pub use shown_cycle::ShownCycle;
 pub use view::View;
 pub use viewed::{Viewed, run_view};

@@ -4,7 +4,7 @@ ghost use Rattle.rv_hardware.specs.Guided.{guided};
 ghost use Rattle.rv_view.specs.Following.{FollowsFrom};
 ghost use Rattle.rv_view.specs.Viewing.{IsViewedRun};
 
-use crate::following::{Following, follow};
+use crate::following::{Following, follow_on};
 use crate::shown_cycle::ShownCycle;
 use crate::view::View;
 use rv_arch::Stop;
@@ -60,7 +60,7 @@ impl<V: View> Watcher for Follower<V> {
         progress: &Progress,
         output: &mut W,
     ) {
-        follow(&mut self.table, cycle, steps, pipeline);
+        follow_on(&mut self.table, cycle, steps, pipeline);
         let shown = ShownCycle {
             number: cycle,
             steps,

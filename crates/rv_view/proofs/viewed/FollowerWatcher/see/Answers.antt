@@ -1,17 +1,21 @@
 use Rattle.std.proofs.Common.{arith, rules}
 use Rattle.rv_text.proofs.Saying.{says_extends}
-use Rattle.rv_view.proofs.Viewing.{can_count_on, few_now, rows_now, viewing_on}
+use Rattle.rv_view.proofs.Viewing.{can_count_on, few_now, rows_now, still_on, viewing_on}
 use Rattle.rv_view.proofs.viewed.FollowerWatcher.see.Goals as goal
 
-pub follow-requires-clause-room : goal.follow-requires-clause-room
-follow-requires-clause-room g c = let (start, seen, before, shown, viewing) = c.requires.shown in viewing.kept.room.room
+pub follow_on-requires-clause-room : goal.follow_on-requires-clause-room
+follow_on-requires-clause-room g c = let (start, seen, before, shown, viewing) = c.requires.shown in viewing.kept.room.room
 
-pub follow-requires-clause-countable : goal.follow-requires-clause-countable
-follow-requires-clause-countable g c =
+pub follow_on-requires-clause-countable : goal.follow_on-requires-clause-countable
+follow_on-requires-clause-countable g c =
     let (start, seen, before, shown, viewing) = c.requires.shown in can_count_on g.V.View.has_seen g.V.View.text shown viewing
 
-pub follow-requires-clause-few : goal.follow-requires-clause-few
-follow-requires-clause-few g c = let (start, seen, before, shown, viewing) = c.requires.shown in shown.few
+pub follow_on-requires-clause-few : goal.follow_on-requires-clause-few
+follow_on-requires-clause-few g c = let (start, seen, before, shown, viewing) = c.requires.shown in shown.few
+
+pub follow_on-requires-clause-still : goal.follow_on-requires-clause-still
+follow_on-requires-clause-still g c =
+    let (start, seen, before, shown, viewing) = c.requires.shown in still_on g.V.View.has_seen g.V.View.text shown viewing
 
 pub see-requires-clause-shown : goal.see-requires-clause-shown
 see-requires-clause-shown g c =
@@ -20,17 +24,17 @@ see-requires-clause-shown g c =
       seen,
       record {
         shown = shown;
-        rows_are = rows_now g.V.View.has_seen g.V.View.text shown viewing c.follow.ensures c.rows.result.now c.rows.ensures;
-        few = few_now g.V.View.has_seen g.V.View.text shown viewing c.follow.ensures c.rows.result.now c.rows.ensures;
+        rows_are = rows_now g.V.View.has_seen g.V.View.text shown viewing c.follow_on.ensures c.rows.result.now c.rows.ensures;
+        few = few_now g.V.View.has_seen g.V.View.text shown viewing c.follow_on.ensures c.rows.result.now c.rows.ensures;
       },
       viewing.sees,
     )
 
 pub returns : goal.returns
 returns g c start seen before shown viewing =
-    let rows_are = rows_now g.V.View.has_seen g.V.View.text shown viewing c.follow.ensures c.rows.result.now c.rows.ensures in
-    let few = few_now g.V.View.has_seen g.V.View.text shown viewing c.follow.ensures c.rows.result.now c.rows.ensures in
+    let rows_are = rows_now g.V.View.has_seen g.V.View.text shown viewing c.follow_on.ensures c.rows.result.now c.rows.ensures in
+    let few = few_now g.V.View.has_seen g.V.View.text shown viewing c.follow_on.ensures c.rows.result.now c.rows.ensures in
     let (more, says, told) = c.see.ensures.said start.view seen (record { shown = shown; rows_are = rows_are; few = few }) viewing.sees in
-    viewing_on g.V.View.has_seen g.V.View.text shown viewing c.follow.ensures c.drop_ended.ensures.opened (omega (arith, c.drop_ended.ensures.rows)) (omega (arith, c.drop_ended.ensures.interrupts))
+    viewing_on g.V.View.has_seen g.V.View.text shown viewing c.follow_on.ensures c.drop_ended.ensures.opened (omega (arith, c.drop_ended.ensures.rows)) (omega (arith, c.drop_ended.ensures.interrupts))
     (c.see.ensures.seen start.view seen (record { shown = shown; rows_are = rows_are; few = few }) viewing.sees)
     (says_extends c.after-out.ensures.failed c.after-out.ensures.known c.has_failed-self.ensures (search rules) says) told

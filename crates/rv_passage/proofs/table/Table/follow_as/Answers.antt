@@ -3,7 +3,7 @@ use Rattle.rv_passage.specs.Passage.{in_buffers, is_in_flight}
 use Rattle.rv_passage.specs.Table.{Passages, after_steps, passages_of, with_steps}
 use Rattle.rv_passage.proofs.Dropped.{buffers-open}
 use Rattle.rv_passage.proofs.MovesOn.{as_many-moves, moves_on}
-use Rattle.rv_passage.proofs.table.Table.follow.Goals as goal
+use Rattle.rv_passage.proofs.table.Table.follow_as.Goals as goal
 
 -- as many are in flight as the buffers hold
 counted : (c : goal.After-count_in_flight-self) → c.count_in_flight-self.result ≡ length (filter is_in_flight (passages_of c.follow_in_space.new.self).rows)
