@@ -1,4 +1,4 @@
--- The passages at the end of a cycle: those that wait in the fetch buffer come last, and so do those in flight behind
+-- The passages at the end of a cycle: those that wait in the fetch buffer come last, and so do those in flight after
 -- what left.
 use Rattle.std.proofs.Common.{◌≡◌, ◌∙◌, ℕ, zero, suc, ◌+◌, ◌-◌, ◌≤◌, ◌&&◌, nat_lt, not, Bool, true, false, List, [], ◌∷◌, ◌++◌, length, filter, map, take, drop, None, MatchOption, refl, ap, sym, subst, arith, inl, inr, length-append, length-drop}
 use Rattle.std.specs.List.{list_all, slice_get}
@@ -188,7 +188,7 @@ module _ (cycle : ℕ) (unit : Bool) where
       let has' = has && not (lacks_address cycle p) in
       ap (option_or (awaited_word (stay_in cycle unit has p))) (oldest_before has' ps others none)
 
-  -- so those behind the first ones, as many as words wait, can be left out
+  -- so those after the first ones, as many as words wait, can be left out
   module _ (after : Hardware) (rows first : List Passage) (end : AreAtEnd cycle after rows)
       (first_are : first ≡ take (length rows - length after.front.entries) rows) where
     abbrev others : List Passage

@@ -30,7 +30,7 @@ element_on line =
 abbrev pub if_passes : (List ℕ → Bool) → NameOn → Option NameOn
 if_passes test on = if test on.name then Some on else None
 
--- the name in the brackets of a heading, one before and behind it or two
+-- the name in the brackets of a heading, one before and after it or two
 abbrev pub heading_on : List ℕ → Option NameOn
 heading_on line = option_or (element_on line) (table_on line)
 

@@ -48,7 +48,7 @@ fn element_on(line: &[u8]) -> Option<NameOn<'_>>
     name_after(before + 2, b']', inner)
 }
 
-// The name in the brackets of a heading, one before and behind it or two.
+// The name in the brackets of a heading, one before and after it or two.
 fn heading_on(line: &[u8]) -> Option<NameOn<'_>>
     ensures { option_map name_in result ≡ heading_on line.entry.now }
 {
