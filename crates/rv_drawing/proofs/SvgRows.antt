@@ -27,10 +27,10 @@ module _ (listing : Listed) (window : Window) (all : List Passage) (reasons : Li
   unfolding svg_rows
   svg_rows-append place [] ys = let same : place ≡ place + 0 = omega arith in ap (λ n. rows_from n ys) same
   svg_rows-append place (x ∷ xs) ys =
-      let behind = place + rows_of window x in
-      let same : behind + count xs ≡ place + count (x ∷ xs) = omega (arith, count_by-cons window x xs) in
-      ap (λ l. placed_row listing window all reasons marks place x ++ l) (svg_rows-append behind xs ys ∙ ap (λ n. rows_from behind xs ++ rows_from n ys) same)
-      ∙ sym (append_assoc (placed_row listing window all reasons marks place x) (rows_from behind xs) (rows_from (place + count (x ∷ xs)) ys))
+      let below = place + rows_of window x in
+      let same : below + count xs ≡ place + count (x ∷ xs) = omega (arith, count_by-cons window x xs) in
+      ap (λ l. placed_row listing window all reasons marks place x ++ l) (svg_rows-append below xs ys ∙ ap (λ n. rows_from below xs ++ rows_from n ys) same)
+      ∙ sym (append_assoc (placed_row listing window all reasons marks place x) (rows_from below xs) (rows_from (place + count (x ∷ xs)) ys))
 
   module _ (items : List Passage) (index : ℕ) (other : Passage) (here : index < length items) (place : ℕ) (below : place ≡ count (take index items)) where
     abbrev pub row : Passage

@@ -123,11 +123,11 @@ module _ (cycle : ℕ) where
     | inr goes ↦ let rest : none_stay ps = rw goes at none in none_stay-drop ps k rest
   ]
 
-  none_stay-behind : (front back : List Passage) (k : ℕ) → length front ≤ k →
+  none_stay-after : (front back : List Passage) (k : ℕ) → length front ≤ k →
       none_stay back → none_stay (drop k (front ++ back))
-  none_stay-behind [] back k past none = none_stay-drop back k none
-  none_stay-behind (p ∷ front) back zero past none = absurd (omega (arith, past))
-  none_stay-behind (p ∷ front) back (suc k) past none = none_stay-behind front back k (omega (arith, past)) none
+  none_stay-after [] back k past none = none_stay-drop back k none
+  none_stay-after (p ∷ front) back zero past none = absurd (omega (arith, past))
+  none_stay-after (p ∷ front) back (suc k) past none = none_stay-after front back k (omega (arith, past)) none
 
   last_unstaying : (rows : List Passage) (count : ℕ) →
       EndsUnstaying rows count → none_stay (drop (length rows - count) rows)
@@ -135,7 +135,7 @@ module _ (cycle : ℕ) where
       let long = ap length ends.rows_are ∙ length-append ends.front ends.back in
       let past : length ends.front ≤ length rows - count = omega (arith, long, ends.many) in
       subst (λ l. none_stay (drop (length rows - count) l)) (sym ends.rows_are)
-      (none_stay-behind ends.front ends.back (length rows - count) past ends.unstaying)
+      (none_stay-after ends.front ends.back (length rows - count) past ends.unstaying)
 
 -- the passages at the end of a cycle are such
 pub at_end : (cycle : ℕ) (steps : List Step) (after : Hardware) (before : Passages) →
@@ -246,10 +246,10 @@ first_left rows count count_is all =
     let first = take count rows in
     let others = drop count rows in
     let apart : first ++ others ≡ rows = take-append-drop count rows in
-    let open_behind : filter is_in_flight (first ++ others) ≡ filter is_in_flight others =
+    let open_later : filter is_in_flight (first ++ others) ≡ filter is_in_flight others =
     filter-append is_in_flight first others ∙ ap (λ l. l ++ filter is_in_flight others) (none_among first all) in
     let as_many : length (filter is_in_flight rows) ≡ length (filter is_in_flight others) =
-    ap (λ l. length (filter is_in_flight l)) (sym apart) ∙ ap length open_behind in
+    ap (λ l. length (filter is_in_flight l)) (sym apart) ∙ ap length open_later in
     let all_fly = all-open others (omega (arith, length-drop count rows, as_many, count_is, few_open rows)) in
     record {
       others = others;

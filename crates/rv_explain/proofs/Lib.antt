@@ -2,5 +2,5 @@ mod AtEnd
 mod Explained
 mod InFlight
 pub mod OneExplanation
-mod Tales
-mod Telling
+mod Tallies
+mod Tallying

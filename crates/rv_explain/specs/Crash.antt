@@ -11,13 +11,13 @@ use Rattle.rv_explain.specs.declared.figures.Figures.{Figures}
 use Rattle.rv_explain.specs.declared.figures.Figures.TheVariants.{Always, UnlessCrashed}
 
 -- an address stands right after the last line of some code: the word before it has a line, and its own has none
-abbrev pub is_behind_code : Listed → ℕ → Bool
-is_behind_code listing address = is_some (line_at listing (address - 4)) && is_none (line_at listing address)
+abbrev pub is_past_code : Listed → ℕ → Bool
+is_past_code listing address = is_some (line_at listing (address - 4)) && is_none (line_at listing address)
 
 -- a program came to an address that stands there
 unfoldable pub passed_text : Listed → ℕ → List ℕ
 passed_text listing address =
-    if is_behind_code listing address then codes "The program ran past its last line, at " ++ place_text listing (address - 4) else []
+    if is_past_code listing address then codes "The program ran past its last line, at " ++ place_text listing (address - 4) else []
 
 -- where the first exception of a run came, if there was one
 unfoldable pub first_passed_text : Listed → Option (Series Exception) → List ℕ
@@ -36,7 +36,7 @@ crash_of (Stale pc) all = None
 crash_of Limit all = unhandled all
 crash_of Exhausted all = unhandled all
 
--- that of which alone is told
+-- that which alone is explained
 abbrev pub lone_crash : Figures → Stop → Option (Series Exception) → Option Exception
 lone_crash Always stop all = None
 lone_crash UnlessCrashed stop all = crash_of stop all

@@ -28,27 +28,27 @@ use Rattle.rv_sentences.specs.Load.{load_text}
 use Rattle.rv_sentences.specs.PlaceLines.{places_text}
 use Rattle.rv_counts.specs.Places.{AddUp, AreLostFor}
 use Rattle.rv_sentences.specs.Stack.{count_text, stall_text}
-use Rattle.rv_explain.specs.Tale.{tale_of_run}
+use Rattle.rv_explain.specs.Tally.{tally_of_run}
 use Rattle.rv_sentences.specs.Stay.{StaysAddUp, all_stays}
 use Rattle.rv_sentences.specs.StayLines.{awaited_text, greatest_waits_text, stays_text}
 use Rattle.rv_sentences.specs.Untaken.{all_untaken_text}
 use Rattle.rv_sentences.specs.Work.{work_text}
 use Rattle.rv_sentences.specs.Worst.{worst_text}
-use Rattle.rv_explain.specs.declared.{figures.Figures.Figures, tale.Tale.Tale}
+use Rattle.rv_explain.specs.declared.{figures.Figures.Figures, tally.Tally.Tally}
 use Rattle.rv_sentences.specs.declared.exception.Exception.{Exception}
 
 -- a run that ended, how many words were fetched in it or before it, and what was kept of it
-pub record IsTold (arrivals : List Arrival) (limit : ℕ) (values : Values) (old new : GuidedHardware) (stop : Stop) (progress : Progress) (fetched : ℕ) (tale : Tale) : Type 0 where
+pub record IsTallied (arrivals : List Arrival) (limit : ℕ) (values : Values) (old new : GuidedHardware) (stop : Stop) (progress : Progress) (fetched : ℕ) (tally : Tally) : Type 0 where
   pub moments : List Moment
   pub run : IsEndedRun arrivals limit old moments new stop
   pub counted : progress ≡ progress_of (reports_of moments)
   pub fetched_are : fetched ≡ length (passages_of_run old.hardware moments)
-  pub kept : tale ≡ tale_of_run values arrivals old.hardware moments
+  pub kept : tally ≡ tally_of_run values arrivals old.hardware moments
   pub places_add_up : AddUp old.hardware moments new.hardware
   pub places_are_lost_for : AreLostFor arrivals old.hardware moments
   pub stays_add_up : StaysAddUp old.hardware moments
   pub few : progress.cycles * new.hardware.values.dispatch_width < 2 ^ 64
-  pub few_stays : all_stays tale.stays < 2 ^ 64
+  pub few_stays : all_stays tally.stays < 2 ^ 64
 
 -- the cycles, and those to each instruction
 unfoldable pub cycle_text : Progress → ℕ → List ℕ
@@ -57,35 +57,35 @@ cycle_text progress retired =
     (line_of (codes "cycles per instruction") (ratio_text progress.cycles retired) ++ stall_text progress.cycles progress.busy progress.stalls)
 
 -- the interrupt lines that are high and were never taken
-abbrev pub untaken_lines : Hardware → Tale → List ℕ
-untaken_lines h tale = all_untaken_text tale.raised tale.interrupts (value_of h.csrs h.lines Mstatus) (value_of h.csrs h.lines Mie)
+abbrev pub untaken_lines : Hardware → Tally → List ℕ
+untaken_lines h tally = all_untaken_text tally.raised tally.interrupts (value_of h.csrs h.lines Mstatus) (value_of h.csrs h.lines Mie)
 
 -- what instructions in flight waited for most, the line that was awaited most, and what became of the places for dispatch
-unfoldable pub lead_text : Listed → Hardware → Progress → Tale → List ℕ
-lead_text listing h progress tale =
-    greatest_waits_text tale.stays ++ (awaited_text listing progress.cycles tale.outcomes tale.awaited ++
-    places_text progress.cycles h.values.dispatch_width (length h.rob.entries) tale.places)
+unfoldable pub lead_text : Listed → Hardware → Progress → Tally → List ℕ
+lead_text listing h progress tally =
+    greatest_waits_text tally.stays ++ (awaited_text listing progress.cycles tally.outcomes tally.awaited ++
+    places_text progress.cycles h.values.dispatch_width (length h.rob.entries) tally.places)
 
 -- where the cycles went
-unfoldable pub cost_text : Listed → Progress → ℕ → Tale → List ℕ
-cost_text listing progress fetched tale =
-    cycle_text progress tale.retired ++ (dispatches_text progress.busy tale.dispatches.cycles ++
-    (work_text fetched tale.work ++ (worst_text listing tale.branches tale.mispredicted ++ (stays_text tale.stays ++
-    (load_text tale.loads ++ (drain_text tale.drains ++
-    hotspots_text listing progress.cycles tale.idle tale.heads tale.outcomes tale.stores))))))
+unfoldable pub cost_text : Listed → Progress → ℕ → Tally → List ℕ
+cost_text listing progress fetched tally =
+    cycle_text progress tally.retired ++ (dispatches_text progress.busy tally.dispatches.cycles ++
+    (work_text fetched tally.work ++ (worst_text listing tally.branches tally.mispredicted ++ (stays_text tally.stays ++
+    (load_text tally.loads ++ (drain_text tally.drains ++
+    hotspots_text listing progress.cycles tally.idle tally.heads tally.outcomes tally.stores))))))
 
 -- how a run ended, its exceptions, interrupts and lines never taken, its greatest waits and the line that was awaited most, what became of its places for dispatch, and where its cycles went, by
 -- how many words were fetched among others
-unfoldable pub whole_text : Listed → Stop → Hardware → Progress → ℕ → Tale → List ℕ
-whole_text listing stop h progress fetched tale =
-    ending_text listing stop h tale.last_stores ++ (first_passed_text listing tale.exceptions.all ++
-    (exceptions_text listing tale.exceptions.all tale.exceptions.kinds ++ (interrupts_text listing tale.interrupts ++
-    (untaken_lines h tale ++ (lead_text listing h progress tale ++ cost_text listing progress fetched tale)))))
+unfoldable pub whole_text : Listed → Stop → Hardware → Progress → ℕ → Tally → List ℕ
+whole_text listing stop h progress fetched tally =
+    ending_text listing stop h tally.last_stores ++ (first_passed_text listing tally.exceptions.all ++
+    (exceptions_text listing tally.exceptions.all tally.exceptions.kinds ++ (interrupts_text listing tally.interrupts ++
+    (untaken_lines h tally ++ (lead_text listing h progress tally ++ cost_text listing progress fetched tally)))))
 
 -- the sentences on a run, or on the crash that stands alone
-unfoldable pub told_text : Option Exception → Listed → Stop → Hardware → Progress → ℕ → Tale → List ℕ
-told_text None listing stop h progress fetched tale = whole_text listing stop h progress fetched tale
-told_text (Some crash) listing stop h progress fetched tale = crash_text listing crash tale.interrupts
+unfoldable pub run_text : Option Exception → Listed → Stop → Hardware → Progress → ℕ → Tally → List ℕ
+run_text None listing stop h progress fetched tally = whole_text listing stop h progress fetched tally
+run_text (Some crash) listing stop h progress fetched tally = crash_text listing crash tally.interrupts
 
 -- the sentences on a path, where one is shown
 unfoldable pub path_text : Listed → Option Accounted → List ℕ
@@ -93,15 +93,15 @@ path_text listing None = []
 path_text listing (Some path) = sentences listing path
 
 -- those on a path come first; after a crash its sentences stand alone, unless the figures are asked for
-abbrev pub explanation : Figures → Option Accounted → Listed → Stop → Hardware → Progress → ℕ → Tale → List ℕ
-explanation figures path listing stop h progress fetched tale =
-    path_text listing path ++ told_text (lone_crash figures stop tale.exceptions.all) listing stop h progress fetched tale
+abbrev pub explanation : Figures → Option Accounted → Listed → Stop → Hardware → Progress → ℕ → Tally → List ℕ
+explanation figures path listing stop h progress fetched tally =
+    path_text listing path ++ run_text (lone_crash figures stop tally.exceptions.all) listing stop h progress fetched tally
 
 -- the sentences on cycles from some hardware on, that left the hardware so and ended for a reason: by the instructions that left the
 -- hardware in them and those in flight at their end
 abbrev pub explanation_of : Figures → Values → List Arrival → Option Accounted → Listed → Hardware → List Moment → Hardware → Stop → List ℕ
 explanation_of figures values arrivals path listing first moments after stop =
-    explanation figures path listing stop after (progress_of (reports_of moments)) (length (passages_of_run first moments)) (tale_of_run values arrivals first moments)
+    explanation figures path listing stop after (progress_of (reports_of moments)) (length (passages_of_run first moments)) (tally_of_run values arrivals first moments)
 
 -- a text explains a run that ended for a reason, with the sentences on a path, where one is shown; what it says of the places for dispatch adds up, and each is lost for what ended the
 -- dispatch phase of its cycle; what it says of the instructions in flight adds up to all cycles of each

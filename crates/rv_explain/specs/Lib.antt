@@ -1,5 +1,5 @@
 pub mod AtEnd
 pub mod Ending
 pub mod Crash
-pub mod Tale
+pub mod Tally
 pub mod Explanation

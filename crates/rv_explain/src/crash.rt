@@ -1,5 +1,5 @@
 ghost use Rattle.std.specs.Prelude.{◌≡◌};
-ghost use Rattle.rv_explain.specs.Crash.{crash_of, crash_text, first_passed_text, is_behind_code, lone_crash, passed_text, unhandled};
+ghost use Rattle.rv_explain.specs.Crash.{crash_of, crash_text, first_passed_text, is_past_code, lone_crash, passed_text, unhandled};
 ghost use Rattle.rv_text.specs.Said.{Says};
 
 use crate::figures::Figures;
@@ -10,8 +10,8 @@ use rv_text::Sink;
 use std::io::Write;
 
 // Whether an address stands right after the last line of some code.
-fn is_behind_code(listing: &Listing, address: u32) -> bool
-    ensures { result ≡ is_behind_code listing.now address }
+fn is_past_code(listing: &Listing, address: u32) -> bool
+    ensures { result ≡ is_past_code listing.now address }
 {
     let before = address.saturating_sub(4);
     listing.number_at(before).is_some() && listing.number_at(address).is_none()
@@ -21,7 +21,7 @@ fn is_behind_code(listing: &Listing, address: u32) -> bool
 fn write_passed<W: Write>(out: &mut Sink<'_, W>, listing: &Listing, address: u32)
     ensures { Says W.contents out.old out.new (passed_text listing.now address) }
 {
-    if is_behind_code(listing, address) {
+    if is_past_code(listing, address) {
         out.put(b"The program ran past its last line, at ");
         write_place(out, listing, address.saturating_sub(4));
     }
@@ -61,7 +61,7 @@ fn crash(stop: Stop, all: Option<Series<Exception>>) -> Option<Exception>
     }
 }
 
-/// The exception by which a program crashed, where that alone is told of its run.
+/// The exception by which a program crashed, where that alone is explained of its run.
 pub(crate) fn lone_crash(
     figures: Figures,
     stop: Stop,

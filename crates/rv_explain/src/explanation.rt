@@ -1,9 +1,9 @@
 ghost use Rattle.std.specs.Prelude.{◌≡◌, ◌*◌, ◌++◌, ◌≤◌, ◌<◌, ◌^◌, Err, List, [], sum, IfOk, option_copied};
-ghost use Rattle.rv_explain.specs.Explanation.{HasOneExplanation, IsExplanation, cost_text, cycle_text, explanation, lead_text, path_text, told_text, untaken_lines, whole_text};
+ghost use Rattle.rv_explain.specs.Explanation.{HasOneExplanation, IsExplanation, cost_text, cycle_text, explanation, lead_text, path_text, run_text, untaken_lines, whole_text};
 ghost use Rattle.rv_hardware.specs.Guided.{guided};
 ghost use Rattle.rv_hardware.specs.Hardware.{Hardware};
 ghost use Rattle.rv_isa.specs.declared.lines.Arrival.{Arrival};
-ghost use Rattle.rv_explain.specs.Tale.{tale_of};
+ghost use Rattle.rv_explain.specs.Tally.{tally_of};
 ghost use Rattle.rv_view.specs.Following.{FollowsFrom};
 ghost use Rattle.rv_sentences.specs.Stay.{all_stays};
 ghost use Rattle.rv_text.specs.IsText.{IsText};
@@ -14,8 +14,8 @@ use crate::crash::{lone_crash, write_crash, write_first_passed};
 use crate::cycle_places::in_flight;
 use crate::ending::{csr, write_ending};
 use crate::figures::Figures;
-use crate::running::run_told;
-use crate::tale::Tale;
+use crate::running::run_tallied;
+use crate::tally::Tally;
 use rv_arch::Stop;
 use rv_core::{Pipeline, Progress};
 use rv_counts::Places;
@@ -37,21 +37,21 @@ use std::io::Write;
 #[derive(Drop)]
 struct Beginning {
     following: Following,
-    tale: Tale,
+    tally: Tally,
 }
 
-// What it takes to follow it, and a tale of no cycle.
+// What it takes to follow it, and a tally of no cycle.
 fn begin(
     alloc: Global,
     pipeline: &Pipeline,
     description: &Description,
 ) -> Result<Beginning, AllocError>
     ensures follows { IfOk result (λ beginning. FollowsFrom pipeline.now beginning.following) }
-    ensures untold { IfOk result (λ beginning. (arrivals : List Arrival) (h : Hardware) → beginning.tale ≡ tale_of description.now arrivals h [] []) }
+    ensures of_no_cycle { IfOk result (λ beginning. (arrivals : List Arrival) (h : Hardware) → beginning.tally ≡ tally_of description.now arrivals h [] []) }
 {
     let following = Following::begin(alloc, pipeline)?;
-    let tale = Tale::new(alloc, description)?;
-    Ok(Beginning { following, tale })
+    let tally = Tally::new(alloc, description)?;
+    Ok(Beginning { following, tally })
 }
 
 // The cycles, and those to each instruction.
@@ -70,12 +70,12 @@ fn write_cycles<W: Write>(out: &mut Sink<'_, W>, progress: &Progress, retired: u
 }
 
 // The interrupt lines that are high and were never taken.
-fn write_untaken_lines<W: Write>(out: &mut Sink<'_, W>, pipeline: &Pipeline, tale: &Tale)
-    ensures { Says W.contents out.old out.new (untaken_lines pipeline.now tale.now) }
+fn write_untaken_lines<W: Write>(out: &mut Sink<'_, W>, pipeline: &Pipeline, tally: &Tally)
+    ensures { Says W.contents out.old out.new (untaken_lines pipeline.now tally.now) }
 {
     let mstatus = csr(pipeline, Csr::Mstatus);
     let mie = csr(pipeline, Csr::Mie);
-    write_untaken(out, &tale.raised, &tale.interrupts, mstatus, mie);
+    write_untaken(out, &tally.raised, &tally.interrupts, mstatus, mie);
 }
 
 // What instructions in flight waited for most, the line that was awaited most, and what became of the places for dispatch.
@@ -84,19 +84,25 @@ fn write_lead<W: Write>(
     listing: &Listing,
     pipeline: &Pipeline,
     progress: &Progress,
-    tale: &mut Tale,
+    tally: &mut Tally,
 )
     requires places { progress.now.cycles * pipeline.now.values.dispatch_width < 2 ^ 64 }
-    requires stays { all_stays tale.old.stays < 2 ^ 64 }
-    requires awaited { sum tale.old.awaited.words ≤ progress.now.cycles }
-    ensures text { Says W.contents out.old out.new (lead_text listing.now pipeline.now progress.now tale.old) }
-    ensures kept { tale.new ≡ record tale.old { awaited = tale.new.awaited } }
+    requires stays { all_stays tally.old.stays < 2 ^ 64 }
+    requires awaited { sum tally.old.awaited.words ≤ progress.now.cycles }
+    ensures text { Says W.contents out.old out.new (lead_text listing.now pipeline.now progress.now tally.old) }
+    ensures kept { tally.new ≡ record tally.old { awaited = tally.new.awaited } }
 {
-    write_greatest_waits(out, &tale.stays);
+    write_greatest_waits(out, &tally.stays);
     let cycles = progress.cycles;
-    write_awaited(out, listing, cycles, &tale.outcomes, &mut tale.awaited);
+    write_awaited(out, listing, cycles, &tally.outcomes, &mut tally.awaited);
     let width = u64::from(pipeline.values().dispatch_width);
-    write_places(out, cycles, width, in_flight(pipeline) as u64, &tale.places);
+    write_places(
+        out,
+        cycles,
+        width,
+        in_flight(pipeline) as u64,
+        &tally.places,
+    );
 }
 
 // Where the cycles went.
@@ -105,29 +111,29 @@ fn write_costs<W: Write>(
     listing: &Listing,
     progress: &Progress,
     fetched: u64,
-    tale: &mut Tale,
+    tally: &mut Tally,
 )
-    requires heads { sum tale.old.heads.words ≤ progress.now.cycles }
-    requires branches { sum tale.old.branches.words < 2 ^ 64 }
-    requires mispredicted { sum tale.old.mispredicted.words < 2 ^ 64 }
-    requires stays { all_stays tale.old.stays < 2 ^ 64 }
-    ensures { Says W.contents out.old out.new (cost_text listing.now progress.now fetched tale.old) }
+    requires heads { sum tally.old.heads.words ≤ progress.now.cycles }
+    requires branches { sum tally.old.branches.words < 2 ^ 64 }
+    requires mispredicted { sum tally.old.mispredicted.words < 2 ^ 64 }
+    requires stays { all_stays tally.old.stays < 2 ^ 64 }
+    ensures { Says W.contents out.old out.new (cost_text listing.now progress.now fetched tally.old) }
 {
-    write_cycles(out, progress, tale.retired);
-    write_dispatches(out, progress.busy, &tale.dispatches);
-    write_work(out, fetched, &tale.work);
-    write_worst(out, listing, &mut tale.branches, &mut tale.mispredicted);
-    write_stays(out, &tale.stays);
-    write_loads(out, &tale.loads);
-    write_drains(out, &tale.drains);
+    write_cycles(out, progress, tally.retired);
+    write_dispatches(out, progress.busy, &tally.dispatches);
+    write_work(out, fetched, &tally.work);
+    write_worst(out, listing, &mut tally.branches, &mut tally.mispredicted);
+    write_stays(out, &tally.stays);
+    write_loads(out, &tally.loads);
+    write_drains(out, &tally.drains);
     write_hotspots(
         out,
         listing,
         progress.cycles,
-        tale.idle,
-        &tale.outcomes,
-        &tale.stores,
-        &mut tale.heads,
+        tally.idle,
+        &tally.outcomes,
+        &tally.stores,
+        &mut tally.heads,
     );
 }
 
@@ -139,23 +145,23 @@ fn write_whole<W: Write>(
     pipeline: &Pipeline,
     progress: &Progress,
     fetched: u64,
-    tale: &mut Tale,
+    tally: &mut Tally,
 )
-    requires heads { sum tale.old.heads.words ≤ progress.now.cycles }
-    requires branches { sum tale.old.branches.words < 2 ^ 64 }
-    requires mispredicted { sum tale.old.mispredicted.words < 2 ^ 64 }
-    requires stays { all_stays tale.old.stays < 2 ^ 64 }
-    requires awaited { sum tale.old.awaited.words ≤ progress.now.cycles }
+    requires heads { sum tally.old.heads.words ≤ progress.now.cycles }
+    requires branches { sum tally.old.branches.words < 2 ^ 64 }
+    requires mispredicted { sum tally.old.mispredicted.words < 2 ^ 64 }
+    requires stays { all_stays tally.old.stays < 2 ^ 64 }
+    requires awaited { sum tally.old.awaited.words ≤ progress.now.cycles }
     requires places { progress.now.cycles * pipeline.now.values.dispatch_width < 2 ^ 64 }
-    ensures { Says W.contents out.old out.new (whole_text listing.now stop pipeline.now progress.now fetched tale.old) }
+    ensures { Says W.contents out.old out.new (whole_text listing.now stop pipeline.now progress.now fetched tally.old) }
 {
-    write_ending(out, listing, stop, pipeline, &tale.last_stores);
-    write_first_passed(out, listing, tale.exceptions.all());
-    write_exceptions(out, listing, &tale.exceptions);
-    write_interrupts(out, listing, &tale.interrupts);
-    write_untaken_lines(out, pipeline, tale);
-    write_lead(out, listing, pipeline, progress, tale);
-    write_costs(out, listing, progress, fetched, tale);
+    write_ending(out, listing, stop, pipeline, &tally.last_stores);
+    write_first_passed(out, listing, tally.exceptions.all());
+    write_exceptions(out, listing, &tally.exceptions);
+    write_interrupts(out, listing, &tally.interrupts);
+    write_untaken_lines(out, pipeline, tally);
+    write_lead(out, listing, pipeline, progress, tally);
+    write_costs(out, listing, progress, fetched, tally);
 }
 
 // The sentences on a path, where one is shown.
@@ -169,7 +175,7 @@ fn write_path<W: Write>(out: &mut Sink<'_, W>, path: Option<&PathAccount>, listi
 }
 
 // The sentences on a path, where one is shown, and then those on a run that ended, or on a crash that stands alone.
-#[tactic(auto, using(rv_text::proofs::Saying::saying), unfolding(crate::specs::Explanation::told_text))]
+#[tactic(auto, using(rv_text::proofs::Saying::saying), unfolding(crate::specs::Explanation::run_text))]
 fn write_sentences<W: Write>(
     out: &mut Sink<'_, W>,
     path: Option<&PathAccount>,
@@ -179,26 +185,26 @@ fn write_sentences<W: Write>(
     pipeline: &Pipeline,
     progress: &Progress,
     fetched: u64,
-    tale: &mut Tale,
+    tally: &mut Tally,
 )
-    requires heads { sum tale.old.heads.words ≤ progress.now.cycles }
-    requires branches { sum tale.old.branches.words < 2 ^ 64 }
-    requires mispredicted { sum tale.old.mispredicted.words < 2 ^ 64 }
-    requires stays { all_stays tale.old.stays < 2 ^ 64 }
-    requires awaited { sum tale.old.awaited.words ≤ progress.now.cycles }
+    requires heads { sum tally.old.heads.words ≤ progress.now.cycles }
+    requires branches { sum tally.old.branches.words < 2 ^ 64 }
+    requires mispredicted { sum tally.old.mispredicted.words < 2 ^ 64 }
+    requires stays { all_stays tally.old.stays < 2 ^ 64 }
+    requires awaited { sum tally.old.awaited.words ≤ progress.now.cycles }
     requires places { progress.now.cycles * pipeline.now.values.dispatch_width < 2 ^ 64 }
-    ensures { Says W.contents out.old out.new (path_text listing.now (option_copied path.entry) ++ told_text crash listing.now stop pipeline.now progress.now fetched tale.old) }
+    ensures { Says W.contents out.old out.new (path_text listing.now (option_copied path.entry) ++ run_text crash listing.now stop pipeline.now progress.now fetched tally.old) }
 {
     write_path(out, path, listing);
     match crash {
-        Some(crash) => write_crash(out, listing, &crash, &tale.interrupts),
-        None => write_whole(out, listing, stop, pipeline, progress, fetched, tale),
+        Some(crash) => write_crash(out, listing, &crash, &tally.interrupts),
+        None => write_whole(out, listing, stop, pipeline, progress, fetched, tally),
     }
 }
 
 // Writes the sentences on a path, where one is shown, and on a run that ended.
 #[tactic(auto, using(rv_text::proofs::Saying::says_written))]
-fn write_told<W: Write>(
+fn write_run_text<W: Write>(
     writer: &mut W,
     figures: Figures,
     path: Option<&PathAccount>,
@@ -207,20 +213,20 @@ fn write_told<W: Write>(
     pipeline: &Pipeline,
     progress: &Progress,
     fetched: u64,
-    tale: &mut Tale,
+    tally: &mut Tally,
 ) -> Result<(), ReportError>
-    requires heads { sum tale.old.heads.words ≤ progress.now.cycles }
-    requires branches { sum tale.old.branches.words < 2 ^ 64 }
-    requires mispredicted { sum tale.old.mispredicted.words < 2 ^ 64 }
-    requires stays { all_stays tale.old.stays < 2 ^ 64 }
-    requires awaited { sum tale.old.awaited.words ≤ progress.now.cycles }
+    requires heads { sum tally.old.heads.words ≤ progress.now.cycles }
+    requires branches { sum tally.old.branches.words < 2 ^ 64 }
+    requires mispredicted { sum tally.old.mispredicted.words < 2 ^ 64 }
+    requires stays { all_stays tally.old.stays < 2 ^ 64 }
+    requires awaited { sum tally.old.awaited.words ≤ progress.now.cycles }
     requires places { progress.now.cycles * pipeline.now.values.dispatch_width < 2 ^ 64 }
-    ensures { IsWritten result (W.contents writer.old) (W.contents writer.new) (explanation figures (option_copied path.entry) listing.now stop pipeline.now progress.now fetched tale.old) }
+    ensures { IsWritten result (W.contents writer.old) (W.contents writer.new) (explanation figures (option_copied path.entry) listing.now stop pipeline.now progress.now fetched tally.old) }
 {
-    let crash = lone_crash(figures, stop, tale.exceptions.all());
+    let crash = lone_crash(figures, stop, tally.exceptions.all());
     let mut out = Sink::new(writer);
     write_sentences(
-        &mut out, path, crash, listing, stop, pipeline, progress, fetched, tale,
+        &mut out, path, crash, listing, stop, pipeline, progress, fetched, tally,
     );
     out.outcome()
 }
@@ -233,7 +239,7 @@ fn write_told<W: Write>(
 /// how many dispatched only what did not retire; how many words were fetched and how many of them squashed; how many
 /// branches and jumps retired, and how many of them were mispredicted, with the three lines that most of those come from;
 /// why instructions stayed in flight; what its loads and the drains of its stores cost; and the five lines that most cycles left at the head of the reorder buffer, or that had flushed it, with their
-/// loads and stores. Where the program crashed, its first exception and the interrupts alone are told, unless the figures are asked for.
+/// loads and stores. Where the program crashed, its first exception and the interrupts alone are explained, unless the figures are asked for.
 /// The description says where RAM lies, whose words are counted, and what loads and drains cost. The listing is that of the
 /// program, whose lines are shown.
 /// Answers why the run ended.
@@ -262,31 +268,31 @@ pub fn write_explanation<W: Write>(
     let Ok(beginning) = begin(alloc, pipeline, description) else {
         return Err(TextError::Memory);
     };
-    let told = run_told(
+    let tallied = run_tallied(
         pipeline,
         predictor,
         description,
         arrivals,
         limit,
         beginning.following,
-        beginning.tale,
+        beginning.tally,
     );
-    let mut tale = told.tale;
-    let written = write_told(
+    let mut tally = tallied.tally;
+    let written = write_run_text(
         writer,
         figures,
         path,
         listing,
-        told.stop,
+        tallied.stop,
         pipeline,
-        &told.progress,
-        told.fetched,
-        &mut tale,
+        &tallied.progress,
+        tallied.fetched,
+        &mut tally,
     );
-    // By one call: at each end of its scope a tale is dropped field by field.
-    drop(tale);
+    // By one call: at each end of its scope a tally is dropped field by field.
+    drop(tally);
     match written {
-        Ok(()) => Ok(told.stop),
+        Ok(()) => Ok(tallied.stop),
         Err(ReportError::WriteFailed) => Err(TextError::WriteFailed),
     }
 }

@@ -13,7 +13,7 @@ mod figures;
 mod head;
 mod high_lines;
 mod running;
-mod tale;
+mod tally;
 mod traps;
 
 pub use explanation::write_explanation;

@@ -1,11 +1,11 @@
 ghost use Rattle.std.specs.Prelude.{◌≡◌, []};
-ghost use Rattle.rv_explain.specs.Explanation.{IsTold};
-ghost use Rattle.rv_explain.specs.Tale.{tale_of};
+ghost use Rattle.rv_explain.specs.Explanation.{IsTallied};
+ghost use Rattle.rv_explain.specs.Tally.{tally_of};
 ghost use Rattle.rv_hardware.specs.Guided.{guided};
 ghost use Rattle.rv_view.specs.Following.{FollowsFrom};
 
 use crate::cycle_places::{cycle_places, in_flight};
-use crate::tale::Tale;
+use crate::tally::Tally;
 use rv_arch::Stop;
 use rv_core::{Pipeline, Progress};
 use rv_front::Predictor;
@@ -19,31 +19,31 @@ use std::io::Write;
 
 /// Why a run ended, and what was kept of it.
 #[derive(Drop)]
-pub(crate) struct Told {
+pub(crate) struct Tallied {
     pub(crate) stop: Stop,
     pub(crate) progress: Progress,
     /// How many words were fetched.
     pub(crate) fetched: u64,
-    pub(crate) tale: Tale,
+    pub(crate) tally: Tally,
 }
 
-// The view that keeps a tale, and says nothing: what it kept so far, and what it has to know of the hardware before the next cycle.
+// The view that keeps a tally, and says nothing: what it kept so far, and what it has to know of the hardware before the next cycle.
 #[derive(Drop)]
-struct Teller {
-    tale: Tale,
+struct Explainer {
+    tally: Tally,
     registers: [u32; 32],
     drain_end: Option<u64>,
     /// How many instructions are in the reorder buffer.
     in_flight: usize,
 }
 
-impl View for Teller {
+impl View for Explainer {
     ghost use Rattle.std.specs.Prelude.{[], refl};
-    ghost use Rattle.rv_explain.specs.Tale.{IsTelling};
+    ghost use Rattle.rv_explain.specs.Tally.{IsTallying};
 
     type Refusal = Infallible;
 
-    ghost has_seen = { λ start teller seen. IsTelling start.tale teller.tale teller.registers teller.drain_end teller.in_flight seen };
+    ghost has_seen = { λ start explainer seen. IsTallying start.tally explainer.tally explainer.registers explainer.drain_end explainer.in_flight seen };
 
     ghost text = { λ _ _ _. [] };
 
@@ -60,7 +60,7 @@ impl View for Teller {
         let drain = begun(cycle.number, self.drain_end, drain_end);
         let places = cycle_places(cycle.number, self.in_flight, cycle.steps, cycle.pipeline);
         let observed = cycle.pipeline.observe();
-        self.tale.add(
+        self.tally.add(
             cycle.number,
             &mut self.registers,
             cycle.steps,
@@ -78,27 +78,27 @@ impl View for Teller {
     }
 }
 
-/// Runs a pipeline that a predictor guides to the end, from a tale of no cycle on.
-pub(crate) fn run_told(
+/// Runs a pipeline that a predictor guides to the end, from a tally of no cycle on.
+pub(crate) fn run_tallied(
     pipeline: &mut Pipeline,
     predictor: &mut dyn Predictor,
     description: &Description,
     arrivals: &Arrivals,
     limit: u64,
     following: Following,
-    tale: Tale,
-) -> Told
+    tally: Tally,
+) -> Tallied
     requires follows { FollowsFrom pipeline.old following }
-    requires untold { tale ≡ tale_of description.now arrivals.now pipeline.old [] [] }
-    ensures { IsTold arrivals.now limit description.now (guided pipeline.old (known predictor.old)) (guided pipeline.new (known predictor.new)) result.stop result.progress result.fetched result.tale }
+    requires of_no_cycle { tally ≡ tally_of description.now arrivals.now pipeline.old [] [] }
+    ensures { IsTallied arrivals.now limit description.now (guided pipeline.old (known predictor.old)) (guided pipeline.new (known predictor.new)) result.stop result.progress result.fetched result.tally }
 {
     // What is in the pipeline a reset and cycles led to.
     let _ = pipeline.cycles_done();
     let registers = pipeline.observe().regs;
     let drain_end = pipeline.drain_end();
     let in_flight = in_flight(pipeline);
-    let teller = Teller {
-        tale,
+    let explainer = Explainer {
+        tally,
         registers,
         drain_end,
         in_flight,
@@ -115,7 +115,7 @@ pub(crate) fn run_told(
         arrivals,
         limit,
         following,
-        teller,
+        explainer,
         false,
         &mut io::sink(),
     );
@@ -123,14 +123,14 @@ pub(crate) fn run_told(
     let _ = pipeline.is_exhausted();
     // Of hardware that a reset and cycles lead to, the dispatch width is as described.
     let _ = pipeline.cycles_done();
-    let Teller { tale, .. } = view;
-    let fetched = tale.work.left + table.rows().len() as u64;
+    let Explainer { tally, .. } = view;
+    let fetched = tally.work.left + table.rows().len() as u64;
     match stop {
-        Ok(stop) => Told {
+        Ok(stop) => Tallied {
             stop,
             progress,
             fetched,
-            tale,
+            tally,
         },
     }
 }

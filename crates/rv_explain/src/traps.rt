@@ -63,7 +63,7 @@ fn first_exception(steps: &[Step], pipeline: &Pipeline) -> Option<Exception>
     }
 }
 
-/// Keeps the first trap among the steps of the core's last cycle that is no breakpoint, and the first interrupt, if there are any; and tells
+/// Keeps the first trap among the steps of the core's last cycle that is no breakpoint, and the first interrupt, if there are any; and returns
 /// how many of the steps are retirements.
 pub(crate) fn note_steps(
     exceptions: &mut Exceptions,

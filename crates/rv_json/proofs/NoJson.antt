@@ -259,8 +259,8 @@ escape_of_three_digits = no_json refl
 escape_by_another_letter : IsJson (codes "\"\\u003g\"") → ⊥
 escape_by_another_letter = no_json refl
 
-comma_behind_the_last_value : IsJson (codes "[1,]") → ⊥
-comma_behind_the_last_value = no_json refl
+comma_after_the_last_value : IsJson (codes "[1,]") → ⊥
+comma_after_the_last_value = no_json refl
 
 comma_before_the_first_value : IsJson (codes "[,1]") → ⊥
 comma_before_the_first_value = no_json refl
@@ -277,8 +277,8 @@ bracket_too_many = no_json refl
 object_that_does_not_end : IsJson (codes "{\"a\":1") → ⊥
 object_that_does_not_end = no_json refl
 
-comma_behind_the_last_member : IsJson (codes "{\"a\":1,}") → ⊥
-comma_behind_the_last_member = no_json refl
+comma_after_the_last_member : IsJson (codes "{\"a\":1,}") → ⊥
+comma_after_the_last_member = no_json refl
 
 two_members_without_a_comma : IsJson (codes "{\"a\":1\"b\":2}") → ⊥
 two_members_without_a_comma = no_json refl

@@ -79,9 +79,9 @@ module _ {arrivals : List Arrival} {old new : GuidedHardware} {reason : Stop} wh
       }
 
   -- of a run after so many cycles
-  pub recorded_behind : {from limit : ℕ} {start : GuidedHardware} {before : List Moment} {kept : Recorded} → IsEndedRun arrivals from old before start stop.Limit → IsRecorded arrivals 0 limit start new reason kept
+  pub recorded_later : {from limit : ℕ} {start : GuidedHardware} {before : List Moment} {kept : Recorded} → IsEndedRun arrivals from old before start stop.Limit → IsRecorded arrivals 0 limit start new reason kept
       → IsRecorded arrivals from (from + limit) old new reason kept
-  recorded_behind {from = from} {start = start} {before = before} run rest =
+  recorded_later {from = from} {start = start} {before = before} run rest =
       let so_many : length before ≡ from = sym (length-reports_of before) ∙ run.stops.1 in
       let first : hardware_after old.hardware (take from (before ++ rest.moments)) ≡ start.hardware =
       ap (λ n. hardware_after old.hardware (take n (before ++ rest.moments))) (sym so_many) ∙ ap (hardware_after old.hardware) (take-append_seam before rest.moments) ∙ history_end run.passes in
@@ -104,11 +104,11 @@ module _ {arrivals : List Arrival} {old new : GuidedHardware} {reason : Stop} wh
         kept_is = is ∙ sym (λ i. recorded_from (first i) (drop_all from moments few i) reason);
       }
 
-cycles_behind : {arrivals : List Arrival} {old new : GuidedHardware} {moments : List Moment} (from : ℕ) → History arrivals old moments new → (hardware_after old.hardware (take from moments)).cycle + length (drop from moments) ≡ new.hardware.cycle
-cycles_behind {arrivals} {old} {new} {moments} from passes =
-    let (middle, before, behind) = History-split (take from moments) (drop from moments) (subst (λ l. History arrivals old l new) (sym (take-append-drop from moments)) passes) in
-    omega (arith, ap (λ (h : Hardware). h.cycle) (history_end before), moments_counted behind, length-reports_of (drop from moments))
+later_cycles : {arrivals : List Arrival} {old new : GuidedHardware} {moments : List Moment} (from : ℕ) → History arrivals old moments new → (hardware_after old.hardware (take from moments)).cycle + length (drop from moments) ≡ new.hardware.cycle
+later_cycles {arrivals} {old} {new} {moments} from passes =
+    let (middle, before, later) = History-split (take from moments) (drop from moments) (subst (λ l. History arrivals old l new) (sym (take-append-drop from moments)) passes) in
+    omega (arith, ap (λ (h : Hardware). h.cycle) (history_end before), moments_counted later, length-reports_of (drop from moments))
 
 -- the cycles of a recording end with the run
 pub window_end : {arrivals : List Arrival} {from limit : ℕ} {old new : GuidedHardware} {reason : Stop} {kept : Recorded} → IsRecorded arrivals from limit old new reason kept → kept.window.first + kept.window.cycles ≡ new.hardware.cycle
-window_end {from = from} is = omega (arith, cycles_behind from is.run.passes, ap (λ (r : Recorded). r.window.first) is.kept_is, ap (λ (r : Recorded). r.window.cycles) is.kept_is)
+window_end {from = from} is = omega (arith, later_cycles from is.run.passes, ap (λ (r : Recorded). r.window.first) is.kept_is, ap (λ (r : Recorded). r.window.cycles) is.kept_is)

@@ -39,7 +39,7 @@ fn take_input<R: Read, E: Write>(
     ensures input { IfOk result (λ input. IsInputOf (R.remaining reader.old) input.items) }
     ensures taken { IfOk result (λ input. Consumes (R.remaining reader.old) (R.remaining reader.new) input.items) }
     ensures lost { OnErr result (HasRead (R.remaining reader.old) (R.remaining reader.new)) }
-    ensures nothing_told { OnOk result (errors.new ≡ errors.old) }
+    ensures nothing_reported { OnOk result (errors.new ≡ errors.old) }
     ensures unread { IfErr result (λ status. (error : OneError)
         × Tells errors.old errors.new (input_fault_line error)
         × (status ≡ input_fault_status error)) }

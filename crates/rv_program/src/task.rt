@@ -282,7 +282,7 @@ pub fn begin<E: Write>(
     errors: &mut FaultLines<E>,
 ) -> Result<Task, Refused>
     ensures task { IfOk result (Asks command.now input.now) }
-    ensures nothing_told { OnOk result (errors.new ≡ errors.old) }
+    ensures nothing_reported { OnOk result (errors.new ≡ errors.old) }
     ensures refused { IfErr result (λ refused. Refuses command.now input.now refused.error
         × Tells errors.old errors.new (fault_line refused.error)
         × (refused.status ≡ fault_status refused.error)) }

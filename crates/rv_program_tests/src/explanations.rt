@@ -20,7 +20,7 @@ pub(crate) const EXPLAIN: Command = Command::Explain {
 
 /// A program, and a line of the explanation of its run.
 #[derive(Clone, Copy)]
-pub(crate) struct Told {
+pub(crate) struct Explained {
     pub(crate) program: &'static str,
     pub(crate) line: &'static str,
 }
@@ -76,7 +76,7 @@ On the critical path, 20.0 % of the cycles: execution: alu, most at 80000000, li
 ";
 
 #[test]
-fn the_critical_path_is_told_first_where_that_is_asked_for(rt: HostRuntime) {
+fn the_critical_path_comes_first_where_that_is_asked_for(rt: HostRuntime) {
     let explain = Command::Explain {
         figures: true,
         path: true,

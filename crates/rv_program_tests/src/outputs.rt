@@ -109,9 +109,9 @@ fn why_a_job_is_refused_is_flushed(rt: HostRuntime) {
     assert!(rt; !whole.output.is_empty());
     let ended = run_held(rt.alloc(), EXPLAIN, REFUSED, true);
     assert!(rt; ended.output.as_slice() == whole.output.as_slice());
-    for told in [whole, ended] {
-        assert_eq!(rt; told.status, 1);
-        assert!(rt; told.refusal == Ok(()));
+    for refused in [whole, ended] {
+        assert_eq!(rt; refused.status, 1);
+        assert!(rt; refused.refusal == Ok(()));
     }
 }
 
@@ -176,15 +176,15 @@ fn an_output_that_is_full_has_a_beginning_of_the_report(rt: HostRuntime) {
 }
 
 // The status of a run whose faults cannot be reported, and whether there were none to report.
-fn run_untold(alloc: Global, mut input: &[u8]) -> (u8, bool) {
+fn run_unreported(alloc: Global, mut input: &[u8]) -> (u8, bool) {
     let mut errors = FaultLines::new(Closed);
     let exit = run(alloc, &WHOLE, &mut input, Closed, &mut errors);
     (exit.status, errors.is_whole())
 }
 
 #[test]
-fn a_fault_that_cannot_be_told_has_its_status_too(rt: HostRuntime) -> Result<(), Fail> {
-    assert_eq!(rt; run_untold(rt.alloc(), b"frobnicate\n"), (1, false));
-    assert_eq!(rt; run_untold(rt.alloc(), b"ebreak\n"), (4, false));
+fn a_fault_that_cannot_be_reported_has_its_status_too(rt: HostRuntime) -> Result<(), Fail> {
+    assert_eq!(rt; run_unreported(rt.alloc(), b"frobnicate\n"), (1, false));
+    assert_eq!(rt; run_unreported(rt.alloc(), b"ebreak\n"), (4, false));
     Ok(())
 }

@@ -9,7 +9,7 @@ use std::process::Abort;
 
 // What runs of a pipeline reported, one after the other.
 #[derive(Drop)]
-struct Told {
+struct Reported {
     steps: Vec<Step>,
     cycles: u64,
     busy: u64,
@@ -27,9 +27,9 @@ fn added(some: StallCounts, more: StallCounts) -> StallCounts {
     }
 }
 
-impl Told {
-    fn nothing(alloc: Global) -> Told {
-        Told {
+impl Reported {
+    fn nothing(alloc: Global) -> Reported {
+        Reported {
             steps: Vec::new(alloc),
             cycles: 0,
             busy: 0,
@@ -54,42 +54,42 @@ fn add_run(
     pipeline: &mut Pipeline,
     arrivals: &Arrivals,
     cycles: u64,
-    told: &mut Told,
+    reported: &mut Reported,
 ) -> Option<()> {
-    if told.is_over {
+    if reported.is_over {
         return Some(());
     }
     let outcome = run(alloc, pipeline, &mut NotTaken, arrivals, cycles).ok()?;
-    told.add(&outcome)
+    reported.add(&outcome)
 }
 
 // What runs of so many cycles each report, up to a breakpoint.
-fn told_by(
+fn reported_by(
     alloc: Global,
     pipeline: &mut Pipeline,
     arrivals: &Arrivals,
     cycles: u64,
-) -> Option<Told> {
-    let mut told = Told::nothing(alloc);
+) -> Option<Reported> {
+    let mut reported = Reported::nothing(alloc);
     for _ in 0..200 {
-        add_run(alloc, pipeline, arrivals, cycles, &mut told)?;
+        add_run(alloc, pipeline, arrivals, cycles, &mut reported)?;
     }
-    Some(told)
+    Some(reported)
 }
 
-fn told_in_pieces(
+fn reported_in_pieces(
     rt: &impl Abort,
     alloc: Global,
     bytes: &[u8],
     recovery: Recovery,
     cycles: u64,
-) -> Told {
+) -> Reported {
     let arrivals = Arrivals::new(Vec::new(alloc)).expect(rt, "no arrivals");
     let mut pipeline = loaded_pipeline(alloc, bytes, 0x8000_0000, recovery).expect(
         rt,
         "a pipeline",
     );
-    told_by(alloc, &mut pipeline, &arrivals, cycles).expect(rt, "memory for runs")
+    reported_by(alloc, &mut pipeline, &arrivals, cycles).expect(rt, "memory for runs")
 }
 
 // addi x1,x0,5; addi x1,x1,-1; bne x1,x0,-4; ebreak
@@ -105,8 +105,8 @@ const STORES_AND_LOADS: [u8; 20] = [
 
 // One run and runs of one cycle each report the same, and so many steps.
 fn check_pieces(rt: &impl Abort, alloc: Global, bytes: &[u8], recovery: Recovery, steps: usize) {
-    let whole = told_in_pieces(rt, alloc, bytes, recovery, 1000);
-    let pieces = told_in_pieces(rt, alloc, bytes, recovery, 1);
+    let whole = reported_in_pieces(rt, alloc, bytes, recovery, 1000);
+    let pieces = reported_in_pieces(rt, alloc, bytes, recovery, 1);
     assert_eq!(rt; whole.steps.len(), steps);
     assert!(rt; pieces.steps.as_slice() == whole.steps.as_slice());
     assert_eq!(rt; (pieces.cycles, pieces.busy), (whole.cycles, whole.busy));
@@ -114,7 +114,7 @@ fn check_pieces(rt: &impl Abort, alloc: Global, bytes: &[u8], recovery: Recovery
 }
 
 #[test]
-fn runs_of_one_cycle_each_tell_what_one_run_tells(rt: HostRuntime) {
+fn runs_of_one_cycle_each_report_what_one_run_reports(rt: HostRuntime) {
     for recovery in [Recovery::Commit, Recovery::Early] {
         check_pieces(&rt, rt.alloc(), &COUNTS_DOWN, recovery, 12);
         check_pieces(&rt, rt.alloc(), &STORES_AND_LOADS, recovery, 5);

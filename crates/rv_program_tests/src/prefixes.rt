@@ -24,20 +24,22 @@ const fn status(length: usize) -> u8 {
 }
 
 // Whether the check of a beginning of the text reports its line alone.
-fn is_told(alloc: Global, beginning: &[u8]) -> bool {
+fn is_reported(alloc: Global, beginning: &[u8]) -> bool {
     let length = beginning.len();
     let ended = run_text(alloc, Command::Check, beginning);
-    let (told, other) = if status(length) == 0 {
+    let (reported, other) = if status(length) == 0 {
         (ended.output, ended.errors)
     } else {
         (ended.errors, ended.output)
     };
-    ended.status == status(length) && told.as_slice() == line(length).as_bytes() && other.is_empty()
+    ended.status == status(length)
+        && reported.as_slice() == line(length).as_bytes()
+        && other.is_empty()
 }
 
 #[test]
 fn each_beginning_of_a_text_is_checked(rt: HostRuntime) {
     for length in 0..=20 {
-        assert!(rt; is_told(rt.alloc(), &TEXT[..length]), "at {length}");
+        assert!(rt; is_reported(rt.alloc(), &TEXT[..length]), "at {length}");
     }
 }

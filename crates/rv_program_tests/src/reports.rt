@@ -98,7 +98,7 @@ fn words_of_memory_follow_and_go_on_past_the_last_address(rt: HostRuntime) {
 }
 
 #[test]
-fn the_image_of_a_text_is_told_by_its_size_and_start(rt: HostRuntime) {
+fn the_image_of_a_text_is_reported_by_its_size_and_start(rt: HostRuntime) {
     const CASES: [(&str, &str); 3] = [
         ("addi x1,x0,5\nebreak\n", "ok 8 bytes start 80000000"),
         ("nop\n_start: ebreak\n", "ok 8 bytes start 80000004"),

@@ -11,17 +11,17 @@ use Rattle.rv_passage.specs.Walk.{FollowedCycle, Standing, next_cycle, standing_
 use Rattle.rv_passage.specs.declared.passage.Passage.{Passage}
 use Rattle.rv_passage.proofs.Walk.{last_cycle, walk-push}
 use Rattle.rv_counts.specs.Counts.{one_more}
-use Rattle.rv_sentences.specs.Head.{account_of, accounts_from, accounts_of, flusher_behind, flusher_in, flusher_of, is_idle, itself}
+use Rattle.rv_sentences.specs.Head.{account_of, accounts_from, accounts_of, last_flusher, flusher_in, flusher_of, is_idle, itself}
 use Rattle.rv_sentences.specs.WordCount.{count_at, with_one}
 use Rattle.rv_sentences.specs.WordNotes.{notes_of}
 use Rattle.rv_sentences.proofs.CountsGrow.{with_last_at}
 
-flusher_behind-push : (before : Option ℕ) (cycles : List FollowedCycle) (last : FollowedCycle) → flusher_behind before (cycles ++ last ∷ []) ≡ flusher_in last.after last.passages.rows (flusher_behind before cycles)
-flusher_behind-push before [] last = refl
-flusher_behind-push before (cycle ∷ cycles) last = flusher_behind-push (flusher_in cycle.after cycle.passages.rows before) cycles last
+last_flusher-push : (before : Option ℕ) (cycles : List FollowedCycle) (last : FollowedCycle) → last_flusher before (cycles ++ last ∷ []) ≡ flusher_in last.after last.passages.rows (last_flusher before cycles)
+last_flusher-push before [] last = refl
+last_flusher-push before (cycle ∷ cycles) last = last_flusher-push (flusher_in cycle.after cycle.passages.rows before) cycles last
 
 accounts_from-push : (before : Option ℕ) (cycles : List FollowedCycle) (last : FollowedCycle)
-    → accounts_from before (cycles ++ last ∷ []) ≡ accounts_from before cycles ++ account_of last.after last.passages.rows (flusher_behind before cycles) ∷ []
+    → accounts_from before (cycles ++ last ∷ []) ≡ accounts_from before cycles ++ account_of last.after last.passages.rows (last_flusher before cycles) ∷ []
 accounts_from-push before [] last = refl
 accounts_from-push before (cycle ∷ cycles) last =
     ap (λ rest. account_of cycle.after cycle.passages.rows before ∷ rest) (accounts_from-push (flusher_in cycle.after cycle.passages.rows before) cycles last)
@@ -32,8 +32,8 @@ module _ {arrivals : List Arrival} {old now : GuidedHardware} {moments : List Mo
   pub flusher-push : flusher_in moment.after rows (flusher_of old.hardware moments) ≡ flusher_of old.hardware (moments ++ moment ∷ [])
   flusher-push =
       sym (
-      ap (flusher_behind None) (walk-push still_open passes moment)
-      ∙ flusher_behind-push None (walk still_open old.hardware moments) (last_cycle still_open passes moment)
+      ap (last_flusher None) (walk-push still_open passes moment)
+      ∙ last_flusher-push None (walk still_open old.hardware moments) (last_cycle still_open passes moment)
       ∙ ap (λ ps. flusher_in moment.after ps (flusher_of old.hardware moments)) (sym rows_are)
       )
 

@@ -193,6 +193,6 @@ begun_in_cycle {lines} {old} {new} reached cycle =
     let under = drain_end (drain h) in
     let first : Stays old.cycle under (drain h) = record { cycle = begins.cycle; later = begins.later; ends = refl } in
     let stays = dispatch-keeps (stays_at_dispatch old.cycle under) _ (broadcast-keeps (stays_at_broadcast old.cycle under) _ (issue-keeps (Stays old.cycle under) (stays_at_issue old.cycle under) _ first)) in
-    let behind : drain_end new ≡ under =
+    let later : drain_end new ≡ under =
     ap drain_end cycle.others_stay ∙ ap (λ d. drain_end d.hardware) cycle.executes ∙ ap (λ c. drain_end (execute c.hardware).hardware) cycle.commits ∙ stays.ends in
-    ap (begun old.cycle (drain_end old)) behind ∙ begins.costs
+    ap (begun old.cycle (drain_end old)) later ∙ begins.costs

@@ -65,23 +65,23 @@ loads_left costs ps =
     λ i. record { all = sym all i; quick = sym quick i }
 
 -- some more left the hardware
-count-behind : (test : Passage → Bool) (new old : List Passage) → count_by test old + count_by test new ≡ count_by test (new ++ old)
-count-behind test new old =
+count-appended : (test : Passage → Bool) (new old : List Passage) → count_by test old + count_by test new ≡ count_by test (new ++ old)
+count-appended test new old =
     let apart : count_by test (new ++ old) ≡ count_by test new + count_by test old = sum_by-append (λ (p : Passage). cond (test p) 1 0) new old in
     omega (arith, apart)
 
 pub work-left : (new old : List Passage) → both_work (work_of old) (work_of new) ≡ work_of (new ++ old)
 work-left new old =
     let left : length old + length new ≡ length (new ++ old) = omega (arith, length-append new old) in
-    let squashed = count-behind (λ p. is_squash p.ending) new old in
-    let branches = count-behind is_retired_branch new old in
-    let mispredicted = count-behind is_mispredicted_branch new old in
+    let squashed = count-appended (λ p. is_squash p.ending) new old in
+    let branches = count-appended is_retired_branch new old in
+    let mispredicted = count-appended is_mispredicted_branch new old in
     λ i. record { left = left i; squashed = squashed i; branches = branches i; mispredicted = mispredicted i }
 
 pub loads-left : (costs : LoadCosts) (rows old : List Passage) → both (loads_of costs old) (loads_of costs rows) ≡ loads_of costs (filter has_left rows ++ old)
 loads-left costs rows old =
-    let all = count-behind (λ p. is_some (retired_load_cost p)) (filter has_left rows) old in
-    let quick = count-behind (λ p. is_hit costs (retired_load_cost p)) (filter has_left rows) old in
+    let all = count-appended (λ p. is_some (retired_load_cost p)) (filter has_left rows) old in
+    let quick = count-appended (λ p. is_hit costs (retired_load_cost p)) (filter has_left rows) old in
     ap (both (loads_of costs old)) (loads_left costs rows) ∙ (λ i. record { all = all i; quick = quick i })
 
 -- the words of RAM of those of a class
@@ -89,7 +89,7 @@ words-left : (class : Class) (none : (p : Passage) → has_left p ≡ false → 
     → count_at (word_in class) (filter has_left rows ++ old) word ≡ count_at (word_in class) old word + count_at (word_in class) rows word
 words-left class none rows old word =
     let test : Passage → Bool = λ p. is_word word (word_in class p) in
-    sym (count-behind test (filter has_left rows) old) ∙ ap (λ n. count_at (word_in class) old word + n) (count-left test (λ p is. rw (none p is) refl) rows)
+    sym (count-appended test (filter has_left rows) old) ∙ ap (λ n. count_at (word_in class) old word + n) (count-left test (λ p is. rw (none p is) refl) rows)
 
 pub branch_words-left : (rows old : List Passage) (word : ℕ)
     → count_at (word_in Branch) (filter has_left rows ++ old) word ≡ count_at (word_in Branch) old word + count_at (word_in Branch) rows word

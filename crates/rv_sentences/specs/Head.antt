@@ -43,9 +43,9 @@ abbrev pub flusher_in : Hardware → List Passage → Option ℕ → Option ℕ
 flusher_in after rows before = if is_some (head_word after) then None else flusher_after rows before
 
 -- after several cycles
-abbrev pub flusher_behind : Option ℕ → List FollowedCycle → Option ℕ
-flusher_behind before [] = before
-flusher_behind before (cycle ∷ cycles) = flusher_behind (flusher_in cycle.after cycle.passages.rows before) cycles
+abbrev pub last_flusher : Option ℕ → List FollowedCycle → Option ℕ
+last_flusher before [] = before
+last_flusher before (cycle ∷ cycles) = last_flusher (flusher_in cycle.after cycle.passages.rows before) cycles
 
 -- the words that each of them is on account of
 abbrev pub accounts_from : Option ℕ → List FollowedCycle → List (Option ℕ)
@@ -58,7 +58,7 @@ abbrev pub accounts_of : Hardware → List Moment → List (Option ℕ)
 accounts_of h moments = accounts_from None (walk still_open h moments)
 
 abbrev pub flusher_of : Hardware → List Moment → Option ℕ
-flusher_of h moments = flusher_behind None (walk still_open h moments)
+flusher_of h moments = last_flusher None (walk still_open h moments)
 
 -- the word that it is
 abbrev pub itself : Option ℕ → Option ℕ

@@ -8,7 +8,7 @@ use crate::exception::Exception;
 use crate::exceptions::{cause_name, write_first, write_taken};
 use crate::kinds::Exceptions;
 use crate::series::Series;
-use crate::stack::behind;
+use crate::stack::rest_after;
 use itoa::Buffer;
 use rv_isa::Cause;
 use rv_source::{Listing, write_place};
@@ -21,7 +21,7 @@ fn write_counted<W: Write>(out: &mut Sink<'_, W>, count: u64, text: &[u8])
 {
     let mut buffer = Buffer::new();
     let digits = buffer.format(count).as_bytes();
-    let indent = behind(b"       ", digits.len());
+    let indent = rest_after(b"       ", digits.len());
     out.put_all(&[indent, digits, text]);
 }
 

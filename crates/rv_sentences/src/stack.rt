@@ -20,7 +20,7 @@ pub fn parts_of(parts: u32, count: u64, all: u64) -> u128
 }
 
 /// What of a text is after so many bytes.
-pub fn behind(text: &[u8], count: usize) -> &[u8]
+pub fn rest_after(text: &[u8], count: usize) -> &[u8]
     ensures { result.now ≡ drop count text.now }
 {
     if count < text.len() {
@@ -50,10 +50,10 @@ pub fn write_share<W: Write>(out: &mut Sink<'_, W>, name: &str, count: u64, all:
     let name = name.as_bytes();
     let mut count_buffer = Buffer::new();
     let digits = count_buffer.format(count).as_bytes();
-    let indent = behind(b"          ", digits.len());
+    let indent = rest_after(b"          ", digits.len());
     let mut percent_buffer = Buffer::new();
     let percent = percent_buffer.format(tenths / 10).as_bytes();
-    let percent_indent = behind(b"     ", percent.len());
+    let percent_indent = rest_after(b"     ", percent.len());
     let mut tenth_buffer = Buffer::new();
     let tenth = tenth_buffer.format(tenths % 10).as_bytes();
     let bar = front(

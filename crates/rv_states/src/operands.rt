@@ -16,8 +16,8 @@ pub(crate) fn number_at(buffer: &Rob, place: usize) -> u64
     requires { place ≤ length buffer.now.entries }
     ensures { result ≡ buffer.now.retired + place }
 {
-    let behind = buffer.len() - place;
-    buffer.next_number() - behind as u64
+    let younger = buffer.len() - place;
+    buffer.next_number() - younger as u64
 }
 
 // The entry at a place of the reorder buffer, the oldest at place 0.

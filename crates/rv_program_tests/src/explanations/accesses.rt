@@ -1,5 +1,5 @@
 use crate::checks::check_run;
-use crate::explanations::{EXPLAIN, Told};
+use crate::explanations::{EXPLAIN, Explained};
 
 // A load that misses, one that hits, and one whose bytes come from the store before it. The last one is squashed.
 const LOADS: &str = "forward = 3
@@ -40,17 +40,24 @@ ebreak
 #[test]
 fn drains_are_counted_when_they_begin(rt: HostRuntime) {
     let rows = [
-        Told {
+        Explained {
             program: FIVE_DRAINS,
             line: "drains: 5, of them 3 at the cost of a hit, 2 at that of a miss",
         },
-        Told {
+        Explained {
             program: ONE_DRAIN,
             line: "drains: 1, of them 0 at the cost of a hit, 1 at that of a miss",
         },
     ];
-    for told in rows {
-        check_run(&rt, rt.alloc(), EXPLAIN, told.program, 0, &[told.line]);
+    for explained in rows {
+        check_run(
+            &rt,
+            rt.alloc(),
+            EXPLAIN,
+            explained.program,
+            0,
+            &[explained.line],
+        );
     }
 }
 
@@ -73,7 +80,7 @@ ebreak
 ";
 
 #[test]
-fn the_loads_of_the_slowest_lines_are_told(rt: HostRuntime) {
+fn the_loads_of_the_slowest_lines_are_counted(rt: HostRuntime) {
     let lines = [
         "80000018, line 7: lw x8,4(x5)",
         "       its loads: hits 0, misses 1, write-backs 1",
@@ -99,7 +106,7 @@ ebreak
 ";
 
 #[test]
-fn the_stores_of_the_slowest_lines_are_told(rt: HostRuntime) {
+fn the_stores_of_the_slowest_lines_are_counted(rt: HostRuntime) {
     let lines = [
         "00000000, line 1: sw x0,1024(x0)",
         "       its stores: hits 0, misses 1, write-backs 0",

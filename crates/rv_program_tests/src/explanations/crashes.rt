@@ -11,8 +11,8 @@ const BARE: Command = Command::Explain {
     limit: 100,
 };
 
-// That a program is told of by these lines and nothing else.
-fn is_told_by(rt: &impl Abort, alloc: Global, text: &str, lines: &str) {
+// That a program is explained by these lines and nothing else.
+fn is_explained_by(rt: &impl Abort, alloc: Global, text: &str, lines: &str) {
     let ended = run_text(alloc, BARE, text.as_bytes());
     assert_eq!(rt; ended.status, 0);
     assert!(rt; ended.output.as_slice() == lines.as_bytes());
@@ -25,19 +25,19 @@ fn a_crash_stands_alone(rt: HostRuntime) {
 The first exception came in cycle 4: Environment call from M-mode, mtval 00000000, at 80000004, line 2: ecall
 No handler was set (the address in mtvec was 0), and the program went on at 00000000
 ";
-    is_told_by(&rt, rt.alloc(), "addi x1,x0,5\necall\n", lines);
+    is_explained_by(&rt, rt.alloc(), "addi x1,x0,5\necall\n", lines);
 }
 
 #[test]
-fn a_program_that_ran_past_its_last_line_is_told_so(rt: HostRuntime) {
+fn a_program_that_ran_past_its_last_line_is_explained_so(rt: HostRuntime) {
     let lines = "\
 The program ran past its last line, at 80000000, line 1: addi x1,x0,5
 The first exception came in cycle 4: Illegal instruction, mtval 00000000, at 80000004, which no line of the program fills
 No handler was set (the address in mtvec was 0), and the program went on at 00000000
 ";
-    is_told_by(&rt, rt.alloc(), "addi x1,x0,5\n", lines);
+    is_explained_by(&rt, rt.alloc(), "addi x1,x0,5\n", lines);
     // Data stand after the code, in the next sixteen bytes.
-    is_told_by(&rt, rt.alloc(), "addi x1,x0,5\n.data\n.word 7\n", lines);
+    is_explained_by(&rt, rt.alloc(), "addi x1,x0,5\n.data\n.word 7\n", lines);
 }
 
 // The timer's line rises while the program goes round.
@@ -53,13 +53,13 @@ l: j l
 ";
 
 #[test]
-fn an_interrupt_that_found_no_handler_is_told_too(rt: HostRuntime) {
+fn an_interrupt_that_found_no_handler_is_explained_too(rt: HostRuntime) {
     let lines = "\
 The first exception came in cycle 32: Instruction access fault, mtval 00000000, at 00000000, which no line of the program fills
 No handler was set (the address in mtvec was 0), and the program went on at 00000000
 Timer interrupts: 1, the first in cycle 30, before 8000000c, line 4: l: j l
 ";
-    is_told_by(&rt, rt.alloc(), UNHANDLED_INTERRUPT, lines);
+    is_explained_by(&rt, rt.alloc(), UNHANDLED_INTERRUPT, lines);
 }
 
 // Each has its ending and its figures: one is asked for them; one has a handler, which goes round; one has none, and no exception.

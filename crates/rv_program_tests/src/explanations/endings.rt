@@ -1,5 +1,5 @@
 use crate::checks::check_run;
-use crate::explanations::{EXPLAIN, Told};
+use crate::explanations::{EXPLAIN, Explained};
 use crate::programs::STORE_INTO_CODE;
 use rv_command::Command;
 
@@ -63,18 +63,25 @@ ebreak
 ";
 
 #[test]
-fn the_last_store_to_the_stale_word_is_told(rt: HostRuntime) {
+fn the_last_store_to_the_stale_word_is_named(rt: HostRuntime) {
     let rows = [
-        Told {
+        Explained {
             program: STORES_INTO_CODE,
             line: "The last store to that word was the one at 80000014, line 4: sw x6,0(x5)",
         },
-        Told {
+        Explained {
             program: STORE_OF_A_BYTE,
             line: "The last store to that word was the one at 80000018, line 6: sb x6,-1(x5)",
         },
     ];
-    for told in rows {
-        check_run(&rt, rt.alloc(), EXPLAIN, told.program, 3, &[told.line]);
+    for explained in rows {
+        check_run(
+            &rt,
+            rt.alloc(),
+            EXPLAIN,
+            explained.program,
+            3,
+            &[explained.line],
+        );
     }
 }

@@ -1,39 +1,39 @@
 use crate::checks::check_run;
-use crate::explanations::{EXPLAIN, Told};
+use crate::explanations::{EXPLAIN, Explained};
 use rv_command::Command;
 
 // Each instruction that faults retires in cycle 4 where it has to be executed, and in 2 where it has not; the target of the
 // jump that retires in 4 is fetched then.
-const CAUSES: [Told; 8] = [
-    Told {
+const CAUSES: [Explained; 8] = [
+    Explained {
         program: "jalr x0,2(x0)",
         line: "The first exception came in cycle 4: Instruction address misaligned, mtval 00000002, at 80000000, line 1: jalr x0,2(x0)",
     },
-    Told {
+    Explained {
         program: "jalr x0,0(x0)",
         line: "The first exception came in cycle 6: Instruction access fault, mtval 00000000, at 00000000, which no line of the program fills",
     },
-    Told {
+    Explained {
         program: ".word 0xffffffff",
         line: "The first exception came in cycle 2: Illegal instruction, mtval ffffffff, at 80000000, line 1: .word 0xffffffff",
     },
-    Told {
+    Explained {
         program: "lw x1,1(x0)",
         line: "The first exception came in cycle 4: Load address misaligned, mtval 00000001, at 80000000, line 1: lw x1,1(x0)",
     },
-    Told {
+    Explained {
         program: "lw x1,16(x0)",
         line: "The first exception came in cycle 4: Load access fault, mtval 00000010, at 80000000, line 1: lw x1,16(x0)",
     },
-    Told {
+    Explained {
         program: "sw x1,1(x0)",
         line: "The first exception came in cycle 4: Store/AMO address misaligned, mtval 00000001, at 80000000, line 1: sw x1,1(x0)",
     },
-    Told {
+    Explained {
         program: "sw x1,16(x0)",
         line: "The first exception came in cycle 4: Store/AMO access fault, mtval 00000010, at 80000000, line 1: sw x1,16(x0)",
     },
-    Told {
+    Explained {
         program: "ecall",
         line: "The first exception came in cycle 2: Environment call from M-mode, mtval 00000000, at 80000000, line 1: ecall",
     },
@@ -41,8 +41,15 @@ const CAUSES: [Told; 8] = [
 
 #[test]
 fn each_cause_has_its_name(rt: HostRuntime) {
-    for told in CAUSES {
-        check_run(&rt, rt.alloc(), EXPLAIN, told.program, 0, &[told.line]);
+    for explained in CAUSES {
+        check_run(
+            &rt,
+            rt.alloc(),
+            EXPLAIN,
+            explained.program,
+            0,
+            &[explained.line],
+        );
     }
 }
 
@@ -73,7 +80,7 @@ mret
 ";
 
 #[test]
-fn each_of_two_exceptions_is_told(rt: HostRuntime) {
+fn each_of_two_exceptions_is_named(rt: HostRuntime) {
     let lines = [
         "The first exception came in cycle 10: Load address misaligned, mtval 00000001, at 8000000c, line 3: lw x1,1(x0)",
         "The program went on at its handler, at 80000018",
@@ -159,7 +166,7 @@ h: mret
 ";
 
 #[test]
-fn the_interrupts_of_each_line_are_told(rt: HostRuntime) {
+fn the_interrupts_of_each_line_are_counted(rt: HostRuntime) {
     let lines = [
         "Software interrupts: 1, the first in cycle 30, before 8000001c, line 6: l: j l",
         "Timer interrupts: 2, the first in cycle 50, before 8000001c, line 6: l: j l",

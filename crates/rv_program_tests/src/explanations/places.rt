@@ -1,5 +1,5 @@
 use crate::checks::check_run;
-use crate::explanations::{EXPLAIN, Told};
+use crate::explanations::{EXPLAIN, Explained};
 use crate::helpers::run_text;
 
 // In cycle 0 nothing is there to dispatch. In 1 the first addition takes the one station, and the second waits for it: one place is
@@ -34,28 +34,28 @@ fn each_place_is_used_or_lost(rt: HostRuntime) {
 // What places are lost for, and how many of them: in a buffer for one instruction, after a CSR instruction that waits for a division, by
 // divisions with one station, by a second store with a queue of one. And how many instructions after a branch are squashed that is
 // taken against its prediction, when it retires or, early, at its broadcast.
-const LINES: [Told; 6] = [
-    Told {
+const LINES: [Explained; 6] = [
+    Explained {
         program: "rob = 1\n%%\naddi x1,x0,1\nebreak",
         line: "lost: reorder buffer full             6   50.0%  #########################",
     },
-    Told {
+    Explained {
         program: "div x6,x0,x0\ncsrrs x5,mip,x0\nebreak",
         line: "lost: serialising in flight          34   77.3%  #######################################",
     },
-    Told {
+    Explained {
         program: "div.stations = 1\nrob = 3\n%%\ndiv x3,x1,x1\ndiv x4,x3,x1\ndiv x5,x1,x1\nebreak",
         line: "lost: div stations full              34   32.1%  ################",
     },
-    Told {
+    Explained {
         program: "store_queue = 1\n%%\nlui x5,0x80001\nsw x0,0(x5)\nsw x0,4(x5)\nebreak",
         line: "lost: store queue full               30   71.4%  ####################################",
     },
-    Told {
+    Explained {
         program: "predictor.kind = \"not_taken\"\n%%\nbeq x0,x0,l\naddi x1,x0,1\nl: ebreak",
         line: "squashed by wrong predictions         5   35.7%  ##################",
     },
-    Told {
+    Explained {
         program: "predictor.kind = \"not_taken\"\nrecovery = \"early\"\n%%\nbeq x0,x0,l\naddi x1,x0,1\nl: ebreak",
         line: "squashed by wrong predictions         3   25.0%  #############",
     },
@@ -63,7 +63,14 @@ const LINES: [Told; 6] = [
 
 #[test]
 fn each_reason_has_its_places(rt: HostRuntime) {
-    for told in LINES {
-        check_run(&rt, rt.alloc(), EXPLAIN, told.program, 0, &[told.line]);
+    for explained in LINES {
+        check_run(
+            &rt,
+            rt.alloc(),
+            EXPLAIN,
+            explained.program,
+            0,
+            &[explained.line],
+        );
     }
 }

@@ -1,35 +1,42 @@
 use crate::checks::check_run;
-use crate::explanations::{EXPLAIN, Told};
+use crate::explanations::{EXPLAIN, Explained};
 use crate::helpers::run_text;
 use std::alloc::Global;
 use std::str;
 
 // A loop of five rounds, of which four go back, and a jump; a handler that returns by MRET, which is neither; and a call that comes
 // back. The predictor follows jumps by their offsets alone.
-const PREDICTIONS: [Told; 3] = [
-    Told {
+const PREDICTIONS: [Explained; 3] = [
+    Explained {
         program: "predictor.kind = \"not_taken\"\n%%\nli x1,5\nl: addi x1,x1,-1\nbnez x1,l\nj e\nnop\ne: ebreak",
         line: "branches and jumps: 6, of them 4 mispredicted (66.7%)",
     },
-    Told {
+    Explained {
         program: "predictor.kind = \"not_taken\"\n%%\nla x31,h\ncsrw mtvec,x31\necall\nebreak\nh: csrr x5,mepc\naddi x5,x5,4\ncsrw mepc,x5\nmret",
         line: "branches and jumps: none",
     },
-    Told {
+    Explained {
         program: "predictor.kind = \"not_taken\"\n%%\ncall f\nebreak\nf: ret",
         line: "branches and jumps: 2, of them 1 mispredicted (50.0%)",
     },
 ];
 
 #[test]
-fn branches_and_jumps_that_retired_are_told(rt: HostRuntime) {
-    for told in PREDICTIONS {
-        check_run(&rt, rt.alloc(), EXPLAIN, told.program, 0, &[told.line]);
+fn branches_and_jumps_that_retired_are_counted(rt: HostRuntime) {
+    for explained in PREDICTIONS {
+        check_run(
+            &rt,
+            rt.alloc(),
+            EXPLAIN,
+            explained.program,
+            0,
+            &[explained.line],
+        );
     }
 }
 
 // Four lines have wrong predictions, the loop two, the others one each. The last branch is squashed after the one before it.
-const FOUR_LINES: Told = Told {
+const FOUR_LINES: Explained = Explained {
     program: "predictor.kind = \"not_taken\"
 %%
 li x1,3
@@ -56,7 +63,7 @@ Where the ",
 };
 
 // Two branches of one line: the first goes to the second, where fetch goes, too, and the second goes past the jump.
-const ONE_LINE: Told = Told {
+const ONE_LINE: Explained = Explained {
     program: "predictor.kind = \"not_taken\"
 %%
 nop
@@ -73,7 +80,7 @@ Where the ",
 };
 
 // The jump goes where it is predicted to go.
-const NO_LINE: Told = Told {
+const NO_LINE: Explained = Explained {
     program: "j e
 nop
 e: ebreak
@@ -84,17 +91,17 @@ Where the ",
 };
 
 // Whether the explanation of a program has some lines, one after another.
-fn has_lines(alloc: Global, told: Told) -> bool {
-    let ended = run_text(alloc, EXPLAIN, told.program.as_bytes());
+fn has_lines(alloc: Global, explained: Explained) -> bool {
+    let ended = run_text(alloc, EXPLAIN, explained.program.as_bytes());
     match str::from_utf8(ended.output.as_slice()) {
-        Ok(text) => text.contains(told.line),
+        Ok(text) => text.contains(explained.line),
         Err(_) => false,
     }
 }
 
 #[test]
-fn the_lines_with_the_most_wrong_predictions_are_told(rt: HostRuntime) {
-    for told in [FOUR_LINES, ONE_LINE, NO_LINE] {
-        assert!(rt; has_lines(rt.alloc(), told), "{}", told.program);
+fn the_lines_with_the_most_wrong_predictions_are_named(rt: HostRuntime) {
+    for explained in [FOUR_LINES, ONE_LINE, NO_LINE] {
+        assert!(rt; has_lines(rt.alloc(), explained), "{}", explained.program);
     }
 }

@@ -48,7 +48,7 @@ none: the reorder buffer was empty
 ";
 
 #[test]
-fn the_words_of_a_line_are_told_together(rt: HostRuntime) {
+fn the_words_of_a_line_are_counted_together(rt: HostRuntime) {
     let ended = run_text(rt.alloc(), EXPLAIN, LOOP);
     assert_eq!(rt; ended.status, 0);
     assert!(rt; ended.output.as_slice().ends_with(LINES_OF_LOOP));
@@ -82,7 +82,7 @@ none: the reorder buffer was empty
 ";
 
 #[test]
-fn of_equal_lines_the_first_are_told(rt: HostRuntime) {
+fn of_equal_lines_the_first_are_named(rt: HostRuntime) {
     let ended = run_text(rt.alloc(), EXPLAIN, CHAIN);
     assert_eq!(rt; ended.status, 0);
     assert!(rt; ended.output.as_slice().ends_with(LINES_OF_CHAIN));

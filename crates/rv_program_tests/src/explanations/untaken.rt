@@ -1,30 +1,30 @@
 use crate::checks::check_run;
-use crate::explanations::{EXPLAIN, Told};
+use crate::explanations::{EXPLAIN, Explained};
 
 // Lines that are high at the end of the run, and what keeps each from being taken: the program enables interrupts all but for one bit, sets
 // neither bit, or waits while each external interrupt comes before that of the timer. A line that falls begins anew when it rises.
-const UNTAKEN: [Told; 6] = [
-    Told {
+const UNTAKEN: [Explained; 6] = [
+    Explained {
         program: "ram_base = 0\n%%\n[[arrival]]\ncycle = 50\nline = \"timer\"\n%%\nli t0, 128\ncsrw mie, t0\nl: j l",
         line: "The timer line is high from cycle 50 on, and was never taken: mstatus.MIE is 0",
     },
-    Told {
+    Explained {
         program: "ram_base = 0\n%%\n[[arrival]]\ncycle = 50\nline = \"timer\"\n%%\ncsrsi mstatus, 8\nl: j l",
         line: "The timer line is high from cycle 50 on, and was never taken: mie.MTIE is 0",
     },
-    Told {
+    Explained {
         program: FALLS,
         line: "The software line is high from cycle 40 on, and was never taken: mstatus.MIE and mie.MSIE are 0",
     },
-    Told {
+    Explained {
         program: FALLS,
         line: "The timer line is high from cycle 20 on, and was never taken: mstatus.MIE and mie.MTIE are 0",
     },
-    Told {
+    Explained {
         program: PASSED,
         line: "The timer line is high from cycle 20 on, and was never taken: a higher one was taken each time",
     },
-    Told {
+    Explained {
         program: "ram_base = 0\n%%\n[[arrival]]\ncycle = 0\nline = \"external\"\n%%\nlui t0, 1\nsrli t0, t0, 1\ncsrw mie, t0\nl: j l",
         line: "The external line is high from cycle 0 on, and was never taken: mstatus.MIE is 0",
     },
@@ -67,8 +67,15 @@ h: mret
 ";
 
 #[test]
-fn a_line_that_is_never_taken_is_told_with_what_stands_in_its_way(rt: HostRuntime) {
-    for told in UNTAKEN {
-        check_run(&rt, rt.alloc(), EXPLAIN, told.program, 0, &[told.line]);
+fn a_line_that_is_never_taken_is_named_with_what_stands_in_its_way(rt: HostRuntime) {
+    for explained in UNTAKEN {
+        check_run(
+            &rt,
+            rt.alloc(),
+            EXPLAIN,
+            explained.program,
+            0,
+            &[explained.line],
+        );
     }
 }

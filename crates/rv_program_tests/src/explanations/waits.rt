@@ -1,22 +1,22 @@
 use crate::checks::check_run;
-use crate::explanations::{EXPLAIN, Told};
+use crate::explanations::{EXPLAIN, Explained};
 
 // What each first waits for after the second cycle: the division, a place in the reorder buffer, the one station, in which an
 // instruction waits for the division, and the end of the first store's drain.
-const WAITS: [Told; 4] = [
-    Told {
+const WAITS: [Explained; 4] = [
+    Explained {
         program: "div x6,x0,x0\ncsrrs x5,mip,x0\nebreak",
         line: "serial         17   77.3%  #######################################",
     },
-    Told {
+    Explained {
         program: "rob = 1\n%%\naddi x1,x0,1\nebreak",
         line: "rob             2   33.3%  #################",
     },
-    Told {
+    Explained {
         program: "div.stations = 1\nrob = 3\n%%\ndiv x3,x1,x1\ndiv x4,x3,x1\ndiv x5,x1,x1\nebreak",
         line: "station        16   30.2%  ###############",
     },
-    Told {
+    Explained {
         program: "store_queue = 1\n%%\nlui x5,0x80001\nsw x0,0(x5)\nsw x0,4(x5)\nebreak",
         line: "store          15   71.4%  ####################################",
     },
@@ -24,8 +24,15 @@ const WAITS: [Told; 4] = [
 
 #[test]
 fn each_reason_to_wait_has_its_cycles(rt: HostRuntime) {
-    for told in WAITS {
-        check_run(&rt, rt.alloc(), EXPLAIN, told.program, 0, &[told.line]);
+    for explained in WAITS {
+        check_run(
+            &rt,
+            rt.alloc(),
+            EXPLAIN,
+            explained.program,
+            0,
+            &[explained.line],
+        );
     }
 }
 
@@ -45,7 +52,7 @@ ebreak
 ";
 
 #[test]
-fn what_results_wait_for_the_bus_is_told(rt: HostRuntime) {
+fn waits_of_results_for_the_bus_are_counted(rt: HostRuntime) {
     let line = "waiting for the bus                   6   11.5%  ######";
     check_run(&rt, rt.alloc(), EXPLAIN, FOUR_RESULTS, 0, &[line]);
 }
@@ -73,7 +80,7 @@ ebreak
 ";
 
 #[test]
-fn what_instructions_wait_for_a_unit_is_told(rt: HostRuntime) {
+fn waits_of_instructions_for_a_unit_are_counted(rt: HostRuntime) {
     let lines = [
         "waiting for an alu unit               6    3.8%  ##",
         "waiting for a mul unit                1    0.6%  ",
@@ -110,48 +117,48 @@ const MISSED: &str = "ram_base = 0\n%%\nlw x5,0(x0)\naddi x6,x5,0\nebreak";
 const FORWARDED: &str =
     "ram_base = 0\nforward = 5\n%%\nsw x0,1024(x0)\nlw x5,1024(x0)\naddi x6,x5,1\nebreak";
 
-const IN_FLIGHT: [Told; 11] = [
-    Told {
+const IN_FLIGHT: [Explained; 11] = [
+    Explained {
         program: OPERAND,
         line: "waiting for operands                 17   45.9%  #######################",
     },
-    Told {
+    Explained {
         program: OPERAND,
         line: "in execution                         19   51.4%  ##########################",
     },
-    Told {
+    Explained {
         program: OPERAND,
         line: "Awaited most, for 17 of 22 cycles: 80000000, line 1: div x5,x0,x0",
     },
-    Told {
+    Explained {
         program: CHAIN,
         line: "Awaited most, for 17 of 25 cycles: 80000000, line 1: div x5,x0,x0",
     },
-    Told {
+    Explained {
         program: MISSED,
         line: "Awaited most, for 12 of 17 cycles (its loads: hits 0, misses 1, write-backs 0): 00000000, line 1: lw x5,0(x0)",
     },
-    Told {
+    Explained {
         program: FORWARDED,
         line: "Awaited most, for 7 of 13 cycles (its loads: hits 1, of them forwarded 1, misses 0, write-backs 0): 00000004, line 2: lw x5,1024(x0)",
     },
-    Told {
+    Explained {
         program: ADDRESS,
         line: "waiting for a store's address        18   14.6%  #######",
     },
-    Told {
+    Explained {
         program: ADDRESS,
         line: "waiting for retirement               46   37.4%  ###################",
     },
-    Told {
+    Explained {
         program: PORT,
         line: "waiting for a mem unit                1    2.2%  #",
     },
-    Told {
+    Explained {
         program: PORT,
         line: "waiting for the port                 10   22.2%  ###########",
     },
-    Told {
+    Explained {
         program: HEAD,
         line: "waiting for retirement               17   50.0%  #########################",
     },
@@ -159,22 +166,29 @@ const IN_FLIGHT: [Told; 11] = [
 
 #[test]
 fn each_wait_in_flight_has_its_cycles(rt: HostRuntime) {
-    for told in IN_FLIGHT {
-        check_run(&rt, rt.alloc(), EXPLAIN, told.program, 0, &[told.line]);
+    for explained in IN_FLIGHT {
+        check_run(
+            &rt,
+            rt.alloc(),
+            EXPLAIN,
+            explained.program,
+            0,
+            &[explained.line],
+        );
     }
 }
 
 // The greatest wait comes first, of equal ones the one that an instruction meets first; a wait that never was is not named.
-const GREATEST: [Told; 3] = [
-    Told {
+const GREATEST: [Explained; 3] = [
+    Explained {
         program: ADDRESS,
         line: "cycles of instructions in flight: 123, of them 46 waiting for retirement (37.4%), 18 waiting for an older store's address (14.6%)",
     },
-    Told {
+    Explained {
         program: PORT,
         line: "cycles of instructions in flight: 45, of them 10 waiting for the port (22.2%), 10 waiting for retirement (22.2%)",
     },
-    Told {
+    Explained {
         program: HEAD,
         line: "cycles of instructions in flight: 34, of them 17 waiting for retirement (50.0%)",
     },
@@ -182,7 +196,14 @@ const GREATEST: [Told; 3] = [
 
 #[test]
 fn the_greatest_waits_lead(rt: HostRuntime) {
-    for told in GREATEST {
-        check_run(&rt, rt.alloc(), EXPLAIN, told.program, 0, &[told.line]);
+    for explained in GREATEST {
+        check_run(
+            &rt,
+            rt.alloc(),
+            EXPLAIN,
+            explained.program,
+            0,
+            &[explained.line],
+        );
     }
 }

@@ -1,4 +1,4 @@
 use Rattle.rv_explain.proofs.explanation.begin.Goals as goal
 
-pub returns-clause-untold : goal.returns-clause-untold
-returns-clause-untold c = c.in_ok-tale.ensures
+pub returns-clause-of_no_cycle : goal.returns-clause-of_no_cycle
+returns-clause-of_no_cycle c = c.in_ok-tally.ensures

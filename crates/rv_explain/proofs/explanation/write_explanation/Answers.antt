@@ -3,30 +3,30 @@ use Rattle.rv_explain.proofs.Explained.{awaited_counted, branches_counted, expla
 use Rattle.rv_explain.proofs.OneExplanation.{one_explanation}
 use Rattle.rv_explain.proofs.explanation.write_explanation.Goals as goal
 
-pub run_told-told-requires-clause-untold : goal.run_told-told-requires-clause-untold
-run_told-told-requires-clause-untold g c = c.in-Ok.ensures.untold c.args.arrivals.now c.args.pipeline.now
+pub run_tallied-tallied-requires-clause-of_no_cycle : goal.run_tallied-tallied-requires-clause-of_no_cycle
+run_tallied-tallied-requires-clause-of_no_cycle g c = c.in-Ok.ensures.of_no_cycle c.args.arrivals.now c.args.pipeline.now
 
-pub write_told-written-requires : goal.write_told-written-requires
-write_told-written-requires g c =
-    let told = c.run_told-told.result in
+pub write_run_text-written-requires : goal.write_run_text-written-requires
+write_run_text-written-requires g c =
+    let tallied = c.run_tallied-tallied.result in
     record {
-      heads = heads_counted _ c.args.limit c.args.description.now _ _ told.stop told.progress told.fetched told.tale c.run_told-told.ensures;
-      branches = omega (arith, branches_counted _ c.args.limit c.args.description.now _ _ told.stop told.progress told.fetched told.tale c.run_told-told.ensures);
-      mispredicted = omega (arith, mispredicted_counted _ c.args.limit c.args.description.now _ _ told.stop told.progress told.fetched told.tale c.run_told-told.ensures);
-      places = c.run_told-told.ensures.few;
-      stays = c.run_told-told.ensures.few_stays;
-      awaited = awaited_counted _ c.args.limit c.args.description.now _ _ told.stop told.progress told.fetched told.tale c.run_told-told.ensures;
+      heads = heads_counted _ c.args.limit c.args.description.now _ _ tallied.stop tallied.progress tallied.fetched tallied.tally c.run_tallied-tallied.ensures;
+      branches = omega (arith, branches_counted _ c.args.limit c.args.description.now _ _ tallied.stop tallied.progress tallied.fetched tallied.tally c.run_tallied-tallied.ensures);
+      mispredicted = omega (arith, mispredicted_counted _ c.args.limit c.args.description.now _ _ tallied.stop tallied.progress tallied.fetched tallied.tally c.run_tallied-tallied.ensures);
+      places = c.run_tallied-tallied.ensures.few;
+      stays = c.run_tallied-tallied.ensures.few_stays;
+      awaited = awaited_counted _ c.args.limit c.args.description.now _ _ tallied.stop tallied.progress tallied.fetched tallied.tally c.run_tallied-tallied.ensures;
     }
 
 pub returns-in-Ok-written-clause-written : goal.returns-in-Ok-written-clause-written
 returns-in-Ok-written-clause-written g c =
-    let told = c.run_told-told.result in
-    (_, explained _ c.args.limit c.args.figures c.args.description.now _ c.args.listing.now _ _ told.stop told.progress told.fetched told.tale c.run_told-told.ensures, c.in-Ok-written.ensures)
+    let tallied = c.run_tallied-tallied.result in
+    (_, explained _ c.args.limit c.args.figures c.args.description.now _ c.args.listing.now _ _ tallied.stop tallied.progress tallied.fetched tallied.tally c.run_tallied-tallied.ensures, c.in-Ok-written.ensures)
 
 pub returns-in-Err-WriteFailed-clause-written : goal.returns-in-Err-WriteFailed-clause-written
 returns-in-Err-WriteFailed-clause-written g c =
-    let told = c.run_told-told.result in
-    (told.stop, _, explained _ c.args.limit c.args.figures c.args.description.now _ c.args.listing.now _ _ told.stop told.progress told.fetched told.tale c.run_told-told.ensures, c.in-Err-WriteFailed.ensures)
+    let tallied = c.run_tallied-tallied.result in
+    (tallied.stop, _, explained _ c.args.limit c.args.figures c.args.description.now _ c.args.listing.now _ _ tallied.stop tallied.progress tallied.fetched tallied.tally c.run_tallied-tallied.ensures, c.in-Err-WriteFailed.ensures)
 
 -- whatever was written
 pub returns-in_default-clause-one_explanation : goal.returns-in_default-clause-one_explanation

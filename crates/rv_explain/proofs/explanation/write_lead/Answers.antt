@@ -10,4 +10,4 @@ unfolding lead_text
 returns-clause-text g c =
     let width = c.from-width.ensures ∙ ap (λ (v : Values). v.dispatch_width) c.values.ensures in
     says_both c.write_greatest_waits.ensures (says_both c.write_awaited.ensures
-    (says_same (λ i. places_text c.args.progress.now.cycles (width i) (c.in_flight.ensures.counted i) c.args.tale.now.places) c.write_places.ensures))
+    (says_same (λ i. places_text c.args.progress.now.cycles (width i) (c.in_flight.ensures.counted i) c.args.tally.now.places) c.write_places.ensures))

@@ -5,7 +5,7 @@ use Rattle.rv_hardware.specs.Guided.{guided}
 use Rattle.rv_passage.specs.EndedRun.{IsEndedRun}
 use Rattle.rv_passage.proofs.Followed.{if_ok_by}
 use Rattle.rv_picture.specs.Recording.{IsRecorded, held_by}
-use Rattle.rv_picture.proofs.UnderWay.{is_by_limit, is_not_by_limit, recorded_behind, recorded_nothing}
+use Rattle.rv_picture.proofs.UnderWay.{is_by_limit, is_not_by_limit, recorded_later, recorded_nothing}
 use Rattle.rv_view.proofs.HasRun.{has_not_run, has_run, has_run_on, on_err}
 use Rattle.rv_picture.proofs.recording.record_window.Goals as goal
 
@@ -18,7 +18,7 @@ returns-then-is_limit-clause-recording g c =
     let old = guided c.args.pipeline.now ((goal.Predictor-dyn g c.args.predictor.now).known c.args.predictor.now.1) in
     let start = guided c.run_on-stop.new.pipeline ((goal.Predictor-dyn g (c.args.predictor.now.0, c.run_on-stop.new.predictor)).known c.run_on-stop.new.predictor) in
     let limit : c.run_on-stop.result ≡ Limit = is_by_limit c.run_on-stop.result (sym c.is_limit.ensures ∙ c.if-is_limit.true) in
-    if_ok_by c.record_run.result (λ r rest. recorded_behind (subst (IsEndedRun c.args.arrivals.now c.args.from old before start) limit run) rest) c.record_run.ensures.followed
+    if_ok_by c.record_run.result (λ r rest. recorded_later (subst (IsEndedRun c.args.arrivals.now c.args.from old before start) limit run) rest) c.record_run.ensures.followed
 
 pub returns-else-is_limit-clause-recording : goal.returns-else-is_limit-clause-recording
 returns-else-is_limit-clause-recording g c =

@@ -7,9 +7,9 @@ returns-in-Err g c = inl (refl, refl, c.in-Err.ensures.lost, c.in-Err.ensures.un
 pub returns-in-Ok-begin : goal.returns-in-Ok-begin
 returns-in-Ok-begin g c =
     let same : c.as_slice.result.now ≡ c.in-Ok.input.items = search rules in
-    let silent = c.in-Ok.ensures.nothing_told in
+    let silent = c.in-Ok.ensures.nothing_reported in
     let asked = rw same at c.in-Ok-begin.ensures.task in
-    let begun = c.in-Ok-begin.ensures.nothing_told in
+    let begun = c.in-Ok-begin.ensures.nothing_reported in
     let ended = rw (begun, silent) at c.finish_task-exit.ensures.ended in
     inr (
       c.in-Ok.input.items,
@@ -21,7 +21,7 @@ returns-in-Ok-begin g c =
 pub returns : goal.returns
 returns g c =
     let same : c.as_slice.result.now ≡ c.in-Ok.input.items = search rules in
-    let silent = c.in-Ok.ensures.nothing_told in
+    let silent = c.in-Ok.ensures.nothing_reported in
     let refused = rw (same, silent) at c.in-Err-begin.ensures.refused in
     let again : c.as_slice-in-Err-begin.result.now ≡ c.in-Ok.input.items = search rules in
     let handed = rw again at c.hand_back-output.ensures in

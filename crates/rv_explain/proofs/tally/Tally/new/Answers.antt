@@ -7,7 +7,7 @@ use Rattle.rv_counts.specs.Places.{no_places}
 use Rattle.rv_sentences.specs.Stay.{no_stays}
 use Rattle.rv_sentences.specs.Untaken.{none_raised}
 use Rattle.rv_sentences.specs.Work.{work_of}
-use Rattle.rv_explain.proofs.tale.Tale.new.Goals as goal
+use Rattle.rv_explain.proofs.tally.Tally.new.Goals as goal
 
 pub returns : goal.returns
 returns c arrivals h = λ i. record {

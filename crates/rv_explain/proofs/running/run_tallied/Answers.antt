@@ -1,11 +1,11 @@
 use Rattle.std.proofs.Common.{arith}
 use Rattle.rv_view.proofs.EndedView.{ended_by}
-use Rattle.rv_explain.proofs.Telling.{fetched_counted, places_of_all, telling_nothing, told_to_the_end}
-use Rattle.rv_explain.proofs.running.run_told.Goals as goal
+use Rattle.rv_explain.proofs.Tallying.{fetched_counted, places_of_all, nothing_tallied, tallied_to_the_end}
+use Rattle.rv_explain.proofs.running.run_tallied.Goals as goal
 
 pub run_view-view-requires-clause-ready : goal.run_view-view-requires-clause-ready
 run_view-view-requires-clause-ready g c =
-    telling_nothing c.args.description.now c.args.arrivals.now _ c.args.tale c.observe.result.regs c.drain_end-drain_end.result c.in_flight-in_flight.result c.requires.untold c.observe.ensures.registers c.drain_end-drain_end.ensures
+    nothing_tallied c.args.description.now c.args.arrivals.now _ c.args.tally c.observe.result.regs c.drain_end-drain_end.result c.in_flight-in_flight.result c.requires.of_no_cycle c.observe.ensures.registers c.drain_end-drain_end.ensures
     c.in_flight-in_flight.ensures.counted c.in_flight-in_flight.ensures.few
 
 pub overflow_add-fetched : goal.overflow_add-fetched
@@ -17,5 +17,5 @@ pub returns : goal.returns
 returns g c =
     let run = c.run_view-view.ensures in
     let ends = ended_by run c.in-Ok.stop c.in-Ok.is in
-    told_to_the_end run.viewed.sees run.viewed.kept ends run.counted c.requires.untold c.rows.result.now c.rows.ensures
+    tallied_to_the_end run.viewed.sees run.viewed.kept ends run.counted c.requires.of_no_cycle c.rows.result.now c.rows.ensures
     (places_of_all run.viewed.sees run.viewed.kept ends run.counted c.is_exhausted.ensures.within c.cycles_done-2.ensures.reached) c.cycles_done.ensures.reached c.is_exhausted.ensures.within

@@ -16,7 +16,7 @@ use Rattle.rv_sentences.specs.declared.work.Class.TheVariants.{Branch, Mispredic
 use Rattle.rv_sentences.proofs.LeftGrows.{can_add_fewer, counts_of}
 use Rattle.rv_explain.proofs.AtEnd.{oldest_of_first, stays_of_first}
 use Rattle.rv_explain.proofs.InFlight.{loads_same, no_branch, no_mispredicted, noted_same}
-use Rattle.rv_explain.proofs.tale.Tale.add.Goals as goal
+use Rattle.rv_explain.proofs.tally.Tally.add.Goals as goal
 
 pub add_left-requires : goal.add_left-requires
 add_left-requires c =

@@ -29,7 +29,7 @@ use Rattle.rv_sentences.specs.Interrupt.{by_line, interruption_of_cycle, interru
 use Rattle.rv_sentences.specs.Kinds.{kept_after, kept_of}
 use Rattle.rv_sentences.specs.LastStore.{last_store_to, stores_in, stores_of}
 use Rattle.rv_sentences.specs.Load.{retired_load_cost}
-use Rattle.rv_explain.specs.Tale.{HasRoom, tale_after, tale_of}
+use Rattle.rv_explain.specs.Tally.{HasRoom, tally_after, tally_of}
 use Rattle.rv_counts.specs.Places.{all_places, places_in, places_of}
 use Rattle.rv_sentences.specs.Stay.{all_stays, awaited_of, no_stays, stays_of, with_stays}
 use Rattle.rv_sentences.specs.WordCount.{count_at}
@@ -98,11 +98,11 @@ dispatched_after-le (step ∷ steps) d = omega (arith, dispatched_with-le step d
 
 module _ (values : Values) where
   -- one more cycle
-  pub tale-push : {arrivals : List Arrival} {old now : GuidedHardware} {moments : List Moment} (moment : Moment) (rows left : List Passage) (passes : History arrivals old moments now)
+  pub tally-push : {arrivals : List Arrival} {old now : GuidedHardware} {moments : List Moment} (moment : Moment) (rows left : List Passage) (passes : History arrivals old moments now)
       → rows ≡ (last_cycle still_open passes moment).passages.rows
-      → tale_after now.hardware.cycle now.hardware.registers moment.report.steps (places_in now.hardware moment) (drain_in arrivals now.hardware) moment.after.lines moment.after rows (tale_of values arrivals old.hardware moments left)
-      ≡ tale_of values arrivals old.hardware (moments ++ moment ∷ []) (filter has_left rows ++ left)
-  tale-push {arrivals = arrivals} {old = old} {now = now} {moments = moments} moment rows left passes rows_are =
+      → tally_after now.hardware.cycle now.hardware.registers moment.report.steps (places_in now.hardware moment) (drain_in arrivals now.hardware) moment.after.lines moment.after rows (tally_of values arrivals old.hardware moments left)
+      ≡ tally_of values arrivals old.hardware (moments ++ moment ∷ []) (filter has_left rows ++ left)
+  tally-push {arrivals = arrivals} {old = old} {now = now} {moments = moments} moment rows left passes rows_are =
       let steps = shown_steps-push moments moment in
       let exceptions = exceptions-push moments moment in
       let interrupts = interrupts-push moments moment in
@@ -153,7 +153,7 @@ module _ (values : Values) where
   -- the steps of one more cycle can be counted
   pub has_room : (arrivals : List Arrival) (h : Hardware) (moments : List Moment) (left : List Passage) (more rows : ℕ) → length (steps_of (reports_of moments)) ≤ 8 * 2 ^ 40 → length moments ≤ 2 ^ 40
       → all_places (places_of h moments) ≤ 8 * 2 ^ 40 + 256 → length left ≤ 576 * 2 ^ 40 → more ≤ 8 → rows ≤ 576 → all_stays (with_stays (stays_of h moments) no_stays) ≤ 576 * 2 ^ 40
-      → HasRoom (tale_of values arrivals h moments left) more rows
+      → HasRoom (tally_of values arrivals h moments left) more rows
   has_room arrivals h moments left more rows few within placed fewer little some few_stays = record {
     dispatches = omega (arith, dispatched_after-le (steps_of (reports_of moments)) none_dispatched, few, little);
     stays = omega (arith, few_stays, some);

@@ -2,7 +2,7 @@ ghost use Rattle.std.specs.Prelude.{◌≡◌, ◌≤◌, List, [], length, IfOk
 ghost use Rattle.rv_hardware.specs.Hardware.{Hardware};
 ghost use Rattle.rv_isa.specs.declared.lines.Arrival.{Arrival};
 ghost use Rattle.rv_explain.specs.AtEnd.{AreAtEnd};
-ghost use Rattle.rv_explain.specs.Tale.{HasRoom, tale_after, tale_of};
+ghost use Rattle.rv_explain.specs.Tally.{HasRoom, tally_after, tally_of};
 ghost use Rattle.rv_counts.specs.Places.{cycle_total};
 
 use crate::at_end::{left_among, without_waiting};
@@ -23,7 +23,7 @@ use std::alloc::{AllocError, Global};
 
 /// What is kept of a run so far.
 #[derive(Drop)]
-pub(crate) struct Tale {
+pub(crate) struct Tally {
     pub(crate) retired: u64,
     pub(crate) exceptions: Exceptions,
     pub(crate) interrupts: Interrupts,
@@ -60,12 +60,12 @@ pub(crate) struct Tale {
     pub(crate) stores: StoreCounts,
 }
 
-impl Tale {
+impl Tally {
     /// What is kept of no cycle. The only error is out of memory.
-    pub(crate) fn new(alloc: Global, description: &Description) -> Result<Tale, AllocError>
-        ensures { IfOk result (λ tale. (arrivals : List Arrival) (h : Hardware) → tale ≡ tale_of description.now arrivals h [] []) }
+    pub(crate) fn new(alloc: Global, description: &Description) -> Result<Tally, AllocError>
+        ensures { IfOk result (λ tally. (arrivals : List Arrival) (h : Hardware) → tally ≡ tally_of description.now arrivals h [] []) }
     {
-        Ok(Tale {
+        Ok(Tally {
             retired: 0,
             exceptions: Exceptions::new(alloc)?,
             interrupts: Interrupts::new(),
@@ -106,7 +106,7 @@ impl Tale {
         requires room { HasRoom self.old (length steps.now) (length rows.now) }
         requires few { cycle_total places.now ≤ 264 }
         requires end { AreAtEnd cycle pipeline.now rows.now }
-        ensures { self.new ≡ tale_after cycle registers.old steps.now places.now drain lines pipeline.now rows.now self.old }
+        ensures { self.new ≡ tally_after cycle registers.old steps.now places.now drain lines pipeline.now rows.now self.old }
     {
         let has_unit = pipeline.units().free(Kind::Mem, cycle);
         add_stays(

@@ -35,14 +35,14 @@ use Rattle.rv_sentences.specs.Untaken.{raised_of, raised_with}
 use Rattle.rv_sentences.specs.WordCount.{count_at, with_all, with_one}
 use Rattle.rv_sentences.specs.WordNotes.{notes_of}
 use Rattle.rv_sentences.specs.Work.{both_work, word_in, work_of}
-use Rattle.rv_explain.specs.declared.tale.Tale.{Tale}
+use Rattle.rv_explain.specs.declared.tally.Tally.{Tally}
 use Rattle.rv_counts.specs.declared.run_places.CyclePlaces.{CyclePlaces}
 use Rattle.rv_sentences.specs.declared.work.Class.TheVariants.{Branch, Mispredicted}
 
 -- what is kept of some cycles that began with such hardware, by the arrivals at the interrupt lines, and of the instructions that
 -- left the hardware in them
-abbrev pub tale_of : Values → List Arrival → Hardware → List Moment → List Passage → Tale
-tale_of values arrivals h moments left = record {
+abbrev pub tally_of : Values → List Arrival → Hardware → List Moment → List Passage → Tally
+tally_of values arrivals h moments left = record {
   retired = count_by is_retirement (steps_of (reports_of moments));
   exceptions = kept_of (exceptions_of moments);
   interrupts = by_line (interruptions_of moments);
@@ -67,44 +67,44 @@ tale_of values arrivals h moments left = record {
 }
 
 -- what is kept of a run that began with such hardware
-abbrev pub tale_of_run : Values → List Arrival → Hardware → List Moment → Tale
-tale_of_run values arrivals h moments = tale_of values arrivals h moments (left_after h moments)
+abbrev pub tally_of_run : Values → List Arrival → Hardware → List Moment → Tally
+tally_of_run values arrivals h moments = tally_of values arrivals h moments (left_after h moments)
 
 -- what is kept with one more cycle: its number, its steps, by the registers before them, its places, the drain that began in it, the
 -- levels of the lines in it, the hardware that it left, and the passages at its end
-abbrev pub tale_after : ℕ → List ℕ → List Step → CyclePlaces → Option ℕ → Lines → Hardware → List Passage → Tale → Tale
-tale_after number registers steps places drain lines after rows tale = record {
-  retired = tale.retired + count_by is_retirement steps;
-  exceptions = kept_after (exception_in after steps) tale.exceptions;
-  interrupts = interrupts_after (interruption_in steps) tale.interrupts;
-  raised = raised_with number lines tale.raised;
-  places = with_cycle places tale.places;
-  dispatches = dispatched_after steps tale.dispatches;
-  stays = with_stays (stays_among number (is_free number (at_kind Mem after.units)) true rows) tale.stays;
-  awaited = with_one (oldest_awaited (stays_among number (is_free number (at_kind Mem after.units)) true rows)) tale.awaited;
-  work = both_work tale.work (work_of (filter has_left rows));
-  costs = tale.costs;
-  loads = both tale.loads (loads_of tale.costs rows);
-  drains = both tale.drains (drains_by tale.costs.hit (option_to_list drain));
-  last_stores = with_stores (stores_in registers steps) tale.last_stores;
-  heads = with_one (account_of after rows tale.flusher) tale.heads;
-  idle = one_more (is_idle (account_of after rows tale.flusher)) tale.idle;
-  flusher = flusher_in after rows tale.flusher;
-  branches = with_all (word_in Branch) rows tale.branches;
-  mispredicted = with_all (word_in Mispredicted) rows tale.mispredicted;
-  outcomes = with_passages tale.costs (filter has_left rows) tale.outcomes;
-  waiting = still_waiting drain (with_waiting (stores_in registers steps) tale.waiting);
-  stores = with_drained tale.costs (oldest_drained drain (with_waiting (stores_in registers steps) tale.waiting)) tale.stores;
+abbrev pub tally_after : ℕ → List ℕ → List Step → CyclePlaces → Option ℕ → Lines → Hardware → List Passage → Tally → Tally
+tally_after number registers steps places drain lines after rows tally = record {
+  retired = tally.retired + count_by is_retirement steps;
+  exceptions = kept_after (exception_in after steps) tally.exceptions;
+  interrupts = interrupts_after (interruption_in steps) tally.interrupts;
+  raised = raised_with number lines tally.raised;
+  places = with_cycle places tally.places;
+  dispatches = dispatched_after steps tally.dispatches;
+  stays = with_stays (stays_among number (is_free number (at_kind Mem after.units)) true rows) tally.stays;
+  awaited = with_one (oldest_awaited (stays_among number (is_free number (at_kind Mem after.units)) true rows)) tally.awaited;
+  work = both_work tally.work (work_of (filter has_left rows));
+  costs = tally.costs;
+  loads = both tally.loads (loads_of tally.costs rows);
+  drains = both tally.drains (drains_by tally.costs.hit (option_to_list drain));
+  last_stores = with_stores (stores_in registers steps) tally.last_stores;
+  heads = with_one (account_of after rows tally.flusher) tally.heads;
+  idle = one_more (is_idle (account_of after rows tally.flusher)) tally.idle;
+  flusher = flusher_in after rows tally.flusher;
+  branches = with_all (word_in Branch) rows tally.branches;
+  mispredicted = with_all (word_in Mispredicted) rows tally.mispredicted;
+  outcomes = with_passages tally.costs (filter has_left rows) tally.outcomes;
+  waiting = still_waiting drain (with_waiting (stores_in registers steps) tally.waiting);
+  stores = with_drained tally.costs (oldest_drained drain (with_waiting (stores_in registers steps) tally.waiting)) tally.stores;
 }
 
 -- what is kept of the cycles that were seen, of those values by which nothing was kept at first; with the registers, the end of
 -- the drain under way, and how many instructions are in the reorder buffer after them
-pub record IsTelling (first tale : Tale) (registers : List ℕ) (end : Option ℕ) (in_flight : ℕ) (seen : Watched) : Type 0 where
+pub record IsTallying (first tally : Tally) (registers : List ℕ) (end : Option ℕ) (in_flight : ℕ) (seen : Watched) : Type 0 where
   pub values : Values
   pub some_left : length (left_after seen.first.hardware seen.moments) ≤ 576 * seen.now.hardware.cycle
-  pub untold : first ≡ tale_of_run values seen.arrivals seen.first.hardware []
-  pub told : (by : Values) → first ≡ tale_of_run by seen.arrivals seen.first.hardware [] → tale ≡ tale_of_run by seen.arrivals seen.first.hardware seen.moments
-  pub few_stays : all_stays tale.stays ≤ 576 * seen.now.hardware.cycle
+  pub of_no_cycle : first ≡ tally_of_run values seen.arrivals seen.first.hardware []
+  pub tallied : (by : Values) → first ≡ tally_of_run by seen.arrivals seen.first.hardware [] → tally ≡ tally_of_run by seen.arrivals seen.first.hardware seen.moments
+  pub few_stays : all_stays tally.stays ≤ 576 * seen.now.hardware.cycle
   pub registers_are : registers ≡ seen.now.hardware.registers
   pub end_is : end ≡ drain_end seen.now.hardware
   pub in_flight_is : in_flight ≡ length seen.now.hardware.rob.entries
@@ -113,17 +113,17 @@ pub record IsTelling (first tale : Tale) (registers : List ℕ) (end : Option �
   pub places_add_up : AddUp seen.first.hardware seen.moments seen.now.hardware
 
 -- no count of a cycle with so many steps more, and so many passages at its end, comes to 2^64
-pub record HasRoom (tale : Tale) (more rows : ℕ) : Type 0 where
-  pub retired : tale.retired + more < 2 ^ 64
-  pub places : all_places tale.places + 264 < 2 ^ 64
-  pub dispatches : tale.dispatches.cycles + more < 2 ^ 64
-  pub stays : all_stays tale.stays + rows < 2 ^ 64
-  pub awaited : sum tale.awaited.words + 1 < 2 ^ 64
-  pub exceptions : IsCountable tale.exceptions
-  pub interrupts : AreCountable tale.interrupts
-  pub left : CanAdd tale.work tale.loads tale.branches tale.mispredicted tale.outcomes rows
-  pub drains : tale.drains.all + 1 < 2 ^ 64
-  pub hits : tale.drains.quick + 1 < 2 ^ 64
-  pub stores : CanCountStore tale.stores
-  pub heads : sum tale.heads.words + 1 < 2 ^ 64
-  pub idle : tale.idle + 1 < 2 ^ 64
+pub record HasRoom (tally : Tally) (more rows : ℕ) : Type 0 where
+  pub retired : tally.retired + more < 2 ^ 64
+  pub places : all_places tally.places + 264 < 2 ^ 64
+  pub dispatches : tally.dispatches.cycles + more < 2 ^ 64
+  pub stays : all_stays tally.stays + rows < 2 ^ 64
+  pub awaited : sum tally.awaited.words + 1 < 2 ^ 64
+  pub exceptions : IsCountable tally.exceptions
+  pub interrupts : AreCountable tally.interrupts
+  pub left : CanAdd tally.work tally.loads tally.branches tally.mispredicted tally.outcomes rows
+  pub drains : tally.drains.all + 1 < 2 ^ 64
+  pub hits : tally.drains.quick + 1 < 2 ^ 64
+  pub stores : CanCountStore tally.stores
+  pub heads : sum tally.heads.words + 1 < 2 ^ 64
+  pub idle : tally.idle + 1 < 2 ^ 64
