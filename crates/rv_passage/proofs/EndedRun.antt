@@ -22,15 +22,15 @@ reports_of-append (moment ∷ some) more = ap (λ reports. moment.report ∷ rep
 -- a history, and one that goes on from its end
 pub History-append : {arrivals : List Arrival} {old middle new : GuidedHardware} {some more : List Moment} → History arrivals old some middle → History arrivals middle more new →
     History arrivals old (some ++ more) new
-History-append ended behind = behind
-History-append (cycled cycle rest) behind = cycled cycle (History-append rest behind)
+History-append ended after = after
+History-append (cycled cycle rest) after = cycled cycle (History-append rest after)
 
 -- and the other way round
 pub History-split : {arrivals : List Arrival} {old new : GuidedHardware} (some more : List Moment) → History arrivals old (some ++ more) new →
     (middle : GuidedHardware) × History arrivals old some middle × History arrivals middle more new
 History-split {old = old} [] more passes = (old, ended, passes)
 History-split (moment ∷ some) more (cycled cycle rest) =
-    let (middle, before, behind) = History-split some more rest in (middle, cycled cycle before, behind)
+    let (middle, before, after) = History-split some more rest in (middle, cycled cycle before, after)
 
 -- a history leads to the hardware that its last cycle left
 pub history_end : {arrivals : List Arrival} {old new : GuidedHardware} {moments : List Moment} → History arrivals old moments new → hardware_after old.hardware moments ≡ new.hardware
@@ -41,8 +41,8 @@ NoneStops-append : (some more : List Report) → NoneStops some → NoneStops mo
 NoneStops-append [] more none others = others
 NoneStops-append (report ∷ some) more none others = (none.0, NoneStops-append some more none.1 others)
 
-ends_behind : {reason : Stop} (some more : List Report) → NoneStops some → EndsWith reason more → EndsWith reason (some ++ more)
-ends_behind some more none ends = record {
+ends_after : {reason : Stop} (some more : List Report) → NoneStops some → EndsWith reason more → EndsWith reason (some ++ more)
+ends_after some more none ends = record {
   earlier = some ++ ends.earlier;
   last = ends.last;
   all = ap (λ reports. some ++ reports) ends.all ∙ sym (append_assoc some ends.earlier (ends.last ∷ []));
@@ -50,20 +50,20 @@ ends_behind some more none ends = record {
   stops = ends.stops;
 }
 
-stops_behind : (from limit : ℕ) (some more : List Report) (new : Hardware) (reason : Stop) → NoneStops some → length some ≡ from → IsStop limit more new reason → IsStop (from + limit) (some ++ more) new reason
-stops_behind from limit some more new stop.Limit none so_many stops = (NoneStops-append some more none stops.0, omega (arith, length-append some more, so_many, stops.1))
-stops_behind from limit some more new stop.Breakpoint none so_many stops = (ends_behind some more none stops.0, omega (arith, length-append some more, so_many, stops.1))
-stops_behind from limit some more new (stop.Stale pc) none so_many stops = (ends_behind some more none stops.0, omega (arith, length-append some more, so_many, stops.1))
-stops_behind from limit some more new stop.Exhausted none so_many stops =
+stops_after : (from limit : ℕ) (some more : List Report) (new : Hardware) (reason : Stop) → NoneStops some → length some ≡ from → IsStop limit more new reason → IsStop (from + limit) (some ++ more) new reason
+stops_after from limit some more new stop.Limit none so_many stops = (NoneStops-append some more none stops.0, omega (arith, length-append some more, so_many, stops.1))
+stops_after from limit some more new stop.Breakpoint none so_many stops = (ends_after some more none stops.0, omega (arith, length-append some more, so_many, stops.1))
+stops_after from limit some more new (stop.Stale pc) none so_many stops = (ends_after some more none stops.0, omega (arith, length-append some more, so_many, stops.1))
+stops_after from limit some more new stop.Exhausted none so_many stops =
     (NoneStops-append some more none stops.0, omega (arith, length-append some more, so_many, stops.1), stops.2)
 
 -- a run of so many cycles, and one that goes on from its end
 pub run_on : {arrivals : List Arrival} {from limit : ℕ} {old middle new : GuidedHardware} {some more : List Moment} {reason : Stop} → IsEndedRun arrivals from old some middle stop.Limit
     → IsEndedRun arrivals limit middle more new reason → IsEndedRun arrivals (from + limit) old (some ++ more) new reason
-run_on {from = from} {limit = limit} {new = new} {some = some} {more = more} {reason = reason} run behind = record {
-  passes = History-append run.passes behind.passes;
+run_on {from = from} {limit = limit} {new = new} {some = some} {more = more} {reason = reason} run after = record {
+  passes = History-append run.passes after.passes;
   stops = subst (λ reports. IsStop (from + limit) reports new.hardware reason) (sym (reports_of-append some more))
-      (stops_behind from limit (reports_of some) (reports_of more) new.hardware reason run.stops.0 run.stops.1 behind.stops);
+      (stops_after from limit (reports_of some) (reports_of more) new.hardware reason run.stops.0 run.stops.1 after.stops);
 }
 
 stops_earlier : (limit more : ℕ) (reports : List Report) (new : Hardware) (reason : Stop) → reason ≢ stop.Limit → IsStop limit reports new reason → IsStop (limit + more) reports new reason

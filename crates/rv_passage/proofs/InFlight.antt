@@ -31,10 +31,10 @@ get-front [] ys i within = absurd (omega arith)
 get-front (x ∷ xs) ys zero within = refl
 get-front (x ∷ xs) ys (suc i) within = get-front xs ys i (omega arith)
 
-get-behind : {X : Type 0} (xs ys : List X) (i k : ℕ) → i ≡ length xs + k → slice_get (xs ++ ys) i ≡ slice_get ys k
-get-behind [] ys i k is = ap (slice_get ys) (omega arith)
-get-behind (x ∷ xs) ys zero k is = absurd (omega arith)
-get-behind (x ∷ xs) ys (suc i) k is = get-behind xs ys i k (omega arith)
+get-after : {X : Type 0} (xs ys : List X) (i k : ℕ) → i ≡ length xs + k → slice_get (xs ++ ys) i ≡ slice_get ys k
+get-after [] ys i k is = ap (slice_get ys) (omega arith)
+get-after (x ∷ xs) ys zero k is = absurd (omega arith)
+get-after (x ∷ xs) ys (suc i) k is = get-after xs ys i k (omega arith)
 
 -- the entry at a place
 pub entry_here : (rob : ReorderBuffer) (front : FetchBuffer) (place : ℕ) (found : Option Entry) → place < length rob.entries →
@@ -51,4 +51,4 @@ word_here rob front place found past held =
     let k = place - length rob.entries in
     ap (option_map of_fetched) held
     ∙ sym (slice_get-map of_fetched front.entries k)
-    ∙ sym (get-behind (map of_entry rob.entries) (map of_fetched front.entries) place k (omega (arith, past, length-map rob.entries of_entry)))
+    ∙ sym (get-after (map of_entry rob.entries) (map of_fetched front.entries) place k (omega (arith, past, length-map rob.entries of_entry)))

@@ -107,12 +107,12 @@ module _ (cycle : ℕ) (old now rows rows' : List Passage) (place next next' : �
 
   moved-to : (q : Passage) → take (place + 1) rows' ≡ take place rows ++ q ∷ [] → drop (place + 1) rows' ≡ rest
       → moved cycle (take place rows) (drop next now) p ≡ q → left_after cycle (drop next now) p ≡ drop next' now → Moved
-  moved-to q front behind becomes left number =
+  moved-to q front after becomes left number =
       goes number
       ∙ ap (λ ps. take place rows ++ moved_on cycle number (take place rows) ps (drop next now)) here
       ∙ (λ i. take place rows ++ becomes i ∷ moved_on cycle number (take place rows ++ becomes i ∷ []) rest (left i))
       ∙ sym (append_assoc (take place rows) (q ∷ []) (moved_on cycle number (take place rows ++ q ∷ []) rest (drop next' now)))
-      ∙ (λ i. sym front i ++ moved_on cycle number (sym front i) (sym behind i) (drop next' now))
+      ∙ (λ i. sym front i ++ moved_on cycle number (sym front i) (sym after i) (drop next' now))
 
   moved-set : (q : Passage) → rows' ≡ set rows place q
       → moved cycle (take place rows) (drop next now) p ≡ q → left_after cycle (drop next now) p ≡ drop next' now → Moved

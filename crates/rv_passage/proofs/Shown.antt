@@ -26,7 +26,7 @@ use Rattle.rv_passage.specs.Shown.{AreStill, IsStill, IsStillNext, KeepsOpen, Sh
 use Rattle.rv_passage.specs.Shown.{rows_in_flight}
 use Rattle.rv_passage.specs.Table.{Passages, after_cycle, left_after, next_before, numbered_from, passages_of}
 use Rattle.rv_passage.specs.Table.{still_open, with_oldest, with_step, with_steps}
-use Rattle.rv_passage.specs.Walk.{Standing, next_cycle, standing_after, standing_at as standing_before, standing_behind}
+use Rattle.rv_passage.specs.Walk.{Standing, next_cycle, standing_after, standing_at as standing_before, standing_after_all}
 use Rattle.rv_passage.specs.declared.passage.Passage.{Passage}
 use Rattle.rv_passage.specs.declared.table.Table.{Table}
 use Rattle.rv_passage.proofs.Moving.{drop-at}
@@ -252,16 +252,16 @@ module _ {answers : Answers} {lines : Lines} {old new : Hardware} {report : Repo
 -- ---- a run
 
 module _ (keep : Passages → Passages) (keeps : KeepsOpen keep) where
-  behind-shows : {arrivals : List Arrival} {old now : GuidedHardware} {moments : List Moment} →
+  after-shows : {arrivals : List Arrival} {old now : GuidedHardware} {moments : List Moment} →
       History arrivals old moments now →
       (standing : Standing) → standing.number ≡ old.hardware.cycle →
       Show (flights old.hardware) (rows_in_flight standing.kept) →
-      Show (flights now.hardware) (rows_in_flight (standing_behind keep standing moments).kept)
-  behind-shows no_cycle standing number show = show
-  behind-shows (cycled {moment = moment} first rest) standing number show =
+      Show (flights now.hardware) (rows_in_flight (standing_after_all keep standing moments).kept)
+  after-shows no_cycle standing number show = show
+  after-shows (cycled {moment = moment} first rest) standing number show =
       let after = next_cycle standing moment in
       let shows = cycle-shows first.cycle number standing.kept show in
-      behind-shows rest (standing_after keep after) refl
+      after-shows rest (standing_after keep after) refl
       (subst (Show (flights moment.after)) (sym (keeps after.passages)) shows)
 
   -- of a table that follows a run and keeps what is in flight, the rows in flight show it
@@ -272,7 +272,7 @@ module _ (keep : Passages → Passages) (keeps : KeepsOpen keep) where
   followed-shows {first = first} {now} passes followed =
       let begun = numbered-show 0 (hardware-shows first.hardware) in
       subst (λ (t : Passages). Show (flights now.hardware) (rows_in_flight t)) (sym followed.passages)
-      (behind-shows passes (standing_before first.hardware) refl begun)
+      (after-shows passes (standing_before first.hardware) refl begun)
 
 -- of one that forgets what left the hardware, too
 pub open-shows : {arrivals : List Arrival} {first now : GuidedHardware} {moments : List Moment} {table : Table} →

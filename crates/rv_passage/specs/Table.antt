@@ -1,12 +1,18 @@
 -- The passages in order of fetch, and what a cycle makes of them.
-use Rattle.std.specs.Prelude.{◌≡◌, ℕ, ◌+◌, ◌-◌, ◌≤◌, ◌<◌, ◌^◌, ◌&&◌, nat_lt, if◌then◌else◌, List, [], ◌∷◌, ◌++◌, length, filter, drop, Option, None, Some, is_some, vec_capacity}
+use Rattle.std.specs.Prelude.{◌≡◌, ℕ, ◌+◌, ◌-◌, ◌≤◌, ◌<◌, ◌^◌, ◌&&◌, nat_lt, if◌then◌else◌}
+use Rattle.std.specs.Prelude.{List, [], ◌∷◌, ◌++◌, length, filter, drop, Option, None, Some, is_some, vec_capacity}
+use Rattle.std.specs.List.{position_or_len}
+use Rattle.std.specs.Option.{option_map, option_to_list}
 use Rattle.rv_front.specs.FetchBuffer.{FetchBuffer}
+use Rattle.rv_front.specs.declared.fetched.Fetched.{Fetched}
 use Rattle.rv_rob.specs.ReorderBuffer.{ReorderBuffer}
+use Rattle.rv_rob.specs.declared.entry.Entry.{Entry}
 use Rattle.rv_hardware.specs.Hardware.{Hardware}
 use Rattle.rv_hardware.specs.Lessons.{first_pc}
 use Rattle.rv_hardware.specs.declared.step.Step.{Step}
 use Rattle.rv_hardware.specs.declared.step.Step.TheVariants as step
-use Rattle.rv_passage.specs.Passage.{in_buffers, is_in_flight, is_unsquashed, numbered, retired_by, squashed_in, trapped_by}
+use Rattle.rv_passage.specs.Passage.{in_buffers, is_in_flight, is_unsquashed, numbered, of_entry, of_fetched}
+use Rattle.rv_passage.specs.Passage.{retired_by, squashed_in, trapped_by}
 use Rattle.rv_passage.specs.Producers.{standing_at}
 use Rattle.rv_passage.specs.declared.{passage.Passage.Passage, table.Table.Table}
 
@@ -64,6 +70,18 @@ abbrev pub next_before : ℕ → List Passage → Option Passage
 next_before cycle [] = None
 next_before cycle (n ∷ now) = if nat_lt n.fetched cycle then Some n else None
 
+-- what is in flight from a place on
+abbrev pub buffers_from : ℕ → ReorderBuffer → FetchBuffer → List Passage
+buffers_from place rob front = drop place (in_buffers rob front)
+
+-- an entry, if there is one that was fetched before a cycle
+abbrev pub entry_before : ℕ → Option Entry → Option Passage
+entry_before cycle entry = next_before cycle (option_to_list (option_map of_entry entry))
+
+-- the same of a word in the fetch buffer
+abbrev pub word_before : ℕ → Option Fetched → Option Passage
+word_before cycle word = next_before cycle (option_to_list (option_map of_fetched word))
+
 -- an instruction goes on as it stands now, after the older ones, or was squashed in the cycle
 abbrev pub gone_on : ℕ → List Passage → Option Passage → Passage → Passage
 gone_on cycle older None p = squashed_in cycle p
@@ -108,9 +126,17 @@ after_cycle cycle steps h t = after_steps cycle steps h.rob h.front h.pc t
 abbrev pub still_open : Passages → Passages
 still_open t = record t { rows = filter is_in_flight t.rows; interrupts = [] }
 
+-- rows from the oldest in flight on
+abbrev pub without_first_ended : List Passage → List Passage
+without_first_ended rows = drop (position_or_len is_in_flight rows) rows
+
 -- without what was squashed
 abbrev pub without_squashed : Passages → Passages
 without_squashed t = record t { rows = filter is_unsquashed t.rows }
+
+-- the interrupts, and how many were fetched and retired, stay
+abbrev pub CountsStay : Table → Table → Type 0
+CountsStay old new = (new.interrupts ≡ old.interrupts) × (new.fetched ≡ old.fetched) × (new.retired ≡ old.retired)
 
 -- room for what a cycle may add: as many rows as can be in flight, and an interrupt for each step
 pub record HasRoom (t : Table) : Type 0 where

@@ -40,8 +40,8 @@ abbrev pub standing_after : (Passages → Passages) → FollowedCycle → Standi
 standing_after keep cycle = record { number = cycle.after.cycle; reports = cycle.reports; kept = keep cycle.passages }
 
 -- and after several
-abbrev pub standing_behind : (Passages → Passages) → Standing → List Moment → Standing
-standing_behind keep standing moments = fold (λ before moment. standing_after keep (next_cycle before moment)) standing moments
+abbrev pub standing_after_all : (Passages → Passages) → Standing → List Moment → Standing
+standing_after_all keep standing moments = fold (λ before moment. standing_after keep (next_cycle before moment)) standing moments
 
 -- the cycles from there on
 abbrev pub walk_from : (Passages → Passages) → Standing → List Moment → List FollowedCycle
@@ -56,7 +56,7 @@ walk keep first moments = walk_from keep (standing_at first) moments
 
 -- the passages that are kept after its last cycle
 abbrev pub passages_after : (Passages → Passages) → Hardware → List Moment → Passages
-passages_after keep first moments = (standing_behind keep (standing_at first) moments).kept
+passages_after keep first moments = (standing_after_all keep (standing_at first) moments).kept
 
 -- from each cycle to the next all passages are kept
 abbrev pub all_kept : Passages → Passages

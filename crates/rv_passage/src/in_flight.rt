@@ -1,8 +1,7 @@
-ghost use Rattle.std.specs.Prelude.{◌≡◌, ◌+◌, ◌++◌, ◌≤◌, ◌<◌, [], ◌∷◌, Some, drop, is_some, length, option_copied, slice_get, vec_capacity};
-ghost use Rattle.std.specs.Option.{option_map, option_to_list};
+ghost use Rattle.std.specs.Prelude.{◌≡◌, ◌+◌, ◌++◌, ◌≤◌, ◌<◌, [], ◌∷◌, Some, is_some, length, option_copied, slice_get, vec_capacity};
 ghost use Rattle.rv_passage.specs.Numbers.{kept_through};
-ghost use Rattle.rv_passage.specs.Passage.{in_buffers, of_entry, of_fetched};
-ghost use Rattle.rv_passage.specs.Table.{AreShort, next_before};
+ghost use Rattle.rv_passage.specs.Passage.{in_buffers};
+ghost use Rattle.rv_passage.specs.Table.{AreShort, buffers_from, entry_before, next_before, word_before};
 ghost use Rattle.rv_passage.specs.declared.passage.Passage.{Passage};
 
 use crate::passage::Passage;
@@ -27,8 +26,8 @@ pub(crate) fn entry_at(rob: &Rob, place: usize) -> Option<&Entry>
     requires { place < length rob.now.entries }
     ensures { option_copied result ≡ slice_get rob.now.entries place }
 {
-    let behind = rob.len() - place;
-    rob.get(rob.next_number() - behind as u64)
+    let distance = rob.len() - place;
+    rob.get(rob.next_number() - distance as u64)
 }
 
 // Puts the instruction at a place among those in flight, the oldest at place 0, under a number at the end of rows that
@@ -64,7 +63,7 @@ pub(crate) fn put_present(
 
 // Whether an entry is there, and was fetched before a cycle.
 fn is_entry_before(entry: Option<&Entry>, cycle: u64) -> bool
-    ensures { result ≡ is_some (next_before cycle (option_to_list (option_map of_entry (option_copied entry.entry)))) }
+    ensures { result ≡ is_some (entry_before cycle (option_copied entry.entry)) }
 {
     match entry {
         Some(entry) => entry.fetched < cycle,
@@ -74,7 +73,7 @@ fn is_entry_before(entry: Option<&Entry>, cycle: u64) -> bool
 
 // The same of a word in the fetch buffer.
 fn is_word_before(fetched: Option<&Fetched>, cycle: u64) -> bool
-    ensures { result ≡ is_some (next_before cycle (option_to_list (option_map of_fetched (option_copied fetched.entry)))) }
+    ensures { result ≡ is_some (word_before cycle (option_copied fetched.entry)) }
 {
     match fetched {
         Some(fetched) => fetched.cycle < cycle,
@@ -84,7 +83,7 @@ fn is_word_before(fetched: Option<&Fetched>, cycle: u64) -> bool
 
 // The same of the one at a place of those in flight.
 fn is_before(rob: &Rob, front: &Front, place: usize, cycle: u64) -> bool
-    ensures { result ≡ is_some (next_before cycle (drop place (in_buffers rob.now front.now))) }
+    ensures { result ≡ is_some (next_before cycle (buffers_from place rob.now front.now)) }
 {
     let dispatched = rob.len();
     if place < dispatched {

@@ -1,10 +1,10 @@
-ghost use Rattle.std.specs.Prelude.{◌≡◌, ◌≤◌, true, drop, length};
+ghost use Rattle.std.specs.Prelude.{◌≡◌, ◌≤◌, drop, length};
 ghost use Rattle.rv_passage.specs.Passage.{in_buffers, retired_by, trapped_by};
 ghost use Rattle.rv_passage.specs.Shown.{AreStill};
 ghost use Rattle.rv_passage.specs.Table.{AreMovedOn, with_oldest};
 
 use crate::passage::Passage;
-use crate::rows::{move_on, retire_oldest, trap_oldest};
+use crate::rows::{RowsAre, move_on, retire_oldest, trap_oldest};
 use rv_front::Front;
 use rv_hardware::Row;
 use rv_isa::Cause;
@@ -36,12 +36,13 @@ pub(crate) fn move_kept_on(
     cycle: u64,
     rob: &Rob,
     front: &Front,
-    shown: bool,
+    rows_are: RowsAre,
 ) -> usize
     requires dropped { dropped ≤ length rows.old }
-    requires still { shown ≡ true → AreStill cycle (drop dropped rows.old) (in_buffers rob.now front.now) }
+    requires still { rows_are ≡ RowsAre.Current
+        → AreStill cycle (drop dropped rows.old) (in_buffers rob.now front.now) }
     ensures { AreMovedOn cycle (in_buffers rob.now front.now) (drop dropped rows.old) (drop dropped rows.new) result }
 {
     let (_, kept) = rows.split_at_mut(dropped);
-    move_on(kept, cycle, rob, front, shown)
+    move_on(kept, cycle, rob, front, rows_are)
 }

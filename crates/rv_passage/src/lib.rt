@@ -3,6 +3,7 @@
 //! The pictures and logs of a run stand on it.
 #![tactic(auto)]
 
+mod following;
 mod in_flight;
 mod kept;
 mod left;

@@ -1,10 +1,10 @@
-ghost use Rattle.std.specs.Prelude.{◌≡◌, ◌+◌, ◌^◌, ◌<◌, ◌≤◌, true, drop, take, length, is_some, slice_get, slice_set, Some, option_copied};
-ghost use Rattle.std.specs.Option.{option_map, option_to_list};
+ghost use Rattle.std.specs.Prelude.{◌≡◌, ◌+◌, ◌^◌, ◌<◌, ◌≤◌, true, take, length, is_some, slice_get, slice_set, Some, option_copied};
 ghost use Rattle.std.specs.List.{list_all, position, position_or_len};
-ghost use Rattle.rv_passage.specs.Passage.{in_buffers, is_in_flight, of_entry, of_fetched, retired_by, trapped_by};
+ghost use Rattle.rv_passage.specs.Passage.{in_buffers, is_in_flight, retired_by, trapped_by};
 ghost use Rattle.rv_passage.specs.declared.passage.Passage.{Passage};
 ghost use Rattle.rv_passage.specs.Shown.{AreStill, IsStillNext};
-ghost use Rattle.rv_passage.specs.Table.{AreMovedOn, gone_on, left_after, moved, next_before, with_oldest};
+ghost use Rattle.rv_passage.specs.Table.{AreMovedOn, buffers_from, gone_on, left_after, moved};
+ghost use Rattle.rv_passage.specs.Table.{entry_before, next_before, with_oldest, word_before};
 
 use crate::in_flight::entry_at;
 use crate::passage::Passage;
@@ -12,6 +12,15 @@ use rv_front::{Fetched, Front};
 use rv_hardware::Row;
 use rv_isa::Cause;
 use rv_rob::{Entry, Rob};
+
+// What rows say of the instructions that were in flight before the cycle that they are moved through.
+#[derive(Clone, Copy)]
+pub(crate) enum RowsAre {
+    // How each stood when the cycle began.
+    Current,
+    // How it stood then, or at the end of an earlier cycle.
+    Older,
+}
 
 // The place of the oldest instruction in flight.
 fn oldest_in_flight(rows: &[Passage]) -> Option<usize>
@@ -55,28 +64,25 @@ pub(crate) fn trap_oldest(rows: &mut [Passage], cause: Cause, cycle: u64)
     }
 }
 
-// An instruction in flight goes on as an entry, if there is one that was fetched before the cycle, or was squashed in it.
-// Answers whether it went on. Where the row is said to show how it stood at the end of the cycle before, only what may be new
-// since then is written.
+// An instruction in flight goes on as an entry, if there is one that was fetched before the cycle, or was squashed in
+// it. Answers whether it went on. Of a row that is current only what may be new is written.
 fn go_on_as_entry(
     row: &mut Passage,
     older: &[Passage],
     cycle: u64,
     entry: Option<&Entry>,
-    shown: bool,
+    rows_are: RowsAre,
 ) -> bool
     requires flies { is_in_flight row.old ≡ true }
-    requires still { shown ≡ true → IsStillNext row.old
-        (next_before cycle (option_to_list (option_map of_entry (option_copied entry)))) }
-    ensures gone { row.new ≡ gone_on cycle older.now (next_before cycle (option_to_list (option_map of_entry (option_copied entry.entry)))) row.old }
-    ensures went { result ≡ is_some (next_before cycle (option_to_list (option_map of_entry (option_copied entry.entry)))) }
+    requires still { rows_are ≡ RowsAre.Current → IsStillNext row.old (entry_before cycle (option_copied entry)) }
+    ensures gone { row.new ≡ gone_on cycle older.now (entry_before cycle (option_copied entry.entry)) row.old }
+    ensures went { result ≡ is_some (entry_before cycle (option_copied entry.entry)) }
 {
     match entry {
         Some(entry) if entry.fetched < cycle => {
-            if shown {
-                row.stand_on_as_entry(older, entry);
-            } else {
-                row.stand_as_entry(older, entry);
+            match rows_are {
+                RowsAre::Current => row.stand_on_as_entry(older, entry),
+                RowsAre::Older => row.stand_as_entry(older, entry),
             }
             true
         }
@@ -93,18 +99,18 @@ fn go_on_as_fetched(
     older: &[Passage],
     cycle: u64,
     fetched: Option<&Fetched>,
-    shown: bool,
+    rows_are: RowsAre,
 ) -> bool
     requires flies { is_in_flight row.old ≡ true }
-    requires still { shown ≡ true → IsStillNext row.old
-        (next_before cycle (option_to_list (option_map of_fetched (option_copied fetched)))) }
-    ensures gone { row.new ≡ gone_on cycle older.now (next_before cycle (option_to_list (option_map of_fetched (option_copied fetched.entry)))) row.old }
-    ensures went { result ≡ is_some (next_before cycle (option_to_list (option_map of_fetched (option_copied fetched.entry)))) }
+    requires still { rows_are ≡ RowsAre.Current → IsStillNext row.old (word_before cycle (option_copied fetched)) }
+    ensures gone { row.new ≡ gone_on cycle older.now (word_before cycle (option_copied fetched.entry)) row.old }
+    ensures went { result ≡ is_some (word_before cycle (option_copied fetched.entry)) }
 {
     match fetched {
         Some(fetched) if fetched.cycle < cycle => {
-            if !shown {
-                row.stand_as_fetched(older, fetched);
+            match rows_are {
+                RowsAre::Current => {}
+                RowsAre::Older => row.stand_as_fetched(older, fetched),
             }
             true
         }
@@ -123,23 +129,24 @@ fn go_on(
     rob: &Rob,
     front: &Front,
     next: usize,
-    shown: bool,
+    rows_are: RowsAre,
 ) -> bool
     requires flies { is_in_flight row.old ≡ true }
-    requires still { shown ≡ true → IsStillNext row.old (next_before cycle (drop next (in_buffers rob.now front.now))) }
-    ensures gone { row.new ≡ gone_on cycle older.now (next_before cycle (drop next (in_buffers rob.now front.now))) row.old }
-    ensures went { result ≡ is_some (next_before cycle (drop next (in_buffers rob.now front.now))) }
+    requires still { rows_are ≡ RowsAre.Current
+        → IsStillNext row.old (next_before cycle (buffers_from next rob.now front.now)) }
+    ensures gone { row.new ≡ gone_on cycle older.now (next_before cycle (buffers_from next rob.now front.now)) row.old }
+    ensures went { result ≡ is_some (next_before cycle (buffers_from next rob.now front.now)) }
 {
     let dispatched = rob.len();
     if next < dispatched {
-        go_on_as_entry(row, older, cycle, entry_at(rob, next), shown)
+        go_on_as_entry(row, older, cycle, entry_at(rob, next), rows_are)
     } else {
-        go_on_as_fetched(row, older, cycle, front.get(next - dispatched), shown)
+        go_on_as_fetched(row, older, cycle, front.get(next - dispatched), rows_are)
     }
 }
 
-// What comes after the older ones is moved on to a cycle's end, where what is in flight from a place on is for it and those after it.
-// Answers from which place on it is for those after it.
+// What comes after the older ones is moved on to a cycle's end, where what is in flight from a place on is for it and
+// those after it. Answers from which place on it is for those after it.
 fn move_next(
     row: &mut Passage,
     older: &[Passage],
@@ -147,19 +154,20 @@ fn move_next(
     rob: &Rob,
     front: &Front,
     next: usize,
-    shown: bool,
+    rows_are: RowsAre,
 ) -> usize
     requires room { next + 1 < 2 ^ 64 }
-    requires still { shown ≡ true → is_in_flight row.old ≡ true
-        → IsStillNext row.old (next_before cycle (drop next (in_buffers rob.now front.now))) }
-    ensures moved { row.new ≡ moved cycle older.now (drop next (in_buffers rob.now front.now)) row.old }
-    ensures left { drop result (in_buffers rob.now front.now) ≡ left_after cycle (drop next (in_buffers rob.now front.now)) row.old }
+    requires still { rows_are ≡ RowsAre.Current → is_in_flight row.old ≡ true
+        → IsStillNext row.old (next_before cycle (buffers_from next rob.now front.now)) }
+    ensures moved { row.new ≡ moved cycle older.now (buffers_from next rob.now front.now) row.old }
+    ensures left { buffers_from result rob.now front.now
+        ≡ left_after cycle (buffers_from next rob.now front.now) row.old }
     ensures few { result ≤ next + 1 }
 {
     if !row.is_in_flight() {
         return next;
     }
-    if go_on(row, older, cycle, rob, front, next, shown) {
+    if go_on(row, older, cycle, rob, front, next, rows_are) {
         next + 1
     } else {
         next
@@ -174,35 +182,39 @@ fn move_at(
     rob: &Rob,
     front: &Front,
     next: usize,
-    shown: bool,
+    rows_are: RowsAre,
 ) -> usize
     requires within { place < length rows.old }
-    requires behind { next ≤ place }
-    requires still { shown ≡ true → (p : Passage) → slice_get rows.old place ≡ Some p → is_in_flight p ≡ true
-        → IsStillNext p (next_before cycle (drop next (in_buffers rob.now front.now))) }
-    ensures moved { (p : Passage) → slice_get rows.old place ≡ Some p → rows.new ≡ slice_set rows.old place (moved cycle (take place rows.old) (drop next (in_buffers rob.now front.now)) p) }
-    ensures left { (p : Passage) → slice_get rows.old place ≡ Some p → drop result (in_buffers rob.now front.now) ≡ left_after cycle (drop next (in_buffers rob.now front.now)) p }
+    requires no_further { next ≤ place }
+    requires still { rows_are ≡ RowsAre.Current
+        → (p : Passage) → slice_get rows.old place ≡ Some p → is_in_flight p ≡ true
+        → IsStillNext p (next_before cycle (buffers_from next rob.now front.now)) }
+    ensures moved { (p : Passage) → slice_get rows.old place ≡ Some p
+        → rows.new ≡ slice_set rows.old place
+        (moved cycle (take place rows.old) (buffers_from next rob.now front.now) p) }
+    ensures left { (p : Passage) → slice_get rows.old place ≡ Some p
+        → buffers_from result rob.now front.now ≡ left_after cycle (buffers_from next rob.now front.now) p }
     ensures few { result ≤ next + 1 }
 {
     let (older, rest) = rows.split_at_mut(place);
-    move_next(&mut rest[0], older, cycle, rob, front, next, shown)
+    move_next(&mut rest[0], older, cycle, rob, front, next, rows_are)
 }
 
-// What was in flight before a cycle goes on as it stands at the cycle's end, or was squashed in it. Answers the place of the
-// first that was fetched in the cycle, among those in flight.
+// What was in flight before a cycle goes on as it stands at the cycle's end, or was squashed in it. Answers the place
+// of the first that was fetched in the cycle, among those in flight.
 pub(crate) fn move_on(
     rows: &mut [Passage],
     cycle: u64,
     rob: &Rob,
     front: &Front,
-    shown: bool,
+    rows_are: RowsAre,
 ) -> usize
-    requires { shown ≡ true → AreStill cycle rows.old (in_buffers rob.now front.now) }
+    requires { rows_are ≡ RowsAre.Current → AreStill cycle rows.old (in_buffers rob.now front.now) }
     ensures { AreMovedOn cycle (in_buffers rob.now front.now) rows.old rows.new result }
 {
     let mut next = 0;
     for place in 0..rows.len() {
-        next = move_at(rows, place, cycle, rob, front, next, shown);
+        next = move_at(rows, place, cycle, rob, front, next, rows_are);
     }
     next
 }

@@ -1,14 +1,15 @@
-ghost use Rattle.std.specs.Prelude.{◌≡◌, ◌+◌, ◌≤◌, ◌<◌, ◌^◌, [], ◌∷◌, true, Some, drop, filter, length, slice_get, take, vec_capacity, IfOk};
-ghost use Rattle.std.specs.List.{list_all, position_or_len};
+ghost use Rattle.std.specs.Prelude.{◌≡◌, ◌+◌, ◌≤◌, ◌<◌, ◌^◌, [], ◌∷◌, Some, drop, filter, length};
+ghost use Rattle.std.specs.Prelude.{slice_get, take, vec_capacity, IfOk};
+ghost use Rattle.std.specs.List.{list_all};
 ghost use Rattle.rv_hardware.specs.Lessons.{first_pc};
 ghost use Rattle.rv_passage.specs.Passage.{in_buffers, is_in_flight, trapped_by};
 ghost use Rattle.rv_passage.specs.declared.passage.Passage.{Passage};
 
-use crate::in_flight::{MOST_IN_FLIGHT, count_in_flight, count_kept, put_present};
+use crate::in_flight::{MOST_IN_FLIGHT, count_in_flight, put_present};
 use crate::kept::{move_kept_on, retire_kept, trap_kept};
 use crate::passage::Passage;
 use crate::put::put_last;
-use crate::rows::{are_in_flight, count_first_ended};
+use crate::rows::{RowsAre, are_in_flight, count_first_ended};
 use rv_front::Front;
 use rv_hardware::{Row, Step};
 use rv_isa::Cause;
@@ -36,15 +37,16 @@ pub struct Table {
     fetched: u64,
     retired: u64,
     // At least so many of the rows are in flight: all that are, from the end of a cycle on.
-    in_flight: usize,
+    pub(crate) in_flight: usize,
     ghost within: { dropped ≤ length rows.items },
     ghost known: { in_flight ≤ length (filter is_in_flight (drop dropped rows.items)) },
 }
 
 impl Table {
-    ghost use Rattle.rv_passage.specs.Numbers.{numbers_of};
     ghost use Rattle.rv_passage.specs.Shown.{AreStill};
-    ghost use Rattle.rv_passage.specs.Table.{AreMovedOn, AreShort, CanCount, HasRoom, after_steps, passages_of, still_open, table_from, with_fetched, with_oldest, with_rows, with_step, with_steps, without_squashed};
+    ghost use Rattle.rv_passage.specs.Table.{AreMovedOn, AreShort, CountsStay, HasRoom, buffers_from, passages_of, still_open};
+    ghost use Rattle.rv_passage.specs.Table.{table_from, with_fetched, with_oldest, with_rows, with_step, with_steps};
+    ghost use Rattle.rv_passage.specs.Table.{without_first_ended, without_squashed};
 
     /// A table that begins with what is in flight in two buffers, numbered from 0. It has room for two cycles.
     pub fn begin(alloc: Global, rob: &Rob, front: &Front) -> Result<Table, AllocError>
@@ -100,146 +102,11 @@ impl Table {
         self.interrupts.reserve(8)
     }
 
-    /// Notes what a cycle did that had these steps, and led to these buffers and to a pc, that of the oldest instruction that
-    /// is still to retire. Asks for no memory.
-    pub fn follow(&mut self, cycle: u64, steps: &[Step], rob: &Rob, front: &Front, pc: u32)
-        requires short { AreShort rob.now front.now }
-        requires room { HasRoom self.old }
-        requires countable { CanCount (passages_of self.old) }
-        requires few { length steps.now ≤ 8 }
-        ensures followed { passages_of self.new ≡ after_steps cycle steps.now rob.now front.now pc (passages_of self.old) }
-        ensures rows { vec_capacity self.new.rows ≡ vec_capacity self.old.rows }
-        ensures interrupts { vec_capacity self.new.interrupts ≡ vec_capacity self.old.interrupts }
-        ensures fetched { self.new.fetched ≤ self.old.fetched + 288 }
-        ensures retired { self.new.retired ≤ self.old.retired + 8 }
-        ensures open { length (still_open (passages_of self.new)).rows ≤ 288 }
-        ensures counted { self.new.in_flight ≡ length (filter is_in_flight (passages_of self.new).rows) }
-    {
-        self.follow_as(cycle, steps, rob, front, pc, false);
-    }
-
-    /// The same of a table whose rows show what was in flight before the cycle.
-    pub fn follow_on(&mut self, cycle: u64, steps: &[Step], rob: &Rob, front: &Front, pc: u32)
-        requires short { AreShort rob.now front.now }
-        requires room { HasRoom self.old }
-        requires countable { CanCount (passages_of self.old) }
-        requires few { length steps.now ≤ 8 }
-        requires still { AreStill cycle (with_steps steps.now pc (passages_of self.old)).rows (in_buffers rob.now front.now) }
-        ensures followed { passages_of self.new ≡ after_steps cycle steps.now rob.now front.now pc (passages_of self.old) }
-        ensures rows { vec_capacity self.new.rows ≡ vec_capacity self.old.rows }
-        ensures interrupts { vec_capacity self.new.interrupts ≡ vec_capacity self.old.interrupts }
-        ensures fetched { self.new.fetched ≤ self.old.fetched + 288 }
-        ensures retired { self.new.retired ≤ self.old.retired + 8 }
-        ensures open { length (still_open (passages_of self.new)).rows ≤ 288 }
-        ensures counted { self.new.in_flight ≡ length (filter is_in_flight (passages_of self.new).rows) }
-    {
-        self.follow_as(cycle, steps, rob, front, pc, true);
-    }
-
-    // The same, where `shown` may say that the rows show what was in flight before the cycle.
-    fn follow_as(
-        &mut self,
-        cycle: u64,
-        steps: &[Step],
-        rob: &Rob,
-        front: &Front,
-        pc: u32,
-        shown: bool,
-    )
-        requires short { AreShort rob.now front.now }
-        requires room { HasRoom self.old }
-        requires countable { CanCount (passages_of self.old) }
-        requires few { length steps.now ≤ 8 }
-        requires still { shown ≡ true
-            → AreStill cycle (with_steps steps.now pc (passages_of self.old)).rows (in_buffers rob.now front.now) }
-        ensures followed { passages_of self.new ≡ after_steps cycle steps.now rob.now front.now pc (passages_of self.old) }
-        ensures rows { vec_capacity self.new.rows ≡ vec_capacity self.old.rows }
-        ensures interrupts { vec_capacity self.new.interrupts ≡ vec_capacity self.old.interrupts }
-        ensures fetched { self.new.fetched ≤ self.old.fetched + 288 }
-        ensures retired { self.new.retired ≤ self.old.retired + 8 }
-        ensures open { length (still_open (passages_of self.new)).rows ≤ 288 }
-        ensures counted { self.new.in_flight ≡ length (filter is_in_flight (passages_of self.new).rows) }
-    {
-        self.clear_space();
-        self.follow_in_space(cycle, steps, rob, front, pc, shown);
-        self.in_flight = count_in_flight(rob, front);
-    }
-
-    // The same where there is room after the rows for a cycle.
-    fn follow_in_space(
-        &mut self,
-        cycle: u64,
-        steps: &[Step],
-        rob: &Rob,
-        front: &Front,
-        pc: u32,
-        shown: bool,
-    )
-        requires short { AreShort rob.now front.now }
-        requires room { length self.old.rows.items + 288 ≤ vec_capacity self.old.rows }
-        requires interrupts { length self.old.interrupts.items + 8 ≤ vec_capacity self.old.interrupts }
-        requires countable { CanCount (passages_of self.old) }
-        requires few { length steps.now ≤ 8 }
-        requires still { shown ≡ true
-            → AreStill cycle (with_steps steps.now pc (passages_of self.old)).rows (in_buffers rob.now front.now) }
-        ensures followed { passages_of self.new ≡ after_steps cycle steps.now rob.now front.now pc (passages_of self.old) }
-        ensures rows { vec_capacity self.new.rows ≡ vec_capacity self.old.rows }
-        ensures interrupts { vec_capacity self.new.interrupts ≡ vec_capacity self.old.interrupts }
-        ensures fetched { self.new.fetched ≤ self.old.fetched + 288 }
-        ensures retired { self.new.retired ≤ self.old.retired + 8 }
-        ensures open { length (still_open (passages_of self.new)).rows ≤ 288 }
-    {
-        self.take_steps(steps, pc);
-        let fetched = self.move_rows_on(cycle, rob, front, shown);
-        self.append_fetched(fetched, rob, front);
-    }
-
-    /// Notes of a cycle that had these steps, and led to these buffers and to a pc, by their numbers which instructions are in flight
-    /// at its end; what else it says of those may be what an earlier cycle left. Forgets the others. Asks for no memory.
-    pub fn follow_numbers(&mut self, cycle: u64, steps: &[Step], rob: &Rob, front: &Front, pc: u32)
-        requires short { AreShort rob.now front.now }
-        requires room { HasRoom self.old }
-        requires countable { CanCount (passages_of self.old) }
-        requires few { length steps.now ≤ 8 }
-        ensures followed { numbers_of (passages_of self.new) ≡ numbers_of (still_open (after_steps cycle steps.now rob.now front.now pc (passages_of self.old))) }
-        ensures rows { vec_capacity self.new.rows ≡ vec_capacity self.old.rows }
-        ensures interrupts { vec_capacity self.new.interrupts ≡ vec_capacity self.old.interrupts }
-        ensures fetched { self.new.fetched ≤ self.old.fetched + 288 }
-        ensures retired { self.new.retired ≤ self.old.retired + 8 }
-        ensures open { length (passages_of self.new).rows ≤ 288 }
-        ensures quiet { length (passages_of self.new).interrupts ≡ 0 }
-        ensures counted { self.new.in_flight ≡ length (filter is_in_flight (passages_of self.new).rows) }
-    {
-        self.renew_numbers(cycle, steps, rob, front, pc);
-        self.in_flight = count_in_flight(rob, front);
-    }
-
-    // The same, where those in flight are not counted.
-    fn renew_numbers(&mut self, cycle: u64, steps: &[Step], rob: &Rob, front: &Front, pc: u32)
-        requires short { AreShort rob.now front.now }
-        requires room { HasRoom self.old }
-        requires countable { CanCount (passages_of self.old) }
-        requires few { length steps.now ≤ 8 }
-        ensures followed { numbers_of (passages_of self.new) ≡ numbers_of (still_open (after_steps cycle steps.now rob.now front.now pc (passages_of self.old))) }
-        ensures rows { vec_capacity self.new.rows ≡ vec_capacity self.old.rows }
-        ensures interrupts { vec_capacity self.new.interrupts ≡ vec_capacity self.old.interrupts }
-        ensures fetched { self.new.fetched ≤ self.old.fetched + 288 }
-        ensures retired { self.new.retired ≤ self.old.retired + 8 }
-        ensures open { length (passages_of self.new).rows ≤ 288 }
-        ensures quiet { length (passages_of self.new).interrupts ≡ 0 }
-    {
-        self.take_steps(steps, pc);
-        self.drop_ended();
-        self.clear_space();
-        let kept = count_kept(rob, front, cycle, self.rows().len());
-        self.keep(kept);
-        self.append_fetched(kept, rob, front);
-    }
-
     // Forgets all but so many of the oldest.
-    fn keep(&mut self, count: usize)
+    pub(crate) fn keep(&mut self, count: usize)
         requires { count ≤ length (passages_of self.old).rows }
-        ensures kept { passages_of self.new ≡ with_rows (take count (passages_of self.old).rows) (passages_of self.old) }
+        ensures kept { passages_of self.new
+            ≡ with_rows (take count (passages_of self.old).rows) (passages_of self.old) }
         ensures len { length self.new.rows.items ≤ length self.old.rows.items }
         ensures capacity { vec_capacity self.new.rows ≡ vec_capacity self.old.rows }
         ensures interrupts { self.new.interrupts ≡ self.old.interrupts }
@@ -249,7 +116,7 @@ impl Table {
     }
 
     // Moves the rows to the front where there is no room after them for a cycle.
-    fn clear_space(&mut self)
+    pub(crate) fn clear_space(&mut self)
         requires { length (passages_of self.old).rows + 288 ≤ vec_capacity self.old.rows }
         ensures same { passages_of self.new ≡ passages_of self.old }
         ensures room { length self.new.rows.items + 288 ≤ vec_capacity self.new.rows }
@@ -276,7 +143,7 @@ impl Table {
     }
 
     // Ends an instruction for each step, or notes an interrupt. After the last the program goes on at `next`.
-    fn take_steps(&mut self, steps: &[Step], next: u32)
+    pub(crate) fn take_steps(&mut self, steps: &[Step], next: u32)
         requires countable { self.old.retired + 8 < 2 ^ 64 }
         requires room { length self.old.interrupts.items + 8 ≤ vec_capacity self.old.interrupts }
         requires few { length steps.now ≤ 8 }
@@ -291,9 +158,17 @@ impl Table {
     }
 
     // What was in flight before a cycle goes on, or was squashed in it.
-    fn move_rows_on(&mut self, cycle: u64, rob: &Rob, front: &Front, shown: bool) -> usize
-        requires { shown ≡ true → AreStill cycle (passages_of self.old).rows (in_buffers rob.now front.now) }
-        ensures rows { AreMovedOn cycle (in_buffers rob.now front.now) (passages_of self.old).rows (passages_of self.new).rows result }
+    pub(crate) fn move_rows_on(
+        &mut self,
+        cycle: u64,
+        rob: &Rob,
+        front: &Front,
+        rows_are: RowsAre,
+    ) -> usize
+        requires { rows_are ≡ RowsAre.Current
+            → AreStill cycle (passages_of self.old).rows (in_buffers rob.now front.now) }
+        ensures rows { AreMovedOn cycle (in_buffers rob.now front.now)
+            (passages_of self.old).rows (passages_of self.new).rows result }
         ensures kept { length (passages_of self.new).rows ≡ length (passages_of self.old).rows }
         ensures others { passages_of self.new ≡ with_rows (passages_of self.new).rows (passages_of self.old) }
         ensures len { length self.new.rows.items ≡ length self.old.rows.items }
@@ -307,7 +182,7 @@ impl Table {
             cycle,
             rob,
             front,
-            shown,
+            rows_are,
         )
     }
 
@@ -332,13 +207,14 @@ impl Table {
         ensures counted { self.old.in_flight ≤ self.new.in_flight + 1 }
         ensures len { length self.new.rows.items ≡ length self.old.rows.items }
         ensures capacity { vec_capacity self.new.rows ≡ vec_capacity self.old.rows }
-        ensures others { (self.new.interrupts ≡ self.old.interrupts) × (self.new.fetched ≡ self.old.fetched) × (self.new.retired ≡ self.old.retired) }
+        ensures others { CountsStay self.old self.new }
     {
         trap_kept(self.rows.as_mut_slice(), self.dropped, cause, cycle);
         self.in_flight = self.in_flight.saturating_sub(1);
     }
 
-    // Ends the oldest instruction in flight by a step, after which the program goes on at `next`, or notes an interrupt.
+    // Ends the oldest instruction in flight by a step, after which the program goes on at `next`, or notes an
+    // interrupt.
     fn take_step(&mut self, step: &Step, next: u32)
         requires countable { self.old.retired + 1 < 2 ^ 64 }
         requires room { length self.old.interrupts.items < vec_capacity self.old.interrupts }
@@ -355,11 +231,12 @@ impl Table {
     }
 
     // Numbers the instructions in flight from a place on, and appends them.
-    fn append_fetched(&mut self, from: usize, rob: &Rob, front: &Front)
+    pub(crate) fn append_fetched(&mut self, from: usize, rob: &Rob, front: &Front)
         requires short { AreShort rob.now front.now }
         requires room { length self.old.rows.items + 288 ≤ vec_capacity self.old.rows }
         requires countable { self.old.fetched + 288 < 2 ^ 64 }
-        ensures appended { passages_of self.new ≡ with_fetched (drop from (in_buffers rob.now front.now)) (passages_of self.old) }
+        ensures appended { passages_of self.new
+            ≡ with_fetched (buffers_from from rob.now front.now) (passages_of self.old) }
         ensures capacity { vec_capacity self.new.rows ≡ vec_capacity self.old.rows }
         ensures interrupts { self.new.interrupts ≡ self.old.interrupts }
         ensures few { length (in_buffers rob.now front.now) ≤ 288 }
@@ -374,7 +251,8 @@ impl Table {
         requires within { place < length (in_buffers rob.now front.now) }
         requires room { length self.old.rows.items < vec_capacity self.old.rows }
         requires countable { self.old.fetched + 1 < 2 ^ 64 }
-        ensures appended { (now : Passage) → slice_get (in_buffers rob.now front.now) place ≡ Some now → passages_of self.new ≡ with_fetched (now ∷ []) (passages_of self.old) }
+        ensures appended { (now : Passage) → slice_get (in_buffers rob.now front.now) place ≡ Some now
+            → passages_of self.new ≡ with_fetched (now ∷ []) (passages_of self.old) }
         ensures len { length self.new.rows.items ≡ length self.old.rows.items + 1 }
         ensures capacity { vec_capacity self.new.rows ≡ vec_capacity self.old.rows }
         ensures interrupts { self.new.interrupts ≡ self.old.interrupts }
@@ -395,7 +273,7 @@ impl Table {
 
     // Forgets the first instructions, up to the oldest in flight.
     fn drop_first_ended(&mut self)
-        ensures rows { (passages_of self.new).rows ≡ drop (position_or_len is_in_flight (passages_of self.old).rows) (passages_of self.old).rows }
+        ensures rows { (passages_of self.new).rows ≡ without_first_ended (passages_of self.old).rows }
         ensures opened { still_open (passages_of self.new) ≡ still_open (passages_of self.old) }
         ensures capacity { vec_capacity self.new.rows ≡ vec_capacity self.old.rows }
         ensures interrupts { self.new.interrupts ≡ self.old.interrupts }
@@ -414,7 +292,7 @@ impl Table {
     fn move_open_to_front(&mut self)
         ensures rows { (passages_of self.new).rows ≡ filter is_in_flight (passages_of self.old).rows }
         ensures capacity { vec_capacity self.new.rows ≡ vec_capacity self.old.rows }
-        ensures others { (self.new.interrupts ≡ self.old.interrupts) × (self.new.fetched ≡ self.old.fetched) × (self.new.retired ≡ self.old.retired) }
+        ensures others { CountsStay self.old self.new }
     {
         self.move_to_front();
         self.in_flight = 0;
@@ -425,7 +303,7 @@ impl Table {
     fn drop_other_ended(&mut self)
         ensures rows { (passages_of self.new).rows ≡ filter is_in_flight (passages_of self.old).rows }
         ensures capacity { vec_capacity self.new.rows ≡ vec_capacity self.old.rows }
-        ensures others { (self.new.interrupts ≡ self.old.interrupts) × (self.new.fetched ≡ self.old.fetched) × (self.new.retired ≡ self.old.retired) }
+        ensures others { CountsStay self.old self.new }
     {
         if !self.all_are_in_flight() {
             self.move_open_to_front();

@@ -15,7 +15,7 @@ has_run {moments = moments} goes = (moments, goes)
 
 pub has_run_on : {arrivals : List Arrival} {old middle new : GuidedHardware}
     → HasRun arrivals old middle → HasRun arrivals middle new → HasRun arrivals old new
-has_run_on (moments, goes) (more, behind) = (moments ++ more, History-append goes behind)
+has_run_on (moments, goes) (more, after) = (moments ++ more, History-append goes after)
 
 -- what holds of an error
 pub on_err : {T E P : Type 0} (r : Result T E) → P → OnErr r P

@@ -28,10 +28,11 @@ pub record IsFollowedOn (cycle : ℕ) (steps : List Step) (after : Hardware) (ol
   pub retired : new.retired ≤ old.retired + 8
   pub few : length (still_open (passages_of new)).rows ≤ 288
 
--- A table that knows by their numbers which instructions are in flight after a cycle with these steps, which left the hardware; its room is no
--- less, and at most so much is counted.
+-- A table that knows by their numbers which instructions are in flight after a cycle with these steps, which left the
+-- hardware; its room is no less, and at most so much is counted.
 pub record IsNumberedOn (cycle : ℕ) (steps : List Step) (after : Hardware) (old new : Table) : Type 0 where
-  pub followed : numbers_of (passages_of new) ≡ numbers_of (still_open (after_cycle cycle steps after (passages_of old)))
+  pub followed : numbers_of (passages_of new) ≡
+      numbers_of (still_open (after_cycle cycle steps after (passages_of old)))
   pub rows : vec_capacity old.rows ≤ vec_capacity new.rows
   pub interrupts : vec_capacity old.interrupts ≤ vec_capacity new.interrupts
   pub fetched : new.fetched ≤ old.fetched + 288

@@ -1,6 +1,6 @@
 -- What a view of a run is shown and says, and what a run comes to that a view is shown.
--- Read it from its end: `IsViewedRun` is what `run_view` says of the cycles, that the view has seen them all, and that its text of them was
--- said. What it means to have seen them, and the text, each view says itself.
+-- Read it from its end: `IsViewedRun` is what `run_view` says of the cycles, that the view has seen them all, and that
+-- its text of them was said. What it means to have seen them, and the text, each view says itself.
 use Rattle.std.specs.Prelude.{◌≡◌, ℕ, ◌≤◌, List, [], ◌∷◌, ◌++◌, length, Bool, Option, Result}
 use Rattle.rv_isa.specs.declared.lines.Arrival.{Arrival}
 use Rattle.rv_arch.specs.declared.outcome.Stop.{Stop}
@@ -32,10 +32,15 @@ abbrev pub cycles_seen : Watched → List FollowedCycle
 cycles_seen seen = walk still_open seen.first.hardware seen.moments
 
 -- the next one
-abbrev pub cycle_shown : {cycle : ℕ} {steps : List Step} {after : Hardware} {progress : Progress} (seen : Watched) → IsShown seen cycle steps after progress → FollowedCycle
+abbrev pub cycle_shown : {cycle : ℕ} {steps : List Step} {after : Hardware} {progress : Progress} (seen : Watched) →
+    IsShown seen cycle steps after progress → FollowedCycle
 cycle_shown {after = after} seen shown =
     next_cycle
-    (record { number = seen.now.hardware.cycle; reports = reports_of seen.moments; kept = passages_after still_open seen.first.hardware seen.moments })
+    (record {
+      number = seen.now.hardware.cycle;
+      reports = reports_of seen.moments;
+      kept = passages_after still_open seen.first.hardware seen.moments;
+    })
     (record { report = shown.report; after = after })
 
 -- the next cycle is shown, and with it what became of the instructions that were in flight before it or fetched in it
@@ -46,32 +51,41 @@ pub record IsNextCycle (seen : Watched) (cycle : ShownCycle) : Type 0 where
 
 -- whatever a view had seen, it has seen still
 abbrev pub HasSeenStill : {V : Type 0} → Seeing V → V → V → Type 0
-HasSeenStill {V} has_seen view view' = (start : V) (seen : Watched) → has_seen start view seen → has_seen start view' seen
+HasSeenStill {V} has_seen view view' =
+    (start : V) (seen : Watched) → has_seen start view seen → has_seen start view' seen
 
 -- a view that has seen the cycles before is shown the next one
 abbrev pub IsShownNext : {V : Type 0} → Seeing V → V → ShownCycle → Type 0
-IsShownNext {V} has_seen view cycle = (start : V) × (seen : Watched) × IsNextCycle seen cycle × has_seen start view seen
+IsShownNext {V} has_seen view cycle =
+    (start : V) × (seen : Watched) × IsNextCycle seen cycle × has_seen start view seen
 
 -- whatever a view had seen, it has seen it with the next cycle
 abbrev pub SeesNext : {V : Type 0} → Seeing V → V → V → ShownCycle → Type 0
 SeesNext {V} has_seen view view' cycle =
-    (start : V) (seen : Watched) (next : IsNextCycle seen cycle) → has_seen start view seen → has_seen start view' (with_shown seen next.shown)
+    (start : V) (seen : Watched) (next : IsNextCycle seen cycle) → has_seen start view seen →
+    has_seen start view' (with_shown seen next.shown)
 
 -- and says what its text has more with that cycle
-abbrev pub SaysNext : {V W : Type 0} → Seeing V → Saying V → (W → Option (List ℕ)) → V → ShownCycle → Sink W → Sink W → Type 0
+abbrev pub SaysNext : {V W : Type 0} → Seeing V → Saying V → (W → Option (List ℕ)) → V → ShownCycle → Sink W → Sink W →
+    Type 0
 SaysNext {V} has_seen text contents view cycle out out' =
     (start : V) (seen : Watched) (next : IsNextCycle seen cycle) → has_seen start view seen →
     (more : List ℕ) × Says contents out out' more ×
-    (text start seen.first.hardware (cycles_seen seen ++ cycle_shown seen next.shown ∷ []) ≡ text start seen.first.hardware (cycles_seen seen) ++ more)
+    (text start seen.first.hardware (cycles_seen seen ++ cycle_shown seen next.shown ∷ []) ≡
+    text start seen.first.hardware (cycles_seen seen) ++ more)
 
--- a view has seen the cycles so far, a table has what is in flight after them, and the view's text of them is said after what was said before
-pub record IsViewing {V : Type 0} (has_seen : Seeing V) (text : Saying V) (start view : V) (was failed : Bool) (table : Table) (seen : Watched) (before now : Option (List ℕ)) : Type 0 where
+-- a view has seen the cycles so far, a table has what is in flight after them, and the view's text of them is said after
+-- what was said before
+pub record IsViewing {V : Type 0} (has_seen : Seeing V) (text : Saying V) (start view : V) (was failed : Bool)
+    (table : Table) (seen : Watched) (before now : Option (List ℕ)) : Type 0 where
   pub sees : has_seen start view seen
   pub kept : HasOpen seen.first.hardware seen.moments seen.now.hardware table
   pub said : Extends was failed before now (text start seen.first.hardware (cycles_seen seen))
 
 -- a run of at most `limit` cycles: each is counted, and each is shown to a view, in order, which says its text of them
-pub record IsViewedRun {V Refusal : Type 0} (has_seen : Seeing V) (text : Saying V) (arrivals : List Arrival) (limit : ℕ) (old new : GuidedHardware) (view view' : V) (table : Table) (progress : Progress) (end : Result Stop Refusal) (was failed : Bool) (before now : Option (List ℕ)) : Type 0 where
+pub record IsViewedRun {V Refusal : Type 0} (has_seen : Seeing V) (text : Saying V) (arrivals : List Arrival) (limit : ℕ)
+    (old new : GuidedHardware) (view view' : V) (table : Table) (progress : Progress) (end : Result Stop Refusal)
+    (was failed : Bool) (before now : Option (List ℕ)) : Type 0 where
   pub moments : List Moment
   pub passes : History arrivals old moments new
   pub counted : progress ≡ progress_of (reports_of moments)

@@ -9,8 +9,8 @@ use rv_hardware::Step;
 use rv_passage::{Passage, Table};
 use std::alloc::{AllocError, Global};
 
-/// What it takes to follow a run: a table of what is in flight, with room for two cycles, and a list with room for the steps of
-/// a cycle.
+/// What it takes to follow a run: a table of what is in flight, with room for two cycles, and a list with room for the
+/// steps of a cycle.
 #[derive(Drop)]
 pub struct Following {
     pub(crate) table: Table,
@@ -68,7 +68,8 @@ pub fn follow_on(table: &mut Table, cycle: u64, steps: &[Step], pipeline: &Pipel
     requires room { HasRoom table.old }
     requires countable { CanCount (passages_of table.old) }
     requires few { length steps.now ≤ 8 }
-    requires still { AreStill cycle (with_steps steps.now pipeline.now.pc (passages_of table.old)).rows (in_flight pipeline.now) }
+    requires still { AreStill cycle (with_steps steps.now pipeline.now.pc (passages_of table.old)).rows
+        (in_flight pipeline.now) }
     ensures { IsFollowedOn cycle steps.now pipeline.now table.old table.new }
 {
     // Of hardware that a reset and cycles lead to, the buffers are as long as described.
@@ -83,8 +84,9 @@ pub fn follow_on(table: &mut Table, cycle: u64, steps: &[Step], pipeline: &Pipel
     );
 }
 
-/// Notes of such a cycle by their numbers alone which instructions are in flight at its end, for cycles that are not shown: what else
-/// the table says of them may be what an earlier cycle left. The next cycle that `follow` follows gives that too. Asks for no memory.
+/// Notes of such a cycle by their numbers alone which instructions are in flight at its end, for cycles that are not
+/// shown: what else the table says of them may be what an earlier cycle left. The next cycle that `follow` follows gives
+/// that too. Asks for no memory.
 pub fn follow_numbers(table: &mut Table, cycle: u64, steps: &[Step], pipeline: &Pipeline)
     requires room { HasRoom table.old }
     requires countable { CanCount (passages_of table.old) }

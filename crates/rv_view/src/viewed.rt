@@ -44,7 +44,8 @@ impl<V: View> Watcher for Follower<V> {
 
     type Refusal = V::Refusal;
 
-    ghost has_seen = { λ start follower seen before now. IsViewing V.has_seen V.text start.view follower.view start.has_failed follower.has_failed follower.table seen before now };
+    ghost has_seen = { λ start follower seen before now. IsViewing V.has_seen V.text start.view follower.view
+        start.has_failed follower.has_failed follower.table seen before now };
 
     ghost has_room = { λ follower. V.has_room follower.view };
 
@@ -75,10 +76,11 @@ impl<V: View> Watcher for Follower<V> {
     }
 }
 
-/// Runs a pipeline that a predictor guides, each cycle with the lines of its number, up to a breakpoint, a stale word, exhaustion
-/// or `limit` cycles, as `watch` does, and shows each cycle to a view, with what became of the instructions that were in flight
-/// before it or fetched in it. What the view says is written as far as no write fails, or has failed before. Asks for no memory but
-/// what the view asks for before a cycle; where it refuses, the pipeline stands at the end of its last whole cycle.
+/// Runs a pipeline that a predictor guides, each cycle with the lines of its number, up to a breakpoint, a stale word,
+/// exhaustion or `limit` cycles, as `watch` does, and shows each cycle to a view, with what became of the instructions that
+/// were in flight before it or fetched in it. What the view says is written as far as no write fails, or has failed before.
+/// Asks for no memory but what the view asks for before a cycle; where it refuses, the pipeline stands at the end of its
+/// last whole cycle.
 pub fn run_view<V: View, W: Write>(
     pipeline: &mut Pipeline,
     predictor: &mut dyn Predictor,
@@ -90,8 +92,11 @@ pub fn run_view<V: View, W: Write>(
     writer: &mut W,
 ) -> Viewed<V, V::Refusal>
     requires follows { FollowsFrom pipeline.old following }
-    requires ready { V.has_seen view view (watched arrivals.now (guided pipeline.old (known predictor.old)) [] (guided pipeline.old (known predictor.old))) }
-    ensures { IsViewedRun V.has_seen V.text arrivals.now limit (guided pipeline.old (known predictor.old)) (guided pipeline.new (known predictor.new)) view result.view result.table result.progress result.stop has_failed result.has_failed (W.contents writer.old) (W.contents writer.new) }
+    requires ready { V.has_seen view view
+        (watched arrivals.now (guided pipeline.old (known predictor.old)) [] (guided pipeline.old (known predictor.old))) }
+    ensures { IsViewedRun V.has_seen V.text arrivals.now limit (guided pipeline.old (known predictor.old))
+        (guided pipeline.new (known predictor.new)) view result.view result.table result.progress result.stop has_failed
+        result.has_failed (W.contents writer.old) (W.contents writer.new) }
 {
     let Following { table, steps } = following;
     let mut follower = Follower {

@@ -13,6 +13,6 @@ returns-then-place-dispatched c =
 pub returns-else-place-dispatched : goal.returns-else-place-dispatched
 returns-else-place-dispatched c =
     let now = in_buffers c.args.rob.now c.args.front.now in
-    let behind = ap (λ k. slice_get c.args.front.now.entries (c.args.place - k)) c.len-dispatched.ensures.count in
-    let here = word_here c.args.rob.now c.args.front.now c.args.place _ (omega (arith, c.len-dispatched.ensures.count)) (c.get.ensures ∙ behind) in
+    let same_place = ap (λ k. slice_get c.args.front.now.entries (c.args.place - k)) c.len-dispatched.ensures.count in
+    let here = word_here c.args.rob.now c.args.front.now c.args.place _ (omega (arith, c.len-dispatched.ensures.count)) (c.get.ensures ∙ same_place) in
     c.is_word_before.ensures ∙ ap is_some (next-found c.args.cycle c.args.place now _ here)

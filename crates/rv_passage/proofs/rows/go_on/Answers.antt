@@ -19,8 +19,8 @@ returns-then-next-dispatched c =
 pub returns-else-next-dispatched : goal.returns-else-next-dispatched
 returns-else-next-dispatched c =
     let now = in_buffers c.args.rob.now c.args.front.now in
-    let behind = ap (λ k. slice_get c.args.front.now.entries (c.args.next - k)) c.len-dispatched.ensures.count in
-    let here = word_here c.args.rob.now c.args.front.now c.args.next _ (omega (arith, c.len-dispatched.ensures.count)) (c.get.ensures ∙ behind) in
+    let same_place = ap (λ k. slice_get c.args.front.now.entries (c.args.next - k)) c.len-dispatched.ensures.count in
+    let here = word_here c.args.rob.now c.args.front.now c.args.next _ (omega (arith, c.len-dispatched.ensures.count)) (c.get.ensures ∙ same_place) in
     let next = next-found c.args.cycle c.args.next now _ here in
     record {
       gone = c.go_on_as_fetched.ensures.gone ∙ ap (λ o. gone_on c.args.cycle c.args.older.now o c.args.row.now) next;
@@ -37,7 +37,7 @@ go_on_as_entry-requires-clause-still c = λ told.
 pub go_on_as_fetched-requires-clause-still : goal.go_on_as_fetched-requires-clause-still
 go_on_as_fetched-requires-clause-still c = λ told.
     let now = in_buffers c.args.rob.now c.args.front.now in
-    let behind = ap (λ k. slice_get c.args.front.now.entries (c.args.next - k)) c.len-dispatched.ensures.count in
-    let here = word_here c.args.rob.now c.args.front.now c.args.next _ (omega (arith, c.len-dispatched.ensures.count)) (c.get.ensures ∙ behind) in
+    let same_place = ap (λ k. slice_get c.args.front.now.entries (c.args.next - k)) c.len-dispatched.ensures.count in
+    let here = word_here c.args.rob.now c.args.front.now c.args.next _ (omega (arith, c.len-dispatched.ensures.count)) (c.get.ensures ∙ same_place) in
     let next = next-found c.args.cycle c.args.next now _ here in
     subst (IsStillNext c.args.row.now) (sym next) (c.requires.still told)

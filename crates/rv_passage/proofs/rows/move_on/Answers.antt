@@ -16,7 +16,7 @@ loop-place-preserved c =
       | inl (p, _, there, read) ↦ record {
         moved = moved-here c.args.cycle c.args.rows.now now c.loop-place.rows c.move_at-next.new.rows c.loop-place.place c.loop-place.next c.move_at-next.result p within (sym read) c.loop-place.invariant.moved
             (c.move_at-next.ensures.moved p there) (c.move_at-next.ensures.left p there);
-        behind = omega (arith, c.move_at-next.ensures.few, c.loop-place.invariant.behind);
+        no_further = omega (arith, c.move_at-next.ensures.few, c.loop-place.invariant.no_further);
         still = λ told.
             let place = c.loop-place.place in
             let left = drop c.loop-place.next now in

@@ -6,4 +6,6 @@ pub begin-requires : goal.begin-requires
 begin-requires c = short_buffers c.cycles_done.ensures.reached c.reorder_buffer.ensures c.front.ensures
 
 pub returns : goal.returns
-returns c = begins_at c.args.pipeline.now c.begin.result c.reorder_buffer.ensures c.front.ensures c.begin.ensures.table c.begin.ensures.few c.begin.ensures.room c.begin.ensures.rows c.begin.ensures.interrupts
+returns c =
+    begins_at c.args.pipeline.now c.reorder_buffer.ensures c.front.ensures c.begin.result c.begin.ensures.table
+    c.begin.ensures.few c.begin.ensures.room c.begin.ensures.rows c.begin.ensures.interrupts

@@ -1,4 +1,4 @@
-use Rattle.std.proofs.Common.{◌≡◌, ◌∙◌, [], filter, length, ap, arith}
+use Rattle.std.proofs.Common.{◌≡◌, ◌∙◌, [], ℕ, Vec, Global, filter, length, vec_capacity, ap, arith}
 use Rattle.rv_passage.specs.Passage.{in_buffers, is_in_flight}
 use Rattle.rv_passage.specs.Table.{Passages, after_steps, passages_of, with_steps}
 use Rattle.rv_passage.proofs.Dropped.{buffers-open}
@@ -6,7 +6,8 @@ use Rattle.rv_passage.proofs.MovesOn.{as_many-moves, moves_on}
 use Rattle.rv_passage.proofs.table.Table.follow_as.Goals as goal
 
 -- as many are in flight as the buffers hold
-counted : (c : goal.After-count_in_flight-self) → c.count_in_flight-self.result ≡ length (filter is_in_flight (passages_of c.follow_in_space.new.self).rows)
+counted : (c : goal.After-count_in_flight-self) →
+    c.count_in_flight-self.result ≡ length (filter is_in_flight (passages_of c.follow_in_space.new.self).rows)
 counted c =
     let now = in_buffers c.args.rob.now c.args.front.now in
     let ended = with_steps c.args.steps.now c.args.pc (passages_of c.clear_space.new.self) in
@@ -22,4 +23,14 @@ returns-clause-counted c = counted c.before
 
 pub returns-clause-followed : goal.returns-clause-followed
 returns-clause-followed c =
-    c.follow_in_space.ensures.followed ∙ ap (after_steps c.args.cycle c.args.steps.now c.args.rob.now c.args.front.now c.args.pc) c.clear_space.ensures.same
+    let on = c.follow_in_space.ensures in
+    let space = c.clear_space.ensures in
+    let after = after_steps c.args.cycle c.args.steps.now c.args.rob.now c.args.front.now c.args.pc in
+    record {
+      followed = on.followed ∙ ap after space.same;
+      rows = on.rows ∙ space.capacity;
+      interrupts = on.interrupts ∙ ap (λ (v : Vec ℕ Global). vec_capacity v) space.interrupts;
+      fetched = omega (arith, on.fetched, ap (λ (t : Passages). t.fetched) space.same);
+      retired = omega (arith, on.retired, ap (λ (t : Passages). t.retired) space.same);
+      few = on.few;
+    }

@@ -10,7 +10,8 @@ use Rattle.rv_passage.proofs.Numbers.{open-again}
 use Rattle.rv_passage.proofs.table.Table.follow_numbers.Goals as goal
 
 -- as many are in flight as the buffers hold
-counted : (c : goal.After-count_in_flight-self) → c.count_in_flight-self.result ≡ length (filter is_in_flight (passages_of c.renew_numbers.new.self).rows)
+counted : (c : goal.After-count_in_flight-self) →
+    c.count_in_flight-self.result ≡ length (filter is_in_flight (passages_of c.renew_numbers.new.self).rows)
 counted c =
     let now = in_buffers c.args.rob.now c.args.front.now in
     let old = passages_of c.args.self.now in
@@ -34,3 +35,16 @@ invariant_of-self-clause-known c = omega (arith, counted c)
 
 pub returns-clause-counted : goal.returns-clause-counted
 returns-clause-counted c = counted c.before
+
+pub returns-clause-followed : goal.returns-clause-followed
+returns-clause-followed c =
+    let on = c.renew_numbers.ensures in
+    record {
+      followed = on.followed;
+      rows = on.rows;
+      interrupts = on.interrupts;
+      fetched = on.fetched;
+      retired = on.retired;
+      few = on.few;
+      quiet = on.quiet;
+    }

@@ -58,7 +58,7 @@ returns c =
       interrupts = interrupts ∙ c.drop_ended.ensures.interrupts ∙ c.take_steps.ensures.interrupts;
       fetched = omega (arith, fetched, within.fetched, length-drop kept now, c.append_fetched.ensures.few);
       retired = omega (arith, retired, within.retired, c.requires.few);
-      «open» = omega (
+      few = omega (
         arith,
         ap (λ (t : Passages). length t.rows) whole,
         length-append (take kept rows) added,
