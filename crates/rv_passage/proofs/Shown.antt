@@ -1,13 +1,15 @@
 -- The rows of a table that follows a run show what is in flight, so through the next cycle most of each stays.
 use Rattle.std.proofs.Common.{◌≡◌, ◌∙◌, ℕ, ◌+◌, nat_lt, true, false, List, [], ◌∷◌, ◌++◌, filter, map, drop}
-use Rattle.std.proofs.Common.{Some, None, refl, sym, ap, subst, arith, inl, inr, le-ltb, slice_get}
+use Rattle.std.proofs.Common.{Option, Some, None, refl, sym, ap, subst, arith, inl, inr, le-ltb, slice_get}
 use Rattle.std.proofs.lemmas.Bool.{cases_Bool, false≢true}
 use Rattle.rv_hardware.proofs.Words.{Each}
 use Rattle.rv_isa.specs.declared.lines.Arrival.{Arrival}
 use Rattle.rv_isa.specs.declared.lines.Lines.{Lines}
 use Rattle.rv_front.specs.FetchBuffer.{Answers}
 use Rattle.rv_front.specs.declared.fetched.Fetched.{Fetched}
+use Rattle.rv_rob.specs.Entry.{issue_of}
 use Rattle.rv_rob.specs.declared.entry.Entry.{Entry}
+use Rattle.rv_rob.specs.declared.entry.Stage.TheVariants.{Waiting}
 use Rattle.rv_hardware.specs.Cycle.{IsCycle}
 use Rattle.rv_hardware.specs.Guided.{GuidedHardware, IsGuidedCycle}
 use Rattle.rv_hardware.specs.Hardware.{Hardware}
@@ -20,13 +22,15 @@ use Rattle.rv_hardware.specs.declared.step.Step.{Step}
 use Rattle.rv_hardware.specs.declared.step.Step.TheVariants as step
 use Rattle.rv_hardware.proofs.Onward.{cycle-goes_on}
 use Rattle.rv_passage.specs.Followed.{HasFollowed, HasOpen}
-use Rattle.rv_passage.specs.Passage.{in_flight, is_in_flight, is_running, of_entry, of_fetched, retired_by, trapped_by}
+use Rattle.rv_passage.specs.Passage.{broadcast_of, in_flight, is_in_flight, is_running, nothing_awaited}
+use Rattle.rv_passage.specs.Passage.{of_entry, of_fetched, retired_by, trapped_by}
 use Rattle.rv_passage.specs.Producers.{standing_at}
 use Rattle.rv_passage.specs.Shown.{AreStill, IsStill, IsStillNext, KeepsOpen, Show, Shows, more, nothing}
 use Rattle.rv_passage.specs.Shown.{rows_in_flight}
 use Rattle.rv_passage.specs.Table.{Passages, after_cycle, left_after, next_before, numbered_from, passages_of}
 use Rattle.rv_passage.specs.Table.{still_open, with_oldest, with_step, with_steps}
-use Rattle.rv_passage.specs.Walk.{Standing, next_cycle, standing_after, standing_at as standing_before, standing_after_all}
+use Rattle.rv_passage.specs.Walk.{Standing, next_cycle, standing_after, standing_after_all, standing_at as standing_before}
+use Rattle.rv_passage.specs.declared.passage.Ending.TheVariants as ending
 use Rattle.rv_passage.specs.declared.passage.Passage.{Passage}
 use Rattle.rv_passage.specs.declared.table.Table.{Table}
 use Rattle.rv_passage.proofs.Moving.{drop-at}
@@ -36,9 +40,22 @@ use Rattle.rv_passage.proofs.Still.{producers-buffered, shown-still}
 
 -- ---- the buffers show what is in flight
 
-words-show : (words : List Fetched) → Show (map flight_of_fetched words) (map of_fetched words)
-words-show [] = nothing
-words-show (w ∷ words) = more (record {
+-- what is made of an instruction in flight, with any prediction, shows it
+made-shows : (f : Flight) (predicted : Option ℕ) → (f.dispatched ≡ None → f.stage ≡ Waiting) →
+    Shows f (record {
+      number = 0;
+      pc = f.pc;
+      word = f.word;
+      instruction = f.instruction;
+      predicted = predicted;
+      fetched = f.fetched;
+      dispatched = f.dispatched;
+      producers = nothing_awaited;
+      issue = issue_of f.stage;
+      broadcast = broadcast_of f.stage;
+      ending = ending.InFlight;
+    })
+made-shows f predicted waits = record {
   ending = refl;
   pc = refl;
   word = refl;
@@ -47,23 +64,19 @@ words-show (w ∷ words) = more (record {
   dispatched = refl;
   issue = refl;
   broadcast = refl;
-  buffered = λ none. (refl, refl);
-}) (words-show words)
+  buffered = λ none. (waits none, refl);
+}
+
+words-show : (words : List Fetched) → Show (map flight_of_fetched words) (map of_fetched words)
+words-show [] = nothing
+words-show (w ∷ words) =
+    more (made-shows (flight_of_fetched w) (of_fetched w).predicted (λ none. refl)) (words-show words)
 
 buffers-show : (entries : List Entry) (words : List Fetched) →
     Show (map flight_of_entry entries ++ map flight_of_fetched words) (map of_entry entries ++ map of_fetched words)
 buffers-show [] words = words-show words
-buffers-show (e ∷ entries) words = more (record {
-  ending = refl;
-  pc = refl;
-  word = refl;
-  instruction = refl;
-  fetched = refl;
-  dispatched = refl;
-  issue = refl;
-  broadcast = refl;
-  buffered = λ none. absurd (cc);
-}) (buffers-show entries words)
+buffers-show (e ∷ entries) words =
+    more (made-shows (flight_of_entry e) (of_entry e).predicted (λ none. absurd (cc))) (buffers-show entries words)
 
 pub hardware-shows : (h : Hardware) → Show (flights h) (in_flight h)
 hardware-shows h = buffers-show h.rob.entries h.front.entries

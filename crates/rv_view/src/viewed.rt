@@ -92,11 +92,11 @@ pub fn run_view<V: View, W: Write>(
     writer: &mut W,
 ) -> Viewed<V, V::Refusal>
     requires follows { FollowsFrom pipeline.old following }
-    requires ready { V.has_seen view view
-        (watched arrivals.now (guided pipeline.old (known predictor.old)) [] (guided pipeline.old (known predictor.old))) }
+    requires ready { V.has_seen view view (watched arrivals.now (guided pipeline.old (known predictor.old)) []
+        (guided pipeline.old (known predictor.old))) }
     ensures { IsViewedRun V.has_seen V.text arrivals.now limit (guided pipeline.old (known predictor.old))
-        (guided pipeline.new (known predictor.new)) view result.view result.table result.progress result.stop has_failed
-        result.has_failed (W.contents writer.old) (W.contents writer.new) }
+        (guided pipeline.new (known predictor.new)) view result.view result.table result.progress result.stop
+        has_failed result.has_failed (W.contents writer.old) (W.contents writer.new) }
 {
     let Following { table, steps } = following;
     let mut follower = Follower {
