@@ -9,7 +9,7 @@ use Rattle.rv_hardware.specs.Guided.{GuidedHardware}
 use Rattle.rv_passage.specs.Table.{still_open}
 use Rattle.rv_passage.specs.Walk.{passages_after}
 use Rattle.rv_counts.specs.Left.{left_after}
-use Rattle.rv_path.specs.Account.{Accounted}
+use Rattle.rv_causes.specs.Account.{Accounted}
 use Rattle.rv_source.specs.Listing.{Listed}
 use Rattle.rv_explain.specs.Explanation.{IsExplanation, IsTallied, explanation}
 use Rattle.rv_sentences.specs.Head.{accounts_of, itself}

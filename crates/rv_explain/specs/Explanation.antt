@@ -12,8 +12,8 @@ use Rattle.rv_hardware.specs.Guided.{GuidedHardware, guided}
 use Rattle.rv_hardware.specs.Hardware.{Hardware}
 use Rattle.rv_passage.specs.EndedRun.{IsEndedRun}
 use Rattle.rv_counts.specs.Left.{passages_of_run}
-use Rattle.rv_path.specs.Account.{Accounted}
-use Rattle.rv_path.specs.Sentence.{sentences}
+use Rattle.rv_causes.specs.Account.{Accounted}
+use Rattle.rv_causes.specs.Sentence.{sentences}
 use Rattle.rv_source.specs.Listing.{Listed}
 use Rattle.rv_text.specs.Line.{line_of, ratio_text}
 use Rattle.rv_sentences.specs.Dispatch.{dispatches_text}

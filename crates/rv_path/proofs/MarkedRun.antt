@@ -23,20 +23,24 @@ use Rattle.rv_passage.specs.declared.passage.Passage.{Passage}
 use Rattle.rv_passage.proofs.EndedRun.{length-reports_of}
 use Rattle.rv_view.specs.Viewing.{IsNextCycle, cycles_seen}
 use Rattle.rv_view.specs.declared.shown_cycle.ShownCycle.{ShownCycle}
-use Rattle.rv_path.specs.Event.{nothing_yet}
-use Rattle.rv_path.specs.Keeping.{IsFollowed, IsKnown, known_of_path, made_shown}
+use Rattle.rv_causes.specs.Event.{nothing_yet}
+use Rattle.rv_causes.specs.Keeping.{IsFollowed, IsKnown, known_of_path, made_shown}
+use Rattle.rv_causes.specs.Numbering.{IsOneLater, number_by, row_numbers}
+use Rattle.rv_causes.specs.Path.{Known, known_of}
+use Rattle.rv_causes.specs.Setting.{last_left}
+use Rattle.rv_causes.specs.Walk.{path_to}
+use Rattle.rv_causes.specs.Window.{kept_events}
+use Rattle.rv_causes.specs.WindowFrom.{HasAllMarked, IsNumbering}
+use Rattle.rv_causes.specs.declared.{event.Event.Event, numbering.Numbering.Numbering, path.Path.Path, point.Point.Point}
+use Rattle.rv_path.specs.Marker.{IsMarking}
 use Rattle.rv_path.specs.Marking.{IsMarked, marks_of}
-use Rattle.rv_path.specs.Numbering.{IsOneLater, number_by, row_numbers}
-use Rattle.rv_path.specs.Path.{Known, known_of}
-use Rattle.rv_path.specs.Setting.{last_left}
-use Rattle.rv_path.specs.Walk.{path_to}
-use Rattle.rv_path.specs.Window.{kept_events}
-use Rattle.rv_path.specs.WindowFrom.{HasAllMarked, IsMarking, IsNumbering}
-use Rattle.rv_path.specs.declared.{event.Event.Event, marking.Marker.Marker, numbering.Numbering.Numbering, path.Path.Path, point.Point.Point}
+use Rattle.rv_path.specs.OnPath.{read_by}
+use Rattle.rv_path.specs.declared.marking.Marker.{Marker}
+use Rattle.rv_path.proofs.MarksKept.{marks-kept}
 use Rattle.rv_path.proofs.Numbers.{length-numbered_from, numbering_kept, numbering_on}
 use Rattle.rv_path.proofs.Pathing.{known-shown}
-use Rattle.rv_path.proofs.Unmarked.{has_all_followed, has_all_of, has_all_same, marks-kept, unmarked_begin, unmarked_in_time}
-use Rattle.rv_path.proofs.Within.{comes_in_time}
+use Rattle.rv_causes.proofs.Unmarked.{has_all_followed, has_all_of, has_all_same, unmarked_begin, unmarked_in_time}
+use Rattle.rv_causes.proofs.Within.{comes_in_time}
 
 le_or_lt : (a b : ℕ) → (a ≤ b) ⊎ (b < a)
 le_or_lt a b = by_order (cases_order a b) where
@@ -102,7 +106,7 @@ module _ {seen : Watched} {cycle : ShownCycle} (next : IsNextCycle seen cycle) (
 
   pub marking_on : new.from ≡ old.from → new.cycles ≡ cycle.progress.now.cycles
       → IsKnown new.path (known_of seen.first.hardware (cycles_seen (with_shown seen next.shown)))
-      → IsFollowed (made_shown cycle (known_of_path old.path [])) old.path.window new.path.window
+      → IsFollowed (made_shown (read_by cycle) (known_of_path old.path [])) old.path.window new.path.window
       → (new.cycles ≤ old.from → IsOneLater cycle.rows.now old.numbering.numbers.items old.numbering.fetched new.numbering.numbers.items new.numbering.fetched)
       → (old.from < new.cycles → new.numbering ≡ old.numbering)
       → IsMarking new (with_shown seen next.shown)
@@ -119,7 +123,7 @@ module _ {seen : Watched} {cycle : ShownCycle} (next : IsNextCycle seen cycle) (
     known = known_of seen.first.hardware (cycles_seen seen)
 
     made : List Event
-    made = made_shown cycle (known_of_path old.path [])
+    made = made_shown (read_by cycle) (known_of_path old.path [])
 
     events' : List Event
     events' = (known_of seen.first.hardware (cycles_seen (with_shown seen next.shown))).events

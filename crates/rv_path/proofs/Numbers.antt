@@ -15,9 +15,9 @@ use Rattle.rv_passage.specs.declared.passage.Passage.{Passage}
 use Rattle.rv_passage.proofs.Walk.{passages_after-push}
 use Rattle.rv_view.specs.Viewing.{IsNextCycle, cycle_shown}
 use Rattle.rv_view.specs.declared.shown_cycle.ShownCycle.{ShownCycle}
-use Rattle.rv_path.specs.Numbering.{IsOneLater, numbers_in_flight}
-use Rattle.rv_path.specs.WindowFrom.{IsNumbering}
-use Rattle.rv_path.specs.declared.numbering.Numbering.{Numbering}
+use Rattle.rv_causes.specs.Numbering.{IsOneLater, numbers_in_flight}
+use Rattle.rv_causes.specs.WindowFrom.{IsNumbering}
+use Rattle.rv_causes.specs.declared.numbering.Numbering.{Numbering}
 
 pub length-numbered_from : (number : ℕ) (ps : List Passage) → length (numbered_from number ps) ≡ length ps
 length-numbered_from number [] = refl

@@ -2,7 +2,7 @@
 use Rattle.std.proofs.Common.{◌∙◌, ℕ, List, ap, sym}
 use Rattle.rv_isa.specs.declared.lines.Arrival.{Arrival}
 use Rattle.rv_passage.proofs.OneRun.{one_run}
-use Rattle.rv_path.specs.Path.{account_of_run}
+use Rattle.rv_causes.specs.Path.{account_of_run}
 use Rattle.rv_path.specs.PathAccount.{HasOneAccount}
 
 pub one_account : (arrivals : List Arrival) (limit : ℕ) → HasOneAccount arrivals limit

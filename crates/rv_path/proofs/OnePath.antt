@@ -2,9 +2,9 @@
 use Rattle.std.proofs.Common.{◌≡◌, ◌∙◌, ℕ, List, length, ap, sym}
 use Rattle.rv_isa.specs.declared.lines.Arrival.{Arrival}
 use Rattle.rv_passage.proofs.OneRun.{one_run}
-use Rattle.rv_path.specs.Path.{account_of_run}
+use Rattle.rv_causes.specs.Path.{account_of_run}
 use Rattle.rv_path.specs.Run.{HasOnePath}
-use Rattle.rv_path.specs.Lines.{account_text}
+use Rattle.rv_causes.specs.Lines.{account_text}
 use Rattle.rv_source.specs.Listing.{Listed}
 
 pub one_path : (arrivals : List Arrival) (limit : ℕ) (listing : Listed) → HasOnePath arrivals limit listing

@@ -1,5 +1,5 @@
--- A path that follows a run: no cycle yet, room for one more, one cycle more, and the end.
-use Rattle.std.proofs.Common.{◌≡◌, ◌∙◌, ℕ, ◌-◌, ◌≤◌, List, [], ◌∷◌, Some, drop, length, replicate, ap, arith, subst, sym}
+-- A path that follows a run that is shown: one cycle more, and the end.
+use Rattle.std.proofs.Common.{◌≡◌, ◌∙◌, ℕ, ◌-◌, ◌≤◌, List, [], ◌∷◌, Some, length, ap, arith, subst, sym}
 use Rattle.std.specs.Prelude.{sum}
 use Rattle.std.proofs.lemmas.List.Sums.{fold-append}
 use Rattle.rv_isa.specs.declared.lines.Arrival.{Arrival}
@@ -8,116 +8,53 @@ use Rattle.rv_core.specs.Progress.{progress_of}
 use Rattle.rv_core.specs.Watching.{Watched, watched, with_shown}
 use Rattle.rv_core.specs.declared.outcome.Progress.{Progress}
 use Rattle.rv_hardware.specs.Guided.{GuidedHardware}
-use Rattle.rv_hardware.specs.Hardware.{Hardware}
 use Rattle.rv_hardware.specs.History.{Moment, reports_of}
 use Rattle.rv_passage.specs.EndedRun.{IsEndedRun}
-use Rattle.rv_passage.specs.Table.{table_at}
-use Rattle.rv_passage.specs.declared.passage.Passage.{Passage}
 use Rattle.rv_passage.proofs.EndedRun.{length-reports_of}
 use Rattle.rv_view.specs.Viewing.{IsNextCycle, cycle_shown, cycles_seen}
 use Rattle.rv_view.specs.declared.shown_cycle.ShownCycle.{ShownCycle}
 use Rattle.rv_view.proofs.EndedView.{cycles_seen-push}
-use Rattle.rv_path.specs.Account.{Accounted, AreWithin, account_of, words_cycles}
-use Rattle.rv_path.specs.Event.{nothing_yet, with_events}
-use Rattle.rv_path.specs.Keeping.{ArePathsKept, IsFollowed, IsKnown, IsOnPath, known_of_path, known_shown, made_shown, setting_shown}
-use Rattle.rv_path.specs.Path.{Known, end_of, known_after, known_at, known_in, known_of, setting_in}
+use Rattle.rv_causes.specs.Account.{Accounted, AreWithin, account_of, words_cycles}
+use Rattle.rv_causes.specs.Event.{with_events}
+use Rattle.rv_causes.specs.Keeping.{IsFollowed, IsKnown, known_of_path, known_shown, made_shown}
+use Rattle.rv_causes.specs.Path.{Known, end_of, known_after, known_at, known_in, known_of, setting_in}
+use Rattle.rv_causes.specs.Reading.{CycleRead, read_of}
+use Rattle.rv_causes.specs.Setting.{last_left}
+use Rattle.rv_causes.specs.Walk.{path_to}
+use Rattle.rv_causes.specs.Window.{IsWindow}
+use Rattle.rv_causes.specs.declared.{before.Before.Before, event.Event.Event, path.Path.Path, word_cycles.WordCycles.WordCycles}
+use Rattle.rv_causes.proofs.Accounts.{adds_up, cycles-all}
+use Rattle.rv_causes.proofs.Followed.{PassesIn, followed_on}
+use Rattle.rv_causes.proofs.Walks.{path-in_time}
+use Rattle.rv_causes.proofs.Within.{comes_in_time}
+use Rattle.rv_causes.proofs.WordSums.{words-within, words_add_up}
+use Rattle.rv_path.specs.OnPath.{IsOnPath, read_by}
 use Rattle.rv_path.specs.Run.{IsAccounted}
-use Rattle.rv_path.specs.Setting.{last_left}
-use Rattle.rv_path.specs.Walk.{path_to}
-use Rattle.rv_path.specs.Way.{way_from}
-use Rattle.rv_path.specs.Window.{IsWindow, Passes, kept_events}
-use Rattle.rv_path.specs.Within.{AreKnown}
-use Rattle.rv_path.specs.declared.{before.Before.Before, event.Event.Event, path.Path.Path, word_cycles.WordCycles.WordCycles}
-use Rattle.rv_path.proofs.Accounts.{adds_up, cycles-all}
-use Rattle.rv_path.proofs.Cycles.{cycle_keeps}
-use Rattle.rv_path.proofs.EventLists.{known_implies, replicate_have}
-use Rattle.rv_path.proofs.Lives.{live_in, live_out}
-use Rattle.rv_path.proofs.Passing.{Leads, leads_kept, passes_followed, window_followed}
-use Rattle.rv_path.proofs.Walks.{path-in_time}
-use Rattle.rv_path.proofs.Within.{comes_in_time}
-use Rattle.rv_path.proofs.WordSums.{words-within, words_add_up}
-
--- a path to the event passes the window of a path
-abbrev pub PassesIn : Path → Event → Type 0
-PassesIn path event = Passes path.window (Some event.at)
-
--- no cycle yet
-pub pathing_nothing : (first : Hardware) (path : Path) (rows : List Passage) → rows ≡ (table_at first).rows
-    → drop path.dropped path.ways.items ≡ replicate (length rows) (way_from nothing_yet) → path.holds.items ≡ []
-    → path.before ≡ (known_at first).before → IsWindow path.window (nothing_yet ∷ []) → PassesIn path nothing_yet
-    → IsKnown path (known_at first)
-pathing_nothing first path rows rows_are ways holds before window passes = record {
-  known = λ i. record {
-    ways = (ways ∙ ap (λ (ps : List Passage). replicate (length ps) (way_from nothing_yet)) rows_are) i;
-    holds = holds i;
-    before = before i;
-    events = nothing_yet ∷ [];
-  };
-  window = window;
-  passes = record {
-    ways = replicate_have (PassesIn path) (length (table_at first).rows) (way_from nothing_yet)
-        (record { fetch = passes; dispatch = tt; issue = tt; broadcast = tt });
-    holds = tt;
-    before = record { left = passes; port = tt; drain = tt };
-  };
-}
-
--- room for one more
-pub pathing_still : (path path' : Path) (k : Known) → ((events : List Event) → known_of_path path' events ≡ known_of_path path events)
-    → ArePathsKept path path' → IsKnown path k → IsKnown path' k
-pathing_still path path' k same kept on =
-    let here : AreKnown (PassesIn path) (known_of_path path k.events) = subst (AreKnown (PassesIn path)) (sym on.known) on.passes in
-    let still = kept (live_in path.window.root (kept_events path.window) (known_of_path path k.events) here) in
-    record {
-      known = same k.events ∙ on.known;
-      window = still.0 k.events on.window;
-      passes = subst (AreKnown (PassesIn path')) on.known
-          (live_out path'.window.root (kept_events path'.window) (known_of_path path k.events) still.1);
-    }
-
--- what is known after a cycle that is shown
-pub followed_on : (path path' : Path) (cycle : ShownCycle) (k : Known) → IsKnown path k
-    → ((events : List Event) → known_of_path path' (with_events (made_shown cycle (known_of_path path events)) events) ≡ known_shown cycle (known_of_path path events))
-    → IsFollowed (made_shown cycle (known_of_path path [])) path.window path'.window
-    → IsKnown path' (known_shown cycle (known_of_path path k.events))
-followed_on path path' cycle k on followed made_is =
-    let old = known_of_path path k.events in
-    let made = made_shown cycle old in
-    let s = setting_shown cycle old in
-    let root = path.window.root in
-    let kept = kept_events path.window in
-    let here : AreKnown (PassesIn path) old = subst (AreKnown (PassesIn path)) (sym on.known) on.passes in
-    let lead =
-    cycle_keeps s (Leads root) (leads_kept s.elapsed root) kept old.ways cycle.steps.now cycle.pipeline.now here.holds here.before here.ways in
-    let pass = known_implies (Leads root (with_events made kept)) (PassesIn path') (passes_followed made path.window path'.window made_is)
-    (known_in s old.ways kept cycle.steps.now cycle.pipeline.now) lead in
-    record {
-      known = followed k.events;
-      window = window_followed made path.window path'.window k.events made_is on.window;
-      passes = record { ways = pass.ways; holds = pass.holds; before = pass.before };
-    }
 
 -- what is known with one more cycle
 pub known-shown : {seen : Watched} {cycle : ShownCycle} (next : IsNextCycle seen cycle) (path : Path) → IsOnPath path seen
-    → known_shown cycle (known_of_path path (known_of seen.first.hardware (cycles_seen seen)).events)
+    → known_shown (read_by cycle) (known_of_path path (known_of seen.first.hardware (cycles_seen seen)).events)
     ≡ known_of seen.first.hardware (cycles_seen (with_shown seen next.shown))
 known-shown {seen = seen} {cycle = cycle} next path on =
     let shown = next.shown in
-    let after = cycle.pipeline.now in
+    let hardware = cycle.pipeline.now in
+    let after = read_of hardware in
     let first = seen.first.hardware in
     let elapsed = ap (λ (p : Progress). p.cycles - 1) shown.progress_is in
-    (λ i. known_in (setting_in (shown.number i) (elapsed i) (next.rows_are i) after (on.known i)) (on.known i).ways (on.known i).events
+    (λ i. known_in (setting_in (shown.number i) (elapsed i) (next.rows_are i) hardware (on.known i)) (on.known i).ways (on.known i).events
     (shown.steps_are i) after)
     ∙ sym (fold-append known_after (known_at first) (cycles_seen seen) (cycle_shown seen shown ∷ []))
     ∙ ap (known_of first) (sym (cycles_seen-push seen shown))
 
--- one more cycle
-pub pathing_on : {seen : Watched} {cycle : ShownCycle} (next : IsNextCycle seen cycle) (path path' : Path) → IsOnPath path seen
-    → ((events : List Event) → known_of_path path' (with_events (made_shown cycle (known_of_path path events)) events) ≡ known_shown cycle (known_of_path path events))
-    → IsFollowed (made_shown cycle (known_of_path path [])) path.window path'.window → IsOnPath path' (with_shown seen next.shown)
-pathing_on {seen = seen} {cycle = cycle} next path path' on followed made_is =
+-- one more cycle, of which this was read
+pub pathing_on : {seen : Watched} {cycle : ShownCycle} (next : IsNextCycle seen cycle) (read : CycleRead) (path path' : Path) → read ≡ read_by cycle
+    → IsOnPath path seen
+    → ((events : List Event) → known_of_path path' (with_events (made_shown read (known_of_path path events)) events) ≡ known_shown read (known_of_path path events))
+    → IsFollowed (made_shown read (known_of_path path [])) path.window path'.window → IsOnPath path' (with_shown seen next.shown)
+pathing_on {seen = seen} {cycle = cycle} next read path path' is on followed made_is =
     let k = known_of seen.first.hardware (cycles_seen seen) in
-    subst (IsKnown path') (known-shown next path on) (followed_on path path' cycle k on followed made_is)
+    let read-is = ap (λ (one : CycleRead). known_shown one (known_of_path path k.events)) is in
+    subst (IsKnown path') (read-is ∙ known-shown next path on) (followed_on path path' read k on followed made_is)
 
 -- the account of the run
 pub accounted_run : {arrivals : List Arrival} {limit : ℕ} {old new : GuidedHardware} {moments : List Moment} {stop : Stop} {progress : Progress} (path : Path) (account : Accounted)

@@ -1,8 +1,12 @@
 -- The marks of a window of cycles of a run: the events of instructions in it that are on the path to the run's last retirement, trap or
 -- interrupt.
-use Rattle.std.specs.Prelude.{◌≡◌, ℕ, ◌+◌, ◌-◌, ◌^◌, ◌≤◌, ◌&&◌, nat_le, Bool, true, false, List, filter, length, map, take}
+use Rattle.std.specs.Prelude.{◌≡◌, ℕ, ◌+◌, ◌-◌, ◌^◌, ◌≤◌, List, filter, length, map, take}
 use Rattle.rv_isa.specs.declared.lines.Arrival.{Arrival}
 use Rattle.rv_arch.specs.declared.outcome.Stop.{Stop}
+use Rattle.rv_causes.specs.Marked.{is_marked}
+use Rattle.rv_causes.specs.Numbering.{number_in}
+use Rattle.rv_causes.specs.Path.{known_of, path_of}
+use Rattle.rv_causes.specs.declared.event.Event.{Event}
 use Rattle.rv_drawing.specs.declared.mark.Mark.{Mark}
 use Rattle.rv_front.specs.Predictors.{guide_of}
 use Rattle.rv_front.specs.declared.predictors.DescribedPredictor.{DescribedPredictor}
@@ -12,23 +16,6 @@ use Rattle.rv_hardware.specs.History.{Moment}
 use Rattle.rv_passage.specs.EndedRun.{IsEndedRun}
 use Rattle.rv_passage.specs.Table.{still_open}
 use Rattle.rv_passage.specs.Walk.{passages_after, walk}
-use Rattle.rv_path.specs.Numbering.{number_in}
-use Rattle.rv_path.specs.Path.{known_of, path_of}
-use Rattle.rv_path.specs.declared.{event.Event.Event, point.Stage.Stage}
-use Rattle.rv_path.specs.declared.point.Stage.TheVariants as stage
-
--- an event is one of an instruction, and not of the hardware beside it
-abbrev pub is_of_instruction : Stage → Bool
-is_of_instruction stage.Fetch = true
-is_of_instruction stage.Dispatch = true
-is_of_instruction stage.Issue = true
-is_of_instruction stage.Broadcast = true
-is_of_instruction stage.Commit = true
-is_of_instruction _ = false
-
--- an event is marked that is one of an instruction, and does not come before the window
-abbrev pub is_marked : ℕ → Event → Bool
-is_marked from event = is_of_instruction event.at.stage && nat_le from event.cycle
 
 -- the mark of one, by the number of its instruction in the picture
 abbrev pub mark_of : ℕ → (ℕ → ℕ) → Event → Mark

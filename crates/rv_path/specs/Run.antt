@@ -8,9 +8,9 @@ use Rattle.rv_hardware.specs.Guided.{GuidedHardware, guided}
 use Rattle.rv_hardware.specs.Hardware.{Hardware}
 use Rattle.rv_hardware.specs.History.{Moment}
 use Rattle.rv_passage.specs.EndedRun.{IsEndedRun}
-use Rattle.rv_path.specs.Account.{Accounted, AreWithin, words_cycles}
-use Rattle.rv_path.specs.Path.{account_of_run}
-use Rattle.rv_path.specs.Lines.{account_text}
+use Rattle.rv_causes.specs.Account.{Accounted, AreWithin, words_cycles}
+use Rattle.rv_causes.specs.Path.{account_of_run}
+use Rattle.rv_causes.specs.Lines.{account_text}
 use Rattle.rv_source.specs.Listing.{Listed}
 
 -- So many cycles are those of a run that ended for a reason, and so many of them each cause has on its path, which are all of them. A word of

@@ -4,8 +4,8 @@ ghost use Rattle.rv_path.specs.Marking.{IsMarked};
 ghost use Rattle.rv_view.specs.Run.{HasRun};
 
 use crate::marks::marks_of;
-use crate::numbering::Numbering;
-use crate::path::Path;
+use crate::reading::{begin_path, read_cycle};
+use rv_causes::{Numbering, Path};
 use rv_core::Pipeline;
 use rv_drawing::Mark;
 use rv_front::Predictor;
@@ -28,8 +28,8 @@ pub(crate) struct Marker {
 
 impl View for Marker {
     ghost use Rattle.std.specs.Prelude.{[], refl};
-    ghost use Rattle.rv_path.specs.Keeping.{HasRoom};
-    ghost use Rattle.rv_path.specs.WindowFrom.{IsMarking};
+    ghost use Rattle.rv_causes.specs.Keeping.{HasRoom};
+    ghost use Rattle.rv_path.specs.Marker.{IsMarking};
 
     type Refusal = AllocError;
 
@@ -46,7 +46,7 @@ impl View for Marker {
     }
 
     fn see<W: Write>(&mut self, cycle: &ShownCycle<'_>, _: &mut Sink<'_, W>) {
-        self.path.follow(cycle);
+        self.path.follow(&read_cycle(cycle));
         self.cycles = cycle.progress.cycles;
         self.numbering.follow(self.from, self.cycles, cycle.rows);
     }
@@ -78,7 +78,7 @@ pub(crate) fn run_marked(
     let following = Following::begin(alloc, pipeline)?;
     let rows = following.rows();
     let numbering = Numbering::begin(alloc, rows)?;
-    let path = Path::begin(alloc, pipeline, rows.len())?;
+    let path = begin_path(alloc, pipeline, rows.len())?;
     let marker = Marker {
         path,
         numbering,

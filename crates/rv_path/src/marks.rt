@@ -1,29 +1,10 @@
 ghost use Rattle.std.specs.Prelude.{◌≡◌, ◌+◌, ◌<◌, ◌≤◌, ◌++◌, ◌∷◌, [], length, vec_capacity, IfOk};
-ghost use Rattle.rv_path.specs.Marking.{is_marked, is_of_instruction, mark_of, marks_of};
-ghost use Rattle.rv_path.specs.Numbering.{number_by};
+ghost use Rattle.rv_causes.specs.Numbering.{number_by};
+ghost use Rattle.rv_path.specs.Marking.{mark_of, marks_of};
 
-use crate::event::Event;
-use crate::numbering::Numbering;
-use crate::point::Stage;
+use rv_causes::{Event, Numbering, is_marked};
 use rv_drawing::Mark;
 use std::alloc::{AllocError, Global};
-
-// Whether an event is one of an instruction, and not of the hardware beside it.
-fn is_of_instruction(stage: Stage) -> bool
-    ensures { result ≡ is_of_instruction stage }
-{
-    matches!(
-        stage,
-        Stage::Fetch | Stage::Dispatch | Stage::Issue | Stage::Broadcast | Stage::Commit
-    )
-}
-
-// Whether an event is marked in the window after so many cycles.
-fn is_marked(from: u64, event: &Event) -> bool
-    ensures { result ≡ is_marked from event.now }
-{
-    is_of_instruction(event.at.stage) && from <= event.cycle
-}
 
 // The mark of an event.
 fn mark_of(from: u64, numbering: &Numbering, event: &Event) -> Mark
@@ -48,8 +29,8 @@ fn push_mark(from: u64, numbering: &Numbering, event: &Event, marks: &mut Vec<Ma
 }
 
 /// The marks of a path in the window after so many cycles. The only error is out of memory.
-#[tactic(auto, using(crate::proofs::Unmarked::marks_append))]
-pub(crate) fn marks_of(
+#[tactic(auto, using(crate::proofs::MarksKept::marks_append))]
+pub fn marks_of(
     alloc: Global,
     from: u64,
     numbering: &Numbering,

@@ -1,13 +1,11 @@
 ghost use Rattle.std.specs.Prelude.{◌≡◌, take, IfOk, OnErr};
 ghost use Rattle.rv_hardware.specs.Guided.{guided};
 ghost use Rattle.rv_path.specs.PathAccount.{HasOneAccount, IsPathAccount};
-ghost use Rattle.rv_path.specs.Text.{ranked};
+ghost use Rattle.rv_causes.specs.Text.{ranked};
 ghost use Rattle.rv_view.specs.Run.{HasRun};
 
-use crate::account::Account;
 use crate::running::run_accounted;
-use crate::sentences::write_sentences;
-use crate::text::{Share, rank};
+use rv_causes::{Account, Share, rank, write_sentences};
 use rv_core::Pipeline;
 use rv_front::Predictor;
 use rv_isa::Arrivals;
@@ -34,8 +32,8 @@ pub struct PathAccount {
 }
 
 impl Model for PathAccount {
-    ghost use Rattle.rv_path.specs.Account.{Accounted};
-    ghost use Rattle.rv_path.specs.Window.{accounted};
+    ghost use Rattle.rv_causes.specs.Account.{Accounted};
+    ghost use Rattle.rv_causes.specs.Window.{accounted};
 
     ghost Value = { Accounted };
 
@@ -43,8 +41,8 @@ impl Model for PathAccount {
 }
 
 impl PathAccount {
-    ghost use Rattle.rv_path.specs.PathAccount.{cycles_at};
-    ghost use Rattle.rv_path.specs.Sentence.{sentences};
+    ghost use Rattle.rv_causes.specs.Account.{cycles_at};
+    ghost use Rattle.rv_causes.specs.Sentence.{sentences};
     ghost use Rattle.rv_text.specs.Said.{Says};
 
     /// How many cycles of the path are on account of the word at an address; none where it is no word that an event of the path names.

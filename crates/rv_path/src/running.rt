@@ -1,12 +1,12 @@
 ghost use Rattle.std.specs.Prelude.{IfOk, OnErr};
 ghost use Rattle.rv_hardware.specs.Guided.{guided};
 ghost use Rattle.rv_path.specs.Run.{IsAccounted};
-ghost use Rattle.rv_path.specs.Window.{accounted};
+ghost use Rattle.rv_causes.specs.Window.{accounted};
 ghost use Rattle.rv_view.specs.Run.{HasRun};
 
-use crate::account::Account;
-use crate::path::Path;
+use crate::reading::{begin_path, read_cycle};
 use rv_arch::Stop;
+use rv_causes::{Account, Path};
 use rv_core::Pipeline;
 use rv_front::Predictor;
 use rv_isa::Arrivals;
@@ -32,7 +32,8 @@ struct Walker {
 
 impl View for Walker {
     ghost use Rattle.std.specs.Prelude.{[], refl};
-    ghost use Rattle.rv_path.specs.Keeping.{HasRoom, IsOnPath};
+    ghost use Rattle.rv_causes.specs.Keeping.{HasRoom};
+    ghost use Rattle.rv_path.specs.OnPath.{IsOnPath};
 
     type Refusal = AllocError;
 
@@ -49,7 +50,7 @@ impl View for Walker {
     }
 
     fn see<W: Write>(&mut self, cycle: &ShownCycle<'_>, _: &mut Sink<'_, W>) {
-        self.path.follow(cycle);
+        self.path.follow(&read_cycle(cycle));
     }
 }
 
@@ -68,7 +69,7 @@ pub(crate) fn run_accounted(
         (guided pipeline.new (known predictor.new))) }
 {
     let following = Following::begin(alloc, pipeline)?;
-    let path = Path::begin(alloc, pipeline, following.rows().len())?;
+    let path = begin_path(alloc, pipeline, following.rows().len())?;
     let Viewed {
         view,
         table: _,

@@ -1,14 +1,14 @@
 ghost use Rattle.std.specs.Prelude.{◌≡◌, Err};
 ghost use Rattle.rv_hardware.specs.Guided.{guided};
-ghost use Rattle.rv_path.specs.Causes.{CausesAreSo};
+ghost use Rattle.rv_causes.specs.Causes.{CausesAreSo};
 ghost use Rattle.rv_path.specs.Run.{HasOnePath, IsPath};
-ghost use Rattle.rv_path.specs.Within.{ComesInTime};
+ghost use Rattle.rv_causes.specs.Within.{ComesInTime};
 ghost use Rattle.rv_text.specs.IsText.{IsText};
 ghost use Rattle.rv_view.specs.Run.{HasRun};
 
-use crate::account_text::{Ranks, write_account};
 use crate::running::run_accounted;
 use rv_arch::Stop;
+use rv_causes::{Ranks, write_account};
 use rv_core::Pipeline;
 use rv_front::Predictor;
 use rv_isa::Arrivals;

@@ -3,7 +3,7 @@ use Rattle.std.proofs.Common.{◌≡◌, ◌∙◌, ℕ, List, Option, ap, subst
 use Rattle.rv_isa.specs.declared.{lines.Arrival.Arrival, values.Values.Values}
 use Rattle.rv_hardware.specs.History.{Moment}
 use Rattle.rv_passage.proofs.OneRun.{one_run}
-use Rattle.rv_path.specs.Account.{Accounted}
+use Rattle.rv_causes.specs.Account.{Accounted}
 use Rattle.rv_source.specs.Listing.{Listed}
 use Rattle.rv_counts.specs.Head.{heads_of}
 use Rattle.rv_counts.specs.Left.{passages_of_run}

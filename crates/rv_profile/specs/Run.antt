@@ -8,7 +8,7 @@ use Rattle.rv_hardware.specs.Guided.{GuidedHardware, guided}
 use Rattle.rv_hardware.specs.Hardware.{Hardware}
 use Rattle.rv_hardware.specs.History.{Moment}
 use Rattle.rv_passage.specs.EndedRun.{IsEndedRun}
-use Rattle.rv_path.specs.Account.{Accounted}
+use Rattle.rv_causes.specs.Account.{Accounted}
 use Rattle.rv_source.specs.Listing.{Listed}
 use Rattle.rv_counts.specs.Head.{heads_of}
 use Rattle.rv_counts.specs.Left.{passages_of_run}

@@ -1,8 +1,7 @@
 -- The table of a profile: a line for each address, its cells with a tab between two.
 use Rattle.std.specs.Prelude.{ℕ, ◌==◌, if◌then◌else◌, List, [], ◌∷◌, ◌++◌, codes, decimal, take, Option, Some, None}
 use Rattle.std.specs.List.{flat_map}
-use Rattle.rv_path.specs.Account.{Accounted}
-use Rattle.rv_path.specs.PathAccount.{cycles_at}
+use Rattle.rv_causes.specs.Account.{Accounted, cycles_at}
 use Rattle.rv_source.specs.Listing.{Line, Listed, line_at}
 use Rattle.rv_text.specs.Line.{ratio_text, word_text}
 use Rattle.rv_text.specs.Plain.{plain_text}

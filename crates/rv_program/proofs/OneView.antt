@@ -16,7 +16,7 @@ use Rattle.rv_profile.specs.Run.{IsProfile}
 use Rattle.rv_path.proofs.OneAccount.{one_account}
 use Rattle.rv_path.proofs.OneMarking.{one_marking}
 use Rattle.rv_path.proofs.OnePath.{one_path}
-use Rattle.rv_path.specs.Account.{Accounted}
+use Rattle.rv_causes.specs.Account.{Accounted}
 use Rattle.rv_states.proofs.OneText.{one_text}
 use Rattle.rv_program.specs.AskedPath.{AreMarksOf, IsAccountOf, IsAskedFor}
 use Rattle.rv_program.specs.CoreReport.{IsAtMostOne, hardware_of}

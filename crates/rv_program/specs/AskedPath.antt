@@ -5,7 +5,7 @@ use Rattle.rv_hardware.specs.Guided.{GuidedHardware}
 use Rattle.rv_job.specs.declared.job.Job.{Job}
 use Rattle.rv_path.specs.Marking.{IsMarked}
 use Rattle.rv_path.specs.PathAccount.{IsPathAccount}
-use Rattle.rv_path.specs.Account.{Accounted}
+use Rattle.rv_causes.specs.Account.{Accounted}
 use Rattle.rv_picture.specs.declared.picture.View.{View}
 use Rattle.rv_program.specs.CoreReport.{core_of, untaught_of}
 

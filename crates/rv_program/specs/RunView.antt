@@ -11,7 +11,7 @@ use Rattle.rv_picture.specs.Picture.{IsPicture}
 use Rattle.rv_picture.specs.declared.picture.RunEnd.{RunEnd}
 use Rattle.rv_profile.specs.Run.{IsProfile}
 use Rattle.rv_path.specs.Run.{IsPath}
-use Rattle.rv_path.specs.Account.{Accounted}
+use Rattle.rv_causes.specs.Account.{Accounted}
 use Rattle.rv_states.specs.States.{IsStates}
 use Rattle.rv_text.specs.declared.output.TextError.{TextError}
 use Rattle.rv_program.specs.AskedPath.{AreMarksOf, IsAccountOf, IsAskedFor}

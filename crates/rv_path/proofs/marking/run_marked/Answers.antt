@@ -3,8 +3,8 @@ use Rattle.rv_passage.proofs.Followed.{if_ok_by}
 use Rattle.rv_passage.specs.Table.{table_at}
 use Rattle.rv_view.proofs.EndedView.{ended_by}
 use Rattle.rv_view.proofs.HasRun.{has_not_run, has_run, on_err}
+use Rattle.rv_causes.proofs.Followed.{pathing_nothing}
 use Rattle.rv_path.proofs.MarkedRun.{marked_run, marking_nothing}
-use Rattle.rv_path.proofs.Pathing.{pathing_nothing}
 use Rattle.rv_path.proofs.marking.run_marked.Goals as goal
 
 pub run_view-view-requires-clause-ready : goal.run_view-view-requires-clause-ready

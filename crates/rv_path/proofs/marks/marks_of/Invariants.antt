@@ -1,6 +1,6 @@
 use Rattle.std.proofs.Common.{◌≡◌, ◌≤◌, length, take, vec_capacity}
+use Rattle.rv_causes.specs.Numbering.{number_by}
 use Rattle.rv_path.specs.Marking.{marks_of}
-use Rattle.rv_path.specs.Numbering.{number_by}
 use Rattle.rv_path.proofs.marks.marks_of.Given as goal
 
 -- those of the events so far

@@ -2,8 +2,9 @@ use Rattle.std.proofs.Common.{◌≡◌, rules}
 use Rattle.rv_view.proofs.EndedView.{ended_by}
 use Rattle.rv_view.proofs.HasRun.{has_not_run, has_run, on_err}
 use Rattle.rv_passage.specs.Table.{table_at}
-use Rattle.rv_path.specs.Window.{accounted}
-use Rattle.rv_path.proofs.Pathing.{accounted_run, pathing_nothing}
+use Rattle.rv_causes.specs.Window.{accounted}
+use Rattle.rv_causes.proofs.Followed.{pathing_nothing}
+use Rattle.rv_path.proofs.Pathing.{accounted_run}
 use Rattle.rv_path.proofs.running.run_accounted.Goals as goal
 
 pub run_view-view-requires-clause-ready : goal.run_view-view-requires-clause-ready

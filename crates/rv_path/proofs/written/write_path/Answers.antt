@@ -1,6 +1,6 @@
-use Rattle.rv_path.proofs.Caused.{causes_are_so}
+use Rattle.rv_causes.proofs.Caused.{causes_are_so}
 use Rattle.rv_path.proofs.OnePath.{one_path}
-use Rattle.rv_path.proofs.Within.{comes_in_time}
+use Rattle.rv_causes.proofs.Within.{comes_in_time}
 use Rattle.rv_view.proofs.HasRun.{has_not_run}
 use Rattle.rv_path.proofs.written.write_path.Goals as goal
 

@@ -1,8 +1,8 @@
 use Rattle.std.proofs.lemmas.Bool.{le-leb}
 use Rattle.rv_view.specs.Viewing.{cycles_seen}
-use Rattle.rv_path.specs.Path.{known_of}
+use Rattle.rv_causes.specs.Path.{known_of}
+use Rattle.rv_causes.proofs.Followed.{pathing_still}
 use Rattle.rv_path.proofs.MarkedRun.{marking_still}
-use Rattle.rv_path.proofs.Pathing.{pathing_still}
 use Rattle.rv_path.proofs.marking.MarkerView.make_room.Goals as goal
 
 pub returns-clause-kept : goal.returns-clause-kept

@@ -1,4 +1,4 @@
-use Rattle.rv_path.proofs.Pathing.{pathing_still}
+use Rattle.rv_causes.proofs.Followed.{pathing_still}
 use Rattle.rv_path.proofs.running.WalkerView.make_room.Goals as goal
 
 pub returns-clause-kept : goal.returns-clause-kept

@@ -1,0 +1,85 @@
+-- The account of a path: of one part after another, and that its cycles add up.
+use Rattle.std.proofs.Common.{◌≡◌, ◌∙◌, ℕ, ◌+◌, ◌-◌, ◌<◌, ◌≤◌, List, [], ◌∷◌, ◌++◌, length, refl, ap, arith}
+use Rattle.std.specs.Prelude.{slice_set, sum}
+use Rattle.std.specs.List.{slice_index_or}
+use Rattle.std.proofs.lemmas.List.{length-set}
+use Rattle.std.proofs.lemmas.List.Sums.{sum_by-set}
+use Rattle.rv_causes.specs.Account.{Accounted, account_of, nothing_accounted, with_cycles, with_event, with_path}
+use Rattle.rv_causes.specs.Cause.{place_of}
+use Rattle.rv_causes.specs.Walk.{AreInTime}
+use Rattle.rv_causes.specs.declared.{cause.Cause.Cause, event.Event.Event}
+use Rattle.rv_causes.specs.declared.cause.Cause.TheVariants as cause
+
+pub with_path-append : (xs ys : List Event) (account : Accounted) → with_path (xs ++ ys) account ≡ with_path xs (with_path ys account)
+with_path-append [] ys account = refl
+with_path-append (x ∷ xs) ys account = ap (with_event x) (with_path-append xs ys account)
+
+pub account-append : (xs ys : List Event) → account_of (xs ++ ys) ≡ with_path xs (account_of ys)
+account-append xs ys = with_path-append xs ys nothing_accounted
+
+-- each cause has a place
+place_within : (why : Cause) → place_of why < 35
+place_within cause.BeforeFirst = omega arith
+place_within cause.AfterLast = omega arith
+place_within cause.RefillPrediction = omega arith
+place_within cause.RefillTrap = omega arith
+place_within cause.RefillInterrupt = omega arith
+place_within cause.RefillSerialising = omega arith
+place_within cause.FetchWidth = omega arith
+place_within cause.FetchJump = omega arith
+place_within cause.FrontEnd = omega arith
+place_within cause.DispatchWidth = omega arith
+place_within cause.StoreQueueFull = omega arith
+place_within cause.DispatchToIssue = omega arith
+place_within cause.Operand = omega arith
+place_within cause.StoreAddress = omega arith
+place_within cause.AluBusy = omega arith
+place_within cause.MulBusy = omega arith
+place_within cause.DivBusy = omega arith
+place_within cause.MemBusy = omega arith
+place_within cause.PortStore = omega arith
+place_within cause.PortLoad = omega arith
+place_within cause.PortLines = omega arith
+place_within cause.AluExecution = omega arith
+place_within cause.MulExecution = omega arith
+place_within cause.DivExecution = omega arith
+place_within cause.MemExecution = omega arith
+place_within cause.LoadForwarded = omega arith
+place_within cause.LoadHit = omega arith
+place_within cause.LoadMiss = omega arith
+place_within cause.BusFull = omega arith
+place_within cause.Commit = omega arith
+place_within cause.CommitInOrder = omega arith
+place_within cause.CommitWidth = omega arith
+place_within cause.LinesWritten = omega arith
+place_within cause.UntilInterrupt = omega arith
+place_within cause.Other = omega arith
+
+-- so many more at a place
+pub sum-set : (counts : List ℕ) (place more : ℕ) → place < length counts
+    → sum (slice_set counts place (slice_index_or counts place 0 + more)) ≡ sum counts + more
+sum-set counts place more within = omega (arith, sum_by-set (λ n. n) counts place (slice_index_or counts place 0 + more) 0 within)
+
+-- so many cycles more of a cause
+pub sum-with : (why : Cause) (cycles : ℕ) (causes : List ℕ) → length causes ≡ 35 → sum (with_cycles why cycles causes) ≡ sum causes + cycles
+sum-with why cycles causes all = sum-set causes (place_of why) cycles (omega (arith, all, place_within why))
+
+-- The cycles of all causes are those of the path.
+counts : (path : List Event) → length (account_of path).causes ≡ 35
+counts [] = refl
+counts (event ∷ older) = length-set _ _ _ ∙ counts older
+
+pub adds_up : (path : List Event) → sum (account_of path).causes ≡ (account_of path).cycles
+adds_up [] = refl
+adds_up (event ∷ older) =
+    let before = account_of older in
+    sum-with event.reason.cause (event.cycle - before.cycles) before.causes (counts older) ∙ ap (λ n. n + (event.cycle - before.cycles)) (adds_up older)
+
+-- They are no more than there were before its end,
+pub cycles-within : (cycles : ℕ) (path : List Event) → AreInTime cycles path → (account_of path).cycles ≤ cycles
+cycles-within cycles [] within = omega arith
+cycles-within cycles (event ∷ older) within = let rest = cycles-within event.cycle older within.1 in omega (arith, rest, within.0)
+
+-- and all that were.
+pub cycles-all : (event : Event) (older : List Event) → AreInTime event.cycle older → (account_of (event ∷ older)).cycles ≡ event.cycle
+cycles-all event older within = let rest = cycles-within event.cycle older within in omega (arith, rest)

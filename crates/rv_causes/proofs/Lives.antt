@@ -1,0 +1,112 @@
+-- The paths to all for which an event may wait come to a root: all of their points do.
+use Rattle.std.proofs.Common.{List, [], ◌∷◌, ◌++◌, Option, Some, None}
+use Rattle.std.specs.Prelude.{IfSome}
+use Rattle.rv_causes.specs.Live.{before_points, drain_points, holds_points, live_points, point_of, port_points, way_points, ways_points}
+use Rattle.rv_causes.specs.Path.{Known}
+use Rattle.rv_causes.specs.Walk.{AllComeTo}
+use Rattle.rv_causes.specs.Within.{AreHoldsOf, AreKnown, AreWaysOf, IsBeforeOf, IsWayOf}
+use Rattle.rv_causes.specs.declared.{before.Before.Before, before.DrainHold.DrainHold, before.PortHold.PortHold, before.UnitHold.UnitHold}
+use Rattle.rv_causes.specs.declared.{event.Event.Event, point.Point.Point, way.Way.Way}
+use Rattle.rv_causes.proofs.Passing.{Leads}
+
+module _ (root : Option Point) (all : List Event) where
+  abbrev A : List Point → Type 0
+  A points = AllComeTo root all points
+
+  abbrev L : Event → Type 0
+  L event = Leads root all event
+
+  both : (ps qs : List Point) → A ps → A qs → A (ps ++ qs)
+  both [] qs ps-are qs-are = qs-are
+  both (p ∷ ps) qs ps-are qs-are = (ps-are.0, both ps qs ps-are.1 qs-are)
+
+  front : (ps qs : List Point) → A (ps ++ qs) → A ps
+  front [] qs are = tt
+  front (p ∷ ps) qs are = (are.0, front ps qs are.1)
+
+  back : (ps qs : List Point) → A (ps ++ qs) → A qs
+  back [] qs are = are
+  back (p ∷ ps) qs are = back ps qs are.1
+
+  point_in : (o : Option Event) → IfSome o L → A (point_of o)
+  point_in None is = tt
+  point_in (Some event) is = (is, tt)
+
+  point_out : (o : Option Event) → A (point_of o) → IfSome o L
+  point_out None are = tt
+  point_out (Some event) are = are.0
+
+  way_in : (w : Way) → IsWayOf L w → A (way_points w)
+  way_in w is = (
+    is.fetch,
+    both (point_of w.dispatch) (point_of w.issue ++ point_of w.broadcast) (point_in w.dispatch is.dispatch)
+        (both (point_of w.issue) (point_of w.broadcast) (point_in w.issue is.issue) (point_in w.broadcast is.broadcast)),
+  )
+
+  way_out : (w : Way) → A (way_points w) → IsWayOf L w
+  way_out w are =
+      let later = back (point_of w.dispatch) (point_of w.issue ++ point_of w.broadcast) are.1 in
+      record {
+        fetch = are.0;
+        dispatch = point_out w.dispatch (front (point_of w.dispatch) (point_of w.issue ++ point_of w.broadcast) are.1);
+        issue = point_out w.issue (front (point_of w.issue) (point_of w.broadcast) later);
+        broadcast = point_out w.broadcast (back (point_of w.issue) (point_of w.broadcast) later);
+      }
+
+  ways_in : (ws : List Way) → AreWaysOf L ws → A (ways_points ws)
+  ways_in [] are = tt
+  ways_in (w ∷ ws) are = both (way_points w) (ways_points ws) (way_in w are.0) (ways_in ws are.1)
+
+  ways_out : (ws : List Way) → A (ways_points ws) → AreWaysOf L ws
+  ways_out [] are = tt
+  ways_out (w ∷ ws) are =
+      (way_out w (front (way_points w) (ways_points ws) are), ways_out ws (back (way_points w) (ways_points ws) are))
+
+  holds_in : (hs : List UnitHold) → AreHoldsOf L hs → A (holds_points hs)
+  holds_in [] are = tt
+  holds_in (h ∷ hs) are = (are.0, holds_in hs are.1)
+
+  holds_out : (hs : List UnitHold) → A (holds_points hs) → AreHoldsOf L hs
+  holds_out [] are = tt
+  holds_out (h ∷ hs) are = (are.0, holds_out hs are.1)
+
+  port_in : (o : Option PortHold) → IfSome o (λ hold. L hold.event) → A (port_points o)
+  port_in None is = tt
+  port_in (Some hold) is = (is, tt)
+
+  port_out : (o : Option PortHold) → A (port_points o) → IfSome o (λ hold. L hold.event)
+  port_out None are = tt
+  port_out (Some hold) are = are.0
+
+  drain_in : (o : Option DrainHold) → IfSome o (λ drain. L drain.event) → A (drain_points o)
+  drain_in None is = tt
+  drain_in (Some drain) is = (is, tt)
+
+  drain_out : (o : Option DrainHold) → A (drain_points o) → IfSome o (λ drain. L drain.event)
+  drain_out None are = tt
+  drain_out (Some drain) are = are.0
+
+  before_in : (before : Before) → IsBeforeOf L before → A (before_points before)
+  before_in before is =
+      (is.left, both (port_points before.port) (drain_points before.drain) (port_in before.port is.port) (drain_in before.drain is.drain))
+
+  before_out : (before : Before) → A (before_points before) → IsBeforeOf L before
+  before_out before are = record {
+    left = are.0;
+    port = port_out before.port (front (port_points before.port) (drain_points before.drain) are.1);
+    drain = drain_out before.drain (back (port_points before.port) (drain_points before.drain) are.1);
+  }
+
+  pub live_in : (known : Known) → AreKnown L known → A (live_points known.ways known.holds known.before)
+  live_in known are =
+      both (before_points known.before) (holds_points known.holds ++ ways_points known.ways) (before_in known.before are.before)
+      (both (holds_points known.holds) (ways_points known.ways) (holds_in known.holds are.holds) (ways_in known.ways are.ways))
+
+  pub live_out : (known : Known) → A (live_points known.ways known.holds known.before) → AreKnown L known
+  live_out known are =
+      let later = back (before_points known.before) (holds_points known.holds ++ ways_points known.ways) are in
+      record {
+        ways = ways_out known.ways (back (holds_points known.holds) (ways_points known.ways) later);
+        holds = holds_out known.holds (front (holds_points known.holds) (ways_points known.ways) later);
+        before = before_out known.before (front (before_points known.before) (holds_points known.holds ++ ways_points known.ways) are);
+      }

@@ -1,0 +1,91 @@
+-- What is new of an event that waited, and an instruction of which nothing comes in a cycle.
+use Rattle.std.proofs.Common.{◌≡◌, ◌∙◌, ℕ, true, false, List, [], Option, None, Some, refl, ap, sym}
+use Rattle.std.specs.Prelude.{Bool, if◌then◌else◌, ◌||◌, is_some, slice_get}
+use Rattle.rv_passage.specs.Result.{issued_in}
+use Rattle.rv_passage.specs.declared.passage.Passage.{Passage}
+use Rattle.rv_causes.specs.Event.{Wait, event_by, event_from, event_if, new_by, new_from}
+use Rattle.rv_causes.specs.Issuing.{broadcast_wait, issue_wait}
+use Rattle.rv_causes.specs.Lookup.{journey_of}
+use Rattle.rv_causes.specs.Moving.{Move, advance_of, advanced, advances, advances_at, advances_by, dispatch_wait}
+use Rattle.rv_causes.specs.Moving.{moved_at, moved_by, new_advanced, new_at, new_at_one}
+use Rattle.rv_causes.specs.Setting.{Setting}
+use Rattle.rv_causes.specs.Sought.{is_at}
+use Rattle.rv_causes.specs.declared.{cause.Cause.Cause, leaving.Leaving.Leaving, point.Point.Point, way.Way.Way}
+use Rattle.rv_causes.specs.declared.point.Stage.TheVariants as stage
+
+new-by : (refilled : Bool) (at : Point) (cycle : ℕ) (address : Option ℕ) (waited : Wait) (why : Option Cause)
+    → event_if (is_some why) (event_by refilled at cycle address waited why) ≡ new_by refilled at cycle address waited why
+new-by refilled at cycle address waited None = refl
+new-by refilled at cycle address waited (Some why) = refl
+
+-- an event is new where it has a cause
+pub new_if : (refilled : Bool) (at : Point) (cycle : ℕ) (address : Option ℕ) (waited : Wait)
+    → event_if (is_some waited.cause) (event_from refilled at cycle address waited) ≡ new_from refilled at cycle address waited
+new_if refilled at cycle address waited = new-by refilled at cycle address waited waited.cause
+
+none-by : (dispatched issued broadcast : Bool) (x y z : Move) → (dispatched || (issued || broadcast)) ≡ false
+    → (if dispatched then Some x else (if issued then Some y else (if broadcast then Some z else None))) ≡ None
+none-by true issued broadcast x y z idle = absurd cc
+none-by false true broadcast x y z idle = absurd cc
+none-by false false true x y z idle = absurd cc
+none-by false false false x y z idle = refl
+
+idle-none : (s : Setting) (leaving : Leaving) (place : ℕ) (ways : List Way) (p : Passage) (w : Way) → advances s.number p ≡ false
+    → advance_of s leaving ways place p w ≡ None
+idle-none s leaving place ways p w idle =
+    none-by (is_at s.number p.dispatched) (is_at s.number (issued_in p)) (is_at s.number p.broadcast)
+    (record { stage = stage.Dispatch; waited = dispatch_wait s ways leaving p place w })
+    (record { stage = stage.Issue; waited = issue_wait s ways p w })
+    (record { stage = stage.Broadcast; waited = broadcast_wait s ways p w }) idle
+
+moved-idle : (s : Setting) (leaving : Leaving) (place : ℕ) (ways : List Way) (row : Option Passage) (way : Option Way)
+    → advances_by s.number row ≡ false → moved_by s leaving place (journey_of row way) ways ≡ ways
+moved-idle s leaving place ways None way idle = refl
+moved-idle s leaving place ways (Some p) None idle = refl
+moved-idle s leaving place ways (Some p) (Some w) idle =
+    ap (λ (o : Option Move). advanced s place (record { row = p; way = w }) o ways) (idle-none s leaving place ways p w idle)
+
+new-idle : (s : Setting) (leaving : Leaving) (place : ℕ) (ways : List Way) (row : Option Passage) (way : Option Way)
+    → advances_by s.number row ≡ false → new_at_one s leaving place (journey_of row way) ways ≡ []
+new-idle s leaving place ways None way idle = refl
+new-idle s leaving place ways (Some p) None idle = refl
+new-idle s leaving place ways (Some p) (Some w) idle = ap (new_advanced s p) (idle-none s leaving place ways p w idle)
+
+-- one of which nothing comes keeps its events
+pub idle_moved : (s : Setting) (leaving : Leaving) (place : ℕ) (ways : List Way) → advances_at s place ≡ false
+    → moved_at s leaving place ways ≡ ways
+idle_moved s leaving place ways idle = moved-idle s leaving place ways (slice_get s.rows place) (slice_get ways place) idle
+
+-- and nothing is new
+pub idle_new : (s : Setting) (leaving : Leaving) (place : ℕ) (ways : List Way) → advances_at s place ≡ false
+    → new_at s leaving place ways ≡ []
+idle_new s leaving place ways idle = new-idle s leaving place ways (slice_get s.rows place) (slice_get ways place) idle
+
+-- where there is no instruction at a place, nothing is new
+pub none_at : (s : Setting) (leaving : Leaving) (place : ℕ) (ways : List Way) → slice_get s.rows place ≡ None
+    → new_at s leaving place ways ≡ []
+none_at s leaving place ways none = λ i. new_at_one s leaving place (journey_of (none i) (slice_get ways place)) ways
+
+no-way : (s : Setting) (leaving : Leaving) (place : ℕ) (ways : List Way) (row : Option Passage)
+    → new_at_one s leaving place (journey_of row None) ways ≡ []
+no-way s leaving place ways None = refl
+no-way s leaving place ways (Some p) = refl
+
+pub no_way_at : (s : Setting) (leaving : Leaving) (place : ℕ) (ways : List Way) → slice_get ways place ≡ None
+    → new_at s leaving place ways ≡ []
+no_way_at s leaving place ways none =
+    (λ i. new_at_one s leaving place (journey_of (slice_get s.rows place) (none i)) ways)
+    ∙ no-way s leaving place ways (slice_get s.rows place)
+
+module _ (s : Setting) (leaving : Leaving) (place : ℕ) (ways : List Way) (p : Passage) (w : Way)
+    (row : slice_get s.rows place ≡ Some p) (way : slice_get ways place ≡ Some w) where
+  -- what comes of an instruction that stands at a place
+  pub moved_here : (o : Option Move) → o ≡ advance_of s leaving ways place p w
+      → moved_at s leaving place ways ≡ advanced s place (record { row = p; way = w }) o ways
+  moved_here o is =
+      (λ i. moved_by s leaving place (journey_of (row i) (way i)) ways)
+      ∙ ap (λ (o : Option Move). advanced s place (record { row = p; way = w }) o ways) (sym is)
+
+  pub new_here : (o : Option Move) → o ≡ advance_of s leaving ways place p w → new_at s leaving place ways ≡ new_advanced s p o
+  new_here o is =
+      (λ i. new_at_one s leaving place (journey_of (row i) (way i)) ways) ∙ ap (new_advanced s p) (sym is)

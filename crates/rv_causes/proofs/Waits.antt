@@ -1,0 +1,210 @@
+-- What an event of a cycle waits for is one that was known: what holds of a wait for any of those holds of each that is chosen.
+use Rattle.std.proofs.Common.{ℕ, ◌+◌, List, [], ◌∷◌, Option, Some, None}
+use Rattle.std.specs.Prelude.{IfSome, ◌==◌, not, ◌&&◌, nat_lt, count_by}
+use Rattle.std.specs.Option.{option_or}
+use Rattle.rv_isa.specs.Instruction.{is_fence_i, is_load, kind_of_word}
+use Rattle.rv_isa.specs.PerKind.{at_kind}
+use Rattle.rv_isa.specs.declared.operations.Kind.{Kind}
+use Rattle.rv_passage.specs.Result.{ready_in}
+use Rattle.rv_passage.specs.declared.{passage.Passage.Passage, producers.Producer.Producer}
+use Rattle.rv_causes.specs.Event.{Wait, nothing_yet, waits}
+use Rattle.rv_causes.specs.Issuing.{after_broadcast, after_bus, after_hold_of, after_issue, after_older_store, after_operands, after_producer}
+use Rattle.rv_causes.specs.Issuing.{after_stores_known, after_units, after_units_of, broadcast_wait, execution_cause, has_ended, hold_among}
+use Rattle.rv_causes.specs.Issuing.{issue_after, issue_wait, older_hold}
+use Rattle.rv_causes.specs.Leaving.{after_left, after_left_before, after_own_lines, first_to_leave, own_lines}
+use Rattle.rv_causes.specs.Lookup.{Journey, first_of, last_of}
+use Rattle.rv_causes.specs.Setting.{Setting, after_drain_at, after_drain_before, after_hold, after_leaving, after_port, after_stores}
+use Rattle.rv_causes.specs.Setting.{hold_ended, is_hold_of, last_left, left_before, left_just_before, port_ended, since_left}
+use Rattle.rv_causes.specs.Sought.{is_at, is_just_before, is_sought}
+use Rattle.rv_causes.specs.Way.{broadcast_by, dispatched_by, issued_by}
+use Rattle.rv_causes.specs.Within.{AreHoldsOf, AreWaysOf, IsBeforeOf, IsWayOf}
+use Rattle.rv_causes.specs.declared.{before.DrainHold.DrainHold, before.Left.Left, before.PortHold.PortHold, before.UnitHold.UnitHold}
+use Rattle.rv_causes.specs.declared.{cause.Cause.Cause, event.Event.Event, sought.Sought.Sought, way.Way.Way}
+use Rattle.rv_causes.specs.declared.before.Holder.TheVariants as holder
+use Rattle.rv_causes.specs.declared.cause.Cause.TheVariants as cause
+use Rattle.rv_causes.specs.declared.sought.Sought.TheVariants as sought
+use Rattle.rv_causes.proofs.EventLists.{OJ, first_have, if_with, last_have, or_with, unwrap_with}
+
+-- the events of an instruction that stand for others
+pub dispatched_have : (P : Event → Type 0) (w : Way) → IsWayOf P w → P (dispatched_by w)
+dispatched_have P w is = unwrap_with P w.dispatch w.fetch is.dispatch is.fetch
+
+pub issued_have : (P : Event → Type 0) (w : Way) → IsWayOf P w → P (issued_by w)
+issued_have P w is = unwrap_with P w.issue (dispatched_by w) is.issue (dispatched_have P w is)
+
+pub broadcast_have : (P : Event → Type 0) (w : Way) → IsWayOf P w → P (broadcast_by w)
+broadcast_have P w is = unwrap_with P w.broadcast (issued_by w) is.broadcast (issued_have P w is)
+
+-- of a cycle, where something holds of all that is known when it begins
+module _ (s : Setting) (P : Event → Type 0) (V : Wait → Type 0) (waits_V : (why : Cause) (event : Event) → P event → V (waits why event))
+    (holds : AreHoldsOf P s.holds) (before : IsBeforeOf P s.before) where
+  abbrev O : Option Wait → Type 0
+  O waited = IfSome waited V
+
+  abbrev OH : Option PortHold → Type 0
+  OH hold = IfSome hold (λ h. P h.event)
+
+  abbrev U : UnitHold → Type 0
+  U hold = P hold.event
+
+  abbrev OU : Option UnitHold → Type 0
+  OU hold = IfSome hold U
+
+  abbrev OL : Option Left → Type 0
+  OL left = IfSome left (λ l. P l.event)
+
+  abbrev OD : Option DrainHold → Type 0
+  OD drain = IfSome drain (λ d. P d.event)
+
+  hold_ended_V : (o : Option PortHold) → OH o → OH (hold_ended s o)
+  hold_ended_V None is = tt
+  hold_ended_V (Some hold) is = if_with OH (hold.until == s.number) is tt
+
+  port_ended_V : OH (port_ended s)
+  port_ended_V = hold_ended_V s.before.port before.port
+
+  after_hold_V : (o : Option PortHold) → OH o → O (after_hold o)
+  after_hold_V None is = tt
+  after_hold_V (Some hold) is = waits_V _ hold.event is
+
+  pub after_port_V : O (after_port s)
+  after_port_V = after_hold_V (port_ended s) port_ended_V
+
+  left_V : (o : Option Left) → P (last_left o) → OL (left_just_before s o)
+  left_V None is = tt
+  left_V (Some left) is = if_with OL (left.cycle + 1 == s.number && not (left.count == 0)) is tt
+
+  left_before_V : OL (left_before s)
+  left_before_V = left_V s.before.left before.left
+
+  after_leaving_V : (o : Option Left) → OL o → O (after_leaving o)
+  after_leaving_V None is = tt
+  after_leaving_V (Some left) is = waits_V _ left.event is
+
+  after_drain_at_V : (why : Cause) (cycle : ℕ) (o : Option DrainHold) → OD o → O (after_drain_at s why cycle o)
+  after_drain_at_V why cycle None is = tt
+  after_drain_at_V why cycle (Some drain) is = if_with O (drain.until == cycle) (waits_V why drain.event is) tt
+
+  pub after_drain_V : (why : Cause) → O (after_drain_at s why s.number s.before.drain)
+  after_drain_V why = after_drain_at_V why s.number s.before.drain before.drain
+
+  after_drain_before_V : (o : Option DrainHold) → OD o → O (after_drain_before s o)
+  after_drain_before_V None is = tt
+  after_drain_before_V (Some drain) is = if_with O (drain.until + 1 == s.number) (waits_V _ drain.event is) tt
+
+  pub after_stores_V : O (after_stores s)
+  after_stores_V =
+      let left = after_leaving (left_before s) in
+      or_with V (after_drain_before s s.before.drain) (option_or (after_port s) left)
+      (after_drain_before_V s.before.drain before.drain)
+      (or_with V (after_port s) left after_port_V (after_leaving_V (left_before s) left_before_V))
+
+  own_lines_V : (o : Option PortHold) → OH o → O (own_lines o)
+  own_lines_V None is = tt
+  own_lines_V (Some hold) is = waits_V _ hold.event is
+
+  after_left_V : (left : Left) → P left.event → V (after_left s left)
+  after_left_V left is = if_with V (left.count == s.values.commit_width) (waits_V _ left.event is) (waits_V _ left.event is)
+
+  after_left_before_V : (o : Option Left) → OL o → O (after_left_before s o)
+  after_left_before_V None is = tt
+  after_left_before_V (Some left) is = after_left_V left is
+
+  pub first_to_leave_V : (p : Passage) → O (first_to_leave s p)
+  first_to_leave_V p =
+      if_with O (is_fence_i p.instruction)
+      (or_with V (after_own_lines s p) (after_stores s)
+      (if_with O (is_hold_of holder.Lines p.number (port_ended s)) (own_lines_V (port_ended s) port_ended_V) tt) after_stores_V)
+      (after_left_before_V (left_before s) left_before_V)
+
+  left_since_V : (why : Cause) (o : Option Left) → P (last_left o) → V (since_left why o)
+  left_since_V why None is = waits_V _ nothing_yet is
+  left_since_V why (Some left) is = waits_V why left.event is
+
+  pub since_left_V : (why : Cause) → V (since_left why s.before.left)
+  since_left_V why = left_since_V why s.before.left before.left
+
+  -- the instructions have these events
+  module _ (ws : List Way) (ws-are : AreWaysOf P ws) where
+    first_J : (what : Sought) → OJ P (first_of what s.rows ws)
+    first_J what = first_have P what s.rows ws ws-are
+
+    last_J : (what : Sought) → OJ P (last_of what s.rows ws)
+    last_J what = last_have P what s.rows ws ws-are
+
+    after_broadcast_V : (why : Cause) (o : Option Journey) → OJ P o → O (after_broadcast why o)
+    after_broadcast_V why None is = tt
+    after_broadcast_V why (Some journey) is = waits_V why (broadcast_by journey.way) (broadcast_have P journey.way is)
+
+    after_producer_V : (o : Option Producer) → O (after_producer s ws o)
+    after_producer_V None = tt
+    after_producer_V (Some producer) =
+        let what = sought.Number producer.number in
+        if_with O (is_just_before s.number producer.broadcast) (after_broadcast_V cause.Operand (first_of what s.rows ws) (first_J what)) tt
+
+    after_older_store_V : (p : Passage) (o : Option Journey) → OJ P o → O (after_older_store s p o)
+    after_older_store_V p None is = tt
+    after_older_store_V p (Some store) is =
+        if_with O (nat_lt store.row.number p.number) (waits_V _ (broadcast_by store.way) (broadcast_have P store.way is)) tt
+
+    after_stores_known_V : (p : Passage) → O (after_stores_known s ws p)
+    after_stores_known_V p =
+        let what = sought.StoreBefore s.number in
+        if_with O (is_load p.instruction) (after_older_store_V p (first_of what s.rows ws) (first_J what)) tt
+
+    older_hold_V : (hold : UnitHold) (o : Option UnitHold) → U hold → OU o → U (older_hold hold o)
+    older_hold_V hold None hold-is o-is = hold-is
+    older_hold_V hold (Some other) hold-is o-is = if_with U (nat_lt other.number hold.number) o-is hold-is
+
+    hold_among_V : (kind : Kind) (hs : List UnitHold) → AreHoldsOf P hs → OU (hold_among s kind hs)
+    hold_among_V kind [] are = tt
+    hold_among_V kind (h ∷ hs) are =
+        if_with OU (has_ended s kind h) (older_hold_V h (hold_among s kind hs) are.0 (hold_among_V kind hs are.1)) (hold_among_V kind hs are.1)
+
+    after_hold_of_V : (kind : Kind) (o : Option UnitHold) → OU o → O (after_hold_of kind o)
+    after_hold_of_V kind None is = tt
+    after_hold_of_V kind (Some hold) is = waits_V _ hold.event is
+
+    after_issue_V : (kind : Kind) (o : Option Journey) → OJ P o → O (after_issue kind o)
+    after_issue_V kind None is = tt
+    after_issue_V kind (Some journey) is = waits_V _ (issued_by journey.way) (issued_have P journey.way is)
+
+    after_units_V : (kind : Kind) → O (after_units s ws kind)
+    after_units_V kind =
+        let what = sought.IssuedBefore kind s.number in
+        if_with O (at_kind kind s.values.kinds).pipelined
+        (if_with O (count_by (is_sought what) s.rows == (at_kind kind s.values.kinds).units)
+        (after_issue_V kind (last_of what s.rows ws) (last_J what)) tt)
+        (after_hold_of_V kind (hold_among s kind s.holds) (hold_among_V kind s.holds holds))
+
+    after_units_of_V : (o : Option Kind) → O (after_units_of s ws o)
+    after_units_of_V None = tt
+    after_units_of_V (Some kind) = after_units_V kind
+
+    issue_after_V : (p : Passage) → O (issue_after s ws p)
+    issue_after_V p =
+        let kind = kind_of_word p.instruction in
+        let first = after_producer s ws p.producers.first in
+        let second = after_producer s ws p.producers.second in
+        or_with V (after_operands s ws p) (option_or (after_stores_known s ws p) (option_or (after_units_of s ws kind) (after_port s)))
+        (or_with V first second (after_producer_V p.producers.first) (after_producer_V p.producers.second))
+        (or_with V (after_stores_known s ws p) (option_or (after_units_of s ws kind) (after_port s)) (after_stores_known_V p)
+        (or_with V (after_units_of s ws kind) (after_port s) (after_units_of_V kind) after_port_V))
+
+    pub issue_wait_V : (p : Passage) (w : Way) → IsWayOf P w → V (issue_wait s ws p w)
+    issue_wait_V p w is =
+        let event = dispatched_have P w is in
+        if_with V (is_just_before s.number p.dispatched) (waits_V _ (dispatched_by w) event)
+        (unwrap_with V (issue_after s ws p) (waits cause.Other (dispatched_by w)) (issue_after_V p) (waits_V _ (dispatched_by w) event))
+
+    after_bus_V : O (after_bus s ws)
+    after_bus_V =
+        let what = sought.BroadcastBefore s.number in
+        if_with O (count_by (is_sought what) s.rows == s.values.bus_width)
+        (after_broadcast_V cause.BusFull (last_of what s.rows ws) (last_J what)) tt
+
+    pub broadcast_wait_V : (p : Passage) (w : Way) → IsWayOf P w → V (broadcast_wait s ws p w)
+    broadcast_wait_V p w is =
+        let event = issued_have P w is in
+        if_with V (is_at s.number (ready_in p)) (waits_V (execution_cause s p) (issued_by w) event)
+        (unwrap_with V (after_bus s ws) (waits cause.Other (issued_by w)) after_bus_V (waits_V _ (issued_by w) event))

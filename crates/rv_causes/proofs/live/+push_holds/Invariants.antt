@@ -1,0 +1,5 @@
+use Rattle.std.proofs.Common.{length}
+use Rattle.rv_causes.proofs.live.+push_holds.Given as goal
+
+abbrev pub decreases-push_holds : goal.decreases-push_holds
+decreases-push_holds l = length l.holds.now

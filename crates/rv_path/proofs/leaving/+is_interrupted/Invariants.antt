@@ -1,5 +1,0 @@
-use Rattle.std.proofs.Common.{length}
-use Rattle.rv_path.proofs.leaving.+is_interrupted.Given as goal
-
-abbrev pub decreases-is_interrupted : goal.decreases-is_interrupted
-decreases-is_interrupted l = length l.steps.now

@@ -1,5 +1,0 @@
-use Rattle.std.proofs.Common.{length}
-use Rattle.rv_path.proofs.scene.+ends_refill.Given as goal
-
-abbrev pub decreases-ends_refill : goal.decreases-ends_refill
-decreases-ends_refill l = length l.rows.now
