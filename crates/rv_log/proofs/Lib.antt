@@ -2,3 +2,4 @@ mod AfterNumber
 mod Logging
 pub mod OneLog
 mod Printing
+mod Waits

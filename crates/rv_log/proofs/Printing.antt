@@ -1,7 +1,8 @@
 -- The printing characters that a text begins with stand for themselves.
-use Rattle.std.proofs.Common.{◌≡◌, ◌∙◌, ℕ, suc, ◌+◌, Bool, true, false, cond, List, [], ◌∷◌, ◌++◌, take, drop, refl, sym, ap, arith}
+use Rattle.std.proofs.Common.{◌≡◌, ◌∙◌, ℕ, suc, ◌+◌, ◌≤◌, Bool, true, false, cond, List, [], ◌∷◌, ◌++◌, length, take, drop, refl, sym, ap, append-nil, arith}
 use Rattle.std.specs.Prelude.{codes, ◌==◌, if◌then◌else◌}
 use Rattle.std.specs.List.{prefix_len}
+use Rattle.std.proofs.lemmas.List.{drop_all, take_all}
 use Rattle.rv_text.specs.Plain.{plain_byte, plain_text}
 use Rattle.rv_log.specs.Statement.{is_printing}
 
@@ -21,3 +22,9 @@ front-cons byte text false prints rest = ap (λ b. front-of (cond b (1 + prefix_
 pub plain-front : (text : List ℕ) → take (prefix_len is_printing text) text ++ plain_text (drop (prefix_len is_printing text) text) ≡ plain_text text
 plain-front [] = refl
 plain-front (byte ∷ text) = front-cons byte text (is_printing byte) refl (plain-front text)
+
+-- all of it, where it is nothing else
+pub plain-whole : (text : List ℕ) → prefix_len is_printing text ≡ length text → plain_text text ≡ text
+plain-whole text whole =
+    let same : length text ≤ length text = omega arith in
+    sym (plain-front text) ∙ ap (λ n. front-of n text) whole ∙ (λ i. take_all (length text) text same i ++ plain_text (drop_all (length text) text same i)) ∙ append-nil text

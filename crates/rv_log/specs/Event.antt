@@ -20,7 +20,7 @@ stage_at cycle number name stamp = if is_at cycle stamp then stage_line number n
 
 -- in this cycle a result begins to wait for the bus
 abbrev pub begins_to_wait : Passage → ℕ → Bool
-begins_to_wait passage cycle = is_in_flight passage && waits_for_bus passage cycle && is_at cycle (ready_in passage)
+begins_to_wait passage cycle = is_at cycle (ready_in passage) && is_in_flight passage && waits_for_bus passage cycle
 
 -- that stage begins there
 unfoldable pub bus_wait_at : ℕ → Passage → List ℕ

@@ -85,6 +85,14 @@ unfoldable pub waits_text : List ℕ → List Wait → List ℕ
 waits_text before [] = []
 waits_text before (w ∷ ws) = if cycles_of w == 0 then waits_text before ws else wait_text before w ++ waits_text (codes ", ") ws
 
+-- the first of them
+unfoldable pub one_text : List ℕ → Wait → List ℕ
+one_text before w = if cycles_of w == 0 then [] else wait_text before w
+
+-- the words before the next one
+unfoldable pub words_after : List ℕ → Wait → List ℕ
+words_after before w = if cycles_of w == 0 then before else codes ", "
+
 -- those of an instruction that left
 unfoldable pub waited_until : ℕ → Option ℕ → Passage → List ℕ
 waited_until first None p = []

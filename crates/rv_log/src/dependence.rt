@@ -2,7 +2,7 @@ ghost use Rattle.rv_log.specs.Dependence.{dependence_at, dependence_line, depend
 ghost use Rattle.rv_text.specs.Said.{Says};
 
 use crate::event::{is_at, write_events};
-use crate::numbered::write_numbered;
+use crate::numbered::write_two_numbers;
 use rv_passage::{Passage, Producer};
 use rv_source::Listing;
 use rv_text::Sink;
@@ -13,8 +13,7 @@ use std::io::Write;
 fn write_dependence<W: Write>(out: &mut Sink<'_, W>, number: u64, producer: u64)
     ensures { Says W.contents out.old out.new (dependence_line number producer) }
 {
-    write_numbered(out, b"W\t", number, b"\t");
-    write_numbered(out, b"", producer, b"\t0\n")
+    write_two_numbers(out, b"W\t", number, b"\t", producer, b"\t0\n")
 }
 
 #[tactic(auto, using(rv_text::proofs::Saying::saying), unfolding(crate::specs::Dependence::woken_at))]

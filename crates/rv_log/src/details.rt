@@ -1,8 +1,10 @@
-ghost use Rattle.std.specs.Prelude.{◌++◌, codes, decimal};
+ghost use Rattle.std.specs.Prelude.{◌≤◌, ◌++◌, Some, None, codes, decimal, length};
+ghost use Rattle.rv_drawing.specs.Title.{correction_text};
 ghost use Rattle.rv_log.specs.Details.{written_text, cause_text, ending_text, cost_text, details_line, predicted_text, prediction_text};
+ghost use Rattle.rv_text.specs.Line.{word_text};
 ghost use Rattle.rv_text.specs.Said.{Says};
 
-use crate::numbered::write_numbered;
+use crate::numbered::{number_before, put_before, say, write_numbered};
 use crate::waited::write_waited;
 use rv_drawing::put_correction;
 use rv_isa::{Cause, Issue, Reg};
@@ -10,18 +12,47 @@ use rv_passage::{Ending, Passage, register_name};
 use rv_text::{Sink, hexadecimal};
 use std::io::Write;
 
+// Writes that an instruction retired, and which register it wrote, of this short name.
+fn write_named<W: Write>(out: &mut Sink<'_, W>, number: u64, name: &[u8], word: u32)
+    requires { length name.now ≤ 8 }
+    ensures { Says W.contents out.old out.new
+        (codes "retired, x" ++ (decimal number ++ (codes " (" ++ (name.now ++ (codes ") = " ++ word_text word))))) }
+{
+    let mut line = [0; 64];
+    let word = hexadecimal(word);
+    let value = put_before(&mut line, 64, word.as_slice());
+    let equals = put_before(&mut line, value, b") = ");
+    let named = put_before(&mut line, equals, name);
+    let open = put_before(&mut line, named, b" (");
+    let digits = number_before(&mut line, open, number);
+    let start = put_before(&mut line, digits, b"retired, x");
+    let (_, text) = line.split_at(start);
+    say(out, text)
+}
+
+// Writes that an instruction retired, and which register it wrote.
+#[tactic(auto, using(crate::proofs::AfterNumber::numbering), unfolding(crate::specs::Details::written_text))]
+fn write_written<W: Write>(out: &mut Sink<'_, W>, register: Reg, word: u32)
+    ensures { Says W.contents out.old out.new (written_text (Some (register, word))) }
+{
+    let name = register_name(register);
+    if name.len() <= 8 {
+        write_named(out, u64::from(register.number()), name, word)
+    } else {
+        write_numbered(out, b"retired, x", u64::from(register.number()), b" (");
+        out.put(name);
+        out.put(b") = ");
+        out.put(hexadecimal(word).as_slice())
+    }
+}
+
 #[tactic(auto, using(crate::proofs::AfterNumber::numbering), unfolding(crate::specs::Details::written_text))]
 fn write_retired<W: Write>(out: &mut Sink<'_, W>, written: Option<(Reg, u32)>)
     ensures { Says W.contents out.old out.new (written_text written) }
 {
     match written {
-        Some((register, word)) => {
-            write_numbered(out, b"retired, x", u64::from(register.number()), b" (");
-            out.put(register_name(register));
-            out.put(b") = ");
-            out.put(hexadecimal(word).as_slice())
-        }
-        None => out.put(b"retired"),
+        Some((register, word)) => write_written(out, register, word),
+        None => say(out, b"retired"),
     }
 }
 
@@ -39,7 +70,7 @@ fn write_ending<W: Write>(out: &mut Sink<'_, W>, ending: Ending)
         Ending::InFlight => {}
         Ending::Retired { written, .. } => write_retired(out, written),
         Ending::Trapped { cause, .. } => write_cause(out, cause),
-        Ending::Squashed { .. } => out.put(b"squashed"),
+        Ending::Squashed { .. } => say(out, b"squashed"),
     }
 }
 
@@ -52,12 +83,34 @@ fn write_cost<W: Write>(out: &mut Sink<'_, W>, issue: Option<Issue>)
     }
 }
 
+// Writes what was predicted, where the program went on there.
+fn write_prediction_alone<W: Write>(out: &mut Sink<'_, W>, predicted: u32)
+    ensures { Says W.contents out.old out.new (codes ", predicted " ++ word_text predicted) }
+{
+    let mut line = [0; 20];
+    let word = hexadecimal(predicted);
+    let value = put_before(&mut line, 20, word.as_slice());
+    let _ = put_before(&mut line, value, b", predicted ");
+    say(out, &line)
+}
+
+// Writes what was predicted, and where the program went on, if not there.
+fn write_known<W: Write>(out: &mut Sink<'_, W>, predicted: u32, correction: Option<u32>)
+    ensures { Says W.contents out.old out.new
+        (codes ", predicted " ++ (word_text predicted ++ correction_text correction)) }
+{
+    match correction {
+        None => write_prediction_alone(out, predicted),
+        Some(_) => put_correction(out, b", predicted ", predicted, correction, b""),
+    }
+}
+
 #[tactic(auto, using(rv_text::proofs::Saying::saying), unfolding(crate::specs::Details::predicted_text))]
 fn write_predicted<W: Write>(out: &mut Sink<'_, W>, predicted: Option<u32>, correction: Option<u32>)
     ensures { Says W.contents out.old out.new (predicted_text predicted correction) }
 {
     if let Some(predicted) = predicted {
-        put_correction(out, b", predicted ", predicted, correction, b"")
+        write_known(out, predicted, correction)
     }
 }
 
@@ -84,5 +137,5 @@ pub(crate) fn write_details<W: Write>(out: &mut Sink<'_, W>, first: u64, row: &P
     write_cost(out, row.issue);
     write_prediction(out, row);
     write_waited(out, first, row);
-    out.put(b"\n")
+    say(out, b"\n")
 }

@@ -34,7 +34,7 @@ fn is_ready_from(row: &Passage, cycle: u64) -> bool
 fn begins_to_wait(row: &Passage, cycle: u64) -> bool
     ensures { result ≡ begins_to_wait row.now cycle }
 {
-    row.is_in_flight() && row.waits_for_bus(cycle) && is_ready_from(row, cycle)
+    is_ready_from(row, cycle) && row.is_in_flight() && row.waits_for_bus(cycle)
 }
 
 // Writes that a stage begins, where its stamp is this cycle.
@@ -64,6 +64,7 @@ fn write_bus_wait_at<W: Write>(out: &mut Sink<'_, W>, cycle: u64, row: &Passage)
 }
 
 #[tactic(auto, using(rv_text::proofs::Saying::saying), unfolding(crate::specs::Event::fetched_text))]
+#[inline(never)]
 fn write_fetched<W: Write>(out: &mut Sink<'_, W>, listing: &Listing, row: &Passage)
     ensures { Says W.contents out.old out.new (fetched_text listing.now row.now) }
 {
@@ -105,6 +106,7 @@ fn write_end<W: Write>(out: &mut Sink<'_, W>, number: u64, ending: Ending)
 }
 
 #[tactic(auto, using(rv_text::proofs::Saying::saying), unfolding(crate::specs::Event::ended_text))]
+#[inline(never)]
 fn write_ended<W: Write>(out: &mut Sink<'_, W>, first: u64, row: &Passage)
     ensures { Says W.contents out.old out.new (ended_text first row.now) }
 {

@@ -93,17 +93,12 @@ fn write_room_of<W: Write>(out: &mut Sink<'_, W>, cycle: u64, reason: Stall, old
 }
 
 #[tactic(auto, using(rv_text::proofs::Saying::saying), unfolding(crate::specs::Room::room_for))]
-fn write_room_for<W: Write>(
-    out: &mut Sink<'_, W>,
-    cycle: u64,
-    stalled: Stalled,
-    oldest: Option<u64>,
-)
-    ensures { Says W.contents out.old out.new (room_for cycle stalled.before stalled.reason oldest) }
+fn write_room_for<W: Write>(out: &mut Sink<'_, W>, cycle: u64, stalled: Stalled, rows: &[Passage])
+    ensures { Says W.contents out.old out.new (room_for cycle stalled.before stalled.reason (oldest_fetched rows.now)) }
 {
     match stalled.reason {
         Some(reason) if is_for_room(reason) && !is_as_before(reason, stalled.before) => {
-            write_room_of(out, cycle, reason, oldest)
+            write_room_of(out, cycle, reason, oldest_fetched(rows))
         }
         _ => {}
     }
@@ -120,5 +115,5 @@ pub(crate) fn write_room<W: Write>(
 )
     ensures { Says W.contents out.old out.new (room_at cycle stalled rows.now) }
 {
-    write_room_for(out, cycle, stalled, oldest_fetched(rows))
+    write_room_for(out, cycle, stalled, rows)
 }

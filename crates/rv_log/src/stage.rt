@@ -17,7 +17,7 @@ pub(crate) enum Stage {
 impl Stage {
     /// What stands after the number in the line of a stage that begins: the lane, which is 0, and the letter of the stage.
     #[tactic(auto, unfolding(crate::specs::Command::letter_of))]
-    pub(crate) fn after_number(self) -> &'static [u8]
+    pub(crate) fn after_number(self) -> &'static [u8; 5]
         ensures { result.now ≡ codes "\t0\t" ++ (letter_of self ++ codes "\n") }
     {
         match self {

@@ -1,6 +1,7 @@
-ghost use Rattle.std.specs.Prelude.{◌≡◌, ◌≤◌, length};
+ghost use Rattle.std.specs.Prelude.{◌≡◌, ◌≤◌, length, take};
 ghost use Rattle.std.specs.List.{prefix_len};
 ghost use Rattle.rv_log.specs.Statement.{is_printing, statement_text};
+ghost use Rattle.rv_source.specs.Statement.{statement_at};
 ghost use Rattle.rv_text.specs.Said.{Says};
 
 use rv_passage::Passage;
@@ -14,8 +15,8 @@ fn is_printing(byte: u8) -> bool
     32 <= byte && byte <= 126
 }
 
-// How many printing characters a text begins with.
-fn printing_length(text: &[u8]) -> usize
+/// How many printing characters a text begins with.
+pub(crate) fn printing_length(text: &[u8]) -> usize
     ensures length { result ≡ prefix_len is_printing text.now }
     ensures within { result ≤ length text.now }
 {
@@ -27,12 +28,24 @@ fn printing_length(text: &[u8]) -> usize
     text.len()
 }
 
+/// The statement of an instruction, at most 64 bytes of it. Digits of its word stand in the buffer.
+pub(crate) fn statement_of<'a>(
+    listing: &'a Listing,
+    buffer: &'a mut [u8; 8],
+    row: &Passage,
+) -> &'a [u8]
+    ensures short { length result.now ≤ 64 }
+    ensures statement { result.now ≡ take 64 (statement_at listing.now row.now.pc row.now.word) }
+{
+    front(listing.statement(buffer, row.pc, row.word), 64)
+}
+
 /// Writes the statement of an instruction, at most 64 bytes of it.
 pub(crate) fn write_statement<W: Write>(out: &mut Sink<'_, W>, listing: &Listing, row: &Passage)
     ensures { Says W.contents out.old out.new (statement_text listing.now row.now) }
 {
     let mut buffer = [0; 8];
-    let statement = front(listing.statement(&mut buffer, row.pc, row.word), 64);
+    let statement = statement_of(listing, &mut buffer, row);
     let (printing, rest) = statement.split_at(printing_length(statement));
     out.put(printing);
     out.put_plain(rest)

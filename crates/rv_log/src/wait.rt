@@ -1,8 +1,8 @@
-ghost use Rattle.std.specs.Prelude.{◌≡◌};
+ghost use Rattle.std.specs.Prelude.{◌≡◌, ◌+◌};
 ghost use Rattle.rv_isa.specs.Instruction.{kind_of_word};
-ghost use Rattle.rv_log.specs.Waited.{after_or_left, cycles_of, is_later, issue_awaited, last_of, operand_wait, or_left, waits_of};
+ghost use Rattle.rv_log.specs.Waited.{after_or_left, cycles_of, is_later, issue_awaited, last_of, operand_wait, or_left, wait};
 ghost use Rattle.rv_drawing.specs.Cell.{is_past};
-ghost use Rattle.rv_passage.specs.Result.{ready_in};
+ghost use Rattle.rv_passage.specs.Result.{issued_in, ready_in};
 
 use rv_isa::Kind;
 use rv_passage::{Passage, Producer};
@@ -140,33 +140,60 @@ fn issue_awaited(row: &Passage, first: u64) -> Awaited
     }
 }
 
-/// The waits of an instruction that left the hardware in a cycle, in their order, in a log from a cycle on.
-pub(crate) fn waits_of(row: &Passage, first: u64, left: u64) -> [Wait; 5]
-    ensures { result ≡ waits_of first left row.now }
+/// The wait between fetch and dispatch of an instruction that left the hardware in a cycle.
+#[inline(always)]
+pub(crate) fn dispatch_wait(row: &Passage, left: u64) -> Wait
+    ensures { result ≡ wait (row.now.fetched + 1) (or_left left row.now.dispatched) Awaited.Dispatch }
+{
+    Wait {
+        from: u128::from(row.fetched) + 1,
+        until: or_left(row.dispatched, left),
+        awaited: Awaited::Dispatch,
+    }
+}
+
+/// Its wait for its operands after that.
+#[inline(always)]
+pub(crate) fn result_wait(row: &Passage, left: u64) -> Wait
+    ensures { result ≡ operand_wait (after_or_left left row.now.dispatched) left
+        (last_of row.now.producers.first row.now.producers.second) }
 {
     let last = last_of(row.producers.first, row.producers.second);
-    let operand = operand_wait(after_or_left(row.dispatched, left), left, last);
-    [
-        Wait {
-            from: u128::from(row.fetched) + 1,
-            until: or_left(row.dispatched, left),
-            awaited: Awaited::Dispatch,
-        },
-        operand,
-        Wait {
-            from: operand.until,
-            until: or_left(row.issued(), left),
-            awaited: issue_awaited(row, first),
-        },
-        Wait {
-            from: ready_or_left(row, left),
-            until: or_left(row.broadcast, left),
-            awaited: Awaited::Bus,
-        },
-        Wait {
-            from: after_or_left(row.broadcast, left),
-            until: u128::from(left),
-            awaited: Awaited::Head,
-        },
-    ]
+    operand_wait(after_or_left(row.dispatched, left), left, last)
+}
+
+/// Its wait from a cycle on until its issue, in a log from a first cycle on.
+#[inline(always)]
+pub(crate) fn issue_wait(row: &Passage, first: u64, left: u64, from: u128) -> Wait
+    ensures { result ≡ wait from (or_left left (issued_in row.now)) (issue_awaited first row.now) }
+{
+    Wait {
+        from,
+        until: or_left(row.issued(), left),
+        awaited: issue_awaited(row, first),
+    }
+}
+
+/// Its wait for the common data bus.
+#[inline(always)]
+pub(crate) fn bus_wait(row: &Passage, left: u64) -> Wait
+    ensures { result ≡ wait (or_left left (ready_in row.now)) (or_left left row.now.broadcast) Awaited.Bus }
+{
+    Wait {
+        from: ready_or_left(row, left),
+        until: or_left(row.broadcast, left),
+        awaited: Awaited::Bus,
+    }
+}
+
+/// Its wait for the head of the reorder buffer.
+#[inline(always)]
+pub(crate) fn head_wait(row: &Passage, left: u64) -> Wait
+    ensures { result ≡ wait (after_or_left left row.now.broadcast) left Awaited.Head }
+{
+    Wait {
+        from: after_or_left(row.broadcast, left),
+        until: u128::from(left),
+        awaited: Awaited::Head,
+    }
 }
