@@ -13,8 +13,8 @@ impl Table {
     ghost use Rattle.rv_passage.specs.Shown.{AreStill};
     ghost use Rattle.rv_passage.specs.Table.{AreShort, CanCount, passages_of, with_steps};
 
-    /// Notes what a cycle did that had these steps, and led to these buffers and to a pc, that of the oldest instruction
-    /// that is still to retire. Asks for no memory.
+    /// Notes what a cycle did that had these steps, and led to these buffers and to a pc, that of the oldest
+    /// instruction that is still to retire. Asks for no memory.
     pub fn follow(&mut self, cycle: u64, steps: &[Step], rob: &Rob, front: &Front, pc: u32)
         requires { CanFollow steps.now rob.now front.now self.old }
         ensures followed { HasFollowedCycle cycle steps.now rob.now front.now pc self.old self.new }
@@ -79,9 +79,9 @@ impl Table {
         self.append_fetched(fetched, rob, front);
     }
 
-    /// Notes of a cycle that had these steps, and led to these buffers and to a pc, by their numbers which instructions are
-    /// in flight at its end; what else it says of those may be what an earlier cycle left. Forgets the others. Asks for no
-    /// memory.
+    /// Notes of a cycle that had these steps, and led to these buffers and to a pc, by their numbers which instructions
+    /// are in flight at its end; what else it says of those may be what an earlier cycle left. Forgets the others. Asks
+    /// for no memory.
     pub fn follow_numbers(&mut self, cycle: u64, steps: &[Step], rob: &Rob, front: &Front, pc: u32)
         requires { CanFollow steps.now rob.now front.now self.old }
         ensures followed { HasFollowedNumbers cycle steps.now rob.now front.now pc self.old self.new }

@@ -1,4 +1,5 @@
-ghost use Rattle.std.specs.Prelude.{◌≡◌, ◌+◌, ◌++◌, ◌≤◌, ◌<◌, [], ◌∷◌, Some, is_some, length, option_copied, slice_get, vec_capacity};
+ghost use Rattle.std.specs.Prelude.{◌≡◌, ◌+◌, ◌++◌, ◌≤◌, ◌<◌, [], ◌∷◌, Some, is_some, length, option_copied};
+ghost use Rattle.std.specs.Prelude.{slice_get, vec_capacity};
 ghost use Rattle.rv_passage.specs.Numbers.{kept_through};
 ghost use Rattle.rv_passage.specs.Passage.{in_buffers};
 ghost use Rattle.rv_passage.specs.Table.{AreShort, buffers_from, entry_before, next_before, word_before};

@@ -10,8 +10,8 @@ use rv_hardware::Row;
 use rv_isa::Cause;
 use rv_rob::Rob;
 
-// Of the rows after the dropped ones the oldest in flight, if one is, retires as its row reports, so many before it, and the
-// program goes on at `next`.
+// Of the rows after the dropped ones the oldest in flight, if one is, retires as its row reports, so many before it,
+// and the program goes on at `next`.
 pub(crate) fn retire_kept(rows: &mut [Passage], dropped: usize, row: &Row, order: u64, next: u32)
     requires { dropped ≤ length rows.old }
     ensures { drop dropped rows.new ≡ with_oldest (retired_by row.now order next) (drop dropped rows.old) }

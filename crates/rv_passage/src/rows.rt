@@ -1,4 +1,5 @@
-ghost use Rattle.std.specs.Prelude.{◌≡◌, ◌+◌, ◌^◌, ◌<◌, ◌≤◌, true, take, length, is_some, slice_get, slice_set, Some, option_copied};
+ghost use Rattle.std.specs.Prelude.{◌≡◌, ◌+◌, ◌^◌, ◌<◌, ◌≤◌, true, take, length, is_some, slice_get, slice_set};
+ghost use Rattle.std.specs.Prelude.{Some, option_copied};
 ghost use Rattle.std.specs.List.{list_all, position, position_or_len};
 ghost use Rattle.rv_passage.specs.Passage.{in_buffers, is_in_flight, retired_by, trapped_by};
 ghost use Rattle.rv_passage.specs.declared.passage.Passage.{Passage};

@@ -44,9 +44,9 @@ pub struct Table {
 
 impl Table {
     ghost use Rattle.rv_passage.specs.Shown.{AreStill};
-    ghost use Rattle.rv_passage.specs.Table.{AreMovedOn, AreShort, CountsStay, HasRoom, buffers_from, passages_of, still_open};
-    ghost use Rattle.rv_passage.specs.Table.{table_from, with_fetched, with_oldest, with_rows, with_step, with_steps};
-    ghost use Rattle.rv_passage.specs.Table.{without_first_ended, without_squashed};
+    ghost use Rattle.rv_passage.specs.Table.{AreMovedOn, AreShort, CountsStay, HasRoom, buffers_from, passages_of};
+    ghost use Rattle.rv_passage.specs.Table.{still_open, table_from, with_fetched, with_oldest, with_rows, with_step};
+    ghost use Rattle.rv_passage.specs.Table.{with_steps, without_first_ended, without_squashed};
 
     /// A table that begins with what is in flight in two buffers, numbered from 0. It has room for two cycles.
     pub fn begin(alloc: Global, rob: &Rob, front: &Front) -> Result<Table, AllocError>

@@ -74,8 +74,8 @@ SaysNext {V} has_seen text contents view cycle out out' =
     (text start seen.first.hardware (cycles_seen seen ++ cycle_shown seen next.shown ∷ []) ≡
     text start seen.first.hardware (cycles_seen seen) ++ more)
 
--- a view has seen the cycles so far, a table has what is in flight after them, and the view's text of them is said after
--- what was said before
+-- a view has seen the cycles so far, a table has what is in flight after them, and the view's text of them is said
+-- after what was said before
 pub record IsViewing {V : Type 0} (has_seen : Seeing V) (text : Saying V) (start view : V) (was failed : Bool)
     (table : Table) (seen : Watched) (before now : Option (List ℕ)) : Type 0 where
   pub sees : has_seen start view seen
@@ -83,9 +83,9 @@ pub record IsViewing {V : Type 0} (has_seen : Seeing V) (text : Saying V) (start
   pub said : Extends was failed before now (text start seen.first.hardware (cycles_seen seen))
 
 -- a run of at most `limit` cycles: each is counted, and each is shown to a view, in order, which says its text of them
-pub record IsViewedRun {V Refusal : Type 0} (has_seen : Seeing V) (text : Saying V) (arrivals : List Arrival) (limit : ℕ)
-    (old new : GuidedHardware) (view view' : V) (table : Table) (progress : Progress) (end : Result Stop Refusal)
-    (was failed : Bool) (before now : Option (List ℕ)) : Type 0 where
+pub record IsViewedRun {V Refusal : Type 0} (has_seen : Seeing V) (text : Saying V) (arrivals : List Arrival)
+    (limit : ℕ) (old new : GuidedHardware) (view view' : V) (table : Table) (progress : Progress)
+    (end : Result Stop Refusal) (was failed : Bool) (before now : Option (List ℕ)) : Type 0 where
   pub moments : List Moment
   pub passes : History arrivals old moments new
   pub counted : progress ≡ progress_of (reports_of moments)

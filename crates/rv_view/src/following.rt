@@ -85,8 +85,8 @@ pub fn follow_on(table: &mut Table, cycle: u64, steps: &[Step], pipeline: &Pipel
 }
 
 /// Notes of such a cycle by their numbers alone which instructions are in flight at its end, for cycles that are not
-/// shown: what else the table says of them may be what an earlier cycle left. The next cycle that `follow` follows gives
-/// that too. Asks for no memory.
+/// shown: what else the table says of them may be what an earlier cycle left. The next cycle that `follow` follows
+/// gives that too. Asks for no memory.
 pub fn follow_numbers(table: &mut Table, cycle: u64, steps: &[Step], pipeline: &Pipeline)
     requires room { HasRoom table.old }
     requires countable { CanCount (passages_of table.old) }

@@ -77,10 +77,10 @@ impl<V: View> Watcher for Follower<V> {
 }
 
 /// Runs a pipeline that a predictor guides, each cycle with the lines of its number, up to a breakpoint, a stale word,
-/// exhaustion or `limit` cycles, as `watch` does, and shows each cycle to a view, with what became of the instructions that
-/// were in flight before it or fetched in it. What the view says is written as far as no write fails, or has failed before.
-/// Asks for no memory but what the view asks for before a cycle; where it refuses, the pipeline stands at the end of its
-/// last whole cycle.
+/// exhaustion or `limit` cycles, as `watch` does, and shows each cycle to a view, with what became of the
+/// instructions that were in flight before it or fetched in it. What the view says is written as far as no write fails,
+/// or has failed before. Asks for no memory but what the view asks for before a cycle; where it refuses, the pipeline
+/// stands at the end of its last whole cycle.
 pub fn run_view<V: View, W: Write>(
     pipeline: &mut Pipeline,
     predictor: &mut dyn Predictor,
