@@ -42,8 +42,8 @@ unfoldable pub cost_text : Option Issue → List ℕ
 cost_text None = []
 cost_text (Some issue) = codes ", cost " ++ decimal issue.cost
 
--- the label (L) of that pane, in a log from some cycle on
-unfoldable pub details_line : ℕ → Passage → List ℕ
-details_line first passage =
+-- the label (L) of that pane, in a log from some cycle on, but for the end of its line
+unfoldable pub details_text : ℕ → Passage → List ℕ
+details_text first passage =
     (codes "L\t" ++ (decimal passage.number ++ codes "\t1\t")) ++
-    (ending_text passage.ending ++ (cost_text passage.issue ++ (prediction_text passage ++ (waited_text first passage ++ codes "\n"))))
+    (ending_text passage.ending ++ (cost_text passage.issue ++ (prediction_text passage ++ waited_text first passage)))

@@ -1,11 +1,11 @@
 -- What a log says of an instruction in a cycle.
-use Rattle.std.specs.Prelude.{ℕ, ◌==◌, ◌&&◌, Bool, false, if◌then◌else◌, List, [], ◌++◌, Option, Some, None}
+use Rattle.std.specs.Prelude.{ℕ, ◌==◌, ◌&&◌, Bool, false, if◌then◌else◌, List, [], ◌++◌, Option, Some, None, codes}
 use Rattle.rv_passage.specs.declared.passage.{Ending.Ending, Passage.Passage}
 use Rattle.rv_passage.specs.declared.passage.Ending.TheVariants.{InFlight, Retired, Trapped, Squashed}
 use Rattle.rv_passage.specs.{Passage.is_in_flight, Passage.left_in, Result.issued_in, Result.ready_in, Result.waits_for_bus}
 use Rattle.rv_source.specs.Listing.{Listed}
 use Rattle.rv_log.specs.Command.{appearance_text, flush_line, retirement_line, stage_line}
-use Rattle.rv_log.specs.Details.{details_line}
+use Rattle.rv_log.specs.Details.{details_text}
 use Rattle.rv_log.specs.declared.stage.Stage.{Stage}
 use Rattle.rv_log.specs.declared.stage.Stage.TheVariants as stage
 
@@ -60,7 +60,7 @@ end_line number (Squashed cycle) = flush_line number
 
 -- the details of what ended stand before that, in a log from some cycle on
 unfoldable pub ended_text : ℕ → Passage → List ℕ
-ended_text first passage = details_line first passage ++ end_line passage.number passage.ending
+ended_text first passage = details_text first passage ++ (codes "\n" ++ end_line passage.number passage.ending)
 
 -- how an instruction left the hardware in a cycle
 unfoldable pub left_at : ℕ → ℕ → Passage → List ℕ

@@ -1,11 +1,15 @@
-ghost use Rattle.std.specs.Prelude.{◌≡◌};
+ghost use Rattle.std.specs.Prelude.{◌≡◌, ◌++◌, codes};
 ghost use Rattle.rv_log.specs.Event.{is_at, stage_at, begins_to_wait, bus_wait_at, fetched_text, fetch_at, retired_in, end_line, ended_text, left_at, events_at};
 ghost use Rattle.rv_passage.specs.Result.{ready_in};
 ghost use Rattle.rv_text.specs.Said.{Says};
 
-use crate::command::{write_appearance, write_flush, write_retirement, write_stage};
+use crate::command::{
+    write_appearance, write_fetch_label, write_flush, write_retirement, write_stage,
+};
 use crate::details::write_details;
+use crate::numbered::say;
 use crate::stage::Stage;
+use crate::statement::printing_statement;
 use rv_passage::{Ending, Passage};
 use rv_source::Listing;
 use rv_text::Sink;
@@ -63,13 +67,20 @@ fn write_bus_wait_at<W: Write>(out: &mut Sink<'_, W>, cycle: u64, row: &Passage)
     }
 }
 
+// Writes that an instruction appears, its label, and that its fetch begins.
 #[tactic(auto, using(rv_text::proofs::Saying::saying), unfolding(crate::specs::Event::fetched_text))]
 #[inline(never)]
 fn write_fetched<W: Write>(out: &mut Sink<'_, W>, listing: &Listing, row: &Passage)
     ensures { Says W.contents out.old out.new (fetched_text listing.now row.now) }
 {
-    write_appearance(out, listing, row);
-    write_stage(out, row.number, Stage::Fetch)
+    let mut buffer = [0; 8];
+    match printing_statement(listing, &mut buffer, row) {
+        Some(statement) => write_fetch_label(out, row.number, row.pc, statement),
+        None => {
+            write_appearance(out, listing, row);
+            write_stage(out, row.number, Stage::Fetch)
+        }
+    }
 }
 
 // Writes the fetch of an instruction, where it came in this cycle.
@@ -92,13 +103,13 @@ fn retired(ending: Ending) -> Option<u64>
     }
 }
 
-// Writes that an instruction retires, or is flushed.
+// Ends a line, and writes that an instruction retires, or is flushed.
 #[tactic(auto, using(rv_text::proofs::Saying::saying), unfolding(crate::specs::Event::end_line))]
 fn write_end<W: Write>(out: &mut Sink<'_, W>, number: u64, ending: Ending)
-    ensures { Says W.contents out.old out.new (end_line number ending) }
+    ensures { Says W.contents out.old out.new (codes "\n" ++ end_line number ending) }
 {
     match ending {
-        Ending::InFlight => {}
+        Ending::InFlight => say(out, b"\n"),
         Ending::Retired { order, .. } => write_retirement(out, number, order),
         Ending::Trapped { .. } => write_flush(out, number),
         Ending::Squashed { .. } => write_flush(out, number),

@@ -1,4 +1,4 @@
-ghost use Rattle.std.specs.Prelude.{◌≡◌, ◌≤◌, length, take};
+ghost use Rattle.std.specs.Prelude.{◌≡◌, ◌≤◌, length, take, IfSome};
 ghost use Rattle.std.specs.List.{prefix_len};
 ghost use Rattle.rv_log.specs.Statement.{is_printing, statement_text};
 ghost use Rattle.rv_source.specs.Statement.{statement_at};
@@ -38,6 +38,23 @@ pub(crate) fn statement_of<'a>(
     ensures statement { result.now ≡ take 64 (statement_at listing.now row.now.pc row.now.word) }
 {
     front(listing.statement(buffer, row.pc, row.word), 64)
+}
+
+/// The statement of an instruction as a log shows it, where it is that of its line. Digits of its word stand in the buffer.
+pub(crate) fn printing_statement<'a>(
+    listing: &'a Listing,
+    buffer: &'a mut [u8; 8],
+    row: &Passage,
+) -> Option<&'a [u8]>
+    ensures short { IfSome result (λ statement. length statement.now ≤ 64) }
+    ensures shown { IfSome result (λ statement. statement.now ≡ statement_text listing.now row.now) }
+{
+    let statement = statement_of(listing, buffer, row);
+    if printing_length(statement) == statement.len() {
+        Some(statement)
+    } else {
+        None
+    }
 }
 
 /// Writes the statement of an instruction, at most 64 bytes of it.
