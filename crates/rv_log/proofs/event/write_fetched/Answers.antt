@@ -14,8 +14,8 @@ returns-in-Some g c =
     let begin = introduction_text row.number row.pc in
     let shown = statement_text c.args.listing.now row in
     let stage : List ℕ = codes "S\t" ++ (decimal row.number ++ codes "\t0\tF\n") in
-    says_same
-    (ap (λ (text : List ℕ). begin ++ (text ++ (codes "\n" ++ stage))) c.in-Some.ensures.shown
+    let joined =
+    ap (λ (text : List ℕ). begin ++ (text ++ (codes "\n" ++ stage))) c.in-Some.ensures.shown
     ∙ ap (λ (text : List ℕ). begin ++ text) (sym (append_assoc shown (codes "\n") stage))
-    ∙ sym (append_assoc begin (shown ++ codes "\n") stage))
-    c.write_fetch_label.ensures
+    ∙ sym (append_assoc begin (shown ++ codes "\n") stage) in
+    says_same joined c.write_fetch_label.ensures
