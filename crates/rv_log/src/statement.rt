@@ -1,7 +1,6 @@
-ghost use Rattle.std.specs.Prelude.{◌≡◌, ◌≤◌, length, take, IfSome};
+ghost use Rattle.std.specs.Prelude.{◌≡◌, ◌≢◌, ◌≤◌, length, None, IfSome};
 ghost use Rattle.std.specs.List.{prefix_len};
-ghost use Rattle.rv_log.specs.Statement.{is_printing, statement_text};
-ghost use Rattle.rv_source.specs.Statement.{statement_at};
+ghost use Rattle.rv_log.specs.Statement.{is_printing, shown_of, statement_text};
 ghost use Rattle.rv_text.specs.Said.{Says};
 
 use rv_passage::Passage;
@@ -35,7 +34,7 @@ pub(crate) fn statement_of<'a>(
     row: &Passage,
 ) -> &'a [u8]
     ensures short { length result.now ≤ 64 }
-    ensures statement { result.now ≡ take 64 (statement_at listing.now row.now.pc row.now.word) }
+    ensures statement { result.now ≡ shown_of listing.now row.now }
 {
     front(listing.statement(buffer, row.pc, row.word), 64)
 }
@@ -48,6 +47,8 @@ pub(crate) fn printing_statement<'a>(
 ) -> Option<&'a [u8]>
     ensures short { IfSome result (λ statement. length statement.now ≤ 64) }
     ensures shown { IfSome result (λ statement. statement.now ≡ statement_text listing.now row.now) }
+    ensures none { result ≡ None
+        → prefix_len is_printing (shown_of listing.now row.now) ≢ length (shown_of listing.now row.now) }
 {
     let statement = statement_of(listing, buffer, row);
     if printing_length(statement) == statement.len() {
