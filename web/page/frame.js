@@ -14,7 +14,8 @@ function showPathInPicture() {
 function showPage({ output }) {
   const html = textOf(output), head = html.indexOf("<head>") + "<head>".length;
   const url = urlOf(html.slice(0, head) + "<script>" + TELL + "</" + "script>" + html.slice(head), "text/html");
-  const place = [seenCycle === undefined ? "" : "cycle=" + seenCycle, followed === "" ? "" : "follow=" + followed, marksPath ? "path" : ""].filter(Boolean).join("&");
+  // (a word alone would be a place of the viewer, to which the browser scrolls)
+  const place = [seenCycle === undefined ? "" : "cycle=" + seenCycle, followed === "" ? "" : "follow=" + followed, marksPath ? "path=" : ""].filter(Boolean).join("&");
   const frame = element("iframe", { title: "the run, cycle by cycle: the arrow keys step; ? has all keys", sandbox: "allow-scripts allow-downloads", id: "stepper", src: url + (place ? "#" + place : "") });
   frame.onload = () => { if (document.activeElement === document.body || document.activeElement === byId("tab-steps")) frame.focus(); };
   byId("shown").append(frame);

@@ -27,9 +27,14 @@ function restNote(rest) {
   return rest === 0 ? "" : element("p", { className: "note", textContent: counted(rest, "line") + " more: save it to have them all." });
 }
 
-function showText({ output }) {
+function showText({ output }, className = "") {
   const { text, rest } = firstLines(output, MOST_LINES);
-  byId("shown").append(element("pre", { textContent: text }), restNote(rest));
+  byId("shown").append(element("pre", { className, textContent: text }), restNote(rest));
+}
+
+// Sentences, whose lines are as long as they need: they go on below where the window ends.
+function showSentences({ output }) {
+  showText({ output }, "sentences");
 }
 
 const REASONS = [["busy", "busy"], ["stall fetch", "fetch"], ["stall serial", "serial"], ["stall rob", "rob"], ["stall station", "station"], ["stall store", "store"]];

@@ -17,7 +17,7 @@ const VIEWS = [
   { name: "picture", title: "Picture", command: "picture", options: [FROM, cycles(1000, 60), RETIRED, TEXT], show: showPicture, file: "picture.svg" },
   { name: "change", title: "Before and after", command: "run", limit: true, show: showChange, file: "report.txt" },
   { name: "compare", title: "Compare", command: "compare", limit: true, input: comparedInput, refused: refusedMachine, show: showComparison, file: "compare.tsv" },
-  { name: "explain", title: "Explain", command: "explain", limit: true, show: showText, file: "explain.txt" },
+  { name: "explain", title: "Explain", command: "explain", limit: true, show: showSentences, file: "explain.txt" },
   { name: "profile", title: "Profile", command: "profile", limit: true, show: showTable, file: "profile.tsv" },
   { name: "path", title: "Path", command: "path", limit: true, show: showText, file: "path.txt", note: CRITICAL, also: IN_PICTURE },
   { name: "sensitivity", title: "What would help", command: "sensitivity", limit: true, show: showTable, file: "sensitivity.tsv", note: NEIGHBOURS },
