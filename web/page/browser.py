@@ -20,6 +20,10 @@ def find_browser():
     return next((path for path in map(shutil.which, NAMES) if path), None)
 
 
+class WentElsewhere(RuntimeError):
+    """A page that was asked was opened anew before it answered."""
+
+
 class Browser:
     """A Chromium without a window. Its network is off: a page that asks for anything has it in `reports`."""
 
@@ -118,7 +122,8 @@ class Browser:
             self.receive(0.5)
         answer = self.answers.pop(number)
         if "error" in answer:
-            raise RuntimeError(f"{method}: {answer['error']['message']}")
+            said = answer["error"]["message"]
+            raise (WentElsewhere if "navigated" in said else RuntimeError)(f"{method}: {said}")
         return answer.get("result", {})
 
     def blank(self):
@@ -174,7 +179,10 @@ class Page:
         """Waits until an expression is true, and answers its value."""
         end = time.monotonic() + seconds
         while True:
-            value = self.ask(expression)
+            try:
+                value = self.ask(expression)
+            except WentElsewhere:
+                value = None
             if value:
                 return value
             if time.monotonic() > end:

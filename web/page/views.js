@@ -19,7 +19,7 @@ const VIEWS = [
   { name: "compare", title: "Compare", command: "compare", limit: true, input: comparedInput, refused: refusedMachine, show: showComparison, file: "compare.tsv" },
   { name: "explain", title: "Explain", command: "explain", limit: true, show: showSentences, file: "explain.txt" },
   { name: "profile", title: "Profile", command: "profile", limit: true, show: showTable, file: "profile.tsv" },
-  { name: "path", title: "Path", command: "path", limit: true, show: showText, file: "path.txt", note: CRITICAL, also: IN_PICTURE },
+  { name: "path", title: "Path", command: "path", limit: true, show: showSentences, file: "path.txt", note: CRITICAL, also: IN_PICTURE },
   { name: "sensitivity", title: "What would help", command: "sensitivity", limit: true, show: showTable, file: "sensitivity.tsv", note: NEIGHBOURS },
   { name: "trace", title: "Trace", command: "run", words: ["--trace"], limit: true, show: showText, file: "trace.txt", note: TRACE },
   { name: "log", title: "Log", command: "log", limit: true, show: showText, file: "run.kanata", note: KONATA },
