@@ -14,6 +14,7 @@ def driver():
 
 chromium = driver()
 found = chromium.find_browser
+WentElsewhere = chromium.WentElsewhere
 
 
 class Browser:

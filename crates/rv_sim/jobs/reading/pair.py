@@ -1,6 +1,8 @@
 """Two runs side by side: one cursor for both, by cycle or by retired instructions, and marks where they differ."""
 import time
 
+from reading.browser import WentElsewhere
+
 READ_FRAME = r"""({ name: location.pathname.split("/").pop(), cycle: Number(document.documentElement.dataset.cycle), facts: Object.fromEntries([...document.querySelectorAll("[data-fact], [data-entry]")].map((each) => each.dataset.entry === undefined ? [each.dataset.fact, each.textContent]
     : ["entry " + each.dataset.entry, [each.querySelector(".pc"), ...[...each.cells].slice(3)].map((cell) => cell.textContent).join(" ")])),
   differs: [...document.querySelectorAll(".differs")].map((each) => each.dataset.fact || "entry " + each.dataset.entry), panels: [...document.querySelectorAll("[data-panel]:not([hidden]) h2")].map((each) => each.textContent) })"""
@@ -42,7 +44,10 @@ def note_beside(browser):
     until = time.monotonic() + 10
     while True:
         # (there is none while the page is opened anew)
-        note = browser.tell("document.getElementById('pair-note')?.textContent") or ""
+        try:
+            note = browser.tell("document.getElementById('pair-note')?.textContent") or ""
+        except WentElsewhere:
+            note = ""
         if "|" in note or time.monotonic() > until:
             return note
         time.sleep(0.05)
