@@ -23,6 +23,8 @@ from dataclasses import dataclass, field
 from pathlib import Path
 
 ABI = ("zero ra sp gp tp t0 t1 t2 s0 s1 a0 a1 a2 a3 a4 a5 a6 a7 s2 s3 s4 s5 s6 s7 s8 s9 s10 s11 t3 t4 t5 t6").split()
+# Why a cycle dispatched nothing.
+STALLS = ("fetch", "serial", "rob", "station", "store")
 MOST_MACHINES = 64
 # Columns of tables that are texts, and those that the program prints as eight hexadecimal digits.
 TEXTS = {"statement", "name", "stop", "kind"}

@@ -37,18 +37,18 @@ function showSentences({ output }) {
   showText({ output }, "sentences");
 }
 
-const REASONS = [["busy", "busy"], ["stall fetch", "fetch"], ["stall serial", "serial"], ["stall rob", "rob"], ["stall station", "station"], ["stall store", "store"]];
+const isOfCycles = (name) => name === "busy" || name.startsWith("stall ");
 
 // Where the cycles of a run went, as a bar.
 function cycleBar(counts) {
   const total = Number(counts.get("cycles")) || 1, bar = element("div", { className: "cycle-bar", role: "img" }), words = [];
-  for (const [name, kind] of REASONS) {
-    const count = Number(counts.get(name) || 0);
-    if (count === 0) continue;
+  for (const [name, value] of counts) {
+    const count = Number(value);
+    if (!isOfCycles(name) || count === 0) continue;
     const share = (100 * count) / total;
     words.push(name + " " + count);
     const shown = share > 12 ? name + " " + count : share > 4 ? count : "", title = name + ": " + counted(count, "cycle") + ", " + share.toFixed(1) + " %";
-    bar.append(element("span", { className: kind, textContent: shown, title, style: "width: " + share + "%" }));
+    bar.append(element("span", { className: name.replace("stall ", ""), textContent: shown, title, style: "width: " + share + "%" }));
   }
   bar.setAttribute("aria-label", "Where the cycles went: " + words.join(", "));
   return bar;

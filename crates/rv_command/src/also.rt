@@ -1,7 +1,7 @@
 ghost use Rattle.std.specs.Prelude.{◌≡◌, ◌<◌, IfSome, length, map, position};
 ghost use Rattle.clap.specs.Words.{found_of, rows_of};
 ghost use Rattle.rv_asm.specs.Read.{token_of};
-ghost use Rattle.rv_isa.specs.Choice.{predictor_named, recovery_named};
+ghost use Rattle.rv_isa.specs.Choice.{recovery_named};
 ghost use Rattle.rv_isa.specs.Key.{text_of};
 ghost use Rattle.std.specs.Str.{bytes_eq};
 ghost use Rattle.rv_command.specs.Also.{also_in, column_of, index_named, is_equals, is_of_one_key, is_tried, key_at};
@@ -65,20 +65,6 @@ fn recovery_named(text: &[u8]) -> Option<Recovery>
     }
 }
 
-fn predictor_named(text: &[u8]) -> Option<PredictorKind>
-    ensures { result ≡ predictor_named text.now }
-{
-    if text == b"not_taken".as_slice() {
-        Some(PredictorKind::NotTaken)
-    } else if text == b"backward_taken".as_slice() {
-        Some(PredictorKind::BackwardTaken)
-    } else if text == b"bimodal".as_slice() {
-        Some(PredictorKind::Bimodal)
-    } else {
-        None
-    }
-}
-
 // The value that a text is for a key.
 fn value_at(key: Key, text: &[u8]) -> Option<KeyValue>
     ensures { result ≡ value_at key text.now }
@@ -87,7 +73,7 @@ fn value_at(key: Key, text: &[u8]) -> Option<KeyValue>
         Key::Number(_) => Some(KeyValue::Number(number_named(text)?)),
         Key::Recovery => Some(KeyValue::Recovery(recovery_named(text)?)),
         Key::Pipelined(_) => Some(KeyValue::Truth(truth_named(text)?)),
-        Key::PredictorKind => Some(KeyValue::Predictor(predictor_named(text)?)),
+        Key::PredictorKind => Some(KeyValue::Predictor(PredictorKind::of_word(text)?)),
     }
 }
 

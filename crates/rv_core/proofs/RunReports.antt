@@ -8,6 +8,7 @@ use Rattle.rv_core.proofs.Words.{guided_ended as ended, Stall, StallCounts, Step
 use Rattle.rv_core.proofs.Words.{progress_after, progress_of, silence_after, silence_from, IsRun, Progress}
 use Rattle.std.proofs.Math.Seq.{drop-append_seam}
 use Rattle.std.proofs.lemmas.List.{take_all}
+use Rattle.rv_hardware.specs.Report.{count_of}
 use Rattle.rv_core.specs.Told.{AppendsCycle}
 use Rattle.rv_core.specs.declared.outcome.CycleEnd.{CycleEnd}
 use Rattle.std.proofs.lemmas.List.Sums.{sum_by_push}
@@ -72,16 +73,18 @@ stalls-bound : (count : StallCounts → ℕ) → ((o : Option Stall) (c : StallC
 stalls-bound count one c [] = omega arith
 stalls-bound count one c (x ∷ rs) = omega (arith, one x.stall c, stalls-bound count one (counted_stall x.stall c) rs)
 
+count-step : (stall : Stall) (o : Option Stall) (c : StallCounts) → count_of stall (counted_stall o c) ≤ count_of stall c + 1
+count-step stall o c = grind arith
+
+none_counted : (stall : Stall) → count_of stall (stalls_of []) ≡ 0
+none_counted stall = grind arith
+
 -- what is counted lies within the bounds
 pub progress-bounded : (rs : List Report) → IsBounded (progress_of rs)
 progress-bounded rs = record {
   busy = count_by-le-length (λ r. not (r.dispatched == 0)) rs;
   silent = omega (arith, silence-bound 0 rs);
-  fetch = omega (arith, stalls-bound (λ c. c.fetch) (λ o c. grind arith) (stalls_of []) rs);
-  serial = omega (arith, stalls-bound (λ c. c.serial) (λ o c. grind arith) (stalls_of []) rs);
-  rob = omega (arith, stalls-bound (λ c. c.rob) (λ o c. grind arith) (stalls_of []) rs);
-  station = omega (arith, stalls-bound (λ c. c.station) (λ o c. grind arith) (stalls_of []) rs);
-  store = omega (arith, stalls-bound (λ c. c.store) (λ o c. grind arith) (stalls_of []) rs);
+  stalls = λ stall. omega (arith, stalls-bound (count_of stall) (count-step stall) (stalls_of []) rs, none_counted stall);
 }
 
 -- ---- what is reported of cycles

@@ -4,7 +4,7 @@ use Rattle.rv_isa.specs.Arrivals.{lines_at}
 use Rattle.rv_isa.specs.declared.lines.Arrival.{Arrival}
 use Rattle.rv_arch.specs.declared.outcome.Stop.{Stop}
 use Rattle.rv_hardware.specs.Guided.{GuidedHardware, IsGuidedCycle}
-use Rattle.rv_hardware.specs.Report.{Report}
+use Rattle.rv_hardware.specs.Report.{Report, count_of}
 use Rattle.rv_hardware.specs.Run.{busy_of, counted_stall, is_silent, longest_gap_of, stalls_of}
 use Rattle.rv_hardware.specs.declared.{report.Stall.Stall, step.Step.Step}
 use Rattle.rv_core.specs.Told.{IsCommitStop}
@@ -61,8 +61,4 @@ pub record IsNextCycle (arrivals : List Arrival) (old new : GuidedHardware) (ste
 pub record IsBounded (progress : Progress) : Type 0 where
   pub busy : progress.busy ≤ progress.cycles
   pub silent : progress.silent ≤ progress.cycles
-  pub fetch : progress.stalls.fetch ≤ progress.cycles
-  pub serial : progress.stalls.serial ≤ progress.cycles
-  pub rob : progress.stalls.rob ≤ progress.cycles
-  pub station : progress.stalls.station ≤ progress.cycles
-  pub store : progress.stalls.store ≤ progress.cycles
+  pub stalls : (stall : Stall) → count_of stall progress.stalls ≤ progress.cycles

@@ -6,7 +6,6 @@ ghost use Rattle.rv_hardware.specs.Seen.{layout_of, seen};
 ghost use Rattle.rv_core.specs.Progress.{IsBounded, IsNextCycle, progress_after, progress_of};
 ghost use Rattle.rv_core.specs.RunDone.{IsDone, KeepsItsPromise};
 ghost use Rattle.rv_core.specs.Told.{report_with};
-ghost use Rattle.rv_hardware.specs.Report.{counted};
 
 use crate::collector::Collector;
 use crate::errors::OutOfMemory;
@@ -15,7 +14,7 @@ use crate::pipeline::Pipeline;
 use crate::watching::watch;
 use rv_arch::Stop;
 use rv_front::Predictor;
-use rv_hardware::{Stall, StallCounts, Step};
+use rv_hardware::{StallCounts, Step};
 use rv_isa::Arrivals;
 use std::alloc::Global;
 use std::io;
@@ -99,37 +98,13 @@ fn collect(
     }
 }
 
-// One more cycle that dispatched nothing.
-fn count_stall(stalls: &mut StallCounts, stall: Stall)
-    requires fetch { stalls.old.fetch < 18446744073709551615 }
-    requires serial { stalls.old.serial < 18446744073709551615 }
-    requires rob { stalls.old.rob < 18446744073709551615 }
-    requires station { stalls.old.station < 18446744073709551615 }
-    requires store { stalls.old.store < 18446744073709551615 }
-    ensures { stalls.new ≡ counted stall stalls.old }
-{
-    match stall {
-        Stall::Fetch => stalls.fetch += 1,
-        Stall::Serial => stalls.serial += 1,
-        Stall::Rob => stalls.rob += 1,
-        Stall::Station => stalls.station += 1,
-        Stall::Store => stalls.store += 1,
-    }
-}
-
 impl Progress {
     /// The counts of no cycle.
     pub fn new() -> Progress
         ensures { result ≡ progress_of [] }
     {
         Progress {
-            stalls: StallCounts {
-                fetch: 0,
-                serial: 0,
-                rob: 0,
-                station: 0,
-                store: 0,
-            },
+            stalls: StallCounts::new(),
             busy: 0,
             cycles: 0,
             stall: None,
@@ -171,7 +146,7 @@ impl Progress {
             self.busy += 1;
         }
         if let Some(stall) = end.stall {
-            count_stall(&mut self.stalls, stall);
+            self.stalls.count(stall);
         }
         self.stall = end.stall;
         self.silent = if steps.is_empty() { self.silent + 1 } else { 0 };

@@ -67,6 +67,11 @@ described kind.NotTaken entries = NotTaken record {}
 described kind.BackwardTaken entries = BackwardTaken record {}
 described kind.Bimodal entries = Bimodal (untaught entries)
 
+-- the tables of one that has them
+abbrev pub tables_of : DescribedPredictor → Option Tables
+tables_of (Bimodal tables) = Some tables
+tables_of _ = None
+
 -- each answers as its kind does
 abbrev pub answer : DescribedPredictor → ℕ → Flow → ℕ
 answer (NotTaken plain) pc flow = not_taken pc flow

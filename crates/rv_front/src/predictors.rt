@@ -19,9 +19,9 @@ pub enum DescribedPredictor {
 }
 
 impl DescribedPredictor {
-    ghost use Rattle.std.specs.Prelude.{◌≡◌, IfOk};
+    ghost use Rattle.std.specs.Prelude.{◌≡◌, IfOk, option_copied};
     ghost use Rattle.rv_isa.specs.Description.{Within};
-    ghost use Rattle.rv_front.specs.Predictors.{described};
+    ghost use Rattle.rv_front.specs.Predictors.{described, tables_of};
 
     /// A predictor of a kind that was taught nothing, with so many entries where the kind has tables.
     pub fn new(alloc: Global, kind: PredictorKind, entries: u32) -> Result<Self, AllocError>
@@ -35,6 +35,16 @@ impl DescribedPredictor {
                 let bimodal = Bimodal::new(alloc, entries)?;
                 Ok(DescribedPredictor::Bimodal(bimodal))
             }
+        }
+    }
+
+    /// The tables of a predictor that has them.
+    pub fn tables(&self) -> Option<&Bimodal>
+        ensures { option_copied result ≡ tables_of self.now }
+    {
+        match self {
+            DescribedPredictor::Bimodal(tables) => Some(tables),
+            _ => None,
         }
     }
 }

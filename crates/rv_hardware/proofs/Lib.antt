@@ -14,6 +14,7 @@ pub mod LongestGap
 pub mod Laws
 pub mod Marks
 pub mod Promise
+pub mod StallNames
 pub mod AnyPrediction
 pub mod Determined
 pub mod Onward

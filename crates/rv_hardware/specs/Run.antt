@@ -7,7 +7,7 @@ use Rattle.rv_arch.specs.declared.outcome.Stop.{Stop}
 use Rattle.rv_arch.specs.declared.outcome.Stop.TheVariants as stop
 use Rattle.rv_hardware.specs.Cycle.{IsCycle, any_prediction}
 use Rattle.rv_hardware.specs.Hardware.{Hardware}
-use Rattle.rv_hardware.specs.Report.{Report, counted}
+use Rattle.rv_hardware.specs.Report.{Report, counted, no_stalls}
 use Rattle.rv_hardware.specs.Reset.{reset_hardware, IsLoadable}
 use Rattle.rv_hardware.specs.declared.{report.Stall.Stall, report.StallCounts.StallCounts, step.Step.Step}
 
@@ -46,7 +46,7 @@ stalls_from counts (report ∷ reports) = stalls_from (counted_stall report.stal
 
 -- the cycles that dispatched nothing, by their reasons
 abbrev pub stalls_of : List Report → StallCounts
-stalls_of reports = stalls_from (record { fetch = 0; serial = 0; rob = 0; station = 0; store = 0 }) reports
+stalls_of reports = stalls_from no_stalls reports
 
 -- a cycle without steps
 abbrev pub is_silent : List Step → Bool

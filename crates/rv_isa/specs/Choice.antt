@@ -1,5 +1,5 @@
 -- The choices of a description, by the words that it names them with.
-use Rattle.std.specs.Prelude.{ℕ, List, Option, Some, None, if◌then◌else◌, codes}
+use Rattle.std.specs.Prelude.{ℕ, Bool, true, false, List, Option, Some, None, if◌then◌else◌, codes}
 use Rattle.std.specs.Str.{bytes_eq}
 use Rattle.rv_isa.specs.declared.values.{PredictorKind.PredictorKind, Recovery.Recovery}
 use Rattle.rv_isa.specs.declared.values.PredictorKind.TheVariants.{NotTaken, BackwardTaken, Bimodal}
@@ -28,3 +28,10 @@ predictor_named name =
     if bytes_eq name (codes "not_taken") then Some NotTaken else
     if bytes_eq name (codes "backward_taken") then Some BackwardTaken else
     if bytes_eq name (codes "bimodal") then Some Bimodal else None
+
+-- two predictors are the same
+abbrev pub is_same_predictor : PredictorKind → PredictorKind → Bool
+is_same_predictor NotTaken NotTaken = true
+is_same_predictor BackwardTaken BackwardTaken = true
+is_same_predictor Bimodal Bimodal = true
+is_same_predictor _ _ = false

@@ -52,17 +52,27 @@ pub enum PredictorKind {
 impl PredictorKind {
     ghost use Rattle.std.specs.Prelude.{◌≡◌};
     ghost use Rattle.std.specs.Prelude.{Some};
-    ghost use Rattle.rv_isa.specs.Choice.{predictor_name, predictor_named};
+    ghost use Rattle.rv_isa.specs.Choice.{is_same_predictor, predictor_name, predictor_named};
 
     /// The predictor that a description names so, or `None` where there is none.
     pub fn named(name: &str) -> Option<Self>
         ensures { result ≡ predictor_named name.now }
     {
-        match name {
-            "not_taken" => Some(PredictorKind::NotTaken),
-            "backward_taken" => Some(PredictorKind::BackwardTaken),
-            "bimodal" => Some(PredictorKind::Bimodal),
-            _ => None,
+        Self::of_word(name.as_bytes())
+    }
+
+    /// The predictor of which a word is the name, or `None` where there is none.
+    pub fn of_word(word: &[u8]) -> Option<Self>
+        ensures { result ≡ predictor_named word.now }
+    {
+        if word == b"not_taken".as_slice() {
+            Some(PredictorKind::NotTaken)
+        } else if word == b"backward_taken".as_slice() {
+            Some(PredictorKind::BackwardTaken)
+        } else if word == b"bimodal".as_slice() {
+            Some(PredictorKind::Bimodal)
+        } else {
+            None
         }
     }
 
@@ -76,6 +86,13 @@ impl PredictorKind {
             PredictorKind::BackwardTaken => "backward_taken",
             PredictorKind::Bimodal => "bimodal",
         }
+    }
+
+    /// Whether another predictor is the same.
+    pub fn is_same(self, other: Self) -> bool
+        ensures { result ≡ is_same_predictor self other }
+    {
+        self == other
     }
 }
 

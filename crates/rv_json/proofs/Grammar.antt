@@ -91,6 +91,11 @@ both no_members after = after
 both {ys = ys} (further_member first others is more) after =
     subst AreMembers (ap (λ l. codes "," ++ l) (sym (append_assoc first others ys))) (further_member first (others ++ ys) is (both more after))
 
+-- those of items one after the other
+pub members_each : {X : Type 0} (text : X → List ℕ) → ((x : X) → AreMembers (text x)) → (xs : List X) → AreMembers (flat_map text xs)
+members_each text are [] = no_members
+members_each text are (x ∷ xs) = both (are x) (members_each text are xs)
+
 -- a member of a name that needs no escape
 member_text : List ℕ → List ℕ → List ℕ
 member_text name value = (codes "\"" ++ (name ++ codes "\"")) ++ (codes ":" ++ value)

@@ -1,6 +1,7 @@
 pub mod Arrays
 pub mod Grammar
 pub mod Markup
+pub mod Names
 mod NoJson
 mod Numerals
 pub mod Parts

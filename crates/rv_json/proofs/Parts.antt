@@ -4,7 +4,6 @@ use Rattle.std.specs.Prelude.{Bool, codes, map, option_map}
 use Rattle.rv_isa.specs.declared.{broadcast.StoreAccess.StoreAccess, issues.Issue.Issue, lines.Lines.Lines, operations.Kind.Kind, per_kind.PerKind.PerKind}
 use Rattle.rv_isa.specs.declared.operations.Kind.TheVariants as kind
 use Rattle.rv_isa.specs.declared.values.{CacheValues.CacheValues, KindValues.KindValues, PredictorKind.PredictorKind, PredictorValues.PredictorValues, Recovery.Recovery, Values.Values}
-use Rattle.rv_isa.specs.declared.values.PredictorKind.TheVariants.{NotTaken, BackwardTaken, Bimodal}
 use Rattle.rv_isa.specs.declared.values.Recovery.TheVariants.{Commit, Early}
 use Rattle.rv_arch.specs.Csr.{Kept}
 use Rattle.rv_arch.specs.declared.outcome.Stop.{Stop}
@@ -44,6 +43,8 @@ use Rattle.rv_json.specs.Step.{interrupt_json, retirement_json, step_json, trap_
 use Rattle.rv_json.specs.Stop.{stop_json, stop_line, stop_name}
 use Rattle.rv_json.specs.Units.{start_json, units_json}
 use Rattle.rv_json.specs.Word.{word_json, word_text}
+use Rattle.rv_isa.proofs.Names.{predictor_name-word}
+use Rattle.rv_json.proofs.Names.{word-no_markup}
 use Rattle.rv_json.proofs.Markup.{array_of, beginning, both, counted, counted_some, each, each_plain, in_quotes, member, named, number, otherwise, plain, string_of, truth_of}
 
 -- the machine
@@ -81,9 +82,7 @@ unfolding cache_json
 cache c = both (beginning _ refl (number _)) (both (both (counted _ refl _) (both (counted _ refl _) (both (counted _ refl _) (both (counted _ refl _) (counted _ refl _))))) (plain refl))
 
 predictor_named : (p : PredictorKind) → HasNoMarkup (predictor_name p)
-predictor_named NotTaken = plain refl
-predictor_named BackwardTaken = plain refl
-predictor_named Bimodal = plain refl
+predictor_named p = plain (word-no_markup (predictor_name p) (predictor_name-word p))
 
 predictor : (p : PredictorValues) → HasNoMarkup (predictor_json p)
 unfolding predictor_json

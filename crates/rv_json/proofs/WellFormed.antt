@@ -5,7 +5,6 @@ use Rattle.rv_isa.specs.Choice.{predictor_name}
 use Rattle.rv_isa.specs.declared.{broadcast.StoreAccess.StoreAccess, issues.Issue.Issue, lines.Lines.Lines, operations.Kind.Kind, per_kind.PerKind.PerKind}
 use Rattle.rv_isa.specs.declared.operations.Kind.TheVariants as kind
 use Rattle.rv_isa.specs.declared.values.{CacheValues.CacheValues, KindValues.KindValues, PredictorKind.PredictorKind, PredictorValues.PredictorValues, Recovery.Recovery, Values.Values}
-use Rattle.rv_isa.specs.declared.values.PredictorKind.TheVariants.{NotTaken, BackwardTaken, Bimodal}
 use Rattle.rv_isa.specs.declared.values.Recovery.TheVariants.{Commit, Early}
 use Rattle.rv_arch.specs.Csr.{Kept}
 use Rattle.rv_arch.specs.declared.outcome.Stop.{Stop}
@@ -44,6 +43,8 @@ use Rattle.rv_json.specs.Step.{interrupt_json, retirement_json, step_json, trap_
 use Rattle.rv_json.specs.Stop.{stop_json, stop_line, stop_name}
 use Rattle.rv_json.specs.Units.{start_json, units_json}
 use Rattle.rv_json.specs.Word.{word_json, word_text}
+use Rattle.rv_isa.proofs.Names.{predictor_name-word}
+use Rattle.rv_json.proofs.Names.{word-unescaped}
 use Rattle.rv_json.proofs.Grammar.{IsOpen, array_of, beginning, begun, both, closes, counted, counted_some, each_json, in_quotes, last, lines_each, member, more, number, object, object_line, one_line, string_of, truth_of}
 
 -- the machine
@@ -83,9 +84,7 @@ cache c =
     (more (both (counted _ refl _) (both (counted _ refl _) (both (counted _ refl _) (both (counted _ refl _) (counted _ refl _))))) closes)
 
 predictor_named : (p : PredictorKind) → IsJson (quoted (predictor_name p))
-predictor_named NotTaken = in_quotes _ refl
-predictor_named BackwardTaken = in_quotes _ refl
-predictor_named Bimodal = in_quotes _ refl
+predictor_named p = in_quotes _ (word-unescaped (predictor_name p) (predictor_name-word p))
 
 predictor : (p : PredictorValues) → IsJson (predictor_json p)
 unfolding predictor_json

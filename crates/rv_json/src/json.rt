@@ -194,7 +194,7 @@ pub(crate) fn write_object<W: Write>(
 
 /// Writes a further member that is an object whose members are these.
 #[tactic(auto, using(rv_text::proofs::Saying::says_both), unfolding(crate::specs::Json::also))]
-pub fn write_object_member<W: Write>(
+pub(crate) fn write_object_member<W: Write>(
     out: &mut Sink<'_, W>,
     object: &str,
     name: &str,

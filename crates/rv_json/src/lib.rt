@@ -26,9 +26,7 @@ pub use array::{Values, write_array_member, write_comma};
 pub use entry::{broadcast, write_entry};
 pub use fetched::write_fetch_buffer;
 pub use instruction::Instructions;
-pub use json::{
-    Member, Value, write_begin, write_key, write_name, write_number, write_object_member,
-};
+pub use json::{write_begin, write_key, write_name, write_number};
 pub use listing::write_listing;
 pub use machine::write_header;
 pub use observed::write_observed;

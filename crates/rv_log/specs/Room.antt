@@ -1,6 +1,7 @@
 -- What a log says of the fetched words that wait for room: what the oldest of them waits for, from the first cycle on in which it does.
 use Rattle.std.specs.Prelude.{ℕ, ◌&&◌, not, Bool, true, false, if◌then◌else◌, is_none, List, [], ◌++◌, codes, decimal, Option, Some, None}
 use Rattle.std.specs.{List.find, Option.option_map}
+use Rattle.rv_hardware.specs.Report.{is_same_stall}
 use Rattle.rv_hardware.specs.declared.report.Stall.{Stall}
 use Rattle.rv_hardware.specs.declared.report.Stall.TheVariants as stall
 use Rattle.rv_drawing.specs.Room.{room_text}
@@ -18,20 +19,13 @@ oldest_fetched rows = option_map (λ (p : Passage). p.number) (find is_fetched_w
 
 -- words wait for room, and not that there are any
 abbrev pub is_for_room : Stall → Bool
-is_for_room stall.Rob = true
-is_for_room stall.Station = true
-is_for_room stall.Store = true
-is_for_room stall.Serial = true
 is_for_room stall.Fetch = false
+is_for_room _ = true
 
 -- the cycle before had the same reason
 abbrev pub is_as_before : Stall → Option Stall → Bool
-is_as_before stall.Rob (Some stall.Rob) = true
-is_as_before stall.Station (Some stall.Station) = true
-is_as_before stall.Store (Some stall.Store) = true
-is_as_before stall.Serial (Some stall.Serial) = true
-is_as_before stall.Fetch (Some stall.Fetch) = true
-is_as_before _ _ = false
+is_as_before reason None = false
+is_as_before reason (Some before) = is_same_stall reason before
 
 -- the label (L) of the pane of details; more text may come after it there
 unfoldable pub room_line : ℕ → Stall → ℕ → List ℕ

@@ -43,24 +43,17 @@ fn oldest_fetched(rows: &[Passage]) -> Option<u64>
 fn is_for_room(reason: Stall) -> bool
     ensures { result ≡ is_for_room reason }
 {
-    match reason {
-        Stall::Rob | Stall::Station | Stall::Store | Stall::Serial => true,
-        Stall::Fetch => false,
-    }
+    !matches!(reason, Stall::Fetch)
 }
 
 // Whether the cycle before had the same reason.
 fn is_as_before(reason: Stall, before: Option<Stall>) -> bool
     ensures { result ≡ is_as_before reason before }
 {
-    matches!(
-        (reason, before),
-        (Stall::Rob, Some(Stall::Rob))
-            | (Stall::Station, Some(Stall::Station))
-            | (Stall::Store, Some(Stall::Store))
-            | (Stall::Serial, Some(Stall::Serial))
-            | (Stall::Fetch, Some(Stall::Fetch))
-    )
+    match before {
+        Some(before) => reason.is_same(before),
+        None => false,
+    }
 }
 
 #[tactic(auto, unfolding(crate::specs::Room::room_line))]

@@ -6,7 +6,9 @@ use Rattle.rv_arch.specs.declared.outcome.Stop.{Stop}
 use Rattle.rv_counts.specs.Places.{AddUp, AreLostFor}
 use Rattle.rv_hardware.specs.Guided.{GuidedHardware}
 use Rattle.rv_hardware.specs.History.{History, Moment, reports_of}
+use Rattle.rv_hardware.specs.Report.{all_stalls, count_of, stall_name}
 use Rattle.rv_hardware.specs.Run.{IsStop}
+use Rattle.rv_hardware.specs.declared.report.{Stall.Stall, StallCounts.StallCounts}
 use Rattle.rv_report.specs.Events.{events_in}
 use Rattle.rv_report.specs.Shown.{cells_text, heads_text, places_shown, words_of}
 use Rattle.rv_report.specs.State.{stop_text}
@@ -34,12 +36,16 @@ pub record RunsTo (arrivals : List Arrival) (options : TableOptions) (old : Guid
   pub places_add_up : AddUp old.hardware moments new.hardware
   pub places_are_lost_for : AreLostFor arrivals old.hardware moments
 
+-- the name of the column of a reason to dispatch nothing
+abbrev pub stall_head : Stall → List ℕ
+stall_head stall = codes "stall_" ++ (stall_name stall ++ codes "\t")
+
 -- the names of the columns, but for those of what is shown besides
 unfoldable pub table_head : List ℕ
 table_head =
-    codes "number\tcycles\tretired\tcpi\ttraps\tinterrupts\tbusy\tstall_fetch\tstall_serial\tstall_rob\t" ++
-    (codes "stall_station\tstall_store\tmispredicted\tsquashed\tmisses\tname\tstop\t" ++
-    codes "ipc\tlongest_gap\tbranches\tloads\tdrains\thits\twrite_backs")
+    codes "number\tcycles\tretired\tcpi\ttraps\tinterrupts\tbusy\t" ++ (flat_map stall_head all_stalls ++
+    (codes "mispredicted\tsquashed\tmisses\tname\tstop\t" ++
+    codes "ipc\tlongest_gap\tbranches\tloads\tdrains\thits\twrite_backs"))
 
 -- the number of a run, and the counts of its cycles and steps
 abbrev pub count_values : ℕ → Totals → List Value
@@ -53,18 +59,13 @@ count_values number totals =
     Count totals.busy ∷
     []
 
--- the cycles that dispatched nothing, by the reason, and what a run lost cycles to
+-- the cycles that dispatched nothing for a reason
+abbrev pub stall_cell : StallCounts → Stall → List ℕ
+stall_cell stalls stall = cell_text (Count (count_of stall stalls))
+
+-- what a run lost cycles to
 abbrev pub loss_values : ComparedRun → List Value
-loss_values run =
-    Count run.totals.stalls.fetch ∷
-    Count run.totals.stalls.serial ∷
-    Count run.totals.stalls.rob ∷
-    Count run.totals.stalls.station ∷
-    Count run.totals.stalls.store ∷
-    Count run.losses.mispredicted ∷
-    Count run.losses.squashed ∷
-    Count run.events.misses ∷
-    []
+loss_values run = Count run.losses.mispredicted ∷ Count run.losses.squashed ∷ Count run.events.misses ∷ []
 
 -- the name of a run's machine in printing characters, or a hyphen where it has none
 unfoldable pub name_text : List ℕ → List ℕ
@@ -93,8 +94,8 @@ last_cells shown run = decimal run.events.write_backs ++ (cells_text shown run.w
 -- the line of a run
 unfoldable pub table_row : Columns (Option Shown) → ℕ → List ℕ → ComparedRun → List ℕ
 table_row shown number name run =
-    flat_map cell_text (count_values number run.totals) ++ (flat_map cell_text (loss_values run) ++
-    (name_and_stop name run.totals.stop ++ (flat_map cell_text (event_values run) ++ last_cells shown run)))
+    flat_map cell_text (count_values number run.totals) ++ (flat_map (stall_cell run.totals.stalls) all_stalls ++
+    (flat_map cell_text (loss_values run) ++ (name_and_stop name run.totals.stop ++ (flat_map cell_text (event_values run) ++ last_cells shown run))))
 
 -- the line of a run with a number, where the machines from the first on have these names
 abbrev pub row_of : Columns (Option Shown) → List (List ℕ) → ℕ × ComparedRun → List ℕ

@@ -1,11 +1,12 @@
 -- What a run came to.
 use Rattle.std.specs.Prelude.{List, ◌++◌, codes, count_by, length, ℕ, ◌+◌, ◌^◌, ◌<◌}
+use Rattle.std.specs.List.{flat_map}
 use Rattle.rv_arch.specs.declared.outcome.Stop.{Stop}
 use Rattle.rv_core.specs.declared.outcome.{Outcome.Outcome, Progress.Progress}
-use Rattle.rv_hardware.specs.Report.{Report}
+use Rattle.rv_hardware.specs.Report.{Report, all_stalls, count_of, stall_name}
 use Rattle.rv_hardware.specs.Run.{busy_of, longest_gap_of, stalls_of, steps_of}
 use Rattle.rv_hardware.specs.Step.{is_interrupt, is_retirement, is_trap}
-use Rattle.rv_hardware.specs.declared.{report.StallCounts.StallCounts, step.Step.Step}
+use Rattle.rv_hardware.specs.declared.{report.Stall.Stall, report.StallCounts.StallCounts, step.Step.Step}
 use Rattle.rv_text.specs.Line.{line_of, count_line, ratio_text}
 use Rattle.rv_report.specs.declared.totals.{StepCounts.StepCounts, Totals.Totals}
 
@@ -64,14 +65,13 @@ totals_of outcome = record {
   stalls = outcome.stalls;
 }
 
--- the cycles that dispatched nothing, by the reason
+-- the cycles that dispatched nothing for a reason
+unfoldable pub stall_line : StallCounts → Stall → List ℕ
+stall_line stalls stall = count_line (codes "stall " ++ stall_name stall) (count_of stall stalls)
+
+-- those of each reason
 unfoldable pub stall_lines : StallCounts → List ℕ
-stall_lines stalls =
-    count_line (codes "stall fetch") stalls.fetch ++
-    (count_line (codes "stall serial") stalls.serial ++
-    (count_line (codes "stall rob") stalls.rob ++
-    (count_line (codes "stall station") stalls.station ++
-    count_line (codes "stall store") stalls.store)))
+stall_lines stalls = flat_map (stall_line stalls) all_stalls
 
 -- the cycles, and the steps by their sort
 unfoldable pub cycle_lines : Totals → List ℕ

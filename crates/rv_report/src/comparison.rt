@@ -1,6 +1,7 @@
 ghost use Rattle.std.specs.Prelude.{◌≡◌, ◌+◌, [], get_or, map};
 ghost use Rattle.std.specs.List.{enumerate_from, flat_map};
-ghost use Rattle.rv_report.specs.Comparison.{count_values, event_values, last_cells, loss_values, name_and_stop, name_text, row_of, table_head, table_of, table_row};
+ghost use Rattle.rv_hardware.specs.Report.{all_stalls};
+ghost use Rattle.rv_report.specs.Comparison.{count_values, event_values, last_cells, loss_values, name_and_stop, name_text, row_of, stall_cell, stall_head, table_head, table_of, table_row};
 ghost use Rattle.rv_text.specs.ReadField.{cell_text};
 ghost use Rattle.rv_text.specs.Said.{Says};
 ghost use Rattle.rv_text.specs.Written.{IsWritten};
@@ -9,19 +10,37 @@ use crate::losses::ComparedRun;
 use crate::shown::{Columns, Shown, write_cells, write_heads};
 use crate::state::write_reason;
 use crate::totals::Totals;
+use itoa::Buffer;
 use rv_arch::Stop;
+use rv_hardware::{Stall, StallCounts};
 use rv_text::{ReportError, Sink, Value};
 use std::io::Write;
 
-#[tactic(auto, unfolding(crate::specs::Comparison::table_head))]
+// The name of the column of a reason.
+fn write_stall_head<W: Write>(out: &mut Sink<'_, W>, stall: Stall)
+    ensures { Says W.contents out.old out.new (stall_head stall) }
+{
+    out.put_all(&[b"stall_", stall.name().as_bytes(), b"\t"]);
+}
+
+// The names of the columns of the cycles that dispatched nothing.
+#[tactic(auto, using(rv_text::proofs::Saying::saying))]
+fn write_stall_heads<W: Write>(out: &mut Sink<'_, W>)
+    ensures { Says W.contents out.old out.new (flat_map stall_head all_stalls) }
+{
+    for stall in Stall::all() {
+        write_stall_head(out, *stall);
+    }
+}
+
+#[tactic(auto, using(rv_text::proofs::Saying::says_both), unfolding(crate::specs::Comparison::table_head))]
 fn write_head<W: Write>(out: &mut Sink<'_, W>)
     ensures { Says W.contents out.old out.new table_head }
 {
-    out.put_all(&[
-        b"number\tcycles\tretired\tcpi\ttraps\tinterrupts\tbusy\tstall_fetch\tstall_serial\tstall_rob\t",
-        b"stall_station\tstall_store\tmispredicted\tsquashed\tmisses\tname\tstop\t",
-        b"ipc\tlongest_gap\tbranches\tloads\tdrains\thits\twrite_backs",
-    ]);
+    out.put(b"number\tcycles\tretired\tcpi\ttraps\tinterrupts\tbusy\t");
+    write_stall_heads(out);
+    out.put(b"mispredicted\tsquashed\tmisses\tname\tstop\t");
+    out.put(b"ipc\tlongest_gap\tbranches\tloads\tdrains\thits\twrite_backs");
 }
 
 // The number of a run, and the counts of its cycles and steps.
@@ -43,16 +62,29 @@ fn write_counts<W: Write>(out: &mut Sink<'_, W>, number: u64, totals: &Totals)
     out.put_cells(&values);
 }
 
-// The cycles of a run that dispatched nothing, by the reason, and what it lost cycles to.
+// The cycles of a run that dispatched nothing for a reason.
+fn write_stall<W: Write>(out: &mut Sink<'_, W>, stalls: &StallCounts, stall: Stall)
+    ensures { Says W.contents out.old out.new (stall_cell stalls.now stall) }
+{
+    let mut buffer = Buffer::new();
+    out.put_all(&[buffer.format(stalls.of(stall)).as_bytes(), b"\t"]);
+}
+
+// Those of each reason.
+#[tactic(auto, using(rv_text::proofs::Saying::saying))]
+fn write_stalls<W: Write>(out: &mut Sink<'_, W>, stalls: &StallCounts)
+    ensures { Says W.contents out.old out.new (flat_map (stall_cell stalls.now) all_stalls) }
+{
+    for stall in Stall::all() {
+        write_stall(out, stalls, *stall);
+    }
+}
+
+// What a run lost cycles to.
 fn write_losses<W: Write>(out: &mut Sink<'_, W>, run: &ComparedRun)
     ensures { Says W.contents out.old out.new (flat_map cell_text (loss_values run.now)) }
 {
     let values = [
-        Value::Count(run.totals.stalls.fetch),
-        Value::Count(run.totals.stalls.serial),
-        Value::Count(run.totals.stalls.rob),
-        Value::Count(run.totals.stalls.station),
-        Value::Count(run.totals.stalls.store),
         Value::Count(run.losses.mispredicted),
         Value::Count(run.losses.squashed),
         Value::Count(run.events.misses),
@@ -121,6 +153,7 @@ fn write_row<W: Write>(
     ensures { Says W.contents out.old out.new (table_row shown.now number name.now run.now) }
 {
     write_counts(out, number, &run.totals);
+    write_stalls(out, &run.totals.stalls);
     write_losses(out, run);
     write_name_and_stop(out, name, run.totals.stop);
     write_events(out, run);

@@ -1,5 +1,5 @@
 ghost use Rattle.rv_hardware.specs.Seen.{seen};
-ghost use Rattle.rv_report.specs.Totals.{cycle_lines, stall_lines, total_lines};
+ghost use Rattle.rv_report.specs.Totals.{cycle_lines, stall_line, stall_lines, total_lines};
 ghost use Rattle.rv_report.specs.RunReport.{end_lines, end_of, trace_of, report_of};
 ghost use Rattle.rv_text.specs.Said.{Says};
 ghost use Rattle.rv_text.specs.Written.{IsWritten};
@@ -9,8 +9,9 @@ use crate::options::Options;
 use crate::rows::write_steps;
 use crate::state::{write_state, write_stop};
 use crate::totals::Totals;
+use itoa::Buffer;
 use rv_core::{Outcome, Pipeline};
-use rv_hardware::{StallCounts, Step};
+use rv_hardware::{Stall, StallCounts, Step};
 use rv_text::{Field, ReportError, Sink, Value};
 use std::io::Write;
 
@@ -53,32 +54,24 @@ fn write_cycles<W: Write>(out: &mut Sink<'_, W>, totals: &Totals)
     ]);
 }
 
+// The cycles that dispatched nothing for a reason.
+#[tactic(auto, unfolding(crate::specs::Totals::stall_line, rv_text::specs::Line::count_line, rv_text::specs::Line::line_of))]
+fn write_stall<W: Write>(out: &mut Sink<'_, W>, stalls: &StallCounts, stall: Stall)
+    ensures { Says W.contents out.old out.new (stall_line stalls.now stall) }
+{
+    let mut buffer = Buffer::new();
+    let count = buffer.format(stalls.of(stall)).as_bytes();
+    out.put_all(&[b"stall ", stall.name().as_bytes(), b" ", count, b"\n"]);
+}
+
 // The cycles that dispatched nothing, by the reason.
+#[tactic(auto, using(rv_text::proofs::Saying::saying), unfolding(crate::specs::Totals::stall_lines))]
 fn write_stalls<W: Write>(out: &mut Sink<'_, W>, stalls: &StallCounts)
     ensures { Says W.contents out.old out.new (stall_lines stalls.now) }
 {
-    out.put_fields(&[
-        Field {
-            name: "stall fetch",
-            value: Value::Count(stalls.fetch),
-        },
-        Field {
-            name: "stall serial",
-            value: Value::Count(stalls.serial),
-        },
-        Field {
-            name: "stall rob",
-            value: Value::Count(stalls.rob),
-        },
-        Field {
-            name: "stall station",
-            value: Value::Count(stalls.station),
-        },
-        Field {
-            name: "stall store",
-            value: Value::Count(stalls.store),
-        },
-    ]);
+    for stall in Stall::all() {
+        write_stall(out, stalls, *stall);
+    }
 }
 
 // The counts of a run.

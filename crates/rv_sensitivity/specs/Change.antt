@@ -1,11 +1,12 @@
 -- What is changed of a machine, and the machine with the change.
 use Rattle.std.specs.Prelude.{ℕ, ◌==◌, Bool, true, false, not, ◌&&◌, ◌||◌, if◌then◌else◌, Option, Some, None}
+use Rattle.rv_isa.specs.Choice.{is_same_predictor}
 use Rattle.rv_isa.specs.Key.{number_of}
 use Rattle.rv_isa.specs.PerKind.{at_kind, with_kind}
 use Rattle.rv_isa.specs.declared.{keys.Key.Key, keys.KindKey.KindKey, keys.NumberKey.NumberKey, operations.Kind.Kind}
 use Rattle.rv_isa.specs.declared.values.{KindValues.KindValues, PredictorKind.PredictorKind as Prediction, Recovery.Recovery as Mending, Values.Values}
 use Rattle.rv_isa.specs.declared.keys.Key.TheVariants as key
-use Rattle.rv_isa.specs.declared.values.PredictorKind.TheVariants.{NotTaken, BackwardTaken, Bimodal}
+use Rattle.rv_isa.specs.declared.values.PredictorKind.TheVariants.{Bimodal}
 use Rattle.rv_isa.specs.declared.keys.KindKey.TheVariants.{Stations, Units, Latency}
 use Rattle.rv_isa.specs.declared.keys.NumberKey.TheVariants.{RamBase, RamSize, RomBytes, FetchWidth, DispatchWidth, CommitWidth, BusWidth, FetchBuffer, Rob, StoreQueue, Forward, OfKind, CacheSets, CacheWays, CacheLine, CacheHit, CacheMiss, CacheWriteBack, PredictorEntries, ReportDumpAddress, ReportDumpWords}
 use Rattle.rv_isa.specs.declared.values.Recovery.TheVariants.{Commit, Early}
@@ -83,12 +84,6 @@ is_new_recovery Commit Commit = false
 is_new_recovery Early Early = false
 is_new_recovery _ _ = true
 
-abbrev pub is_new_predictor : Prediction → Prediction → Bool
-is_new_predictor NotTaken NotTaken = false
-is_new_predictor BackwardTaken BackwardTaken = false
-is_new_predictor Bimodal Bimodal = false
-is_new_predictor _ _ = true
-
 abbrev pub is_new_truth : Bool → Bool → Bool
 is_new_truth truth own = if own then not truth else truth
 
@@ -97,6 +92,6 @@ abbrev pub is_new : Change → Values → Bool
 is_new (Number number_key n) v = not (n == number_of v number_key) && is_used number_key v
 is_new (Recovery recovery) v = is_new_recovery recovery v.recovery
 is_new (Pipelined kind truth) v = is_new_truth truth (at_kind kind v.kinds).pipelined
-is_new (Predictor kind) v = is_new_predictor kind v.predictor.kind
+is_new (Predictor kind) v = not (is_same_predictor kind v.predictor.kind)
 is_new (Widths widths) v =
     not (widths.fetch == v.fetch_width) || (not (widths.dispatch == v.dispatch_width) || (not (widths.commit == v.commit_width) || not (widths.bus == v.bus_width)))

@@ -1,6 +1,6 @@
 ghost use Rattle.std.specs.Prelude.{◌≡◌};
 ghost use Rattle.rv_isa.specs.PerKind.{with_kind};
-ghost use Rattle.rv_sensitivity.specs.Change.{changed, has_entries, is_new, is_new_predictor, is_new_recovery, is_new_truth, is_used, with_kind_number, with_number, with_pipelined};
+ghost use Rattle.rv_sensitivity.specs.Change.{changed, has_entries, is_new, is_new_recovery, is_new_truth, is_used, with_kind_number, with_number, with_pipelined};
 
 use rv_isa::{
     CacheValues, Key, Kind, KindKey, KindValues, NumberKey, PerKind, PredictorKind,
@@ -304,17 +304,6 @@ fn is_new_recovery(recovery: Recovery, own: Recovery) -> bool
     }
 }
 
-fn is_new_predictor(kind: PredictorKind, own: PredictorKind) -> bool
-    ensures { result ≡ is_new_predictor kind own }
-{
-    match (kind, own) {
-        (PredictorKind::NotTaken, PredictorKind::NotTaken)
-        | (PredictorKind::BackwardTaken, PredictorKind::BackwardTaken)
-        | (PredictorKind::Bimodal, PredictorKind::Bimodal) => false,
-        _ => true,
-    }
-}
-
 fn is_new_truth(truth: bool, own: bool) -> bool
     ensures { result ≡ is_new_truth truth own }
 {
@@ -331,7 +320,7 @@ pub(crate) fn is_new(values: &Values, change: Change) -> bool
         Change::Pipelined(kind, pipelined) => {
             is_new_truth(pipelined, values.kinds.get(kind).pipelined)
         }
-        Change::Predictor(kind) => is_new_predictor(kind, values.predictor.kind),
+        Change::Predictor(kind) => !kind.is_same(values.predictor.kind),
         Change::Widths(widths) => {
             widths.fetch != values.fetch_width
                 || widths.dispatch != values.dispatch_width

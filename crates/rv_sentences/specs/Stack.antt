@@ -1,7 +1,8 @@
 -- Where the cycles of a run went.
 use Rattle.std.specs.Prelude.{ℕ, ◌+◌, ◌*◌, ◌/◌, ◌%◌, ◌==◌, if◌then◌else◌, List, [], ◌∷◌, ◌++◌, codes, decimal, length, take, drop}
 use Rattle.std.specs.List.{flat_map}
-use Rattle.rv_hardware.specs.declared.report.StallCounts.{StallCounts}
+use Rattle.rv_hardware.specs.Report.{all_stalls, count_of, stall_name}
+use Rattle.rv_hardware.specs.declared.report.{Stall.Stall, StallCounts.StallCounts}
 
 -- how many of so many parts of a whole a count is, to the nearest; none of nothing
 abbrev pub parts_of : ℕ → ℕ → ℕ → ℕ
@@ -34,9 +35,15 @@ count_text cycles retired = codes "cycles " ++ (decimal cycles ++ (codes ", reti
 unfoldable pub part_line : List ℕ → ℕ → ℕ → List ℕ
 part_line name count all = if count == 0 then [] else share_line name count all
 
+-- a part of all cycles after a name in a column of its own, unless it is none
+unfoldable pub column_line : List ℕ → ℕ → ℕ → List ℕ
+column_line name count all =
+    if count == 0 then [] else name ++ (indent (codes "       ") name ++ share_line [] count all)
+
+-- the cycles that dispatched nothing for a reason
+abbrev pub stall_line : StallCounts → ℕ → Stall → List ℕ
+stall_line stalls cycles stall = column_line (stall_name stall) (count_of stall stalls) cycles
+
 -- the cycles that dispatched something, and those that did not, by the reason
 unfoldable pub stall_text : ℕ → ℕ → StallCounts → List ℕ
-stall_text cycles busy stalls =
-    flat_map (λ (share : List ℕ × ℕ). part_line share.0 share.1 cycles)
-    ((codes "busy   ", busy) ∷ (codes "fetch  ", stalls.fetch) ∷ (codes "serial ", stalls.serial) ∷ (codes "rob    ", stalls.rob) ∷
-    (codes "station", stalls.station) ∷ (codes "store  ", stalls.store) ∷ [])
+stall_text cycles busy stalls = column_line (codes "busy") busy cycles ++ flat_map (stall_line stalls cycles) all_stalls

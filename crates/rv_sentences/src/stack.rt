@@ -1,10 +1,11 @@
 ghost use Rattle.std.specs.Prelude.{◌≡◌, take, drop};
-ghost use Rattle.rv_sentences.specs.Stack.{parts_of, part_line, share_line, count_text, stall_text};
+ghost use Rattle.rv_hardware.specs.Report.{all_stalls};
+ghost use Rattle.rv_sentences.specs.Stack.{column_line, parts_of, part_line, share_line, count_text, stall_line, stall_text};
 ghost use Rattle.std.specs.List.{flat_map};
 ghost use Rattle.rv_text.specs.Said.{Says};
 
 use itoa::Buffer;
-use rv_hardware::StallCounts;
+use rv_hardware::{Stall, StallCounts};
 use rv_text::Sink;
 use std::io::Write;
 
@@ -120,39 +121,34 @@ pub fn write_shares<W: Write>(out: &mut Sink<'_, W>, shares: &[Share<'_>], all: 
     }
 }
 
+// Writes a part whose name stands in a column of its own, unless it is none.
+#[tactic(auto, using(rv_text::proofs::Saying::saying), unfolding(crate::specs::Stack::column_line, crate::specs::Stack::indent))]
+fn write_column<W: Write>(out: &mut Sink<'_, W>, name: &str, count: u64, all: u64)
+    ensures { Says W.contents out.old out.new (column_line name.now count all) }
+{
+    if count == 0 {
+        return;
+    }
+    out.put(name.as_bytes());
+    out.put(rest_after(b"       ", name.len()));
+    write_share(out, "", count, all);
+}
+
+// Writes how many cycles dispatched nothing, by the reason, unless there are none.
+#[tactic(auto, using(rv_text::proofs::Saying::saying))]
+fn write_each_stall<W: Write>(out: &mut Sink<'_, W>, cycles: u64, stalls: &StallCounts)
+    ensures { Says W.contents out.old out.new (flat_map (stall_line stalls.now cycles) all_stalls) }
+{
+    for stall in Stall::all() {
+        write_column(out, stall.name(), stalls.of(*stall), cycles);
+    }
+}
+
 /// Writes how many cycles dispatched something, and how many did not, by the reason, unless there are none.
-#[tactic(auto, unfolding(crate::specs::Stack::stall_text))]
+#[tactic(auto, using(rv_text::proofs::Saying::says_both), unfolding(crate::specs::Stack::stall_text))]
 pub fn write_stalls<W: Write>(out: &mut Sink<'_, W>, cycles: u64, busy: u64, stalls: &StallCounts)
     ensures { Says W.contents out.old out.new (stall_text cycles busy stalls.now) }
 {
-    write_shares(
-        out,
-        &[
-            Share {
-                name: "busy   ",
-                count: busy,
-            },
-            Share {
-                name: "fetch  ",
-                count: stalls.fetch,
-            },
-            Share {
-                name: "serial ",
-                count: stalls.serial,
-            },
-            Share {
-                name: "rob    ",
-                count: stalls.rob,
-            },
-            Share {
-                name: "station",
-                count: stalls.station,
-            },
-            Share {
-                name: "store  ",
-                count: stalls.store,
-            },
-        ],
-        cycles,
-    );
+    write_column(out, "busy", busy, cycles);
+    write_each_stall(out, cycles, stalls);
 }

@@ -2,6 +2,7 @@
 use Rattle.std.proofs.Common.{◌≡◌, ℕ, ◌+◌, List, [], ◌∷◌, Option, Some, None, refl}
 use Rattle.std.specs.Prelude.{◌++◌, ◌==◌, Bool, true, false, codes, get_or, length, if◌then◌else◌}
 use Rattle.std.specs.FinSet as set
+use Rattle.std.specs.Option.{option_map_or}
 use Rattle.std.specs.List.{flat_map, list_any}
 use Rattle.rv_isa.specs.declared.instructions.Instr.{Instr}
 use Rattle.rv_arch.specs.declared.outcome.Stop.{Stop}
@@ -11,15 +12,14 @@ use Rattle.rv_core.specs.Progress.{progress_of}
 use Rattle.rv_core.specs.declared.outcome.Progress.{Progress}
 use Rattle.rv_memory.specs.Memory.{word_of}
 use Rattle.rv_front.specs.Flow.{flow_at}
-use Rattle.rv_front.specs.Predictors.{answer}
+use Rattle.rv_front.specs.Predictors.{answer, tables_of}
 use Rattle.rv_front.specs.Tables.{Tables}
 use Rattle.rv_front.specs.declared.{fetched.Fetched.Fetched, predictors.DescribedPredictor.DescribedPredictor}
-use Rattle.rv_front.specs.declared.predictors.DescribedPredictor.TheVariants.{NotTaken, BackwardTaken, Bimodal}
 use Rattle.rv_hardware.specs.Hardware.{Hardware}
 use Rattle.rv_hardware.specs.History.{Moment}
+use Rattle.rv_hardware.specs.Report.{all_stalls, stall_name}
 use Rattle.rv_hardware.specs.Seen.{layout_of, seen}
 use Rattle.rv_hardware.specs.declared.{report.Stall.Stall, step.Step.Step}
-use Rattle.rv_hardware.specs.declared.report.Stall.TheVariants.{Fetch, Serial, Rob, Station, Store}
 use Rattle.rv_hardware.specs.declared.step.Step.TheVariants.{Retired, Trap, Interrupt}
 use Rattle.rv_passage.specs.Passage.{is_in_flight}
 use Rattle.rv_passage.specs.Table.{still_open}
@@ -34,32 +34,33 @@ use Rattle.rv_json.specs.Markup.{HasNoMarkup, is_markup}
 use Rattle.rv_json.specs.Place.{word_address}
 use Rattle.rv_json.specs.Queue.{store_json}
 use Rattle.rv_json.specs.Step.{step_json}
+use Rattle.rv_hardware.proofs.StallNames.{stall_name-word}
+use Rattle.rv_json.proofs.Names.{word-no_markup}
 use Rattle.rv_json.proofs.Markup.{AllPlain, array_of, beginning, both, chosen, counted, each, each_plain, in_quotes, member, number, otherwise, plain}
 use Rattle.rv_json.proofs.Parts.{asked_plain, entry_plain, fetched_plain, header_plain, instruction_plain, listing_plain, next_fetch_plain, observed_plain, operand_plain, place_plain, set_plain, step_plain, stop_plain, store_plain, units_plain, word_plain}
-use Rattle.rv_states.specs.Counts.{counts_json, counts_text, stall_text}
+use Rattle.rv_states.specs.Counts.{counts_json, counts_text, stall_count, stall_text}
 use Rattle.rv_states.specs.Cycle.{cycle_line, json_in_flight, rest_text, start_line}
 use Rattle.rv_states.specs.Entries.{entries_json, entry_json}
 use Rattle.rv_states.specs.Memory.{memory_line, memory_lines, word_if, word_seen}
 use Rattle.rv_states.specs.Operands.{operand_text, operands_of, operands_text}
-use Rattle.rv_states.specs.Predictor.{asked_in, asked_of, asked_text, learned_text, place_if, place_in, place_line, place_lines, place_taught, predictor_lines, predictor_text, uses_tables, untaught_predictor}
+use Rattle.rv_states.specs.Predictor.{asked_in, asked_of, asked_text, learned_places, learned_text, place_if, place_in, place_line, place_lines, place_taught, predictor_lines, predictor_text, uses_tables, untaught_predictor}
 use Rattle.rv_states.specs.Sets.{lines_if, set_line, set_lines}
 use Rattle.rv_states.specs.State.{in_flight_text, parts_text, state_json}
 use Rattle.rv_states.specs.States.{cycle_text, cycles_text, head_text, lines_text, opening_text, states_text, storage_text, taught_by, window_text}
 
+stall_name-no_markup : (reason : Stall) → list_any is_markup (stall_name reason) ≡ false
+stall_name-no_markup reason = word-no_markup (stall_name reason) (stall_name-word reason)
+
 stall : (s : Option Stall) → HasNoMarkup (stall_text s)
 unfolding stall_text
 stall None = plain refl
-stall (Some Fetch) = member _ refl (in_quotes (plain refl))
-stall (Some Serial) = member _ refl (in_quotes (plain refl))
-stall (Some Rob) = member _ refl (in_quotes (plain refl))
-stall (Some Station) = member _ refl (in_quotes (plain refl))
-stall (Some Store) = member _ refl (in_quotes (plain refl))
+stall (Some reason) = member _ refl (in_quotes (plain (stall_name-no_markup reason)))
 
 counts : (p : Progress) → HasNoMarkup (counts_text p)
 unfolding counts_json counts_text
 counts p =
-    both (stall p.stall) (member _ refl (both (beginning _ refl (number _))
-    (both (both (counted _ refl _) (both (counted _ refl _) (both (counted _ refl _) (both (counted _ refl _) (both (counted _ refl _) (counted _ refl _)))))) (plain refl))))
+    both (stall p.stall) (member _ refl (both (beginning _ refl (number _)) (both (counted _ refl _)
+    (both (each (stall_count p.stalls) (λ reason. counted (stall_name reason) (stall_name-no_markup reason) _) all_stalls) (plain refl)))))
 
 operand : (name : List ℕ) → list_any is_markup name ≡ false → (status : RegisterStatus) (register : Option ℕ) → HasNoMarkup (operand_text name status register)
 unfolding operand_text
@@ -96,11 +97,13 @@ rest h p = both (counts p) (member _ refl (state h))
 place_of_tables : (place counter : ℕ) (target : Option ℕ) → HasNoMarkup (place_if place counter target)
 place_of_tables place counter target = otherwise _ (both (place_plain place counter target) (plain refl))
 
-places : (predictor : DescribedPredictor) → HasNoMarkup (predictor_lines predictor)
+places_in : (kept : Option Tables) → HasNoMarkup (option_map_or place_lines kept [])
 unfolding place_lines
-places (NotTaken plainly) = plain refl
-places (BackwardTaken plainly) = plain refl
-places (Bimodal tables) = each (place_line tables) (λ place. place_of_tables place _ _) _
+places_in None = plain refl
+places_in (Some tables) = each (place_line tables) (λ place. place_of_tables place _ _) _
+
+places : (predictor : DescribedPredictor) → HasNoMarkup (predictor_lines predictor)
+places predictor = places_in (tables_of predictor)
 
 one_plain : (shown : Bool) (value : List ℕ) → HasNoMarkup value → AllPlain (if shown then value ∷ [] else [])
 one_plain true value none = (none, tt)
@@ -119,11 +122,13 @@ taught_place tables (Retired row) = one_plain (uses_tables (flow_at row.pc row.w
 taught_place tables (Trap pc cause value cycle) = tt
 taught_place tables (Interrupt pc cause cycle) = tt
 
+learned_in : (kept : Option Tables) (steps : List Step) → HasNoMarkup (option_map_or (λ tables. learned_places tables steps) kept [])
+learned_in None steps = plain refl
+learned_in (Some tables) steps = member _ refl (array_of _ (given_plain (place_taught tables) (taught_place tables) steps))
+
 learned : (predictor : DescribedPredictor) (steps : List Step) → HasNoMarkup (learned_text predictor steps)
 unfolding learned_text
-learned (NotTaken plainly) steps = plain refl
-learned (BackwardTaken plainly) steps = plain refl
-learned (Bimodal tables) steps = member _ refl (array_of _ (given_plain (place_taught tables) (taught_place tables) steps))
+learned predictor steps = learned_in (tables_of predictor) steps
 
 asked_word : (predictor : DescribedPredictor) (pc : ℕ) (word : Option ℕ) → AllPlain (asked_of predictor pc word)
 asked_word predictor pc None = tt

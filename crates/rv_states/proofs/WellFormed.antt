@@ -2,6 +2,7 @@
 use Rattle.std.proofs.Common.{◌≡◌, ℕ, ◌+◌, List, [], ◌∷◌, Option, Some, None, refl}
 use Rattle.std.specs.Prelude.{◌++◌, ◌==◌, Bool, true, false, codes, get_or, length, if◌then◌else◌}
 use Rattle.std.specs.FinSet as set
+use Rattle.std.specs.Option.{option_map_or}
 use Rattle.std.specs.List.{flat_map, list_all}
 use Rattle.rv_isa.specs.declared.instructions.Instr.{Instr}
 use Rattle.rv_arch.specs.declared.outcome.Stop.{Stop}
@@ -11,15 +12,14 @@ use Rattle.rv_core.specs.Progress.{progress_of}
 use Rattle.rv_core.specs.declared.outcome.Progress.{Progress}
 use Rattle.rv_memory.specs.Memory.{word_of}
 use Rattle.rv_front.specs.Flow.{flow_at}
-use Rattle.rv_front.specs.Predictors.{answer}
+use Rattle.rv_front.specs.Predictors.{answer, tables_of}
 use Rattle.rv_front.specs.Tables.{Tables}
 use Rattle.rv_front.specs.declared.{fetched.Fetched.Fetched, predictors.DescribedPredictor.DescribedPredictor}
-use Rattle.rv_front.specs.declared.predictors.DescribedPredictor.TheVariants.{NotTaken, BackwardTaken, Bimodal}
 use Rattle.rv_hardware.specs.Hardware.{Hardware}
 use Rattle.rv_hardware.specs.History.{Moment}
+use Rattle.rv_hardware.specs.Report.{all_stalls, stall_name}
 use Rattle.rv_hardware.specs.Seen.{layout_of, seen}
 use Rattle.rv_hardware.specs.declared.{report.Stall.Stall, step.Step.Step}
-use Rattle.rv_hardware.specs.declared.report.Stall.TheVariants.{Fetch, Serial, Rob, Station, Store}
 use Rattle.rv_hardware.specs.declared.step.Step.TheVariants.{Retired, Trap, Interrupt}
 use Rattle.rv_passage.specs.Passage.{is_in_flight}
 use Rattle.rv_passage.specs.Table.{still_open}
@@ -34,32 +34,33 @@ use Rattle.rv_json.specs.Grammar.{AreLines, AreMembers, IsJson, is_unescaped, no
 use Rattle.rv_json.specs.Place.{word_address}
 use Rattle.rv_json.specs.Queue.{store_json}
 use Rattle.rv_json.specs.Step.{step_json}
-use Rattle.rv_json.proofs.Grammar.{AllJson, array_of, beginning, both, closes, counted, each_json, in_quotes, lines_both, lines_each, lines_unless, lines_where, member, more, number, object, object_line, one_line}
+use Rattle.rv_hardware.proofs.StallNames.{stall_name-word}
+use Rattle.rv_json.proofs.Names.{word-unescaped}
+use Rattle.rv_json.proofs.Grammar.{AllJson, array_of, beginning, both, closes, counted, each_json, in_quotes, lines_both, lines_each, lines_unless, lines_where, member, members_each, more, number, object, object_line, one_line}
 use Rattle.rv_json.proofs.WellFormed.{asked_is, entry_is, fetched_is, header_is, instruction_is, listing_is, next_fetch_is, observed_is, operand_is, place_is, set_is, step_is, stop_is, store_is, units_are, word_is}
-use Rattle.rv_states.specs.Counts.{counts_json, counts_text, stall_text}
+use Rattle.rv_states.specs.Counts.{counts_json, counts_text, stall_count, stall_text}
 use Rattle.rv_states.specs.Cycle.{cycle_line, json_in_flight, rest_text, start_line}
 use Rattle.rv_states.specs.Entries.{entries_json, entry_json}
 use Rattle.rv_states.specs.Memory.{memory_line, memory_lines, word_if, word_seen}
 use Rattle.rv_states.specs.Operands.{operand_text, operands_of, operands_text}
-use Rattle.rv_states.specs.Predictor.{asked_in, asked_of, asked_text, learned_text, place_if, place_in, place_line, place_lines, place_taught, predictor_lines, predictor_text, uses_tables, untaught_predictor}
+use Rattle.rv_states.specs.Predictor.{asked_in, asked_of, asked_text, learned_places, learned_text, place_if, place_in, place_line, place_lines, place_taught, predictor_lines, predictor_text, uses_tables, untaught_predictor}
 use Rattle.rv_states.specs.Sets.{lines_if, set_line, set_lines}
 use Rattle.rv_states.specs.State.{in_flight_text, parts_text, state_json}
 use Rattle.rv_states.specs.States.{cycle_text, cycles_text, head_text, lines_text, opening_text, states_text, storage_text, taught_by, window_text}
 
+stall_name-unescaped : (reason : Stall) → list_all is_unescaped (stall_name reason) ≡ true
+stall_name-unescaped reason = word-unescaped (stall_name reason) (stall_name-word reason)
+
 stall : (s : Option Stall) → AreMembers (stall_text s)
 unfolding stall_text
 stall None = no_members
-stall (Some Fetch) = member _ refl (in_quotes _ refl)
-stall (Some Serial) = member _ refl (in_quotes _ refl)
-stall (Some Rob) = member _ refl (in_quotes _ refl)
-stall (Some Station) = member _ refl (in_quotes _ refl)
-stall (Some Store) = member _ refl (in_quotes _ refl)
+stall (Some reason) = member _ refl (in_quotes _ (stall_name-unescaped reason))
 
 totals : (p : Progress) → IsJson (counts_json p)
 unfolding counts_json
 totals p =
-    object (beginning _ refl (number _))
-    (more (both (counted _ refl _) (both (counted _ refl _) (both (counted _ refl _) (both (counted _ refl _) (both (counted _ refl _) (counted _ refl _)))))) closes)
+    object (beginning _ refl (number _)) (more (counted _ refl _)
+    (more (members_each (stall_count p.stalls) (λ reason. counted (stall_name reason) (stall_name-unescaped reason) _) all_stalls) closes))
 
 counts : (p : Progress) → AreMembers (counts_text p)
 unfolding counts_text
@@ -109,11 +110,13 @@ rest h p = both (counts p) (member _ refl (state h))
 place_of_tables : (place counter : ℕ) (target : Option ℕ) → AreLines (place_if place counter target)
 place_of_tables place counter target = lines_unless _ (one_line (place_is place counter target))
 
-places : (predictor : DescribedPredictor) → AreLines (predictor_lines predictor)
+places_in : (kept : Option Tables) → AreLines (option_map_or place_lines kept [])
 unfolding place_lines
-places (NotTaken plainly) = no_lines
-places (BackwardTaken plainly) = no_lines
-places (Bimodal tables) = lines_each (place_line tables) (λ place. place_of_tables place _ _) _
+places_in None = no_lines
+places_in (Some tables) = lines_each (place_line tables) (λ place. place_of_tables place _ _) _
+
+places : (predictor : DescribedPredictor) → AreLines (predictor_lines predictor)
+places predictor = places_in (tables_of predictor)
 
 if_shown : (shown : Bool) (values : List (List ℕ)) → AllJson values → AllJson (if shown then values else [])
 if_shown true values are = are
@@ -132,11 +135,13 @@ taught_place tables (Retired row) = if_shown (uses_tables (flow_at row.pc row.wo
 taught_place tables (Trap pc cause value cycle) = tt
 taught_place tables (Interrupt pc cause cycle) = tt
 
+learned_in : (kept : Option Tables) (steps : List Step) → AreMembers (option_map_or (λ tables. learned_places tables steps) kept [])
+learned_in None steps = no_members
+learned_in (Some tables) steps = member _ refl (array_of _ (all_given (place_taught tables) (taught_place tables) steps))
+
 learned : (predictor : DescribedPredictor) (steps : List Step) → AreMembers (learned_text predictor steps)
 unfolding learned_text
-learned (NotTaken plainly) steps = no_members
-learned (BackwardTaken plainly) steps = no_members
-learned (Bimodal tables) steps = member _ refl (array_of _ (all_given (place_taught tables) (taught_place tables) steps))
+learned predictor steps = learned_in (tables_of predictor) steps
 
 asked_word : (predictor : DescribedPredictor) (pc : ℕ) (word : Option ℕ) → AllJson (asked_of predictor pc word)
 asked_word predictor pc None = tt

@@ -1,14 +1,14 @@
 -- What the machine's branch predictor knows of the steps of a run, which it begins untaught, and what it answers.
 use Rattle.std.specs.Prelude.{ℕ, ◌==◌, ◌&&◌, Bool, true, false, is_none, if◌then◌else◌, List, [], ◌∷◌, ◌++◌, length, codes, slice_index, Option, Some, None}
+use Rattle.std.specs.Option.{option_map, option_map_or}
 use Rattle.std.specs.List.{flat_map, fold, range_with_len, slice_index_or}
 use Rattle.rv_isa.specs.declared.values.Values.{Values}
 use Rattle.rv_front.specs.Flow.{flow_at}
 use Rattle.rv_front.specs.Lesson.{Lesson}
-use Rattle.rv_front.specs.Predictors.{answer, described, place_of, taught}
+use Rattle.rv_front.specs.Predictors.{answer, described, place_of, tables_of, taught}
 use Rattle.rv_front.specs.Tables.{Tables}
 use Rattle.rv_front.specs.declared.{fetched.Fetched.Fetched, flow.Flow.Flow, predictors.DescribedPredictor.DescribedPredictor}
 use Rattle.rv_front.specs.declared.flow.Flow.TheVariants.{Sequential, Jump, Branch, Indirect}
-use Rattle.rv_front.specs.declared.predictors.DescribedPredictor.TheVariants.{NotTaken, BackwardTaken, Bimodal}
 use Rattle.rv_hardware.specs.declared.step.Step.{Step}
 use Rattle.rv_hardware.specs.declared.step.Step.TheVariants.{Retired, Trap, Interrupt}
 use Rattle.rv_json.specs.Json.{Json, also, array}
@@ -37,9 +37,7 @@ place_lines tables = flat_map (place_line tables) (range_with_len 0 (length tabl
 
 -- those of a predictor, if it has tables
 abbrev pub predictor_lines : DescribedPredictor → List ℕ
-predictor_lines (NotTaken plain) = []
-predictor_lines (BackwardTaken plain) = []
-predictor_lines (Bimodal tables) = place_lines tables
+predictor_lines predictor = option_map_or place_lines (tables_of predictor) []
 
 -- branches and JALR alone are looked up in the tables, and change them
 abbrev pub uses_tables : Flow → Bool
@@ -62,17 +60,17 @@ place_taught tables (Retired row) = place_at tables row.pc row.word
 place_taught tables (Trap pc cause value cycle) = []
 place_taught tables (Interrupt pc cause cycle) = []
 
--- those of a cycle's steps, as its lessons left them, if there are tables
+-- those of a cycle's steps, as its lessons left them
+abbrev pub learned_places : Tables → List Step → List ℕ
+learned_places tables steps = also (codes "learned") (array (flat_map (place_taught tables) steps))
+
+-- if there are tables
 unfoldable pub learned_text : DescribedPredictor → List Step → List ℕ
-learned_text (NotTaken plain) steps = []
-learned_text (BackwardTaken plain) steps = []
-learned_text (Bimodal tables) steps = also (codes "learned") (array (flat_map (place_taught tables) steps))
+learned_text predictor steps = option_map_or (λ tables. learned_places tables steps) (tables_of predictor) []
 
 -- the place of a pc, where there are tables
 abbrev pub place_in : DescribedPredictor → ℕ → Option ℕ
-place_in (NotTaken plain) pc = None
-place_in (BackwardTaken plain) pc = None
-place_in (Bimodal tables) pc = Some (place_of tables pc)
+place_in predictor pc = option_map (λ tables. place_of tables pc) (tables_of predictor)
 
 -- what a predictor answers of the word at a pc, of which it is asked unless RAM gives none
 abbrev pub asked_of : DescribedPredictor → ℕ → Option ℕ → List Json

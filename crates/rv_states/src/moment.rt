@@ -1,5 +1,4 @@
 ghost use Rattle.std.specs.Prelude.{◌≡◌, [], ◌++◌};
-ghost use Rattle.rv_core.specs.Progress.{progress_of};
 ghost use Rattle.rv_states.specs.Page.{after_lines, before_lines};
 ghost use Rattle.rv_states.specs.States.{begun_text, head_text, opening_text, shown_text, window_text};
 ghost use Rattle.rv_json.specs.Stop.{stop_line};
@@ -14,7 +13,7 @@ use crate::sets::write_sets;
 use rv_arch::Stop;
 use rv_core::{Pipeline, Progress};
 use rv_front::DescribedPredictor;
-use rv_hardware::{StallCounts, Step};
+use rv_hardware::Step;
 use rv_isa::Values;
 use rv_json::{write_header, write_listing, write_stop};
 use rv_passage::Passage;
@@ -75,26 +74,6 @@ pub(crate) fn write_shown<W: Write>(
     }
 }
 
-// The counts of no cycle.
-fn no_cycle() -> Progress
-    ensures { result ≡ progress_of [] }
-{
-    Progress {
-        stalls: StallCounts {
-            fetch: 0,
-            serial: 0,
-            rob: 0,
-            station: 0,
-            store: 0,
-        },
-        busy: 0,
-        cycles: 0,
-        stall: None,
-        silent: 0,
-        longest_gap: 0,
-    }
-}
-
 // Writes the lines of the machine and the program.
 #[tactic(auto, using(rv_text::proofs::Saying::says_both), unfolding(crate::specs::States::opening_text))]
 fn write_opening<W: Write>(out: &mut Sink<'_, W>, from: u64, listing: &Listing, values: &Values)
@@ -119,7 +98,7 @@ pub(crate) fn write_head<W: Write>(
 {
     write_before(out, form);
     write_opening(out, from, listing, pipeline.values());
-    write_begun(out, from, rows, pipeline, &no_cycle(), predictor)
+    write_begun(out, from, rows, pipeline, &Progress::new(), predictor)
 }
 
 /// Writes the last line, and what stands after the lines.

@@ -61,9 +61,8 @@ fn write_place_lines<W: Write>(out: &mut Sink<'_, W>, tables: &Bimodal)
 pub(crate) fn write_predictor_lines<W: Write>(out: &mut Sink<'_, W>, predictor: &DescribedPredictor)
     ensures { Says W.contents out.old out.new (predictor_lines predictor.now) }
 {
-    match predictor {
-        DescribedPredictor::NotTaken(_) | DescribedPredictor::BackwardTaken(_) => {}
-        DescribedPredictor::Bimodal(tables) => write_place_lines(out, tables),
+    if let Some(tables) = predictor.tables() {
+        write_place_lines(out, tables)
     }
 }
 
@@ -126,23 +125,20 @@ fn write_all_taught<W: Write>(out: &mut Sink<'_, W>, tables: &Bimodal, steps: &[
 fn write_learned<W: Write>(out: &mut Sink<'_, W>, predictor: &DescribedPredictor, steps: &[Step])
     ensures { Says W.contents out.old out.new (learned_text predictor.now steps.now) }
 {
-    match predictor {
-        DescribedPredictor::NotTaken(_) | DescribedPredictor::BackwardTaken(_) => {}
-        DescribedPredictor::Bimodal(tables) => {
-            write_key(out, "learned");
-            out.put(b"[");
-            write_all_taught(out, tables, steps);
-            out.put(b"]")
-        }
+    if let Some(tables) = predictor.tables() {
+        write_key(out, "learned");
+        out.put(b"[");
+        write_all_taught(out, tables, steps);
+        out.put(b"]")
     }
 }
 
 fn place_in(predictor: &DescribedPredictor, pc: u32) -> Option<u64>
     ensures { result ≡ place_in predictor.now pc }
 {
-    match predictor {
-        DescribedPredictor::NotTaken(_) | DescribedPredictor::BackwardTaken(_) => None,
-        DescribedPredictor::Bimodal(tables) => Some(tables.place(pc) as u64),
+    match predictor.tables() {
+        Some(tables) => Some(tables.place(pc) as u64),
+        None => None,
     }
 }
 

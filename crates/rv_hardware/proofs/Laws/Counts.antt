@@ -4,6 +4,7 @@ use Rattle.rv_hardware.proofs.Words.{◌==◌, Some, None, Option, refl, arith, 
 use Rattle.rv_hardware.proofs.Words.{dispatch_turn, stall_of, Hardware, stall_cycles, Turn, Report, counted, busy_of}
 use Rattle.rv_hardware.proofs.Words.{counted_stall, stalls_from, stalls_of, Stall, count, count-count_by, Leads}
 use Rattle.rv_hardware.proofs.Words.{turns_within}
+use Rattle.rv_hardware.specs.Report.{all_stalls, no_stalls}
 use Rattle.rv_hardware.specs.declared.report.StallCounts.{StallCounts}
 use Rattle.rv_hardware.proofs.Turns.Dispatch.{DispatchTurn, dispatch_turn_is}
 
@@ -40,7 +41,12 @@ dispatch_is_counted h le =
 -- over all cycles
 
 one_more : (reason : Stall) (counts : StallCounts) → stall_cycles (counted reason counts) ≡ suc (stall_cycles counts)
+unfolding all_stalls
 one_more reason counts = grind arith
+
+none_stalled : stall_cycles no_stalls ≡ 0
+unfolding all_stalls
+none_stalled = refl
 
 -- each report counts its cycle once: as busy, or as a stall for one reason
 abbrev pub AreAllCounted : List Report → Type 0
@@ -49,7 +55,10 @@ AreAllCounted (report ∷ reports) = IsCounted (report.dispatched == 0) report.s
 
 counts_by : (b : Bool) (o : Option Stall) (counts : StallCounts) (n : ℕ) → IsCounted b o →
     cond (not b) (suc n) n + stall_cycles (counted_stall o counts) ≡ suc (n + stall_cycles counts)
-counts_by b o counts n h = grind (arith, one_more)
+counts_by true (Some reason) counts n h = omega (arith, one_more reason counts)
+counts_by true None counts n h = absurd h
+counts_by false (Some reason) counts n h = absurd h
+counts_by false None counts n h = omega arith
 
 counts_from : (counts : StallCounts) (reports : List Report) → AreAllCounted reports →
     count (λ report. not (report.dispatched == 0)) reports + stall_cycles (stalls_from counts reports) ≡
@@ -61,4 +70,4 @@ counts_from counts (report ∷ reports) h =
 -- busy and stalls make the cycles
 pub busy_and_stalls : (reports : List Report) → AreAllCounted reports →
     busy_of reports + stall_cycles (stalls_of reports) ≡ length reports
-busy_and_stalls reports h = grind (arith, counts_from, count-count_by)
+busy_and_stalls reports h = grind (arith, counts_from, count-count_by, none_stalled)

@@ -3,7 +3,6 @@ from reading.known import unlabelled
 from reading.predictor import Model, uses_tables
 
 KINDS = ("alu", "mul", "div", "mem")
-STALLS = ("fetch", "serial", "rob", "station", "store")
 CAUSES = {0: "instruction address misaligned", 1: "instruction access fault", 2: "illegal instruction", 3: "breakpoint", 4: "load address misaligned",
           5: "load access fault", 6: "store address misaligned", 7: "store access fault", 11: "environment call", 0x80000003: "software interrupt",
           0x80000007: "timer interrupt", 0x8000000b: "external interrupt"}
@@ -183,15 +182,15 @@ class Panels:
             self.same("the report's traps and interrupts", [str(steps.count(kind)) for kind in "TN"], [report["traps"], report["interrupts"]])
         self.same("CPI", self.notes["counts-note"], "CPI " + report["cpi"] if report["retired"] != "0" else "CPI -")
         total = max(1, int(report["cycles"]))
-        names = [("busy", "busy"), *((f"stall {name}", f"stall {name}") for name in STALLS)]
-        shares = [f"{int(1000 * int(report[name]) / total + 0.5) / 10:.1f}%" for name, _ in names]
+        names = [name for name in report if name == "busy" or name.startswith("stall ")]
+        shares = [f"{int(1000 * int(report[name]) / total + 0.5) / 10:.1f}%" for name in names]
         rows = texts(self.tables["counts"])
-        self.same("cycles by what they did", [row[:2] for row in rows], [[head, report[name]] for head, name in names])
+        self.same("cycles by what they did", [row[:2] for row in rows], [[name, report[name]] for name in names])
         self.same("shares", [row[2] for row in rows if abs(float(row[2][:-1]) - 100 * int(row[1]) / total) > 0.051], [])
         self.same("bars", [[float(width[:-1]) for width in row["widths"]] for row in self.tables["counts"]], [[float(row[2][:-1])] for row in rows])
         self.same("names in the stack", [[name, said, is_cut] for name, width, said, is_cut in self.page["stack"] if is_cut or said != (name if float(width[:-1]) > 2.6 * len(name) else "")], [])
         self.same("stack", [[name, float(width[:-1])] for name, width, *_ in self.page["stack"]],
-                  [[head.split()[-1], float(row[2][:-1])] for (head, name), row in zip(names, rows) if report[name] != "0"])
+                  [[name.split()[-1], float(row[2][:-1])] for name, row in zip(names, rows) if report[name] != "0"])
         self.same("number of shares", len(rows), len(shares))
 
     def reference(self):
