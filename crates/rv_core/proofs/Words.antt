@@ -117,24 +117,25 @@ pub use Rattle.rv_core.specs.HeadTurn.{lessons_left, role_of, stop_after, stop_w
 pub use Rattle.rv_core.specs.Load.{bytes_over, goes, is_forwarded, is_known_before, load_fault, may_go, needs_port}
 pub use Rattle.rv_core.specs.Load.{path_of, path_unless, store_fault}
 pub use Rattle.rv_core.specs.Parts.{IsSound, hardware_of}
-pub use Rattle.rv_core.specs.Progress.{IsBounded, IsNextCycle, last_stall_of, progress_after, progress_of}
-pub use Rattle.rv_core.specs.Progress.{silence_after, silence_from}
+pub use Rattle.rv_watch.specs.Progress.{IsBounded, IsCommitStop, IsNextCycle, last_stall_of, progress_after, progress_of}
+pub use Rattle.rv_watch.specs.Progress.{silence_after, silence_from}
 pub use Rattle.rv_core.specs.Reached.{IsBegun}
 pub use Rattle.rv_core.specs.Retiring.{registers_with, with_commit, without_target}
 pub use Rattle.rv_core.specs.RunDone.{IsCutShort, IsDone, IsOutcome, IsRun, KeepsPromise, reported, reported_so_far}
 pub use Rattle.rv_core.specs.Soundness.{AreSoundEntries, AreSoundStores, IsDecoded, IsDescribedCache, IsLegalAccess}
 pub use Rattle.rv_core.specs.Soundness.{IsLegalWrite, IsRetiredStore, IsSoundEntry, IsSoundHardware, message_of}
-pub use Rattle.rv_core.specs.Ties.{AreTied, RegisterStatus, bus_of, checkpoints_of, operand_by, operand_of}
-pub use Rattle.rv_core.specs.Ties.{pending_from, pending_of, pool_of_kind, producer_of, producers_of, producers_with}
-pub use Rattle.rv_core.specs.Ties.{queue_of, renaming_of, stations_of, status_after, status_with, values_in, waiting_at}
+pub use Rattle.rv_core.specs.Ties.{AreTied, bus_of, checkpoints_of, operand_of, pending_from, pending_of, pool_of_kind}
+pub use Rattle.rv_core.specs.Ties.{producer_of, producers_of, producers_with, renaming_of, stations_of, waiting_at}
 pub use Rattle.rv_core.specs.Ties.{waiting_from, waiting_of}
-pub use Rattle.rv_core.specs.Told.{IsCommitStop, dispatch_told, dispatching, report_of_cycle, report_with}
+pub use Rattle.rv_watch.specs.Queue.{queue_of}
+pub use Rattle.rv_watch.specs.Registers.{RegisterStatus, operand_by, status_after, status_with, values_in}
+pub use Rattle.rv_core.specs.Told.{dispatch_told, dispatching, report_of_cycle, report_with}
 pub use Rattle.rv_core.specs.Turns.{turn_of}
-pub use Rattle.rv_core.specs.Watching.{HaveFewSteps, IsEnd, IsShown, IsWatchedRun, Sight, Watched, watched}
+pub use Rattle.rv_watch.specs.Watching.{HaveFewSteps, IsEnd, IsShown, IsWatchedRun, Sight, Watched, watched}
 pub use Rattle.rv_core.specs.declared.errors.OutOfMemory.{OutOfMemory}
 pub use Rattle.rv_core.specs.declared.head.CsrAccess.{CsrAccess}
 pub use Rattle.rv_core.specs.declared.head.HeadTurn.{HeadTurn}
 pub use Rattle.rv_core.specs.declared.head.Role.TheVariants.{WaitsForResult}
 pub use Rattle.rv_core.specs.declared.outcome.Outcome.{Outcome}
-pub use Rattle.rv_core.specs.declared.outcome.Progress.{Progress}
+pub use Rattle.rv_watch.specs.declared.progress.Progress.{Progress}
 pub use Rattle.rv_core.specs.declared.parts.Parts.TheInside.{Inside}

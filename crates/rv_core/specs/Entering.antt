@@ -8,7 +8,8 @@ use Rattle.rv_stations.specs.Pool.{with_waiting, Pool}
 use Rattle.rv_stations.specs.declared.waiting.Waiting.{Waiting}
 use Rattle.rv_stores.specs.Queue.{Queue}
 use Rattle.rv_stores.specs.Store.{entered}
-use Rattle.rv_core.specs.Ties.{RegisterStatus, waiting_of}
+use Rattle.rv_watch.specs.Registers.{RegisterStatus}
+use Rattle.rv_core.specs.Ties.{waiting_of}
 
 -- the instruction is the youngest that writes its target
 abbrev pub with_target : ℕ → Option ℕ → Renaming → Renaming

@@ -5,7 +5,8 @@ use Rattle.rv_stations.specs.Waiting.{ArePassedBy}
 use Rattle.rv_hardware.specs.Hardware.{Hardware}
 use Rattle.rv_hardware.specs.Seen.{layout_of, stores_after}
 use Rattle.rv_core.specs.Load.{goes}
-use Rattle.rv_core.specs.Ties.{values_in, waiting_from}
+use Rattle.rv_watch.specs.Registers.{values_in}
+use Rattle.rv_core.specs.Ties.{waiting_from}
 
 -- of the oldest so many in the stations of a kind, none is ready and may go
 abbrev pub NoneIssues : Kind → ℕ → Hardware → Type 0

@@ -1,9 +1,9 @@
 -- What the parts of the core hold beside the hardware: functions of the instructions in flight, numbered from the oldest.
-use Rattle.std.specs.Prelude.{◌≡◌, ℕ, ◌+◌, if◌then◌else◌, List, [], ◌∷◌, ◌++◌, slice_index, slice_index_or, Option, Some, None}
+use Rattle.std.specs.Prelude.{◌≡◌, ℕ, ◌+◌, if◌then◌else◌, List, [], ◌∷◌, ◌++◌, slice_index_or, Option, Some, None}
 use Rattle.rv_isa.specs.Instruction.{is_branch_or_jump, target_of_word}
 use Rattle.rv_isa.specs.Operands.{sources_of}
 use Rattle.rv_isa.specs.PerKind.{at_kind, by_kind}
-use Rattle.rv_isa.specs.declared.{broadcast.Message.Message, instructions.Instr.Instr, operations.Kind.Kind, per_kind.PerKind.PerKind, values.Values.Values}
+use Rattle.rv_isa.specs.declared.{instructions.Instr.Instr, operations.Kind.Kind, per_kind.PerKind.PerKind, values.Values.Values}
 use Rattle.rv_rename.specs.Renaming.{Checkpoint, Renaming}
 use Rattle.rv_rename.specs.declared.producer.Producer.{Producer}
 use Rattle.rv_rob.specs.ReorderBuffer.{ReorderBuffer}
@@ -11,15 +11,15 @@ use Rattle.rv_rob.specs.declared.entry.{Entry.Entry, Stage.Stage}
 use Rattle.rv_rob.specs.declared.entry.Stage.TheVariants as stage
 use Rattle.rv_stations.specs.Pool.{Pool}
 use Rattle.rv_stations.specs.declared.waiting.{Operand.Operand, Waiting.Waiting}
-use Rattle.rv_stations.specs.declared.waiting.Operand.TheVariants.{Value, Tag}
+use Rattle.rv_stations.specs.declared.waiting.Operand.TheVariants.{Value}
 use Rattle.rv_stores.specs.Queue.{Queue}
 use Rattle.rv_units.specs.Bus.{Pending}
 use Rattle.rv_units.specs.declared.bus.PendingResult.{PendingResult}
 use Rattle.rv_hardware.specs.Broadcast.{mends_early}
 use Rattle.rv_hardware.specs.Dispatch.{is_stationed}
 use Rattle.rv_hardware.specs.Hardware.{Hardware}
-use Rattle.rv_hardware.specs.InFlight.{broadcast_of, writes}
-use Rattle.rv_hardware.specs.Seen.{stores_after}
+use Rattle.rv_watch.specs.Queue.{queue_of}
+use Rattle.rv_watch.specs.Registers.{RegisterStatus, status_with, values_in}
 
 -- the producer that an instruction is, where it writes a register
 abbrev pub producer_of : ℕ → Option ℕ → List Producer
@@ -50,28 +50,6 @@ renaming_of values rob = record {
   producers = producers_of rob.retired rob.entries;
   checkpoints = if mends_early values.recovery then checkpoints_of [] rob.retired rob.entries else [];
 }
-
--- what each register gives to an instruction: its value, or the tag of the instruction that it waits for
-abbrev pub RegisterStatus : Type 0
-RegisterStatus = ℕ → Operand
-
--- with nothing in flight, all values are there
-abbrev pub values_in : List ℕ → RegisterStatus
-values_in registers register = Value (slice_index registers register)
-
--- what the target of an instruction gives
-abbrev pub operand_by : ℕ → Option Message → Operand
-operand_by seq None = Tag seq
-operand_by seq (Some message) = Value message.value
-
--- the status after an instruction
-abbrev pub status_with : RegisterStatus → ℕ → Entry → RegisterStatus
-status_with status seq e register = if writes e register then operand_by seq (broadcast_of e.stage) else status register
-
--- the status after some instructions, the first of which has a sequence number
-abbrev pub status_after : RegisterStatus → ℕ → List Entry → RegisterStatus
-status_after status seq [] = status
-status_after status seq (e ∷ es) = status_after (status_with status seq e) (seq + 1) es
 
 -- what an instruction reads: 0 where it reads no register
 abbrev pub operand_of : RegisterStatus → Option ℕ → Operand
@@ -129,10 +107,6 @@ bus_of values rob = record {
   capacity = values.rob;
   width = values.bus_width;
 }
-
--- the store queue: the retired stores, and after them those in flight
-abbrev pub queue_of : Hardware → Queue
-queue_of h = record { stores = stores_after h h.rob.entries; capacity = h.values.store_queue }
 
 -- what the parts hold beside the hardware follows from the instructions in flight
 pub record AreTied (h : Hardware) (rename : Renaming) (stations : PerKind Pool) (bus : Pending) (queue : Queue) : Type 0 where

@@ -4,8 +4,7 @@ use Rattle.rv_isa.specs.declared.lines.Lines.{Lines}
 use Rattle.rv_arch.specs.Due.{due}
 use Rattle.rv_arch.specs.State.{State}
 use Rattle.rv_arch.specs.Trap.{interrupt_cause}
-use Rattle.rv_arch.specs.declared.outcome.Stop.{Stop}
-use Rattle.rv_arch.specs.declared.outcome.Stop.TheVariants.{Breakpoint, Stale, Limit, Exhausted}
+use Rattle.rv_arch.specs.declared.outcome.Stop.TheVariants.{Exhausted}
 use Rattle.rv_hardware.specs.Dispatch.{Dispatching}
 use Rattle.rv_hardware.specs.Guided.{GuidedHardware, IsGuidedCycle}
 use Rattle.rv_hardware.specs.Hardware.{Hardware}
@@ -46,11 +45,3 @@ exhausted_report = record { steps = []; dispatched = 0; stall = None; stop = Som
 -- an interrupt that is due in the state before a cycle, with the lines of the cycle, is the cycle's one step
 abbrev pub TakesDue : Lines → ℕ → State → List Step → Type 0
 TakesDue lines cycle before steps = IfSome (due before.csrs lines) (λ code. steps ≡ Interrupt before.pc (interrupt_cause code) cycle ∷ [])
-
--- why a commit stops a run, if it does: a breakpoint, or a stale word
-abbrev pub IsCommitStop : Option Stop → Type 0
-IsCommitStop None = Unit {0}
-IsCommitStop (Some Breakpoint) = Unit {0}
-IsCommitStop (Some (Stale pc)) = Unit {0}
-IsCommitStop (Some Limit) = ⊥
-IsCommitStop (Some Exhausted) = ⊥

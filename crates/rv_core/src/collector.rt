@@ -1,9 +1,7 @@
 ghost use Rattle.std.specs.Prelude.{◌≡◌, ◌+◌, ◌≤◌, [], ◌++◌, length, vec_capacity, vec_len};
 
-use crate::outcome::Progress;
-use crate::pipeline::Pipeline;
-use crate::watcher::Watcher;
 use rv_hardware::Step;
+use rv_watch::{Progress, ShownHardware, Watcher};
 use std::alloc::{AllocError, Global};
 use std::io::Write;
 
@@ -46,7 +44,14 @@ impl Watcher for Collector {
         self.steps.reserve(8)
     }
 
-    fn see<W: Write>(&mut self, _: u64, steps: &[Step], _: &Pipeline, _: &Progress, _: &mut W) {
+    fn see<W: Write>(
+        &mut self,
+        _: u64,
+        steps: &[Step],
+        _: &ShownHardware<'_>,
+        _: &Progress,
+        _: &mut W,
+    ) {
         self.add(steps);
     }
 }

@@ -1,21 +1,22 @@
-ghost use Rattle.std.specs.Prelude.{◌≡◌, ◌+◌, ◌^◌, ◌<◌, ◌≤◌, [], vec_len, vec_capacity, List, IfOk};
+ghost use Rattle.std.specs.Prelude.{◌≡◌, ◌+◌, ◌^◌, ◌<◌, ◌≤◌, vec_len, vec_capacity, List, IfOk};
 ghost use Rattle.rv_isa.specs.declared.lines.Arrival.{Arrival};
 ghost use Rattle.rv_hardware.specs.Guided.{GuidedHardware, guided};
 ghost use Rattle.rv_hardware.specs.Headline.{IsTrueStop};
 ghost use Rattle.rv_hardware.specs.Seen.{layout_of, seen};
-ghost use Rattle.rv_core.specs.Progress.{IsBounded, IsNextCycle, progress_after, progress_of};
+ghost use Rattle.rv_watch.specs.Progress.{IsBounded, IsNextCycle, progress_after};
 ghost use Rattle.rv_core.specs.RunDone.{IsDone, KeepsItsPromise};
 ghost use Rattle.rv_core.specs.Told.{report_with};
 
 use crate::collector::Collector;
 use crate::errors::OutOfMemory;
-use crate::outcome::{CycleEnd, Outcome, Progress};
+use crate::outcome::{CycleEnd, Outcome};
 use crate::pipeline::Pipeline;
 use crate::watching::watch;
 use rv_arch::Stop;
 use rv_front::Predictor;
-use rv_hardware::{StallCounts, Step};
+use rv_hardware::Step;
 use rv_isa::Arrivals;
+use rv_watch::Progress;
 use std::alloc::Global;
 use std::io;
 
@@ -64,9 +65,9 @@ fn not_run(alloc: Global, limit: u64) -> Result<Outcome, OutOfMemory>
     let progress = Progress::new();
     let steps = Vec::new(alloc);
     if limit == 0 {
-        return Ok(progress.outcome(steps, Stop::Limit));
+        return Ok(outcome(progress, steps, Stop::Limit));
     }
-    Err(progress.out_of_memory(steps))
+    Err(out_of_memory(progress, steps))
 }
 
 // Runs a pipeline, and collects the steps of its cycles, each of which the list has room for.
@@ -93,88 +94,76 @@ fn collect(
     );
     let progress = ended.progress;
     match ended.stop {
-        Ok(stop) => Ok(progress.outcome(collector.steps, stop)),
-        Err(_) => Err(progress.out_of_memory(collector.steps)),
+        Ok(stop) => Ok(outcome(progress, collector.steps, stop)),
+        Err(_) => Err(out_of_memory(progress, collector.steps)),
     }
 }
 
-impl Progress {
-    /// The counts of no cycle.
-    pub fn new() -> Progress
-        ensures { result ≡ progress_of [] }
-    {
-        Progress {
-            stalls: StallCounts::new(),
-            busy: 0,
-            cycles: 0,
-            stall: None,
-            silent: 0,
-            longest_gap: 0,
-        }
-    }
+/// Does one more cycle of a run, with the lines of its number and guided by a predictor, appends its steps to a list that
+/// has room for eight, and counts it. Takes no memory. Returns why the run stops with this cycle, if it does.
+pub(crate) fn run_cycle(
+    progress: &mut Progress,
+    pipeline: &mut Pipeline,
+    predictor: &mut dyn Predictor,
+    arrivals: &Arrivals,
+    steps: &mut Vec<Step>,
+) -> Option<Stop>
+    requires exhausted { pipeline.old.cycle < 2 ^ 40 }
+    requires room { vec_len steps.old + 8 ≤ vec_capacity steps.old }
+    requires bounded { IsBounded progress.old }
+    requires countable { progress.old.cycles < 18446744073709551615 }
+    ensures cycle { IsNextCycle arrivals.now (guided pipeline.old (known predictor.old)) (guided pipeline.new (known predictor.new)) steps.old.items steps.new.items progress.old progress.new result }
+    ensures capacity { vec_capacity steps.new ≡ vec_capacity steps.old }
+{
+    let before = steps.len();
+    let end = pipeline.advance(predictor, arrivals.at(pipeline.cycles_done()), steps);
+    count(progress, &steps.as_slice()[before..], &end);
+    end.stop
+}
 
-    /// Does one more cycle of a run, with the lines of its number and guided by a predictor, appends its steps to a list that has room for eight, and
-    /// counts it. Takes no memory. Returns why the run stops with this cycle, if it does.
-    pub(crate) fn run_cycle(
-        &mut self,
-        pipeline: &mut Pipeline,
-        predictor: &mut dyn Predictor,
-        arrivals: &Arrivals,
-        steps: &mut Vec<Step>,
-    ) -> Option<Stop>
-        requires exhausted { pipeline.old.cycle < 2 ^ 40 }
-        requires room { vec_len steps.old + 8 ≤ vec_capacity steps.old }
-        requires bounded { IsBounded self.old }
-        requires countable { self.old.cycles < 18446744073709551615 }
-        ensures cycle { IsNextCycle arrivals.now (guided pipeline.old (known predictor.old)) (guided pipeline.new (known predictor.new)) steps.old.items steps.new.items self.old self.new result }
-        ensures capacity { vec_capacity steps.new ≡ vec_capacity steps.old }
-    {
-        let before = steps.len();
-        let end = pipeline.advance(predictor, arrivals.at(pipeline.cycles_done()), steps);
-        self.count(&steps.as_slice()[before..], &end);
-        end.stop
+// Counts one more cycle, which had these steps.
+fn count(progress: &mut Progress, steps: &[Step], end: &CycleEnd)
+    requires bounded { IsBounded progress.old }
+    requires countable { progress.old.cycles < 18446744073709551615 }
+    ensures { progress.new ≡ progress_after (report_with steps.now end.now) progress.old }
+{
+    progress.cycles += 1;
+    if end.dispatched > 0 {
+        progress.busy += 1;
     }
-
-    // Counts one more cycle, which had these steps.
-    fn count(&mut self, steps: &[Step], end: &CycleEnd)
-        requires bounded { IsBounded self.old }
-        requires countable { self.old.cycles < 18446744073709551615 }
-        ensures { self.new ≡ progress_after (report_with steps.now end.now) self.old }
-    {
-        self.cycles += 1;
-        if end.dispatched > 0 {
-            self.busy += 1;
-        }
-        if let Some(stall) = end.stall {
-            self.stalls.count(stall);
-        }
-        self.stall = end.stall;
-        self.silent = if steps.is_empty() { self.silent + 1 } else { 0 };
-        self.longest_gap = self.longest_gap.max(self.silent);
+    if let Some(stall) = end.stall {
+        progress.stalls.count(stall);
     }
+    progress.stall = end.stall;
+    progress.silent = if steps.is_empty() {
+        progress.silent + 1
+    } else {
+        0
+    };
+    progress.longest_gap = progress.longest_gap.max(progress.silent);
+}
 
-    fn outcome(self, steps: Vec<Step>, stop: Stop) -> Outcome
-        ensures { result ≡ record { steps = steps; stalls = self.stalls; busy = self.busy; cycles = self.cycles; longest_gap = self.longest_gap; stop = stop } }
-    {
-        Outcome {
-            steps,
-            stalls: self.stalls,
-            busy: self.busy,
-            cycles: self.cycles,
-            longest_gap: self.longest_gap,
-            stop,
-        }
+fn outcome(progress: Progress, steps: Vec<Step>, stop: Stop) -> Outcome
+    ensures { result ≡ record { steps = steps; stalls = progress.stalls; busy = progress.busy; cycles = progress.cycles; longest_gap = progress.longest_gap; stop = stop } }
+{
+    Outcome {
+        steps,
+        stalls: progress.stalls,
+        busy: progress.busy,
+        cycles: progress.cycles,
+        longest_gap: progress.longest_gap,
+        stop,
     }
+}
 
-    fn out_of_memory(self, steps: Vec<Step>) -> OutOfMemory
-        ensures { result ≡ record { steps = steps; stalls = self.stalls; busy = self.busy; cycles = self.cycles; longest_gap = self.longest_gap } }
-    {
-        OutOfMemory {
-            steps,
-            stalls: self.stalls,
-            busy: self.busy,
-            cycles: self.cycles,
-            longest_gap: self.longest_gap,
-        }
+fn out_of_memory(progress: Progress, steps: Vec<Step>) -> OutOfMemory
+    ensures { result ≡ record { steps = steps; stalls = progress.stalls; busy = progress.busy; cycles = progress.cycles; longest_gap = progress.longest_gap } }
+{
+    OutOfMemory {
+        steps,
+        stalls: progress.stalls,
+        busy: progress.busy,
+        cycles: progress.cycles,
+        longest_gap: progress.longest_gap,
     }
 }

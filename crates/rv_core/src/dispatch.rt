@@ -14,7 +14,8 @@ ghost use Rattle.rv_hardware.specs.Dispatch.{dispatch, dispatch_turn, entry_of_f
 ghost use Rattle.rv_hardware.specs.Hardware.{Hardware};
 ghost use Rattle.rv_hardware.specs.InFlight.{broadcast_of};
 ghost use Rattle.rv_core.specs.Entering.{are_full_for, with_instruction, with_jump, with_store, with_target};
-ghost use Rattle.rv_core.specs.Ties.{operand_by, operand_of, producers_of, status_after, values_in};
+ghost use Rattle.rv_watch.specs.Registers.{operand_by, status_after, values_in};
+ghost use Rattle.rv_core.specs.Ties.{operand_of, producers_of};
 ghost use Rattle.rv_core.specs.Told.{dispatch_told, dispatching};
 
 use crate::execute::result_at_dispatch;

@@ -1,7 +1,6 @@
 ghost use Rattle.std.specs.Prelude.{◌≡◌};
 ghost use Rattle.rv_stores.specs.Queue.{oldest_to_drain};
 ghost use Rattle.rv_hardware.specs.Drain.{drain, end_drain, start_drain};
-ghost use Rattle.rv_hardware.specs.Draining.{drain_end};
 
 use crate::parts::Parts;
 
@@ -14,17 +13,6 @@ impl Parts {
         if self.is_port_idle() {
             self.end_drain();
             self.start_drain();
-        }
-    }
-
-    /// The first cycle in which the access of the store that drains is over, if one drains.
-    pub(crate) fn drain_end(&self) -> Option<u64>
-        ensures { result ≡ drain_end self.now }
-    {
-        if self.stores.is_draining() {
-            Some(self.port_free)
-        } else {
-            None
         }
     }
 

@@ -39,20 +39,3 @@ pub struct Outcome {
     /// Why the run ended.
     pub stop: Stop,
 }
-
-/// The counts of a run so far.
-#[derive(Clone, Copy)]
-pub struct Progress {
-    /// The cycles that dispatched nothing, by the reason.
-    pub stalls: StallCounts,
-    /// The cycles that dispatched something.
-    pub busy: u64,
-    /// The cycles done.
-    pub cycles: u64,
-    /// What the last cycle waited for, where it dispatched nothing.
-    pub stall: Option<Stall>,
-    /// The cycles since the last step.
-    pub silent: u64,
-    /// The greatest number of consecutive cycles without a step.
-    pub longest_gap: u64,
-}

@@ -11,7 +11,8 @@ ghost use Rattle.rv_hardware.specs.Guided.{guided};
 ghost use Rattle.rv_hardware.specs.Run.{Reachable};
 ghost use Rattle.rv_hardware.specs.Reset.{reset_hardware};
 ghost use Rattle.rv_hardware.specs.Squash.{flushed};
-ghost use Rattle.rv_core.specs.Told.{AppendsCycle, IsCommitStop};
+ghost use Rattle.rv_watch.specs.Progress.{IsCommitStop};
+ghost use Rattle.rv_core.specs.Told.{AppendsCycle};
 
 use crate::outcome::CycleEnd;
 use rv_arch::Csrs;

@@ -1,30 +1,23 @@
 ghost use Rattle.std.specs.Prelude.{◌≡◌, ◌+◌, ◌^◌, ◌<◌, ◌≤◌, ◌↔◌, ◌==◌, false, None, is_some, length, nat_le, vec_len, vec_capacity, IsTrue, IfOk, IfErr};
-ghost use Rattle.std.specs.FinSet as set;
 ghost use Rattle.rv_isa.specs.Description.{IsLegal};
-ghost use Rattle.rv_memory.specs.Memory.{byte_seen, is_in_ram, word_of};
-ghost use Rattle.rv_hardware.specs.Draining.{drain_end};
 ghost use Rattle.rv_hardware.specs.Guided.{IsGuidedCycle, guided};
 ghost use Rattle.rv_hardware.specs.Headline.{IsTrueCycle};
 ghost use Rattle.rv_hardware.specs.Run.{Reachable};
 ghost use Rattle.rv_hardware.specs.Reset.{IsLoadable, reset_hardware};
 ghost use Rattle.rv_hardware.specs.Seen.{layout_of, seen};
-ghost use Rattle.rv_core.specs.Ties.{queue_of};
-ghost use Rattle.rv_core.specs.Told.{AppendsCycle, IsCommitStop, TakesDue, exhausted_report, report_of_cycle};
+ghost use Rattle.rv_core.specs.Told.{AppendsCycle, TakesDue, exhausted_report, report_of_cycle};
+ghost use Rattle.rv_watch.specs.Progress.{IsCommitStop};
 ghost use Rattle.rv_core.specs.declared.errors.NewError.TheVariants as refusal;
 
 use crate::errors::NewError;
 use crate::outcome::{CycleEnd, CycleReport};
 use crate::parts::Parts;
 use arrayvec::ArrayVec;
-use rv_arch::{Observed, Stop};
-use rv_cache::Cache;
-use rv_front::{Front, Predictor};
+use rv_arch::Stop;
+use rv_front::Predictor;
 use rv_hardware::Step;
-use rv_isa::{Description, Image, Lines, Values};
-use rv_memory::{Backing, Ram};
-use rv_rob::Rob;
-use rv_stores::StoreQueue;
-use rv_units::Units;
+use rv_isa::{Description, Image, Lines};
+use rv_watch::ShownHardware;
 use std::alloc::Global;
 use std::marker::Model;
 
@@ -150,94 +143,11 @@ impl Pipeline {
         self.parts.cycle
     }
 
-    /// What retired instructions left: the pc, the registers and the CSRs; and the lines of the last cycle.
-    pub fn observe(&self) -> Observed
-        ensures pc { result.pc ≡ self.now.pc }
-        ensures registers { result.regs ≡ self.now.registers }
-        ensures csrs { result.csrs ≡ self.now.csrs }
-        ensures lines { result.lines ≡ self.now.lines }
+    /// Lends what it shows.
+    pub(crate) fn lent(&self) -> ShownHardware<'_>
+        ensures { result ≡ self.now }
     {
-        let parts = &self.parts;
-        Observed {
-            pc: parts.pc,
-            regs: parts.registers,
-            csrs: parts.csrs,
-            lines: parts.lines,
-        }
-    }
-
-    /// The instructions in flight.
-    pub fn reorder_buffer(&self) -> &Rob
-        ensures { result.now ≡ self.now.rob }
-    {
-        &self.parts.rob
-    }
-
-    /// The fetched words that wait for their dispatch.
-    pub fn front(&self) -> &Front
-        ensures { result.now ≡ self.now.front }
-    {
-        &self.parts.front
-    }
-
-    /// What the machine description says.
-    pub fn values(&self) -> &Values
-        ensures { result.now ≡ self.now.values }
-    {
-        &self.parts.values
-    }
-
-    /// The data cache over RAM.
-    pub fn cache(&self) -> &Cache<Ram>
-        ensures { result.now ≡ self.now.cache }
-    {
-        &self.parts.cache
-    }
-
-    /// The functional units, with the executions that hold one.
-    pub fn units(&self) -> &Units
-        ensures { result.now ≡ self.now.units }
-    {
-        &self.parts.units
-    }
-
-    /// The store queue: the retired stores that the cache does not hold yet, and after them those in flight.
-    pub fn store_queue(&self) -> &StoreQueue
-        ensures { result.now ≡ queue_of self.now }
-    {
-        &self.parts.stores
-    }
-
-    /// The first cycle in which the cache's port is idle.
-    pub fn port_free(&self) -> u64
-        ensures { result ≡ self.now.port_free }
-    {
-        self.parts.port_free
-    }
-
-    /// The first cycle in which the access of a retired store to the cache is over that is under way now, or `None` where
-    /// none is.
-    pub fn drain_end(&self) -> Option<u64>
-        ensures { result ≡ drain_end self.now }
-    {
-        self.parts.drain_end()
-    }
-
-    /// The byte that programs see at an address, or `None` outside RAM: that of the youngest retired store that the
-    /// cache does not hold yet, else the cache's.
-    pub fn byte(&self, address: u32) -> Option<u8>
-        ensures seen { result ≡ byte_seen (layout_of self.now.values) (seen self.now).ram address }
-        ensures none_outside { is_in_ram (layout_of self.now.values) address 1 ≡ false → result ≡ None }
-    {
-        self.parts.byte(address)
-    }
-
-    /// Whether the word that holds an address was stored to since the last FENCE.I, which no word outside RAM was.
-    pub fn is_stale(&self, address: u32) -> bool
-        ensures stale { result ≡ set.contains self.now.stale (word_of address) }
-        ensures none_outside { is_in_ram (layout_of self.now.values) address 1 ≡ false → result ≡ false }
-    {
-        self.parts.stale.is_stale(address)
+        self.parts.lent()
     }
 }
 

@@ -8,10 +8,10 @@ use Rattle.rv_units.specs.Pool.{is_free}
 use Rattle.std.specs.Prelude.{true}
 use Rattle.rv_isa.specs.declared.values.Values.{Values}
 use Rattle.rv_arch.specs.declared.outcome.Stop.{Stop}
-use Rattle.rv_core.specs.Progress.{progress_of}
-use Rattle.rv_core.specs.Watching.{Watched, watched, with_shown}
-use Rattle.rv_core.specs.declared.outcome.Progress.{Progress}
-use Rattle.rv_core.proofs.Shown.{cycle_counts, moments_counted}
+use Rattle.rv_watch.specs.Progress.{progress_of}
+use Rattle.rv_watch.specs.Watching.{Watched, watched, with_shown}
+use Rattle.rv_watch.specs.declared.progress.Progress.{Progress}
+use Rattle.rv_watch.proofs.Shown.{cycle_counts, moments_counted}
 use Rattle.rv_hardware.specs.Draining.{drain_end}
 use Rattle.rv_hardware.specs.Guided.{GuidedHardware}
 use Rattle.rv_hardware.specs.History.{Moment, reports_of}
@@ -65,14 +65,14 @@ nothing_tallied values arrivals h tally registers end in_flight of_no_cycle regi
 -- one more cycle
 module _ {seen : Watched} {cycle : ShownCycle} (next : IsNextCycle seen cycle) {first tally : Tally} {registers : List ℕ} {end : Option ℕ} {in_flight : ℕ} (tallying : IsTallying first tally registers end in_flight seen) where
   abbrev moment : Moment
-  moment = record { report = next.shown.report; after = cycle.pipeline.now }
+  moment = record { report = next.shown.report; after = cycle.hardware.now }
 
   -- its places add up
-  placed_now : ArePlaced seen.now.hardware next.shown.report cycle.pipeline.now
+  placed_now : ArePlaced seen.now.hardware next.shown.report cycle.hardware.now
   placed_now = placed next.shown.reached (any_cycle next.shown.cycled.cycle)
 
   abbrev pub places_now : CyclePlaces
-  places_now = places_by cycle.pipeline.now.values cycle.number in_flight cycle.steps.now cycle.pipeline.now.rob cycle.pipeline.now.front
+  places_now = places_by cycle.hardware.now.values cycle.number in_flight cycle.steps.now cycle.hardware.now.rob cycle.hardware.now.front
 
   places_are : places_now ≡ places_in seen.now.hardware moment
   places_are = places_seen placed_now cycle.number in_flight cycle.steps.now next.shown.number tallying.in_flight_is next.shown.steps_are
@@ -96,24 +96,24 @@ module _ {seen : Watched} {cycle : ShownCycle} (next : IsNextCycle seen cycle) {
       (omega (arith, tallying.few_stays, ap (λ (t : Tally). all_stays t.stays) (tallying.tallied tallying.values tallying.of_no_cycle), shown.number, shown.counted)))
 
   -- its passages are those at its end
-  pub ended : AreAtEnd cycle.number cycle.pipeline.now cycle.rows.now
+  pub ended : AreAtEnd cycle.number cycle.hardware.now cycle.rows.now
   ended =
       let number = seen.now.hardware.cycle in
       let steps = next.shown.report.steps in
-      let after = cycle.pipeline.now in
+      let after = cycle.hardware.now in
       let kept = passages_after still_open seen.first.hardware seen.moments in
       subst (AreAtEnd cycle.number after) (sym next.rows_are)
       (subst (λ n. AreAtEnd n after (after_cycle number steps after kept).rows) (sym next.shown.number)
       (at_end number steps after kept))
 
   -- and are tallied
-  pub tallied_on : (drain : Option ℕ) (tally' : Tally) (registers' : List ℕ) (end' : Option ℕ) (in_flight' : ℕ) (places : CyclePlaces) (lines : Lines) → lines ≡ cycle.pipeline.now.lines → places ≡ places_now → drain ≡ begun cycle.number end end'
-      → tally' ≡ tally_after cycle.number registers cycle.steps.now places drain lines cycle.pipeline.now cycle.rows.now tally → registers' ≡ cycle.pipeline.now.registers → end' ≡ drain_end cycle.pipeline.now
-      → in_flight' ≡ length cycle.pipeline.now.rob.entries → in_flight' ≤ 256 → IsTallying first tally' registers' end' in_flight' (with_shown seen next.shown)
+  pub tallied_on : (drain : Option ℕ) (tally' : Tally) (registers' : List ℕ) (end' : Option ℕ) (in_flight' : ℕ) (places : CyclePlaces) (lines : Lines) → lines ≡ cycle.hardware.now.lines → places ≡ places_now → drain ≡ begun cycle.number end end'
+      → tally' ≡ tally_after cycle.number registers cycle.steps.now places drain lines cycle.hardware.now cycle.rows.now tally → registers' ≡ cycle.hardware.now.registers → end' ≡ drain_end cycle.hardware.now
+      → in_flight' ≡ length cycle.hardware.now.rob.entries → in_flight' ≤ 256 → IsTallying first tally' registers' end' in_flight' (with_shown seen next.shown)
   tallied_on drain tally' registers' end' in_flight' places lines lines_are places_is drain_is added registers_are end_is in_flight_is few =
       let shown = next.shown in
       let steps = cycle.steps.now in
-      let after = cycle.pipeline.now in
+      let after = cycle.hardware.now in
       let rows = cycle.rows.now in
       let drain_now : drain ≡ drain_in seen.arrivals seen.now.hardware =
       drain_is ∙ (λ i. begun (shown.number i) (tallying.end_is i) (end_is i)) ∙ begun_in_cycle shown.reached (any_cycle shown.cycled.cycle) in

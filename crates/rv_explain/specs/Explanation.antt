@@ -4,8 +4,8 @@ use Rattle.rv_isa.specs.declared.{lines.Arrival.Arrival, values.Values.Values}
 use Rattle.rv_isa.specs.declared.csrs.Csr.TheVariants.{Mie, Mstatus}
 use Rattle.rv_arch.specs.Csr.{value_of}
 use Rattle.rv_arch.specs.declared.outcome.Stop.{Stop}
-use Rattle.rv_core.specs.Progress.{progress_of}
-use Rattle.rv_core.specs.declared.outcome.Progress.{Progress}
+use Rattle.rv_watch.specs.Progress.{progress_of}
+use Rattle.rv_watch.specs.declared.progress.Progress.{Progress}
 use Rattle.rv_front.specs.Predictors.{guide_of}
 use Rattle.rv_front.specs.declared.predictors.DescribedPredictor.{DescribedPredictor}
 use Rattle.rv_hardware.specs.Guided.{GuidedHardware, guided}

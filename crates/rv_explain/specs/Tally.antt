@@ -5,7 +5,7 @@ use Rattle.rv_isa.specs.PerKind.{at_kind}
 use Rattle.rv_isa.specs.declared.{lines.Arrival.Arrival, lines.Lines.Lines, values.Values.Values}
 use Rattle.rv_isa.specs.declared.operations.Kind.TheVariants.{Mem}
 use Rattle.rv_units.specs.Pool.{is_free}
-use Rattle.rv_core.specs.Watching.{Watched}
+use Rattle.rv_watch.specs.Watching.{Watched}
 use Rattle.rv_hardware.specs.Draining.{drain_end}
 use Rattle.rv_hardware.specs.Hardware.{Hardware}
 use Rattle.rv_hardware.specs.Run.{steps_of}

@@ -4,18 +4,18 @@ ghost use Rattle.rv_explain.specs.Ending.{reason_text, place_of, last_store_text
 ghost use Rattle.rv_text.specs.Said.{Says};
 
 use rv_arch::Stop;
-use rv_core::Pipeline;
 use rv_isa::Csr;
 use rv_sentences::WordNotes;
 use rv_source::{Listing, write_place};
 use rv_text::Sink;
+use rv_watch::ShownHardware;
 use std::io::Write;
 
 /// What a control and status register reads.
-pub(crate) fn csr(pipeline: &Pipeline, csr: Csr) -> u32
-    ensures { result ≡ value_of pipeline.now.csrs pipeline.now.lines csr }
+pub(crate) fn csr(hardware: &ShownHardware<'_>, csr: Csr) -> u32
+    ensures { result ≡ value_of hardware.now.csrs hardware.now.lines csr }
 {
-    let seen = pipeline.observe();
+    let seen = hardware.observe();
     seen.csrs.value(csr, seen.lines)
 }
 
@@ -35,13 +35,13 @@ fn reason(stop: Stop) -> &'static [u8]
     }
 }
 
-fn place(stop: Stop, pipeline: &Pipeline) -> u32
-    ensures { result ≡ place_of stop pipeline.now }
+fn place(stop: Stop, hardware: &ShownHardware<'_>) -> u32
+    ensures { result ≡ place_of stop hardware.now }
 {
     match stop {
-        Stop::Breakpoint => csr(pipeline, Csr::Mepc),
+        Stop::Breakpoint => csr(hardware, Csr::Mepc),
         Stop::Stale(pc) => pc,
-        Stop::Limit | Stop::Exhausted => pipeline.observe().pc,
+        Stop::Limit | Stop::Exhausted => hardware.observe().pc,
     }
 }
 
@@ -75,12 +75,12 @@ pub(crate) fn write_ending<W: Write>(
     out: &mut Sink<'_, W>,
     listing: &Listing,
     stop: Stop,
-    pipeline: &Pipeline,
+    hardware: &ShownHardware<'_>,
     last_stores: &WordNotes<Option<u32>>,
 )
-    ensures { Says W.contents out.old out.new (ending_text listing.now stop pipeline.now last_stores.now) }
+    ensures { Says W.contents out.old out.new (ending_text listing.now stop hardware.now last_stores.now) }
 {
     out.put(reason(stop));
-    write_place(out, listing, place(stop, pipeline));
+    write_place(out, listing, place(stop, hardware));
     write_stale(out, listing, stop, last_stores);
 }

@@ -17,7 +17,6 @@ use crate::figures::Figures;
 use crate::running::run_tallied;
 use crate::tally::Tally;
 use rv_arch::Stop;
-use rv_core::{Pipeline, Progress};
 use rv_counts::Places;
 use rv_front::Predictor;
 use rv_isa::{Arrivals, Csr, Description};
@@ -30,6 +29,7 @@ use rv_sentences::{
 use rv_source::Listing;
 use rv_text::{Field, ReportError, Sink, TextError, Value};
 use rv_view::Following;
+use rv_watch::{Progress, ShownHardware, Simulated};
 use std::alloc::{AllocError, Global};
 use std::io::Write;
 
@@ -41,12 +41,12 @@ struct Beginning {
 }
 
 // What it takes to follow it, and a tally of no cycle.
-fn begin(
+fn begin<S: Simulated>(
     alloc: Global,
-    pipeline: &Pipeline,
+    pipeline: &S,
     description: &Description,
 ) -> Result<Beginning, AllocError>
-    ensures follows { IfOk result (λ beginning. FollowsFrom pipeline.now beginning.following) }
+    ensures follows { IfOk result (λ beginning. FollowsFrom (S.hardware pipeline.now) beginning.following) }
     ensures of_no_cycle { IfOk result (λ beginning. (arrivals : List Arrival) (h : Hardware) → beginning.tally ≡ tally_of description.now arrivals h [] []) }
 {
     let following = Following::begin(alloc, pipeline)?;
@@ -70,11 +70,11 @@ fn write_cycles<W: Write>(out: &mut Sink<'_, W>, progress: &Progress, retired: u
 }
 
 // The interrupt lines that are high and were never taken.
-fn write_untaken_lines<W: Write>(out: &mut Sink<'_, W>, pipeline: &Pipeline, tally: &Tally)
-    ensures { Says W.contents out.old out.new (untaken_lines pipeline.now tally.now) }
+fn write_untaken_lines<W: Write>(out: &mut Sink<'_, W>, hardware: &ShownHardware<'_>, tally: &Tally)
+    ensures { Says W.contents out.old out.new (untaken_lines hardware.now tally.now) }
 {
-    let mstatus = csr(pipeline, Csr::Mstatus);
-    let mie = csr(pipeline, Csr::Mie);
+    let mstatus = csr(hardware, Csr::Mstatus);
+    let mie = csr(hardware, Csr::Mie);
     write_untaken(out, &tally.raised, &tally.interrupts, mstatus, mie);
 }
 
@@ -82,25 +82,25 @@ fn write_untaken_lines<W: Write>(out: &mut Sink<'_, W>, pipeline: &Pipeline, tal
 fn write_lead<W: Write>(
     out: &mut Sink<'_, W>,
     listing: &Listing,
-    pipeline: &Pipeline,
+    hardware: &ShownHardware<'_>,
     progress: &Progress,
     tally: &mut Tally,
 )
-    requires places { progress.now.cycles * pipeline.now.values.dispatch_width < 2 ^ 64 }
+    requires places { progress.now.cycles * hardware.now.values.dispatch_width < 2 ^ 64 }
     requires stays { all_stays tally.old.stays < 2 ^ 64 }
     requires awaited { sum tally.old.awaited.words ≤ progress.now.cycles }
-    ensures text { Says W.contents out.old out.new (lead_text listing.now pipeline.now progress.now tally.old) }
+    ensures text { Says W.contents out.old out.new (lead_text listing.now hardware.now progress.now tally.old) }
     ensures kept { tally.new ≡ record tally.old { awaited = tally.new.awaited } }
 {
     write_greatest_waits(out, &tally.stays);
     let cycles = progress.cycles;
     write_awaited(out, listing, cycles, &tally.outcomes, &mut tally.awaited);
-    let width = u64::from(pipeline.values().dispatch_width);
+    let width = u64::from(hardware.values().dispatch_width);
     write_places(
         out,
         cycles,
         width,
-        in_flight(pipeline) as u64,
+        in_flight(hardware) as u64,
         &tally.places,
     );
 }
@@ -142,7 +142,7 @@ fn write_whole<W: Write>(
     out: &mut Sink<'_, W>,
     listing: &Listing,
     stop: Stop,
-    pipeline: &Pipeline,
+    hardware: &ShownHardware<'_>,
     progress: &Progress,
     fetched: u64,
     tally: &mut Tally,
@@ -152,15 +152,15 @@ fn write_whole<W: Write>(
     requires mispredicted { sum tally.old.mispredicted.words < 2 ^ 64 }
     requires stays { all_stays tally.old.stays < 2 ^ 64 }
     requires awaited { sum tally.old.awaited.words ≤ progress.now.cycles }
-    requires places { progress.now.cycles * pipeline.now.values.dispatch_width < 2 ^ 64 }
-    ensures { Says W.contents out.old out.new (whole_text listing.now stop pipeline.now progress.now fetched tally.old) }
+    requires places { progress.now.cycles * hardware.now.values.dispatch_width < 2 ^ 64 }
+    ensures { Says W.contents out.old out.new (whole_text listing.now stop hardware.now progress.now fetched tally.old) }
 {
-    write_ending(out, listing, stop, pipeline, &tally.last_stores);
+    write_ending(out, listing, stop, hardware, &tally.last_stores);
     write_first_passed(out, listing, tally.exceptions.all());
     write_exceptions(out, listing, &tally.exceptions);
     write_interrupts(out, listing, &tally.interrupts);
-    write_untaken_lines(out, pipeline, tally);
-    write_lead(out, listing, pipeline, progress, tally);
+    write_untaken_lines(out, hardware, tally);
+    write_lead(out, listing, hardware, progress, tally);
     write_costs(out, listing, progress, fetched, tally);
 }
 
@@ -182,7 +182,7 @@ fn write_sentences<W: Write>(
     crash: Option<Exception>,
     listing: &Listing,
     stop: Stop,
-    pipeline: &Pipeline,
+    hardware: &ShownHardware<'_>,
     progress: &Progress,
     fetched: u64,
     tally: &mut Tally,
@@ -192,13 +192,13 @@ fn write_sentences<W: Write>(
     requires mispredicted { sum tally.old.mispredicted.words < 2 ^ 64 }
     requires stays { all_stays tally.old.stays < 2 ^ 64 }
     requires awaited { sum tally.old.awaited.words ≤ progress.now.cycles }
-    requires places { progress.now.cycles * pipeline.now.values.dispatch_width < 2 ^ 64 }
-    ensures { Says W.contents out.old out.new (path_text listing.now (option_copied path.entry) ++ run_text crash listing.now stop pipeline.now progress.now fetched tally.old) }
+    requires places { progress.now.cycles * hardware.now.values.dispatch_width < 2 ^ 64 }
+    ensures { Says W.contents out.old out.new (path_text listing.now (option_copied path.entry) ++ run_text crash listing.now stop hardware.now progress.now fetched tally.old) }
 {
     write_path(out, path, listing);
     match crash {
         Some(crash) => write_crash(out, listing, &crash, &tally.interrupts),
-        None => write_whole(out, listing, stop, pipeline, progress, fetched, tally),
+        None => write_whole(out, listing, stop, hardware, progress, fetched, tally),
     }
 }
 
@@ -210,7 +210,7 @@ fn write_run_text<W: Write>(
     path: Option<&PathAccount>,
     listing: &Listing,
     stop: Stop,
-    pipeline: &Pipeline,
+    hardware: &ShownHardware<'_>,
     progress: &Progress,
     fetched: u64,
     tally: &mut Tally,
@@ -220,13 +220,13 @@ fn write_run_text<W: Write>(
     requires mispredicted { sum tally.old.mispredicted.words < 2 ^ 64 }
     requires stays { all_stays tally.old.stays < 2 ^ 64 }
     requires awaited { sum tally.old.awaited.words ≤ progress.now.cycles }
-    requires places { progress.now.cycles * pipeline.now.values.dispatch_width < 2 ^ 64 }
-    ensures { IsWritten result (W.contents writer.old) (W.contents writer.new) (explanation figures (option_copied path.entry) listing.now stop pipeline.now progress.now fetched tally.old) }
+    requires places { progress.now.cycles * hardware.now.values.dispatch_width < 2 ^ 64 }
+    ensures { IsWritten result (W.contents writer.old) (W.contents writer.new) (explanation figures (option_copied path.entry) listing.now stop hardware.now progress.now fetched tally.old) }
 {
     let crash = lone_crash(figures, stop, tally.exceptions.all());
     let mut out = Sink::new(writer);
     write_sentences(
-        &mut out, path, crash, listing, stop, pipeline, progress, fetched, tally,
+        &mut out, path, crash, listing, stop, hardware, progress, fetched, tally,
     );
     out.outcome()
 }
@@ -248,9 +248,9 @@ fn write_run_text<W: Write>(
 ///
 /// `Memory` when out of memory: then nothing was run and nothing was written. `WriteFailed` where a write fails: then what was
 /// written is a beginning of the sentences, and the run is done to its end.
-pub fn write_explanation<W: Write>(
+pub fn write_explanation<S: Simulated, W: Write>(
     alloc: Global,
-    pipeline: &mut Pipeline,
+    pipeline: &mut S,
     predictor: &mut dyn Predictor,
     description: &Description,
     arrivals: &Arrivals,
@@ -260,10 +260,14 @@ pub fn write_explanation<W: Write>(
     listing: &Listing,
     writer: &mut W,
 ) -> Result<Stop, TextError>
-    ensures written { IsText (IsExplanation arrivals.now limit figures description.now (option_copied path.entry) listing.now (guided pipeline.old (known predictor.old)) (guided pipeline.new (known predictor.new))) result (W.contents writer.old) (W.contents writer.new) }
+    ensures written { IsText (IsExplanation arrivals.now limit figures description.now (option_copied path.entry) listing.now
+        (guided (S.hardware pipeline.old) (known predictor.old))
+        (guided (S.hardware pipeline.new) (known predictor.new)))
+        result (W.contents writer.old) (W.contents writer.new) }
     // With a described predictor the sentences are a function of what they explain.
     ensures one_explanation { HasOneExplanation arrivals.now limit figures description.now (option_copied path.entry) listing.now }
-    ensures not_run { result ≡ Err TextError.Memory → (pipeline.new ≡ pipeline.old) × (known predictor.new ≡ known predictor.old) }
+    ensures not_run { result ≡ Err TextError.Memory →
+        (S.hardware pipeline.new ≡ S.hardware pipeline.old) × (known predictor.new ≡ known predictor.old) }
 {
     let Ok(beginning) = begin(alloc, pipeline, description) else {
         return Err(TextError::Memory);
@@ -284,7 +288,7 @@ pub fn write_explanation<W: Write>(
         path,
         listing,
         tallied.stop,
-        pipeline,
+        &pipeline.shown(),
         &tallied.progress,
         tallied.fetched,
         &mut tally,

@@ -7,12 +7,12 @@ ghost use Rattle.rv_view.specs.Following.{FollowsFrom};
 use crate::cycle_places::{cycle_places, in_flight};
 use crate::tally::Tally;
 use rv_arch::Stop;
-use rv_core::{Pipeline, Progress};
 use rv_front::Predictor;
 use rv_isa::{Arrivals, Description};
 use rv_sentences::begun;
 use rv_text::Sink;
 use rv_view::{Following, ShownCycle, View, Viewed, run_view};
+use rv_watch::{Progress, Simulated};
 use std::convert::Infallible;
 use std::io;
 use std::io::Write;
@@ -56,10 +56,10 @@ impl View for Explainer {
     }
 
     fn see<W: Write>(&mut self, cycle: &ShownCycle<'_>, _: &mut Sink<'_, W>) {
-        let drain_end = cycle.pipeline.drain_end();
+        let drain_end = cycle.hardware.drain_end();
         let drain = begun(cycle.number, self.drain_end, drain_end);
-        let places = cycle_places(cycle.number, self.in_flight, cycle.steps, cycle.pipeline);
-        let observed = cycle.pipeline.observe();
+        let places = cycle_places(cycle.number, self.in_flight, cycle.steps, cycle.hardware);
+        let observed = cycle.hardware.observe();
         self.tally.add(
             cycle.number,
             &mut self.registers,
@@ -67,20 +67,20 @@ impl View for Explainer {
             &places,
             drain,
             observed.lines,
-            cycle.pipeline,
+            cycle.hardware,
             cycle.rows,
         );
-        let after = cycle.pipeline.observe();
+        let after = cycle.hardware.observe();
         let registers = after.regs;
         self.registers = registers;
         self.drain_end = drain_end;
-        self.in_flight = in_flight(cycle.pipeline);
+        self.in_flight = in_flight(cycle.hardware);
     }
 }
 
 /// Runs a pipeline that a predictor guides to the end, from a tally of no cycle on.
-pub(crate) fn run_tallied(
-    pipeline: &mut Pipeline,
+pub(crate) fn run_tallied<S: Simulated>(
+    pipeline: &mut S,
     predictor: &mut dyn Predictor,
     description: &Description,
     arrivals: &Arrivals,
@@ -88,15 +88,19 @@ pub(crate) fn run_tallied(
     following: Following,
     tally: Tally,
 ) -> Tallied
-    requires follows { FollowsFrom pipeline.old following }
-    requires of_no_cycle { tally ≡ tally_of description.now arrivals.now pipeline.old [] [] }
-    ensures { IsTallied arrivals.now limit description.now (guided pipeline.old (known predictor.old)) (guided pipeline.new (known predictor.new)) result.stop result.progress result.fetched result.tally }
+    requires follows { FollowsFrom (S.hardware pipeline.old) following }
+    requires of_no_cycle { tally ≡ tally_of description.now arrivals.now (S.hardware pipeline.old) [] [] }
+    ensures { IsTallied arrivals.now limit description.now
+        (guided (S.hardware pipeline.old) (known predictor.old))
+        (guided (S.hardware pipeline.new) (known predictor.new))
+        result.stop result.progress result.fetched result.tally }
 {
     // What is in the pipeline a reset and cycles led to.
     let _ = pipeline.cycles_done();
-    let registers = pipeline.observe().regs;
-    let drain_end = pipeline.drain_end();
-    let in_flight = in_flight(pipeline);
+    let shown = pipeline.shown();
+    let registers = shown.observe().regs;
+    let drain_end = shown.drain_end();
+    let in_flight = in_flight(&shown);
     let explainer = Explainer {
         tally,
         registers,

@@ -9,7 +9,6 @@ use crate::at_end::{left_among, without_waiting};
 use crate::head::accounts_of;
 use crate::high_lines::follow_lines;
 use crate::traps::note_steps;
-use rv_core::Pipeline;
 use rv_counts::{CyclePlaces, LoadCosts, Places};
 use rv_hardware::Step;
 use rv_isa::{Description, Kind, Lines};
@@ -19,6 +18,7 @@ use rv_sentences::{
     WaitingStores, WordNotes, Work, add_drain, add_left, add_stays, count_one, idle_with,
     note_stores,
 };
+use rv_watch::ShownHardware;
 use std::alloc::{AllocError, Global};
 
 /// What is kept of a run so far.
@@ -100,34 +100,34 @@ impl Tally {
         places: &CyclePlaces,
         drain: Option<u64>,
         lines: Lines,
-        pipeline: &Pipeline,
+        hardware: &ShownHardware<'_>,
         rows: &[Passage],
     )
         requires room { HasRoom self.old (length steps.now) (length rows.now) }
         requires few { cycle_total places.now ≤ 264 }
-        requires end { AreAtEnd cycle pipeline.now rows.now }
-        ensures { self.new ≡ tally_after cycle registers.old steps.now places.now drain lines pipeline.now rows.now self.old }
+        requires end { AreAtEnd cycle hardware.now rows.now }
+        ensures { self.new ≡ tally_after cycle registers.old steps.now places.now drain lines hardware.now rows.now self.old }
     {
-        let has_unit = pipeline.units().free(Kind::Mem, cycle);
+        let has_unit = hardware.units().free(Kind::Mem, cycle);
         add_stays(
             &mut self.stays,
             &mut self.awaited,
             cycle,
             has_unit,
             true,
-            without_waiting(rows, pipeline),
+            without_waiting(rows, hardware),
         );
-        let (account, flusher) = accounts_of(pipeline, rows, self.flusher);
+        let (account, flusher) = accounts_of(hardware, rows, self.flusher);
         count_one(&mut self.heads, account);
         self.idle = idle_with(self.idle, account);
         self.flusher = flusher;
-        let retired = note_steps(&mut self.exceptions, &mut self.interrupts, steps, pipeline);
+        let retired = note_steps(&mut self.exceptions, &mut self.interrupts, steps, hardware);
         self.retired += retired as u64;
         follow_lines(&mut self.raised, cycle, lines);
         self.places.add(places);
         self.dispatches.add(steps);
         // Those in flight after them add nothing.
-        let left = left_among(rows, cycle, pipeline);
+        let left = left_among(rows, cycle, hardware);
         add_left(
             &mut self.work,
             &mut self.loads,

@@ -6,15 +6,15 @@ ghost use Rattle.rv_sentences.specs.Interrupt.{AreCountable, interruption_in, in
 ghost use Rattle.rv_sentences.specs.Kinds.{IsCountable, kept_after};
 
 use crate::ending::csr;
-use rv_core::Pipeline;
 use rv_counts::count_retired;
 use rv_hardware::Step;
 use rv_isa::{Cause, Csr};
 use rv_sentences::{Exception, Exceptions, Interrupts, interruption_in};
+use rv_watch::ShownHardware;
 
 // A trap of the core's last cycle, where it is no breakpoint.
-fn exception_of(step: &Step, pipeline: &Pipeline) -> Option<Exception>
-    ensures { result ≡ exception_of pipeline.now step.now }
+fn exception_of(step: &Step, hardware: &ShownHardware<'_>) -> Option<Exception>
+    ensures { result ≡ exception_of hardware.now step.now }
 {
     match *step {
         Step::Trap {
@@ -33,33 +33,33 @@ fn exception_of(step: &Step, pipeline: &Pipeline) -> Option<Exception>
             cause,
             value,
             cycle,
-            mtvec: csr(pipeline, Csr::Mtvec),
-            next_pc: pipeline.observe().pc,
+            mtvec: csr(hardware, Csr::Mtvec),
+            next_pc: hardware.observe().pc,
         }),
     }
 }
 
 // Whether nothing but retirements is among the steps: then neither a trap nor an interrupt is. Most cycles end with that.
-fn are_retirements(steps: &[Step], pipeline: &Pipeline) -> bool
+fn are_retirements(steps: &[Step], hardware: &ShownHardware<'_>) -> bool
     ensures exact { result ≡ list_all is_retirement steps.now }
     ensures all { result ≡ true → count_by is_retirement steps.now ≡ length steps.now }
-    ensures no_exception { result ≡ true → exception_in pipeline.now steps.now ≡ None }
+    ensures no_exception { result ≡ true → exception_in hardware.now steps.now ≡ None }
     ensures no_interrupt { result ≡ true → interruption_in steps.now ≡ None }
 {
     match steps {
         [] => true,
-        [Step::Retired(_), rest @ ..] => are_retirements(rest, pipeline),
+        [Step::Retired(_), rest @ ..] => are_retirements(rest, hardware),
         [..] => false,
     }
 }
 
 // The first trap that is no breakpoint, where there may be one.
-fn first_exception(steps: &[Step], pipeline: &Pipeline) -> Option<Exception>
-    ensures { result ≡ exception_in pipeline.now steps.now }
+fn first_exception(steps: &[Step], hardware: &ShownHardware<'_>) -> Option<Exception>
+    ensures { result ≡ exception_in hardware.now steps.now }
 {
     match steps {
         [] => None,
-        [step, rest @ ..] => exception_of(step, pipeline).or(first_exception(rest, pipeline)),
+        [step, rest @ ..] => exception_of(step, hardware).or(first_exception(rest, hardware)),
     }
 }
 
@@ -69,18 +69,18 @@ pub(crate) fn note_steps(
     exceptions: &mut Exceptions,
     interrupts: &mut Interrupts,
     steps: &[Step],
-    pipeline: &Pipeline,
+    hardware: &ShownHardware<'_>,
 ) -> usize
     requires exceptions { IsCountable exceptions.old }
     requires interrupts { AreCountable interrupts.old }
-    ensures exceptions { exceptions.new ≡ kept_after (exception_in pipeline.now steps.now) exceptions.old }
+    ensures exceptions { exceptions.new ≡ kept_after (exception_in hardware.now steps.now) exceptions.old }
     ensures interrupts { interrupts.new ≡ interrupts_after (interruption_in steps.now) interrupts.old }
     ensures retired { result ≡ count_by is_retirement steps.now }
 {
-    if are_retirements(steps, pipeline) {
+    if are_retirements(steps, hardware) {
         return steps.len();
     }
-    exceptions.note(first_exception(steps, pipeline));
+    exceptions.note(first_exception(steps, hardware));
     interrupts.note(interruption_in(steps));
     count_retired(steps)
 }

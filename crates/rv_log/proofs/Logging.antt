@@ -3,9 +3,9 @@ use Rattle.std.proofs.Common.{◌≡◌, ◌∙◌, ℕ, List, [], ◌∷◌, �
 use Rattle.std.specs.Prelude.{Bool, false}
 use Rattle.rv_isa.specs.declared.lines.Arrival.{Arrival}
 use Rattle.rv_arch.specs.declared.outcome.Stop.{Stop}
-use Rattle.rv_core.specs.declared.outcome.Progress.{Progress}
-use Rattle.rv_core.specs.Watching.{Watched, with_shown}
-use Rattle.rv_core.proofs.RunReports.{progress_of-push}
+use Rattle.rv_watch.specs.declared.progress.Progress.{Progress}
+use Rattle.rv_watch.specs.Watching.{Watched, with_shown}
+use Rattle.rv_watch.proofs.RunReports.{progress_of-push}
 use Rattle.rv_hardware.specs.Guided.{GuidedHardware}
 use Rattle.rv_hardware.specs.History.{Moment, reports_of}
 use Rattle.rv_hardware.specs.declared.report.Stall.{Stall}

@@ -1,7 +1,7 @@
 -- What a log keeps while it is written.
 use Rattle.std.specs.Prelude.{◌≡◌, ℕ, List, [], ◌∷◌, Option, None}
 use Rattle.rv_hardware.specs.declared.report.Stall.{Stall}
-use Rattle.rv_core.specs.Watching.{Watched}
+use Rattle.rv_watch.specs.Watching.{Watched}
 use Rattle.rv_passage.specs.Walk.{FollowedCycle}
 use Rattle.rv_source.specs.Listing.{Listed}
 use Rattle.rv_view.specs.Viewing.{cycles_seen}

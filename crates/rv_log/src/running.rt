@@ -7,7 +7,6 @@ ghost use Rattle.rv_view.specs.Following.{FollowsFrom};
 use crate::cycle::{write_begin, write_cycle};
 use crate::room::Stalled;
 use rv_arch::Stop;
-use rv_core::Pipeline;
 use rv_front::Predictor;
 use rv_hardware::Stall;
 use rv_isa::Arrivals;
@@ -15,6 +14,7 @@ use rv_passage::Passage;
 use rv_source::Listing;
 use rv_text::Sink;
 use rv_view::{Following, ShownCycle, View, run_view};
+use rv_watch::Simulated;
 use std::convert::Infallible;
 use std::io::Write;
 
@@ -79,8 +79,8 @@ fn begin<W: Write>(writer: &mut W, listing: &Listing, first: u64, rows: &[Passag
 }
 
 /// Runs a pipeline that a predictor guides up to so many cycles, and writes the log as far as no write fails. Asks for no memory.
-pub(crate) fn run_logged<W: Write>(
-    pipeline: &mut Pipeline,
+pub(crate) fn run_logged<S: Simulated, W: Write>(
+    pipeline: &mut S,
     predictor: &mut dyn Predictor,
     arrivals: &Arrivals,
     limit: u64,
@@ -88,8 +88,8 @@ pub(crate) fn run_logged<W: Write>(
     following: Following,
     writer: &mut W,
 ) -> Logged
-    requires { FollowsFrom pipeline.old following }
-    ensures { WritesLog arrivals.now limit listing.now (guided pipeline.old (known predictor.old)) (guided pipeline.new (known predictor.new)) result.stop result.has_failed (W.contents writer.old) (W.contents writer.new) }
+    requires { FollowsFrom (S.hardware pipeline.old) following }
+    ensures { WritesLog arrivals.now limit listing.now (guided (S.hardware pipeline.old) (known predictor.old)) (guided (S.hardware pipeline.new) (known predictor.new)) result.stop result.has_failed (W.contents writer.old) (W.contents writer.new) }
 {
     let first = pipeline.cycles_done();
     let has_failed = begin(writer, listing, first, following.rows());

@@ -5,12 +5,12 @@ ghost use Rattle.rv_text.specs.IsText.{IsText};
 
 use crate::running::run_logged;
 use rv_arch::Stop;
-use rv_core::Pipeline;
 use rv_front::Predictor;
 use rv_isa::Arrivals;
 use rv_source::Listing;
 use rv_text::TextError;
 use rv_view::Following;
+use rv_watch::Simulated;
 use std::alloc::Global;
 use std::io::Write;
 
@@ -27,19 +27,19 @@ use std::io::Write;
 ///
 /// `Memory` when out of memory: then nothing was run and nothing was written. `WriteFailed` where a write fails: then what was
 /// written is a beginning of the log, and the run is done to its end.
-pub fn write_log<W: Write>(
+pub fn write_log<S: Simulated, W: Write>(
     alloc: Global,
-    pipeline: &mut Pipeline,
+    pipeline: &mut S,
     predictor: &mut dyn Predictor,
     arrivals: &Arrivals,
     limit: u64,
     listing: &Listing,
     writer: &mut W,
 ) -> Result<Stop, TextError>
-    ensures written { IsText (IsLog arrivals.now limit listing.now (guided pipeline.old (known predictor.old)) (guided pipeline.new (known predictor.new))) result (W.contents writer.old) (W.contents writer.new) }
+    ensures written { IsText (IsLog arrivals.now limit listing.now (guided (S.hardware pipeline.old) (known predictor.old)) (guided (S.hardware pipeline.new) (known predictor.new))) result (W.contents writer.old) (W.contents writer.new) }
     // With a described predictor a log is a function of what it is a log of.
     ensures one_log { HasOneLog arrivals.now limit listing.now }
-    ensures not_run { result ≡ Err TextError.Memory → (pipeline.new ≡ pipeline.old) × (known predictor.new ≡ known predictor.old) }
+    ensures not_run { result ≡ Err TextError.Memory → (S.hardware pipeline.new ≡ S.hardware pipeline.old) × (known predictor.new ≡ known predictor.old) }
 {
     let Ok(following) = Following::begin(alloc, pipeline) else {
         return Err(TextError::Memory);

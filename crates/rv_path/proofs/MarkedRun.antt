@@ -6,9 +6,9 @@ use Rattle.std.proofs.lemmas.List.{take_all}
 use Rattle.rv_isa.specs.declared.lines.Arrival.{Arrival}
 use Rattle.rv_arch.specs.declared.outcome.Stop.{Stop}
 use Rattle.rv_arch.specs.declared.outcome.Stop.TheVariants as stop
-use Rattle.rv_core.specs.Watching.{Watched, watched, with_shown}
-use Rattle.rv_core.specs.declared.outcome.Progress.{Progress}
-use Rattle.rv_core.proofs.Shown.{moments_counted}
+use Rattle.rv_watch.specs.Watching.{Watched, watched, with_shown}
+use Rattle.rv_watch.specs.declared.progress.Progress.{Progress}
+use Rattle.rv_watch.proofs.Shown.{moments_counted}
 use Rattle.rv_drawing.specs.declared.mark.Mark.{Mark}
 use Rattle.rv_hardware.specs.Guided.{GuidedHardware}
 use Rattle.rv_hardware.specs.Hardware.{Hardware}
@@ -135,7 +135,7 @@ module _ {seen : Watched} {cycle : ShownCycle} (next : IsNextCycle seen cycle) (
     now = cycles ∙ cycles-is
 
     more : length (with_shown seen next.shown).moments ≡ length seen.moments + 1
-    more = length-append seen.moments (record { report = next.shown.report; after = cycle.pipeline.now } ∷ [])
+    more = length-append seen.moments (record { report = next.shown.report; after = cycle.hardware.now } ∷ [])
 
     by_cycles : (new.cycles ≤ old.from) ⊎ (old.from < new.cycles)
         → IsNumbering new.numbering (begun_at old.from) × (new.numbering.fetched ≤ old.numbering.fetched + 576)

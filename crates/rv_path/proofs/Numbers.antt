@@ -3,7 +3,7 @@ use Rattle.std.proofs.Common.{◌≡◌, ◌∙◌, ℕ, suc, ◌+◌, ◌-◌, 
 use Rattle.std.proofs.Common.{length, length-append, take}
 use Rattle.std.specs.Prelude.{if◌then◌else◌}
 use Rattle.std.proofs.lemmas.List.{length-map, take-append-le, take_all}
-use Rattle.rv_core.specs.Watching.{Watched}
+use Rattle.rv_watch.specs.Watching.{Watched}
 use Rattle.rv_hardware.specs.History.{Moment}
 use Rattle.rv_hardware.specs.Lessons.{first_pc}
 use Rattle.rv_hardware.specs.declared.step.Step.{Step}
@@ -55,7 +55,7 @@ module _ {seen : Watched} {cycle : ShownCycle} (next : IsNextCycle seen cycle) (
   begun moments = passages_after still_open seen.first.hardware (take from moments)
 
   abbrev moment : Moment
-  moment = record { report = next.shown.report; after = cycle.pipeline.now }
+  moment = record { report = next.shown.report; after = cycle.hardware.now }
 
   abbrev kept : Passages
   kept = passages_after still_open seen.first.hardware seen.moments
@@ -78,7 +78,7 @@ module _ {seen : Watched} {cycle : ShownCycle} (next : IsNextCycle seen cycle) (
       take_all from (seen.moments ++ moment ∷ []) (omega (arith, before, length-append seen.moments (moment ∷ []))) in
       let later_is : begun (seen.moments ++ moment ∷ []) ≡ still_open after =
       ap (passages_after still_open seen.first.hardware) all ∙ passages_after-push still_open next.shown.passes moment in
-      let stepped = steps-as_long next.shown.report.steps cycle.pipeline.now.pc kept in
+      let stepped = steps-as_long next.shown.report.steps cycle.hardware.now.pc kept in
       let numbers : length old.numbers.items ≡ length kept.rows =
       ap length is.numbers ∙ length-map (begun seen.moments).rows (λ (p : Passage). p.number) ∙ ap (λ (t : Passages). length t.rows) so_far in
       let fetched : old.fetched ≡ kept.fetched = is.fetched ∙ ap (λ (t : Passages). t.fetched) so_far in

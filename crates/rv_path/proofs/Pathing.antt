@@ -4,9 +4,9 @@ use Rattle.std.specs.Prelude.{sum}
 use Rattle.std.proofs.lemmas.List.Sums.{fold-append}
 use Rattle.rv_isa.specs.declared.lines.Arrival.{Arrival}
 use Rattle.rv_arch.specs.declared.outcome.Stop.{Stop}
-use Rattle.rv_core.specs.Progress.{progress_of}
-use Rattle.rv_core.specs.Watching.{Watched, watched, with_shown}
-use Rattle.rv_core.specs.declared.outcome.Progress.{Progress}
+use Rattle.rv_watch.specs.Progress.{progress_of}
+use Rattle.rv_watch.specs.Watching.{Watched, watched, with_shown}
+use Rattle.rv_watch.specs.declared.progress.Progress.{Progress}
 use Rattle.rv_hardware.specs.Guided.{GuidedHardware}
 use Rattle.rv_hardware.specs.History.{Moment, reports_of}
 use Rattle.rv_passage.specs.EndedRun.{IsEndedRun}
@@ -37,7 +37,7 @@ pub known-shown : {seen : Watched} {cycle : ShownCycle} (next : IsNextCycle seen
     ≡ known_of seen.first.hardware (cycles_seen (with_shown seen next.shown))
 known-shown {seen = seen} {cycle = cycle} next path on =
     let shown = next.shown in
-    let hardware = cycle.pipeline.now in
+    let hardware = cycle.hardware.now in
     let after = read_of hardware in
     let first = seen.first.hardware in
     let elapsed = ap (λ (p : Progress). p.cycles - 1) shown.progress_is in

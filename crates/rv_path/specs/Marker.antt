@@ -1,6 +1,6 @@
 -- What a marker has of the path of a run, of which a window is marked.
 use Rattle.std.specs.Prelude.{◌≡◌, ◌+◌, ◌*◌, ◌≤◌, length, take}
-use Rattle.rv_core.specs.Watching.{Watched}
+use Rattle.rv_watch.specs.Watching.{Watched}
 use Rattle.rv_passage.specs.Table.{still_open}
 use Rattle.rv_passage.specs.Walk.{passages_after}
 use Rattle.rv_view.specs.Viewing.{cycles_seen}

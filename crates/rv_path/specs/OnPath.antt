@@ -1,6 +1,6 @@
 -- What a path reads of a cycle that is shown, and that it is the path of the cycles so far.
 use Rattle.std.specs.Prelude.{◌-◌}
-use Rattle.rv_core.specs.Watching.{Watched}
+use Rattle.rv_watch.specs.Watching.{Watched}
 use Rattle.rv_view.specs.Viewing.{cycles_seen}
 use Rattle.rv_view.specs.declared.shown_cycle.ShownCycle.{ShownCycle}
 use Rattle.rv_causes.specs.Keeping.{IsKnown}
@@ -13,10 +13,10 @@ abbrev pub read_by : ShownCycle → CycleRead
 read_by cycle = record {
   number = cycle.number;
   elapsed = cycle.progress.now.cycles - 1;
-  values = cycle.pipeline.now.values;
+  values = cycle.hardware.now.values;
   rows = cycle.rows.now;
   steps = cycle.steps.now;
-  after = read_of cycle.pipeline.now;
+  after = read_of cycle.hardware.now;
 }
 
 abbrev pub IsOnPath : Path → Watched → Type 0

@@ -4,10 +4,10 @@ ghost use Rattle.rv_path.specs.Marking.{HasOneMarking, IsMarked};
 ghost use Rattle.rv_view.specs.Run.{HasRun};
 
 use crate::marking::run_marked;
-use rv_core::Pipeline;
 use rv_drawing::Mark;
 use rv_front::Predictor;
 use rv_isa::Arrivals;
+use rv_watch::Simulated;
 use std::alloc::{AllocError, Global};
 
 /// Runs a pipeline that a predictor guides, each cycle with the lines of its number, up to a breakpoint, a stale word, exhaustion or
@@ -15,19 +15,21 @@ use std::alloc::{AllocError, Global};
 /// window of the cycles from `from` on: one for each fetch, dispatch, issue, broadcast and commit of an instruction that is on the path,
 /// the newest first. The number of the instruction is that in the picture of the window. The only error is out of memory: then the run
 /// was cut short or not begun, and the pipeline stands at the end of a cycle.
-pub fn path_marks(
+pub fn path_marks<S: Simulated>(
     alloc: Global,
-    pipeline: &mut Pipeline,
+    pipeline: &mut S,
     predictor: &mut dyn Predictor,
     arrivals: &Arrivals,
     from: u64,
     cycles: u64,
 ) -> Result<Vec<Mark>, AllocError>
-    ensures marked { IfOk result (λ marks. IsMarked arrivals.now from cycles (guided pipeline.old (known predictor.old)) (guided pipeline.new (known predictor.new)) marks.items) }
+    ensures marked { IfOk result (λ marks. IsMarked arrivals.now from cycles
+        (guided (S.hardware pipeline.old) (known predictor.old))
+        (guided (S.hardware pipeline.new) (known predictor.new)) marks.items) }
     // With a described predictor the marks are a function of what they are of.
     ensures one_marking { HasOneMarking arrivals.now from cycles }
-    ensures run { OnErr result (HasRun arrivals.now (guided pipeline.old (known predictor.old))
-        (guided pipeline.new (known predictor.new))) }
+    ensures run { OnErr result (HasRun arrivals.now (guided (S.hardware pipeline.old) (known predictor.old))
+        (guided (S.hardware pipeline.new) (known predictor.new))) }
 {
     run_marked(alloc, pipeline, predictor, arrivals, from, cycles)
 }

@@ -6,12 +6,12 @@ ghost use Rattle.rv_view.specs.Run.{HasRun};
 use crate::marks::marks_of;
 use crate::reading::{begin_path, read_cycle};
 use rv_causes::{Numbering, Path};
-use rv_core::Pipeline;
 use rv_drawing::Mark;
 use rv_front::Predictor;
 use rv_isa::Arrivals;
 use rv_text::Sink;
 use rv_view::{Following, ShownCycle, View, Viewed, run_view};
+use rv_watch::Simulated;
 use std::alloc::{AllocError, Global};
 use std::io;
 use std::io::Write;
@@ -63,17 +63,19 @@ fn limit_of(from: u64, cycles: u64) -> u64
 /// Runs a pipeline that a predictor guides up to so many cycles after others, and answers the marks of its path in the former, the newest
 /// first. The only error is out of memory, which may come in the middle of the run. The pipeline stands at the end of
 /// a cycle then.
-pub(crate) fn run_marked(
+pub(crate) fn run_marked<S: Simulated>(
     alloc: Global,
-    pipeline: &mut Pipeline,
+    pipeline: &mut S,
     predictor: &mut dyn Predictor,
     arrivals: &Arrivals,
     from: u64,
     cycles: u64,
 ) -> Result<Vec<Mark>, AllocError>
-    ensures marked { IfOk result (λ marks. IsMarked arrivals.now from cycles (guided pipeline.old (known predictor.old)) (guided pipeline.new (known predictor.new)) marks.items) }
-    ensures run { OnErr result (HasRun arrivals.now (guided pipeline.old (known predictor.old))
-        (guided pipeline.new (known predictor.new))) }
+    ensures marked { IfOk result (λ marks. IsMarked arrivals.now from cycles
+        (guided (S.hardware pipeline.old) (known predictor.old))
+        (guided (S.hardware pipeline.new) (known predictor.new)) marks.items) }
+    ensures run { OnErr result (HasRun arrivals.now (guided (S.hardware pipeline.old) (known predictor.old))
+        (guided (S.hardware pipeline.new) (known predictor.new))) }
 {
     let following = Following::begin(alloc, pipeline)?;
     let rows = following.rows();

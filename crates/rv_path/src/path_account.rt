@@ -6,11 +6,11 @@ ghost use Rattle.rv_view.specs.Run.{HasRun};
 
 use crate::running::run_accounted;
 use rv_causes::{Account, Share, rank, write_sentences};
-use rv_core::Pipeline;
 use rv_front::Predictor;
 use rv_isa::Arrivals;
 use rv_source::Listing;
 use rv_text::Sink;
+use rv_watch::Simulated;
 use std::alloc::{AllocError, Global};
 use std::io::Write;
 use std::marker::Model;
@@ -65,18 +65,20 @@ impl PathAccount {
 /// Runs a pipeline that a predictor guides, each cycle with the lines of its number, up to a breakpoint, a stale word, exhaustion or
 /// so many cycles, and answers the account of its critical path, that to its last retirement, trap or interrupt. The only error is out of
 /// memory: then the run was cut short or not begun, and the pipeline stands at the end of a cycle.
-pub fn account_path(
+pub fn account_path<S: Simulated>(
     alloc: Global,
-    pipeline: &mut Pipeline,
+    pipeline: &mut S,
     predictor: &mut dyn Predictor,
     arrivals: &Arrivals,
     limit: u64,
 ) -> Result<PathAccount, AllocError>
-    ensures accounted { IfOk result (λ path. IsPathAccount arrivals.now limit (guided pipeline.old (known predictor.old)) (guided pipeline.new (known predictor.new)) path) }
+    ensures accounted { IfOk result (λ path. IsPathAccount arrivals.now limit
+        (guided (S.hardware pipeline.old) (known predictor.old))
+        (guided (S.hardware pipeline.new) (known predictor.new)) path) }
     // With a described predictor the account is a function of what it is the account of.
     ensures one_account { HasOneAccount arrivals.now limit }
-    ensures run { OnErr result (HasRun arrivals.now (guided pipeline.old (known predictor.old))
-        (guided pipeline.new (known predictor.new))) }
+    ensures run { OnErr result (HasRun arrivals.now (guided (S.hardware pipeline.old) (known predictor.old))
+        (guided (S.hardware pipeline.new) (known predictor.new))) }
 {
     let mut shares = Vec::with_capacity(alloc, MOST_RANKED)?;
     let done = run_accounted(alloc, pipeline, predictor, arrivals, limit)?;

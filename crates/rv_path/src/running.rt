@@ -7,11 +7,11 @@ ghost use Rattle.rv_view.specs.Run.{HasRun};
 use crate::reading::{begin_path, read_cycle};
 use rv_arch::Stop;
 use rv_causes::{Account, Path};
-use rv_core::Pipeline;
 use rv_front::Predictor;
 use rv_isa::Arrivals;
 use rv_text::Sink;
 use rv_view::{Following, ShownCycle, View, Viewed, run_view};
+use rv_watch::Simulated;
 use std::alloc::{AllocError, Global};
 use std::io;
 use std::io::Write;
@@ -57,16 +57,18 @@ impl View for Walker {
 /// Runs a pipeline that a predictor guides up to so many cycles, and follows its path to the last retirement, trap or interrupt. The
 /// only error is out of memory, which may come in the middle of the run. The pipeline stands at the end of a cycle
 /// then.
-pub(crate) fn run_accounted(
+pub(crate) fn run_accounted<S: Simulated>(
     alloc: Global,
-    pipeline: &mut Pipeline,
+    pipeline: &mut S,
     predictor: &mut dyn Predictor,
     arrivals: &Arrivals,
     limit: u64,
 ) -> Result<Accounted, AllocError>
-    ensures accounted { IfOk result (λ done. IsAccounted arrivals.now limit (guided pipeline.old (known predictor.old)) (guided pipeline.new (known predictor.new)) done.stop done.cycles (accounted done.account)) }
-    ensures run { OnErr result (HasRun arrivals.now (guided pipeline.old (known predictor.old))
-        (guided pipeline.new (known predictor.new))) }
+    ensures accounted { IfOk result (λ done. IsAccounted arrivals.now limit
+        (guided (S.hardware pipeline.old) (known predictor.old))
+        (guided (S.hardware pipeline.new) (known predictor.new)) done.stop done.cycles (accounted done.account)) }
+    ensures run { OnErr result (HasRun arrivals.now (guided (S.hardware pipeline.old) (known predictor.old))
+        (guided (S.hardware pipeline.new) (known predictor.new))) }
 {
     let following = Following::begin(alloc, pipeline)?;
     let path = begin_path(alloc, pipeline, following.rows().len())?;

@@ -9,11 +9,11 @@ ghost use Rattle.rv_view.specs.Run.{HasRun};
 use crate::running::run_accounted;
 use rv_arch::Stop;
 use rv_causes::{Ranks, write_account};
-use rv_core::Pipeline;
 use rv_front::Predictor;
 use rv_isa::Arrivals;
 use rv_source::Listing;
 use rv_text::{ReportError, TextError};
+use rv_watch::Simulated;
 use std::alloc::Global;
 use std::io::Write;
 
@@ -31,24 +31,28 @@ use std::io::Write;
 /// `Memory` when out of memory: then nothing was written, the run was cut short or not begun, and the pipeline stands
 /// at the end of a cycle. `WriteFailed` where a write fails: then what was written is a beginning of the text, and the
 /// run is done to its end.
-pub fn write_path<W: Write>(
+pub fn write_path<S: Simulated, W: Write>(
     alloc: Global,
-    pipeline: &mut Pipeline,
+    pipeline: &mut S,
     predictor: &mut dyn Predictor,
     arrivals: &Arrivals,
     limit: u64,
     listing: &Listing,
     writer: &mut W,
 ) -> Result<Stop, TextError>
-    ensures written { IsText (IsPath arrivals.now limit listing.now (guided pipeline.old (known predictor.old)) (guided pipeline.new (known predictor.new))) result (W.contents writer.old) (W.contents writer.new) }
+    ensures written { IsText (IsPath arrivals.now limit listing.now
+        (guided (S.hardware pipeline.old) (known predictor.old))
+        (guided (S.hardware pipeline.new) (known predictor.new)))
+        result (W.contents writer.old) (W.contents writer.new) }
     // With a described predictor the path is a function of what it is the path of.
     ensures one_path { HasOnePath arrivals.now limit listing.now }
     // No event waited for one that came after it: all that is known of a run lies within its cycles.
     ensures in_time { ComesInTime }
     // Each event waited for an older one, and what the cause that is named says is so of the two.
     ensures causes { CausesAreSo }
-    ensures run { result ≡ Err TextError.Memory → HasRun arrivals.now (guided pipeline.old (known predictor.old))
-        (guided pipeline.new (known predictor.new)) }
+    ensures run { result ≡ Err TextError.Memory → HasRun arrivals.now
+        (guided (S.hardware pipeline.old) (known predictor.old))
+        (guided (S.hardware pipeline.new) (known predictor.new)) }
 {
     let Ok(mut ranks) = Ranks::new(alloc) else {
         return Err(TextError::Memory);

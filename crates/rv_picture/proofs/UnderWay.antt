@@ -6,10 +6,10 @@ use Rattle.std.proofs.lemmas.List.{drop_all, take-append-drop, take_all}
 use Rattle.rv_isa.specs.declared.lines.Arrival.{Arrival}
 use Rattle.rv_arch.specs.declared.outcome.Stop.{Stop}
 use Rattle.rv_arch.specs.declared.outcome.Stop.TheVariants as stop
-use Rattle.rv_core.specs.declared.outcome.Progress.{Progress}
-use Rattle.rv_core.specs.Watching.{IsShown, Watched, watched, with_shown}
-use Rattle.rv_core.proofs.RunReports.{progress_of-push}
-use Rattle.rv_core.proofs.Shown.{cycle_counts, moments_counted, reports_of-push}
+use Rattle.rv_watch.specs.declared.progress.Progress.{Progress}
+use Rattle.rv_watch.specs.Watching.{IsShown, Watched, watched, with_shown}
+use Rattle.rv_watch.proofs.RunReports.{progress_of-push}
+use Rattle.rv_watch.proofs.Shown.{cycle_counts, moments_counted, reports_of-push}
 use Rattle.rv_hardware.specs.Guided.{GuidedHardware}
 use Rattle.rv_hardware.specs.Hardware.{Hardware}
 use Rattle.rv_hardware.specs.History.{History, Moment, reports_of}

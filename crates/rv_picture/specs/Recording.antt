@@ -10,7 +10,7 @@ use Rattle.rv_hardware.specs.Hardware.{Hardware}
 use Rattle.rv_hardware.specs.History.{Moment, reports_of}
 use Rattle.rv_hardware.specs.Report.{Report}
 use Rattle.rv_hardware.specs.declared.report.Stall.{Stall}
-use Rattle.rv_core.specs.Watching.{Watched}
+use Rattle.rv_watch.specs.Watching.{Watched}
 use Rattle.rv_passage.specs.EndedRun.{IsEndedRun}
 use Rattle.rv_passage.specs.Followed.{HasFollowed}
 use Rattle.rv_passage.specs.Passage.{is_in_flight}

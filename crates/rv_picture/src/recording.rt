@@ -10,13 +10,13 @@ ghost use Rattle.rv_picture.specs.Recording.{IsRecorded, held_by, is_limit, reco
 ghost use Rattle.rv_view.specs.Run.{HasRun};
 
 use rv_arch::Stop;
-use rv_core::{Pipeline, Progress, Watcher, watch};
 use rv_drawing::Window;
 use rv_front::Predictor;
 use rv_hardware::{Stall, Step};
 use rv_isa::Arrivals;
 use rv_passage::{Passage, Table};
 use rv_view::{begin_table, follow};
+use rv_watch::{Progress, ShownHardware, Simulated, Watcher};
 use std::alloc::{AllocError, Global};
 use std::convert::Infallible;
 use std::io;
@@ -50,7 +50,14 @@ impl Watcher for Nobody {
         Ok(())
     }
 
-    fn see<W: Write>(&mut self, _: u64, _: &[Step], _: &Pipeline, _: &Progress, _: &mut W) {}
+    fn see<W: Write>(
+        &mut self,
+        _: u64,
+        _: &[Step],
+        _: &ShownHardware<'_>,
+        _: &Progress,
+        _: &mut W,
+    ) {}
 }
 
 // The watcher that follows the instructions, and notes what each cycle waits for.
@@ -80,11 +87,11 @@ impl Watcher for Follower {
         &mut self,
         cycle: u64,
         steps: &[Step],
-        pipeline: &Pipeline,
+        hardware: &ShownHardware<'_>,
         progress: &Progress,
         _: &mut W,
     ) {
-        follow(&mut self.table, cycle, steps, pipeline);
+        follow(&mut self.table, cycle, steps, hardware);
         note(&mut self.stalls, progress.stall);
     }
 }
@@ -98,18 +105,17 @@ fn note(stalls: &mut Vec<Option<Stall>>, stall: Option<Stall>)
 }
 
 // Runs a pipeline that a predictor guides up to so many cycles. Answers why the run ended.
-fn run_on(
-    pipeline: &mut Pipeline,
+fn run_on<S: Simulated>(
+    pipeline: &mut S,
     predictor: &mut dyn Predictor,
     arrivals: &Arrivals,
     limit: u64,
     steps: Vec<Step>,
 ) -> Stop
     requires { 8 ≤ vec_capacity steps }
-    ensures { (moments : List Moment) × IsEndedRun arrivals.now limit (guided pipeline.old (known predictor.old)) moments (guided pipeline.new (known predictor.new)) result }
+    ensures { (moments : List Moment) × IsEndedRun arrivals.now limit (guided (S.hardware pipeline.old) (known predictor.old)) moments (guided (S.hardware pipeline.new) (known predictor.new)) result }
 {
-    let ended = watch(
-        pipeline,
+    let ended = pipeline.watch(
         predictor,
         arrivals,
         limit,
@@ -123,15 +129,19 @@ fn run_on(
 }
 
 // Runs a pipeline that a predictor guides up to so many cycles, and follows its instructions through them.
-fn record_run(
+fn record_run<S: Simulated>(
     alloc: Global,
-    pipeline: &mut Pipeline,
+    pipeline: &mut S,
     predictor: &mut dyn Predictor,
     arrivals: &Arrivals,
     limit: u64,
 ) -> Result<Recording, AllocError>
-    ensures followed { IfOk result (λ recording. IsRecorded arrivals.now 0 limit (guided pipeline.old (known predictor.old)) (guided pipeline.new (known predictor.new)) recording.stop (held_by recording)) }
-    ensures run { OnErr result (HasRun arrivals.now (guided pipeline.old (known predictor.old)) (guided pipeline.new (known predictor.new))) }
+    ensures followed { IfOk result (λ recording. IsRecorded arrivals.now 0 limit
+        (guided (S.hardware pipeline.old) (known predictor.old))
+        (guided (S.hardware pipeline.new) (known predictor.new)) recording.stop (held_by recording)) }
+    ensures run { OnErr result (HasRun arrivals.now
+        (guided (S.hardware pipeline.old) (known predictor.old))
+        (guided (S.hardware pipeline.new) (known predictor.new))) }
 {
     let first = pipeline.cycles_done();
     let table = begin_table(alloc, pipeline)?;
@@ -140,8 +150,7 @@ fn record_run(
         stalls: Vec::new(alloc),
     };
     let steps = Vec::with_capacity(alloc, 8)?;
-    let ended = watch(
-        pipeline,
+    let ended = pipeline.watch(
         predictor,
         arrivals,
         limit,
@@ -200,8 +209,12 @@ fn is_limit(stop: Stop) -> bool
 }
 
 // The recording of a run that ended before its window.
-fn nothing_shown(alloc: Global, pipeline: &Pipeline, stop: Stop) -> Result<Recording, AllocError>
-    ensures { IfOk result (λ recording. (held_by recording ≡ recorded_from pipeline.now [] stop) × (recording.stop ≡ stop)) }
+fn nothing_shown<S: Simulated>(
+    alloc: Global,
+    pipeline: &S,
+    stop: Stop,
+) -> Result<Recording, AllocError>
+    ensures { IfOk result (λ recording. (held_by recording ≡ recorded_from (S.hardware pipeline.now) [] stop) × (recording.stop ≡ stop)) }
 {
     let table = begin_table(alloc, pipeline)?;
     let first = pipeline.cycles_done();
@@ -213,16 +226,20 @@ fn nothing_shown(alloc: Global, pipeline: &Pipeline, stop: Stop) -> Result<Recor
 /// the window begins, no cycle is recorded.
 ///
 /// Fails only when out of memory; memory is asked for before each cycle, and the pipeline stands at the end of a cycle then.
-pub(crate) fn record_window(
+pub(crate) fn record_window<S: Simulated>(
     alloc: Global,
-    pipeline: &mut Pipeline,
+    pipeline: &mut S,
     predictor: &mut dyn Predictor,
     arrivals: &Arrivals,
     from: u64,
     limit: u64,
 ) -> Result<Recording, AllocError>
-    ensures recording { IfOk result (λ recording. IsRecorded arrivals.now from (from + limit) (guided pipeline.old (known predictor.old)) (guided pipeline.new (known predictor.new)) recording.stop (held_by recording)) }
-    ensures run { OnErr result (HasRun arrivals.now (guided pipeline.old (known predictor.old)) (guided pipeline.new (known predictor.new))) }
+    ensures recording { IfOk result (λ recording. IsRecorded arrivals.now from (from + limit)
+        (guided (S.hardware pipeline.old) (known predictor.old))
+        (guided (S.hardware pipeline.new) (known predictor.new)) recording.stop (held_by recording)) }
+    ensures run { OnErr result (HasRun arrivals.now
+        (guided (S.hardware pipeline.old) (known predictor.old))
+        (guided (S.hardware pipeline.new) (known predictor.new))) }
 {
     let steps = Vec::with_capacity(alloc, 8)?;
     let stop = run_on(pipeline, predictor, arrivals, from, steps);

@@ -9,13 +9,13 @@ ghost use Rattle.rv_view.specs.Run.{HasRun};
 
 use crate::picture::{Form, Rows, RunEnd, View};
 use crate::recording::{Recording, record_window};
-use rv_core::Pipeline;
 use rv_drawing::{Mark, write_picture_svg, write_picture_text};
 use rv_front::Predictor;
 use rv_isa::Arrivals;
 use rv_passage::Table;
 use rv_source::Listing;
 use rv_text::{ReportError, TextError};
+use rv_watch::Simulated;
 use std::alloc::Global;
 use std::io::Write;
 
@@ -28,9 +28,9 @@ use std::io::Write;
 ///
 /// `Memory` when out of memory: then nothing was written, and the pipeline stands after some of the cycles. `WriteFailed`
 /// where a write fails: then what was written is a beginning of the picture.
-pub fn write_picture<W: Write>(
+pub fn write_picture<S: Simulated, W: Write>(
     alloc: Global,
-    pipeline: &mut Pipeline,
+    pipeline: &mut S,
     predictor: &mut dyn Predictor,
     arrivals: &Arrivals,
     view: View,
@@ -38,10 +38,15 @@ pub fn write_picture<W: Write>(
     listing: &Listing,
     writer: &mut W,
 ) -> Result<RunEnd, TextError>
-    ensures written { IsText (IsPicture arrivals.now view (option_copied marks.entry) listing.now (guided pipeline.old (known predictor.old)) (guided pipeline.new (known predictor.new))) result (W.contents writer.old) (W.contents writer.new) }
+    ensures written { IsText (IsPicture arrivals.now view (option_copied marks.entry) listing.now
+        (guided (S.hardware pipeline.old) (known predictor.old))
+        (guided (S.hardware pipeline.new) (known predictor.new)))
+        result (W.contents writer.old) (W.contents writer.new) }
     // With a described predictor a picture is a function of what it is a picture of.
     ensures one_picture { HasOnePicture arrivals.now view (option_copied marks.entry) listing.now }
-    ensures run { result ≡ Err TextError.Memory → HasRun arrivals.now (guided pipeline.old (known predictor.old)) (guided pipeline.new (known predictor.new)) }
+    ensures run { result ≡ Err TextError.Memory → HasRun arrivals.now
+        (guided (S.hardware pipeline.old) (known predictor.old))
+        (guided (S.hardware pipeline.new) (known predictor.new)) }
 {
     let View { from, cycles, .. } = view;
     let Ok(recording) = record_window(alloc, pipeline, predictor, arrivals, from, cycles) else {

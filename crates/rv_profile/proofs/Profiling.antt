@@ -5,8 +5,8 @@ use Rattle.rv_isa.specs.declared.lines.Arrival.{Arrival}
 use Rattle.rv_isa.specs.declared.values.Values.{Values}
 use Rattle.rv_arch.specs.declared.outcome.Stop.{Stop}
 use Rattle.rv_cache.specs.WriteBack.{Each}
-use Rattle.rv_core.specs.Watching.{Watched, watched, with_shown}
-use Rattle.rv_core.proofs.Shown.{cycle_counts}
+use Rattle.rv_watch.specs.Watching.{Watched, watched, with_shown}
+use Rattle.rv_watch.proofs.Shown.{cycle_counts}
 use Rattle.rv_hardware.specs.Guided.{GuidedHardware}
 use Rattle.rv_hardware.specs.History.{Moment}
 use Rattle.rv_passage.specs.EndedRun.{IsEndedRun}
@@ -54,10 +54,10 @@ module _ {seen : Watched} {cycle : ShownCycle} (next : IsNextCycle seen cycle) {
     counts = record { most = 577 * seen.now.hardware.cycle; counts = profiling.within; countable = omega (arith, next.few, next.shown.number, next.shown.counted) };
   }
 
-  pub profiling_on : (profile' : Profiled) (head : Option ℕ) → head ≡ head_of cycle.pipeline.now → profile'.costs ≡ profile.costs → profile'.words ≡ with_cycle profile.costs cycle.rows.now head profile.words
+  pub profiling_on : (profile' : Profiled) (head : Option ℕ) → head ≡ head_of cycle.hardware.now → profile'.costs ≡ profile.costs → profile'.words ≡ with_cycle profile.costs cycle.rows.now head profile.words
       → IsProfiling costs profile' (with_shown seen next.shown)
   profiling_on profile' head head_is same words =
-      let after = cycle.pipeline.now in
+      let after = cycle.hardware.now in
       let rows = cycle.rows.now in
       let moment : Moment = record { report = next.shown.report; after = after } in
       let left = left_after seen.first.hardware seen.moments in

@@ -1,7 +1,7 @@
 -- What a profile keeps while a run goes on.
 use Rattle.std.specs.Prelude.{◌≡◌, ◌*◌}
 use Rattle.rv_cache.specs.WriteBack.{Each}
-use Rattle.rv_core.specs.Watching.{Watched}
+use Rattle.rv_watch.specs.Watching.{Watched}
 use Rattle.rv_counts.specs.Counts.{IsWithin}
 use Rattle.rv_counts.specs.Following.{Profiled}
 use Rattle.rv_counts.specs.Head.{heads_of}

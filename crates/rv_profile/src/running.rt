@@ -5,12 +5,12 @@ ghost use Rattle.rv_profile.specs.Run.{IsCounted};
 ghost use Rattle.rv_view.specs.Run.{HasRun};
 
 use rv_arch::Stop;
-use rv_core::Pipeline;
 use rv_counts::Profile;
 use rv_front::Predictor;
 use rv_isa::{Arrivals, Description};
 use rv_text::Sink;
 use rv_view::{Following, ShownCycle, View, Viewed, run_view};
+use rv_watch::{ShownHardware, Simulated};
 use std::alloc::{AllocError, Global};
 use std::io;
 use std::io::Write;
@@ -47,33 +47,33 @@ impl View for Profiler {
     }
 
     fn see<W: Write>(&mut self, cycle: &ShownCycle<'_>, _: &mut Sink<'_, W>) {
-        self.profile.follow(cycle.rows, head_of(cycle.pipeline));
+        self.profile.follow(cycle.rows, head_of(cycle.hardware));
     }
 }
 
 // The address of the instruction at the head of the reorder buffer.
-fn head_of(pipeline: &Pipeline) -> Option<u32>
-    ensures { result ≡ head_of pipeline.now }
+fn head_of(hardware: &ShownHardware<'_>) -> Option<u32>
+    ensures { result ≡ head_of hardware.now }
 {
-    Some(pipeline.reorder_buffer().head()?.pc)
+    Some(hardware.reorder_buffer().head()?.pc)
 }
 
 /// Runs a pipeline that a predictor guides up to so many cycles, and counts what leaves the hardware in them and what is in
 /// flight at their end. The description says what loads cost. The only error is out of memory, which may come in the middle of
 /// the run; the pipeline stands at the end of a cycle then.
-pub(crate) fn run_profiled(
+pub(crate) fn run_profiled<S: Simulated>(
     alloc: Global,
-    pipeline: &mut Pipeline,
+    pipeline: &mut S,
     predictor: &mut dyn Predictor,
     description: &Description,
     arrivals: &Arrivals,
     limit: u64,
 ) -> Result<Counted, AllocError>
     ensures counted { IfOk result (λ counted. IsCounted arrivals.now limit description.now
-        (guided pipeline.old (known predictor.old)) (guided pipeline.new (known predictor.new))
+        (guided (S.hardware pipeline.old) (known predictor.old)) (guided (S.hardware pipeline.new) (known predictor.new))
         counted.stop counted.profile.words) }
-    ensures run { OnErr result (HasRun arrivals.now (guided pipeline.old (known predictor.old))
-        (guided pipeline.new (known predictor.new))) }
+    ensures run { OnErr result (HasRun arrivals.now (guided (S.hardware pipeline.old) (known predictor.old))
+        (guided (S.hardware pipeline.new) (known predictor.new))) }
 {
     let following = Following::begin(alloc, pipeline)?;
     let profiler = Profiler {

@@ -7,12 +7,12 @@ ghost use Rattle.rv_view.specs.Run.{HasRun};
 use crate::running::run_profiled;
 use crate::text::write_table;
 use rv_arch::Stop;
-use rv_core::Pipeline;
 use rv_front::Predictor;
 use rv_isa::{Arrivals, Description};
 use rv_path::PathAccount;
 use rv_source::Listing;
 use rv_text::{ReportError, TextError};
+use rv_watch::Simulated;
 use std::alloc::Global;
 use std::io::Write;
 
@@ -32,9 +32,9 @@ use std::io::Write;
 /// `Memory` when out of memory: then nothing was written, the run was cut short or not begun, and the pipeline stands
 /// at the end of a cycle. `WriteFailed` where a write fails: then what was written is a beginning of the table, and the
 /// run is done to its end.
-pub fn write_profile<W: Write>(
+pub fn write_profile<S: Simulated, W: Write>(
     alloc: Global,
-    pipeline: &mut Pipeline,
+    pipeline: &mut S,
     predictor: &mut dyn Predictor,
     description: &Description,
     arrivals: &Arrivals,
@@ -43,11 +43,15 @@ pub fn write_profile<W: Write>(
     listing: &Listing,
     writer: &mut W,
 ) -> Result<Stop, TextError>
-    ensures written { IsText (IsProfile arrivals.now limit description.now (option_copied path.entry) listing.now (guided pipeline.old (known predictor.old)) (guided pipeline.new (known predictor.new))) result (W.contents writer.old) (W.contents writer.new) }
+    ensures written { IsText (IsProfile arrivals.now limit description.now (option_copied path.entry) listing.now
+        (guided (S.hardware pipeline.old) (known predictor.old))
+        (guided (S.hardware pipeline.new) (known predictor.new)))
+        result (W.contents writer.old) (W.contents writer.new) }
     // With a described predictor a profile is a function of what it is a profile of.
     ensures one_profile { HasOneProfile arrivals.now limit description.now (option_copied path.entry) listing.now }
-    ensures run { result ≡ Err TextError.Memory → HasRun arrivals.now (guided pipeline.old (known predictor.old))
-        (guided pipeline.new (known predictor.new)) }
+    ensures run { result ≡ Err TextError.Memory → HasRun arrivals.now
+        (guided (S.hardware pipeline.old) (known predictor.old))
+        (guided (S.hardware pipeline.new) (known predictor.new)) }
 {
     let Ok(counted) = run_profiled(alloc, pipeline, predictor, description, arrivals, limit) else {
         return Err(TextError::Memory);

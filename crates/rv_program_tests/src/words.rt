@@ -4,6 +4,7 @@ use rv_core::{Pipeline, run};
 use rv_front::{NotTaken, Predictor};
 use rv_hardware::Step;
 use rv_isa::{Arrivals, Csr, Description, Image, Recovery, Values};
+use rv_watch::Simulated;
 use std::alloc::Global;
 use std::process::Abort;
 
@@ -73,8 +74,8 @@ fn run_stamped(
 }
 
 fn is_same_at(pipeline: &Pipeline, reference: &Reference, address: u32) -> bool {
-    pipeline.byte(address) == reference.byte(address)
-        && pipeline.is_stale(address) == reference.is_stale(address)
+    pipeline.shown().byte(address) == reference.byte(address)
+        && pipeline.shown().is_stale(address) == reference.is_stale(address)
 }
 
 // The control and status registers that a program or a trap can change.
@@ -114,7 +115,7 @@ fn is_same(pipeline: &Pipeline, reference: &Reference, ram_base: u32) -> bool {
             return false;
         }
     }
-    is_seen_alike(&pipeline.observe(), &reference.observe())
+    is_seen_alike(&pipeline.shown().observe(), &reference.observe())
 }
 
 // Whether the reference takes all reported steps and then shows what the pipeline shows.

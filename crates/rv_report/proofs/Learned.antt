@@ -7,7 +7,7 @@ use Rattle.rv_hardware.specs.Guided.{GuidedHardware, guided}
 use Rattle.rv_hardware.specs.Hardware.{Hardware}
 use Rattle.rv_hardware.specs.History.{History, Moment, reports_of}
 use Rattle.rv_hardware.specs.Run.{IsStop}
-use Rattle.rv_core.proofs.Shown.{cycles_shown}
+use Rattle.rv_watch.proofs.Shown.{cycles_shown}
 use Rattle.rv_report.specs.Learned.{IsTaughtByRun}
 use Rattle.rv_report.specs.LiveReport.{IsTraced}
 use Rattle.rv_report.specs.declared.{options.Options.Options, totals.Totals.Totals}

@@ -10,9 +10,9 @@ use Rattle.rv_hardware.specs.Hardware.{Hardware}
 use Rattle.rv_hardware.specs.History.{Moment}
 use Rattle.rv_hardware.specs.declared.step.Step.{Step}
 use Rattle.rv_hardware.proofs.AnyPrediction.{any_cycle}
-use Rattle.rv_core.specs.Watching.{IsShown, Watched, watched, with_shown}
-use Rattle.rv_core.specs.declared.outcome.Progress.{Progress}
-use Rattle.rv_core.proofs.Shown.{moments_counted}
+use Rattle.rv_watch.specs.Watching.{IsShown, Watched, watched, with_shown}
+use Rattle.rv_watch.specs.declared.progress.Progress.{Progress}
+use Rattle.rv_watch.proofs.Shown.{moments_counted}
 use Rattle.rv_passage.proofs.EndedRun.{length-reports_of}
 use Rattle.rv_counts.specs.Places.{CanPlace, placed_after, places_of, run_places, with_cycle}
 use Rattle.rv_counts.specs.declared.run_places.RunPlaces.{RunPlaces}

@@ -1,7 +1,7 @@
 -- What is counted of a run for a comparison.
 use Rattle.std.specs.Prelude.{◌≡◌, ℕ, ◌+◌, ◌-◌, ◌*◌, ◌≤◌, List, length, Option}
 use Rattle.std.specs.Option.{option_map}
-use Rattle.rv_core.specs.Watching.{Watched}
+use Rattle.rv_watch.specs.Watching.{Watched}
 use Rattle.rv_counts.specs.Places.{AddUp, run_places}
 use Rattle.rv_counts.specs.declared.run_places.RunPlaces.{RunPlaces}
 use Rattle.rv_hardware.specs.Draining.{drain_end}

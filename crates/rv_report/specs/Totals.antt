@@ -2,7 +2,8 @@
 use Rattle.std.specs.Prelude.{List, ◌++◌, codes, count_by, length, ℕ, ◌+◌, ◌^◌, ◌<◌}
 use Rattle.std.specs.List.{flat_map}
 use Rattle.rv_arch.specs.declared.outcome.Stop.{Stop}
-use Rattle.rv_core.specs.declared.outcome.{Outcome.Outcome, Progress.Progress}
+use Rattle.rv_core.specs.declared.outcome.Outcome.{Outcome}
+use Rattle.rv_watch.specs.declared.progress.Progress.{Progress}
 use Rattle.rv_hardware.specs.Report.{Report, all_stalls, count_of, stall_name}
 use Rattle.rv_hardware.specs.Run.{busy_of, longest_gap_of, stalls_of, steps_of}
 use Rattle.rv_hardware.specs.Step.{is_interrupt, is_retirement, is_trap}

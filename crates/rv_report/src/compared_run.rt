@@ -13,12 +13,13 @@ use crate::losses::{ComparedRun, Losses};
 use crate::shown::{Columns, Shown, TableOptions, shows_places, words};
 use crate::speculation::Speculation;
 use crate::totals::{StepCounts, Totals};
-use rv_core::{Pipeline, Progress, Watcher, watch};
+use rv_core::Pipeline;
 use rv_counts::RunPlaces;
 use rv_front::{Front, Predictor};
 use rv_hardware::Step;
 use rv_isa::{Arrivals, Values};
 use rv_rob::Rob;
+use rv_watch::{Progress, ShownHardware, Simulated, Watcher};
 use std::alloc::{AllocError, Global};
 use std::convert::Infallible;
 use std::io;
@@ -51,19 +52,19 @@ impl Watcher for Tally {
         &mut self,
         cycle: u64,
         steps: &[Step],
-        pipeline: &Pipeline,
+        hardware: &ShownHardware<'_>,
         _: &Progress,
         _: &mut W,
     ) {
         // Of hardware that a reset and cycles lead to, the buffers are as long as described.
-        let _ = pipeline.cycles_done();
-        let _ = in_buffer(pipeline);
-        let values = pipeline.values();
-        let buffer = pipeline.reorder_buffer();
-        let front = pipeline.front();
-        let pc = pipeline.observe().pc;
+        let _ = hardware.cycles_done();
+        let _ = in_buffer(hardware);
+        let values = hardware.values();
+        let buffer = hardware.reorder_buffer();
+        let front = hardware.front();
+        let pc = hardware.observe().pc;
         self.counts.count_all(steps);
-        self.events.follow(cycle, steps, pipeline.drain_end());
+        self.events.follow(cycle, steps, hardware.drain_end());
         self.speculation.follow(cycle, steps, buffer, front, pc);
         self.places = placed(self.places, values, cycle, steps, buffer, front);
     }
@@ -88,51 +89,51 @@ fn placed(
 }
 
 // How many instructions are in the reorder buffer.
-fn in_buffer(pipeline: &Pipeline) -> usize
-    ensures counted { result ≡ length pipeline.now.rob.entries }
+fn in_buffer(hardware: &ShownHardware<'_>) -> usize
+    ensures counted { result ≡ length hardware.now.rob.entries }
     ensures few { result ≤ 256 }
 {
     // Of hardware that a reset and cycles lead to, the buffers are as long as described.
-    let _ = pipeline.cycles_done();
-    pipeline.reorder_buffer().len()
+    let _ = hardware.cycles_done();
+    hardware.reorder_buffer().len()
 }
 
 // What became of the places of no cycle.
-fn none_placed(pipeline: &Pipeline) -> RunPlaces
-    ensures { result ≡ run_places pipeline.now [] pipeline.now }
+fn none_placed(hardware: &ShownHardware<'_>) -> RunPlaces
+    ensures { result ≡ run_places hardware.now [] hardware.now }
 {
-    RunPlaces::begin(pipeline.reorder_buffer())
+    RunPlaces::begin(hardware.reorder_buffer())
 }
 
 // The same, where that is to be shown.
-fn no_places(shown: &Columns<Option<Shown>>, pipeline: &Pipeline) -> Option<RunPlaces>
-    ensures { result ≡ places_shown shown.now pipeline.now [] pipeline.now }
+fn no_places(shown: &Columns<Option<Shown>>, hardware: &ShownHardware<'_>) -> Option<RunPlaces>
+    ensures { result ≡ places_shown shown.now hardware.now [] hardware.now }
 {
     if shows_places(shown) {
-        Some(none_placed(pipeline))
+        Some(none_placed(hardware))
     } else {
         None
     }
 }
 
 // How many instructions are in flight.
-fn count_in_flight(pipeline: &Pipeline) -> u64
-    ensures count { result ≡ in_flight pipeline.now.rob pipeline.now.front }
+fn count_in_flight(hardware: &ShownHardware<'_>) -> u64
+    ensures count { result ≡ in_flight hardware.now.rob hardware.now.front }
     ensures few { result ≤ 288 }
 {
     // Of hardware that a reset and cycles lead to, the buffers are as long as described.
-    let _ = pipeline.cycles_done();
-    (pipeline.reorder_buffer().len() + pipeline.front().len()) as u64
+    let _ = hardware.cycles_done();
+    (hardware.reorder_buffer().len() + hardware.front().len()) as u64
 }
 
-// Nothing but what is in flight in a pipeline.
-fn begin(alloc: Global, pipeline: &Pipeline) -> Result<Speculation, AllocError>
-    ensures speculated { IfOk result (λ s. s ≡ speculated_at pipeline.now) }
+// Nothing but what is in flight in hardware.
+fn begin(alloc: Global, hardware: &ShownHardware<'_>) -> Result<Speculation, AllocError>
+    ensures speculated { IfOk result (λ s. s ≡ speculated_at hardware.now) }
     ensures few { IfOk result (λ s. s.fetched ≤ 288) }
 {
     // Of hardware that a reset and cycles lead to, the buffers are as long as described.
-    let _ = pipeline.cycles_done();
-    Speculation::begin(alloc, pipeline.reorder_buffer(), pipeline.front())
+    let _ = hardware.cycles_done();
+    Speculation::begin(alloc, hardware.reorder_buffer(), hardware.front())
 }
 
 // What a run lost that left so many instructions in flight.
@@ -165,18 +166,18 @@ pub fn run_totals(
 {
     // Of hardware that a reset and cycles lead to, what it does is known.
     let _ = pipeline.cycles_done();
-    let _ = in_buffer(&pipeline);
     let mut pipeline = pipeline;
-    let speculation = begin(alloc, &pipeline)?;
+    let hardware = pipeline.shown();
+    let _ = in_buffer(&hardware);
+    let speculation = begin(alloc, &hardware)?;
     let steps = Vec::with_capacity(alloc, 8)?;
     let mut tally = Tally {
         counts: StepCounts::default(),
-        events: EventCounter::begin(&pipeline),
-        places: no_places(&options.shown, &pipeline),
+        events: EventCounter::begin(&hardware),
+        places: no_places(&options.shown, &hardware),
         speculation,
     };
-    let ended = watch(
-        &mut pipeline,
+    let ended = pipeline.watch(
         predictor,
         arrivals,
         options.limit,
@@ -186,12 +187,13 @@ pub fn run_totals(
     );
     // It counts so many cycles at most, and so the counts can go on.
     let _ = pipeline.is_exhausted();
+    let left = pipeline.shown();
     match ended.stop {
         Ok(stop) => Ok(ComparedRun {
             totals: Totals::new(&ended.progress, tally.counts, stop),
-            losses: losses(&tally, count_in_flight(&pipeline)),
+            losses: losses(&tally, count_in_flight(&left)),
             events: tally.events.counts,
-            words: words(&pipeline, &options.shown),
+            words: words(&left, &options.shown),
             places: tally.places,
         }),
     }

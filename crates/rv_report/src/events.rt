@@ -4,11 +4,11 @@ ghost use Rattle.rv_hardware.specs.Draining.{drain_end};
 ghost use Rattle.rv_isa.specs.Instruction.{is_branch_or_jump, is_load};
 ghost use Rattle.rv_report.specs.Events.{AreAtMost, begun, both_events, counted_after, events_of_drain, events_of_steps, events_so_far, happens, is_missed, is_of, is_written_back, no_events};
 
-use rv_core::Pipeline;
 use rv_counts::LoadCosts;
 use rv_decode::decode;
 use rv_hardware::{Execution, Row, Step};
 use rv_isa::Instr;
+use rv_watch::ShownHardware;
 
 /// What a run of the core did, as a table counts it beside its cycles. An access to the data cache is told from others by its cost.
 #[derive(Clone, Copy, PartialEq, Eq)]
@@ -87,18 +87,18 @@ fn is_branch_or_jump(word: u32) -> bool
 }
 
 impl EventCounter {
-    /// Nothing yet, with what is under way in a pipeline.
-    pub(crate) fn begin(pipeline: &Pipeline) -> EventCounter
-        ensures { result ≡ events_so_far pipeline.now.values (drain_end pipeline.now) no_events }
+    /// Nothing yet, with what is under way in hardware.
+    pub(crate) fn begin(hardware: &ShownHardware<'_>) -> EventCounter
+        ensures { result ≡ events_so_far hardware.now.values (drain_end hardware.now) no_events }
     {
-        let values = pipeline.values();
+        let values = hardware.values();
         EventCounter {
             costs: LoadCosts {
                 hit: values.cache.hit,
                 forward: values.forward,
                 clean_miss: u64::from(values.cache.hit) + u64::from(values.cache.miss),
             },
-            drain_end: pipeline.drain_end(),
+            drain_end: hardware.drain_end(),
             counts: Events::NONE,
         }
     }

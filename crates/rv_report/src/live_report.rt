@@ -7,11 +7,12 @@ use crate::options::Options;
 use crate::run_report::{say_totals, say_trace};
 use crate::totals::{StepCounts, Totals};
 use rv_arch::Stop;
-use rv_core::{Pipeline, Progress, Watcher, watch};
+use rv_core::Pipeline;
 use rv_front::Predictor;
 use rv_hardware::Step;
 use rv_isa::Arrivals;
 use rv_text::{ReportError, Sink};
+use rv_watch::{Progress, ShownHardware, Simulated, Watcher};
 use std::convert::Infallible;
 use std::io::Write;
 
@@ -41,7 +42,7 @@ impl Watcher for Trace {
         &mut self,
         _: u64,
         steps: &[Step],
-        _: &Pipeline,
+        _: &ShownHardware<'_>,
         _: &Progress,
         output: &mut W,
     ) {
@@ -83,7 +84,7 @@ pub fn write_run<W: Write>(
 {
     let run = run_traced(pipeline, predictor, arrivals, options, steps, writer);
     let mut out = Sink::after(writer, run.has_failed);
-    say_totals(&run.totals, &run.pipeline, options, &mut out);
+    say_totals(&run.totals, &run.pipeline.shown(), options, &mut out);
     if out.has_failed() {
         Err(ReportError::WriteFailed)
     } else {
@@ -111,8 +112,7 @@ fn run_traced<W: Write>(
         counts: StepCounts::default(),
         has_failed: false,
     };
-    let ended = watch(
-        &mut pipeline,
+    let ended = pipeline.watch(
         predictor,
         arrivals,
         options.limit,

@@ -3,8 +3,8 @@ ghost use Rattle.rv_hardware.specs.Seen.{layout_of, seen};
 ghost use Rattle.rv_report.specs.Memory.{memory_line, memory_text, word_of, word_seen, seen_memory_lines};
 ghost use Rattle.rv_text.specs.Said.{Says};
 
-use rv_core::Pipeline;
 use rv_text::{Sink, hexadecimal};
+use rv_watch::ShownHardware;
 use std::io::Write;
 
 /// The text of a word of memory, or of `None` outside RAM.
@@ -47,28 +47,28 @@ pub(crate) fn word_of(
 
 /// The word of memory that programs see at an address, or `None` outside RAM.
 #[tactic(auto, unfolding(crate::specs::Memory::word_seen))]
-pub(crate) fn word_at(pipeline: &Pipeline, address: u32) -> Option<u32>
-    ensures { result ≡ word_seen (layout_of pipeline.now.values) (seen pipeline.now).ram address }
+pub(crate) fn word_at(hardware: &ShownHardware<'_>, address: u32) -> Option<u32>
+    ensures { result ≡ word_seen (layout_of hardware.now.values) (seen hardware.now).ram address }
 {
     word_of(
-        pipeline.byte(address),
-        pipeline.byte(address.wrapping_add(1)),
-        pipeline.byte(address.wrapping_add(2)),
-        pipeline.byte(address.wrapping_add(3)),
+        hardware.byte(address),
+        hardware.byte(address.wrapping_add(1)),
+        hardware.byte(address.wrapping_add(2)),
+        hardware.byte(address.wrapping_add(3)),
     )
 }
 
 /// Writes so many words of the core's memory from an address on.
 pub(crate) fn write_memory<W: Write>(
     out: &mut Sink<'_, W>,
-    pipeline: &Pipeline,
+    hardware: &ShownHardware<'_>,
     address: u32,
     words: u32,
 )
-    ensures { Says W.contents out.old out.new (seen_memory_lines (layout_of pipeline.now.values) (seen pipeline.now).ram address words) }
+    ensures { Says W.contents out.old out.new (seen_memory_lines (layout_of hardware.now.values) (seen hardware.now).ram address words) }
 {
     for number in 0..words {
         let place = address.wrapping_add(number.wrapping_mul(4));
-        write_word(out, place, word_at(pipeline, place));
+        write_word(out, place, word_at(hardware, place));
     }
 }

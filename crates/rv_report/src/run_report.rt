@@ -10,9 +10,10 @@ use crate::rows::write_steps;
 use crate::state::{write_state, write_stop};
 use crate::totals::Totals;
 use itoa::Buffer;
-use rv_core::{Outcome, Pipeline};
+use rv_core::Outcome;
 use rv_hardware::{Stall, StallCounts, Step};
 use rv_text::{Field, ReportError, Sink, Value};
+use rv_watch::ShownHardware;
 use std::io::Write;
 
 // The cycles of a run, and its steps by their sort.
@@ -84,26 +85,26 @@ fn write_counts<W: Write>(out: &mut Sink<'_, W>, totals: &Totals)
 }
 
 // Why a run ended, its counts, and the state that it left, but for memory.
-fn write_end<W: Write>(out: &mut Sink<'_, W>, totals: &Totals, pipeline: &Pipeline)
-    ensures { Says W.contents out.old out.new (end_lines totals.now (seen pipeline.now) pipeline.now.lines) }
+fn write_end<W: Write>(out: &mut Sink<'_, W>, totals: &Totals, hardware: &ShownHardware<'_>)
+    ensures { Says W.contents out.old out.new (end_lines totals.now (seen hardware.now) hardware.now.lines) }
 {
     write_stop(out, totals.stop);
     write_counts(out, totals);
-    write_state(out, &pipeline.observe());
+    write_state(out, &hardware.observe());
 }
 
 // What the report of a run shows after the trace.
 #[tactic(auto, using(rv_text::proofs::Saying::says_both), unfolding(crate::specs::RunReport::end_text))]
 pub(crate) fn say_totals<W: Write>(
     totals: &Totals,
-    pipeline: &Pipeline,
+    hardware: &ShownHardware<'_>,
     options: &Options,
     out: &mut Sink<'_, W>,
 )
-    ensures { Says W.contents out.old out.new (end_of totals.now pipeline.now options.now) }
+    ensures { Says W.contents out.old out.new (end_of totals.now hardware.now options.now) }
 {
-    write_end(out, totals, pipeline);
-    write_memory(out, pipeline, options.dump_address, options.dump_words);
+    write_end(out, totals, hardware);
+    write_memory(out, hardware, options.dump_address, options.dump_words);
 }
 
 /// Writes what the report of a run shows after the trace: why it ended, its counts, the pc, the registers and the control
@@ -112,14 +113,14 @@ pub(crate) fn say_totals<W: Write>(
 #[tactic(auto, using(rv_text::proofs::Saying::says_written))]
 pub fn write_totals<W: Write>(
     totals: &Totals,
-    pipeline: &Pipeline,
+    hardware: &ShownHardware<'_>,
     options: &Options,
     writer: &mut W,
 ) -> Result<(), ReportError>
-    ensures { IsWritten result (W.contents writer.old) (W.contents writer.new) (end_of totals.now pipeline.now options.now) }
+    ensures { IsWritten result (W.contents writer.old) (W.contents writer.new) (end_of totals.now hardware.now options.now) }
 {
     let mut out = Sink::new(writer);
-    say_totals(totals, pipeline, options, &mut out);
+    say_totals(totals, hardware, options, &mut out);
     out.outcome()
 }
 
@@ -146,14 +147,14 @@ pub fn write_trace<W: Write>(writer: &mut W, trace: bool, steps: &[Step]) -> Res
 // The report of a run of the core.
 fn say_report<W: Write>(
     outcome: &Outcome,
-    pipeline: &Pipeline,
+    hardware: &ShownHardware<'_>,
     options: &Options,
     out: &mut Sink<'_, W>,
 )
-    ensures { Says W.contents out.old out.new (report_of outcome.now pipeline.now options.now) }
+    ensures { Says W.contents out.old out.new (report_of outcome.now hardware.now options.now) }
 {
     say_trace(out, options.trace, outcome.steps.as_slice());
-    say_totals(&Totals::of(outcome), pipeline, options, out);
+    say_totals(&Totals::of(outcome), hardware, options, out);
 }
 
 /// Writes the report of a run of the core: a line for each step where the options ask for a trace, then why the run ended,
@@ -162,13 +163,13 @@ fn say_report<W: Write>(
 #[tactic(auto, using(rv_text::proofs::Saying::says_written))]
 pub fn write_report<W: Write>(
     outcome: &Outcome,
-    pipeline: &Pipeline,
+    hardware: &ShownHardware<'_>,
     options: &Options,
     writer: &mut W,
 ) -> Result<(), ReportError>
-    ensures { IsWritten result (W.contents writer.old) (W.contents writer.new) (report_of outcome.now pipeline.now options.now) }
+    ensures { IsWritten result (W.contents writer.old) (W.contents writer.new) (report_of outcome.now hardware.now options.now) }
 {
     let mut out = Sink::new(writer);
-    say_report(outcome, pipeline, options, &mut out);
+    say_report(outcome, hardware, options, &mut out);
     out.outcome()
 }

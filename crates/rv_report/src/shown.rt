@@ -8,11 +8,11 @@ ghost use Rattle.rv_text.specs.Line.{word_text};
 ghost use Rattle.rv_text.specs.Said.{Says};
 
 use crate::memory::{memory_text, word_at};
-use rv_core::Pipeline;
 use rv_counts::RunPlaces;
 use rv_isa::Reg;
 use rv_passage::register_name;
 use rv_text::Sink;
+use rv_watch::ShownHardware;
 use std::io::Write;
 
 /// What a table shows of a run besides its counts.
@@ -44,12 +44,12 @@ pub struct TableOptions {
 }
 
 // The word that is shown, or none where no word is or where it lies outside RAM.
-fn word(pipeline: &Pipeline, shown: Option<Shown>) -> Option<u32>
-    ensures { result ≡ word_of shown pipeline.now }
+fn word(hardware: &ShownHardware<'_>, shown: Option<Shown>) -> Option<u32>
+    ensures { result ≡ word_of shown hardware.now }
 {
     match shown? {
-        Shown::Register(register) => Some(pipeline.observe().regs[register.index()]),
-        Shown::Word(address) => word_at(pipeline, address),
+        Shown::Register(register) => Some(hardware.observe().regs[register.index()]),
+        Shown::Word(address) => word_at(hardware, address),
         Shown::Places => None,
     }
 }
@@ -71,14 +71,17 @@ pub(crate) fn shows_places(shown: &Columns<Option<Shown>>) -> bool
 }
 
 /// The words that are shown.
-pub(crate) fn words(pipeline: &Pipeline, shown: &Columns<Option<Shown>>) -> Columns<Option<u32>>
-    ensures { result ≡ words_of shown.now pipeline.now }
+pub(crate) fn words(
+    hardware: &ShownHardware<'_>,
+    shown: &Columns<Option<Shown>>,
+) -> Columns<Option<u32>>
+    ensures { result ≡ words_of shown.now hardware.now }
 {
     Columns {
-        first: word(pipeline, shown.first),
-        second: word(pipeline, shown.second),
-        third: word(pipeline, shown.third),
-        fourth: word(pipeline, shown.fourth),
+        first: word(hardware, shown.first),
+        second: word(hardware, shown.second),
+        third: word(hardware, shown.third),
+        fourth: word(hardware, shown.fourth),
     }
 }
 

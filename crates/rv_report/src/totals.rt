@@ -3,8 +3,9 @@ ghost use Rattle.rv_hardware.specs.Step.{is_interrupt, is_retirement, is_trap};
 ghost use Rattle.rv_report.specs.Totals.{HasRoom, both_counts, counts_of, totals_of, totals_with};
 
 use rv_arch::Stop;
-use rv_core::{Outcome, Progress};
+use rv_core::Outcome;
 use rv_hardware::{StallCounts, Step};
+use rv_watch::Progress;
 
 /// How many steps there were of each sort.
 #[derive(Clone, Copy, Default)]

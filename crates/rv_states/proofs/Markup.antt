@@ -7,9 +7,9 @@ use Rattle.std.specs.List.{flat_map, list_any}
 use Rattle.rv_isa.specs.declared.instructions.Instr.{Instr}
 use Rattle.rv_arch.specs.declared.outcome.Stop.{Stop}
 use Rattle.rv_cache.specs.declared.line.CacheLine.{CacheLine}
-use Rattle.rv_core.specs.Ties.{RegisterStatus, status_with}
-use Rattle.rv_core.specs.Progress.{progress_of}
-use Rattle.rv_core.specs.declared.outcome.Progress.{Progress}
+use Rattle.rv_watch.specs.Registers.{RegisterStatus, status_with}
+use Rattle.rv_watch.specs.Progress.{progress_of}
+use Rattle.rv_watch.specs.declared.progress.Progress.{Progress}
 use Rattle.rv_memory.specs.Memory.{word_of}
 use Rattle.rv_front.specs.Flow.{flow_at}
 use Rattle.rv_front.specs.Predictors.{answer, tables_of}

@@ -2,7 +2,7 @@
 use Rattle.std.proofs.Common.{◌≡◌, ℕ, zero, suc, ◌+◌, ◌<◌, if◌then◌else◌, List, [], ◌∷◌, ◌++◌, length, take, get_or, slice_get, Some, refl, sym, ap, ◌∙◌, arith}
 use Rattle.std.proofs.lemmas.List.{length-take-le, take_more}
 use Rattle.std.proofs.lemmas.Option.{get_or_from_slice_get, slice_get_within}
-use Rattle.rv_core.specs.Ties.{RegisterStatus, operand_by, status_after, status_with}
+use Rattle.rv_watch.specs.Registers.{RegisterStatus, operand_by, status_after, status_with}
 use Rattle.rv_hardware.specs.InFlight.{broadcast_of, writes}
 use Rattle.rv_rob.specs.ReorderBuffer.{ReorderBuffer}
 use Rattle.rv_stations.specs.declared.waiting.Operand.{Operand}

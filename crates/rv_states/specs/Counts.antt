@@ -1,7 +1,7 @@
 -- The counts of a run so far, as JSON.
 use Rattle.std.specs.Prelude.{List, [], ◌++◌, codes, ℕ, Option, Some, None}
 use Rattle.std.specs.List.{flat_map}
-use Rattle.rv_core.specs.declared.outcome.Progress.{Progress}
+use Rattle.rv_watch.specs.declared.progress.Progress.{Progress}
 use Rattle.rv_hardware.specs.Report.{all_stalls, count_of, stall_name}
 use Rattle.rv_hardware.specs.declared.report.{Stall.Stall, StallCounts.StallCounts}
 use Rattle.rv_json.specs.Json.{Json, also, begins, numeral, quoted}

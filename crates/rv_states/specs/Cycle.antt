@@ -1,7 +1,7 @@
 -- The lines of the hardware before the first cycle, and of a cycle.
 use Rattle.std.specs.Prelude.{ℕ, if◌then◌else◌, List, [], ◌∷◌, ◌++◌, codes, map}
 use Rattle.std.specs.List.{flat_map}
-use Rattle.rv_core.specs.declared.outcome.Progress.{Progress}
+use Rattle.rv_watch.specs.declared.progress.Progress.{Progress}
 use Rattle.rv_front.specs.declared.predictors.DescribedPredictor.{DescribedPredictor}
 use Rattle.rv_hardware.specs.Hardware.{Hardware}
 use Rattle.rv_hardware.specs.declared.step.Step.{Step}

@@ -1,6 +1,6 @@
 -- The instructions in the reorder buffer, as JSON.
 use Rattle.std.specs.Prelude.{ℕ, ◌+◌, List, [], ◌∷◌, ◌++◌, codes}
-use Rattle.rv_core.specs.Ties.{RegisterStatus, status_with, values_in}
+use Rattle.rv_watch.specs.Registers.{RegisterStatus, status_with, values_in}
 use Rattle.rv_json.specs.Entry.{entry_text}
 use Rattle.rv_json.specs.Json.{Json}
 use Rattle.rv_rob.specs.ReorderBuffer.{ReorderBuffer}

@@ -2,7 +2,7 @@
 use Rattle.std.specs.Prelude.{ℕ, List, [], ◌++◌, codes, slice_index_or, take, Option, Some, None}
 use Rattle.rv_isa.specs.Operands.{sources_of}
 use Rattle.rv_isa.specs.declared.instructions.Instr.{Instr}
-use Rattle.rv_core.specs.Ties.{RegisterStatus, status_after, values_in}
+use Rattle.rv_watch.specs.Registers.{RegisterStatus, status_after, values_in}
 use Rattle.rv_rob.specs.ReorderBuffer.{ReorderBuffer}
 use Rattle.rv_rob.specs.declared.entry.{Stage.Stage}
 use Rattle.rv_rob.specs.declared.entry.Stage.TheVariants.{Waiting, Running, Finished}

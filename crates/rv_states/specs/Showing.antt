@@ -1,7 +1,7 @@
 -- What is kept while the states of a run are written.
 use Rattle.std.specs.Prelude.{◌≡◌, ℕ, ◌+◌, ◌*◌, ◌≤◌, List, Bool, Option, length}
 use Rattle.std.specs.List.{fold}
-use Rattle.rv_core.specs.Watching.{Watched}
+use Rattle.rv_watch.specs.Watching.{Watched}
 use Rattle.rv_front.specs.declared.predictors.DescribedPredictor.{DescribedPredictor}
 use Rattle.rv_passage.specs.Followed.{IsRoomy}
 use Rattle.rv_passage.specs.Numbers.{numbers_of, plainly}

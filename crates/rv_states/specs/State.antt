@@ -1,6 +1,6 @@
 -- The hardware as JSON.
 use Rattle.std.specs.Prelude.{ℕ, List, ◌++◌, codes, map}
-use Rattle.rv_core.specs.Ties.{queue_of}
+use Rattle.rv_watch.specs.Queue.{queue_of}
 use Rattle.rv_hardware.specs.Hardware.{Hardware}
 use Rattle.rv_json.specs.Fetched.{fetched_json, next_fetch_text}
 use Rattle.rv_json.specs.Json.{Json, also, array, numeral}

@@ -2,8 +2,8 @@
 use Rattle.std.specs.Prelude.{◌≡◌, ℕ, ◌+◌, ◌^◌, ◌≤◌, ◌==◌, Bool, if◌then◌else◌, nat_lt, List, [], ◌∷◌, ◌++◌, length, Option}
 use Rattle.rv_isa.specs.declared.{lines.Arrival.Arrival, values.Values.Values}
 use Rattle.rv_arch.specs.declared.outcome.Stop.{Stop}
-use Rattle.rv_core.specs.Progress.{progress_of}
-use Rattle.rv_core.specs.declared.outcome.Progress.{Progress}
+use Rattle.rv_watch.specs.Progress.{progress_of}
+use Rattle.rv_watch.specs.declared.progress.Progress.{Progress}
 use Rattle.rv_front.specs.Predictors.{guide_of}
 use Rattle.rv_front.specs.declared.predictors.DescribedPredictor.{DescribedPredictor}
 use Rattle.rv_hardware.specs.Guided.{GuidedHardware, guided}

@@ -3,10 +3,10 @@ ghost use Rattle.rv_hardware.specs.Report.{all_stalls};
 ghost use Rattle.rv_states.specs.Counts.{counts_text, stall_count, stall_text};
 ghost use Rattle.rv_text.specs.Said.{Says};
 
-use rv_core::Progress;
 use rv_hardware::{Stall, StallCounts};
 use rv_json::{write_begin, write_key, write_name, write_number};
 use rv_text::Sink;
+use rv_watch::Progress;
 use std::io::Write;
 
 #[tactic(auto, unfolding(crate::specs::Counts::stall_text))]

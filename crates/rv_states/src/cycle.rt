@@ -5,21 +5,21 @@ use crate::counts::write_counts;
 use crate::in_flight::write_instructions_in_flight;
 use crate::predictor::write_predictor;
 use crate::state::write_state;
-use rv_core::{Pipeline, Progress};
 use rv_front::DescribedPredictor;
 use rv_hardware::Step;
 use rv_json::{Instructions, Steps, write_array_member, write_begin};
 use rv_passage::Passage;
 use rv_text::Sink;
+use rv_watch::{Progress, ShownHardware};
 use std::io::Write;
 
 // The counts so far, and the hardware.
 #[tactic(auto, using(rv_text::proofs::Saying::says_both), unfolding(crate::specs::Cycle::rest_text))]
-fn write_rest<W: Write>(out: &mut Sink<'_, W>, pipeline: &Pipeline, progress: &Progress)
-    ensures { Says W.contents out.old out.new (rest_text pipeline.now progress.now) }
+fn write_rest<W: Write>(out: &mut Sink<'_, W>, hardware: &ShownHardware<'_>, progress: &Progress)
+    ensures { Says W.contents out.old out.new (rest_text hardware.now progress.now) }
 {
     write_counts(out, progress);
-    write_state(out, pipeline)
+    write_state(out, hardware)
 }
 
 /// Writes the line of the hardware before the window's first cycle: the number of the cycle, those of the instructions that are in
@@ -28,14 +28,14 @@ fn write_rest<W: Write>(out: &mut Sink<'_, W>, pipeline: &Pipeline, progress: &P
 pub fn write_start<W: Write>(
     out: &mut Sink<'_, W>,
     rows: &[Passage],
-    pipeline: &Pipeline,
+    hardware: &ShownHardware<'_>,
     progress: &Progress,
 )
-    ensures { Says W.contents out.old out.new (start_line rows.now pipeline.now progress.now) }
+    ensures { Says W.contents out.old out.new (start_line rows.now hardware.now progress.now) }
 {
-    write_begin(out, "start", pipeline.cycles_done());
+    write_begin(out, "start", hardware.cycles_done());
     write_instructions_in_flight(out, rows);
-    write_rest(out, pipeline, progress);
+    write_rest(out, hardware, progress);
     out.put(b"}\n")
 }
 
@@ -48,16 +48,16 @@ pub fn write_cycle<W: Write>(
     cycle: u64,
     rows: &[Passage],
     steps: &[Step],
-    pipeline: &Pipeline,
+    hardware: &ShownHardware<'_>,
     progress: &Progress,
     predictor: &DescribedPredictor,
 )
-    ensures { Says W.contents out.old out.new (cycle_line cycle rows.now steps.now pipeline.now progress.now predictor.now) }
+    ensures { Says W.contents out.old out.new (cycle_line cycle rows.now steps.now hardware.now progress.now predictor.now) }
 {
     write_begin(out, "cycle", cycle);
     write_array_member(out, "instructions", &Instructions { rows });
     write_array_member(out, "steps", &Steps { steps });
-    write_rest(out, pipeline, progress);
-    write_predictor(out, predictor, cycle, steps, pipeline);
+    write_rest(out, hardware, progress);
+    write_predictor(out, predictor, cycle, steps, hardware);
     out.put(b"}\n")
 }

@@ -11,7 +11,6 @@ use crate::page::{write_after, write_before};
 use crate::predictor::write_predictor_lines;
 use crate::sets::write_sets;
 use rv_arch::Stop;
-use rv_core::{Pipeline, Progress};
 use rv_front::DescribedPredictor;
 use rv_hardware::Step;
 use rv_isa::Values;
@@ -19,6 +18,7 @@ use rv_json::{write_header, write_listing, write_stop};
 use rv_passage::Passage;
 use rv_source::Listing;
 use rv_text::Sink;
+use rv_watch::{Progress, ShownHardware};
 use std::io::Write;
 
 // It stands apart, since its caller mostly writes nothing.
@@ -27,16 +27,16 @@ use std::io::Write;
 fn write_window<W: Write>(
     out: &mut Sink<'_, W>,
     rows: &[Passage],
-    pipeline: &Pipeline,
+    hardware: &ShownHardware<'_>,
     progress: &Progress,
     predictor: &DescribedPredictor,
 )
-    ensures { Says W.contents out.old out.new (window_text rows.now pipeline.now progress.now predictor.now) }
+    ensures { Says W.contents out.old out.new (window_text rows.now hardware.now progress.now predictor.now) }
 {
-    write_memory(out, pipeline);
-    write_sets(out, pipeline);
+    write_memory(out, hardware);
+    write_sets(out, hardware);
     write_predictor_lines(out, predictor);
-    write_start(out, rows, pipeline, progress)
+    write_start(out, rows, hardware, progress)
 }
 
 /// Writes the lines before the window, with those of the instructions that are in flight, after the last of the cycles before it;
@@ -45,14 +45,14 @@ pub(crate) fn write_begun<W: Write>(
     out: &mut Sink<'_, W>,
     from: u64,
     rows: &[Passage],
-    pipeline: &Pipeline,
+    hardware: &ShownHardware<'_>,
     progress: &Progress,
     predictor: &DescribedPredictor,
 )
-    ensures { Says W.contents out.old out.new (begun_text from rows.now pipeline.now progress.now predictor.now) }
+    ensures { Says W.contents out.old out.new (begun_text from rows.now hardware.now progress.now predictor.now) }
 {
     if progress.cycles == from {
-        write_window(out, rows, pipeline, progress, predictor)
+        write_window(out, rows, hardware, progress, predictor)
     }
 }
 
@@ -63,14 +63,14 @@ pub(crate) fn write_shown<W: Write>(
     cycle: u64,
     rows: &[Passage],
     steps: &[Step],
-    pipeline: &Pipeline,
+    hardware: &ShownHardware<'_>,
     progress: &Progress,
     predictor: &DescribedPredictor,
 )
-    ensures { Says W.contents out.old out.new (shown_text from cycle rows.now steps.now pipeline.now progress.now predictor.now) }
+    ensures { Says W.contents out.old out.new (shown_text from cycle rows.now steps.now hardware.now progress.now predictor.now) }
 {
     if from < progress.cycles {
-        write_cycle(out, cycle, rows, steps, pipeline, progress, predictor)
+        write_cycle(out, cycle, rows, steps, hardware, progress, predictor)
     }
 }
 
@@ -91,14 +91,14 @@ pub(crate) fn write_head<W: Write>(
     from: u64,
     listing: &Listing,
     rows: &[Passage],
-    pipeline: &Pipeline,
+    hardware: &ShownHardware<'_>,
     predictor: &DescribedPredictor,
 )
-    ensures { Says W.contents out.old out.new (before_lines form ++ head_text from listing.now rows.now pipeline.now predictor.now) }
+    ensures { Says W.contents out.old out.new (before_lines form ++ head_text from listing.now rows.now hardware.now predictor.now) }
 {
     write_before(out, form);
-    write_opening(out, from, listing, pipeline.values());
-    write_begun(out, from, rows, pipeline, &Progress::new(), predictor)
+    write_opening(out, from, listing, hardware.values());
+    write_begun(out, from, rows, hardware, &Progress::new(), predictor)
 }
 
 /// Writes the last line, and what stands after the lines.

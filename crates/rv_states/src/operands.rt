@@ -1,5 +1,5 @@
 ghost use Rattle.std.specs.Prelude.{◌≡◌, ◌+◌, ◌<◌, ◌≤◌, if◌then◌else◌, length, option_copied, slice_get, Some};
-ghost use Rattle.rv_core.specs.Ties.{operand_by};
+ghost use Rattle.rv_watch.specs.Registers.{operand_by};
 ghost use Rattle.rv_hardware.specs.InFlight.{broadcast_of, writes};
 ghost use Rattle.rv_states.specs.Operands.{both_text, operand_text, operands_of, operands_text, status_at};
 ghost use Rattle.rv_text.specs.Said.{Says};

@@ -5,11 +5,11 @@ ghost use Rattle.rv_json.specs.Json.{values_from};
 ghost use Rattle.rv_states.specs.Predictor.{after_lessons, asked_in, asked_text, learned_text, place_at, place_in, place_line, place_lines, place_taught, predictor_lines, predictor_text, uses_tables};
 ghost use Rattle.rv_text.specs.Said.{Says};
 
-use rv_core::Pipeline;
 use rv_front::{Bimodal, DescribedPredictor, Fetched, Flow, Front, Predictor};
 use rv_hardware::{Step, first_pc};
 use rv_json::{write_asked, write_comma, write_key, write_place};
 use rv_text::Sink;
+use rv_watch::ShownHardware;
 use std::io::Write;
 
 // Teaches a predictor what a step teaches, after which the program goes on at `next`.
@@ -224,10 +224,10 @@ pub(crate) fn write_predictor<W: Write>(
     predictor: &DescribedPredictor,
     cycle: u64,
     steps: &[Step],
-    pipeline: &Pipeline,
+    hardware: &ShownHardware<'_>,
 )
-    ensures { Says W.contents out.old out.new (predictor_text predictor.now cycle steps.now pipeline.now.front.entries) }
+    ensures { Says W.contents out.old out.new (predictor_text predictor.now cycle steps.now hardware.now.front.entries) }
 {
     write_learned(out, predictor, steps);
-    write_asked_words(out, predictor, cycle, pipeline.front())
+    write_asked_words(out, predictor, cycle, hardware.front())
 }

@@ -11,7 +11,6 @@ use crate::form::Form;
 use crate::moment::{write_begun, write_end, write_head, write_shown};
 use crate::predictor::teach;
 use rv_arch::Stop;
-use rv_core::{Pipeline, Progress, Watcher, watch};
 use rv_front::{DescribedPredictor, Predictor};
 use rv_hardware::Step;
 use rv_isa::Arrivals;
@@ -19,6 +18,7 @@ use rv_passage::{Passage, Table};
 use rv_source::Listing;
 use rv_text::Sink;
 use rv_view::{follow, follow_numbers};
+use rv_watch::{Progress, ShownHardware, Simulated, Watcher};
 use std::convert::Infallible;
 use std::io::Write;
 
@@ -57,17 +57,17 @@ impl Watcher for Shower {
         &mut self,
         cycle: u64,
         steps: &[Step],
-        pipeline: &Pipeline,
+        hardware: &ShownHardware<'_>,
         progress: &Progress,
         output: &mut W,
     ) {
-        let next = pipeline.observe().pc;
+        let next = hardware.observe().pc;
         teach(&mut self.predictor, steps, next);
         if progress.cycles < self.from {
-            follow_numbers(&mut self.table, cycle, steps, pipeline);
+            follow_numbers(&mut self.table, cycle, steps, hardware);
             return;
         }
-        follow(&mut self.table, cycle, steps, pipeline);
+        follow(&mut self.table, cycle, steps, hardware);
         let shown = self.table.rows();
         let mut out = Sink::after(output, self.has_failed);
         let from = self.from;
@@ -77,30 +77,38 @@ impl Watcher for Shower {
             cycle,
             shown,
             steps,
-            pipeline,
+            hardware,
             progress,
             &self.predictor,
         );
-        write_begun(&mut out, from, shown, pipeline, progress, &self.predictor);
+        write_begun(&mut out, from, shown, hardware, progress, &self.predictor);
         self.has_failed = out.has_failed();
         self.table.drop_ended();
     }
 }
 
 // Writes what is shown before the first cycle. Answers whether a write failed.
-fn begin<W: Write>(
+fn begin<S: Simulated, W: Write>(
     writer: &mut W,
     form: Form,
     from: u64,
     listing: &Listing,
     rows: &[Passage],
-    pipeline: &Pipeline,
+    pipeline: &S,
     predictor: &DescribedPredictor,
 ) -> bool
-    ensures { Extends false result (W.contents writer.old) (W.contents writer.new) (before_lines form ++ head_text from listing.now rows.now pipeline.now predictor.now) }
+    ensures { Extends false result (W.contents writer.old) (W.contents writer.new) (before_lines form ++ head_text from listing.now rows.now (S.hardware pipeline.now) predictor.now) }
 {
     let mut out = Sink::new(writer);
-    write_head(&mut out, form, from, listing, rows, pipeline, predictor);
+    write_head(
+        &mut out,
+        form,
+        from,
+        listing,
+        rows,
+        &pipeline.shown(),
+        predictor,
+    );
     out.has_failed()
 }
 
@@ -115,8 +123,8 @@ fn end<W: Write>(writer: &mut W, has_failed: bool, form: Form, cycles: u64, stop
 
 /// Runs a pipeline that a predictor guides up to so many cycles, and writes the states after the first `from` of them as far as no
 /// write fails. `untaught` is its predictor before any lesson. Asks for no memory.
-pub(crate) fn run_shown<W: Write>(
-    pipeline: &mut Pipeline,
+pub(crate) fn run_shown<S: Simulated, W: Write>(
+    pipeline: &mut S,
     predictor: &mut dyn Predictor,
     arrivals: &Arrivals,
     from: u64,
@@ -128,10 +136,13 @@ pub(crate) fn run_shown<W: Write>(
     untaught: DescribedPredictor,
     writer: &mut W,
 ) -> Shown
-    requires begins { BeginsAt pipeline.old table }
+    requires begins { BeginsAt (S.hardware pipeline.old) table }
     requires room { 8 ≤ vec_capacity steps }
-    requires untaught { untaught ≡ untaught_predictor pipeline.old.values }
-    ensures { WritesStates arrivals.now from limit form listing.now (guided pipeline.old (known predictor.old)) (guided pipeline.new (known predictor.new)) result.stop result.has_failed (W.contents writer.old) (W.contents writer.new) }
+    requires untaught { untaught ≡ untaught_predictor (S.hardware pipeline.old).values }
+    ensures { WritesStates arrivals.now from limit form listing.now
+        (guided (S.hardware pipeline.old) (known predictor.old))
+        (guided (S.hardware pipeline.new) (known predictor.new))
+        result.stop result.has_failed (W.contents writer.old) (W.contents writer.new) }
 {
     let has_failed = begin(
         writer,
@@ -148,15 +159,7 @@ pub(crate) fn run_shown<W: Write>(
         table,
         has_failed,
     };
-    let ended = watch(
-        pipeline,
-        predictor,
-        arrivals,
-        limit,
-        steps,
-        &mut shower,
-        writer,
-    );
+    let ended = pipeline.watch(predictor, arrivals, limit, steps, &mut shower, writer);
     match ended.stop {
         Ok(stop) => Shown {
             stop,

@@ -6,12 +6,12 @@ ghost use Rattle.rv_text.specs.IsText.{IsText};
 use crate::form::Form;
 use crate::running::run_shown;
 use rv_arch::Stop;
-use rv_core::Pipeline;
 use rv_front::{DescribedPredictor, Predictor};
 use rv_isa::Arrivals;
 use rv_source::Listing;
 use rv_text::TextError;
 use rv_view::begin_table;
+use rv_watch::Simulated;
 use std::alloc::Global;
 use std::io::Write;
 
@@ -25,9 +25,9 @@ use std::io::Write;
 ///
 /// `Memory` when out of memory: then nothing was run and nothing was written. `WriteFailed` where a write fails: then what was
 /// written is a beginning of the text, and the run is done to its end.
-pub fn write_states<W: Write>(
+pub fn write_states<S: Simulated, W: Write>(
     alloc: Global,
-    pipeline: &mut Pipeline,
+    pipeline: &mut S,
     predictor: &mut dyn Predictor,
     arrivals: &Arrivals,
     from: u64,
@@ -36,10 +36,14 @@ pub fn write_states<W: Write>(
     listing: &Listing,
     writer: &mut W,
 ) -> Result<Stop, TextError>
-    ensures written { IsText (IsStates arrivals.now from limit form listing.now (guided pipeline.old (known predictor.old)) (guided pipeline.new (known predictor.new))) result (W.contents writer.old) (W.contents writer.new) }
+    ensures written { IsText (IsStates arrivals.now from limit form listing.now
+        (guided (S.hardware pipeline.old) (known predictor.old))
+        (guided (S.hardware pipeline.new) (known predictor.new)))
+        result (W.contents writer.old) (W.contents writer.new) }
     // With a described predictor the states are a function of what they are the states of.
     ensures one_text { HasOneText arrivals.now from limit form listing.now }
-    ensures not_run { result ≡ Err TextError.Memory → (pipeline.new ≡ pipeline.old) × (known predictor.new ≡ known predictor.old) }
+    ensures not_run { result ≡ Err TextError.Memory →
+        (S.hardware pipeline.new ≡ S.hardware pipeline.old) × (known predictor.new ≡ known predictor.old) }
 {
     let Ok(table) = begin_table(alloc, pipeline) else {
         return Err(TextError::Memory);
@@ -48,8 +52,9 @@ pub fn write_states<W: Write>(
         return Err(TextError::Memory);
     };
     // Of hardware that a reset and cycles lead to, the predictor is one that a description can say.
-    let _ = pipeline.cycles_done();
-    let described = pipeline.values().predictor;
+    let hardware = pipeline.shown();
+    let _ = hardware.cycles_done();
+    let described = hardware.values().predictor;
     let Ok(untaught) = DescribedPredictor::new(alloc, described.kind, described.entries) else {
         return Err(TextError::Memory);
     };

@@ -4,9 +4,9 @@
 use Rattle.std.specs.Prelude.{◌≡◌, ℕ, ◌≤◌, List, [], ◌∷◌, ◌++◌, length, Bool, Option, Result}
 use Rattle.rv_isa.specs.declared.lines.Arrival.{Arrival}
 use Rattle.rv_arch.specs.declared.outcome.Stop.{Stop}
-use Rattle.rv_core.specs.Progress.{progress_of}
-use Rattle.rv_core.specs.Watching.{IsEnd, IsShown, Watched, watched, with_shown}
-use Rattle.rv_core.specs.declared.outcome.Progress.{Progress}
+use Rattle.rv_watch.specs.Progress.{progress_of}
+use Rattle.rv_watch.specs.Watching.{IsEnd, IsShown, Watched, watched, with_shown}
+use Rattle.rv_watch.specs.declared.progress.Progress.{Progress}
 use Rattle.rv_hardware.specs.Guided.{GuidedHardware}
 use Rattle.rv_hardware.specs.Hardware.{Hardware}
 use Rattle.rv_hardware.specs.History.{History, Moment, reports_of}
@@ -45,7 +45,7 @@ cycle_shown {after = after} seen shown =
 
 -- the next cycle is shown, and with it what became of the instructions that were in flight before it or fetched in it
 pub record IsNextCycle (seen : Watched) (cycle : ShownCycle) : Type 0 where
-  pub shown : IsShown seen cycle.number cycle.steps.now cycle.pipeline.now cycle.progress.now
+  pub shown : IsShown seen cycle.number cycle.steps.now cycle.hardware.now cycle.progress.now
   pub rows_are : cycle.rows.now ≡ (cycle_shown seen shown).passages.rows
   pub few : length cycle.rows.now ≤ 576
 

@@ -4,9 +4,9 @@ ghost use Rattle.rv_passage.specs.Shown.{AreStill};
 ghost use Rattle.rv_passage.specs.Table.{CanCount, HasRoom, passages_of, with_steps};
 ghost use Rattle.rv_view.specs.Following.{BeginsAt, FollowsFrom, IsFollowedOn, IsNumberedOn};
 
-use rv_core::Pipeline;
 use rv_hardware::Step;
 use rv_passage::{Passage, Table};
+use rv_watch::{ShownHardware, Simulated};
 use std::alloc::{AllocError, Global};
 
 /// What it takes to follow a run: a table of what is in flight, with room for two cycles, and a list with room for the
@@ -18,9 +18,9 @@ pub struct Following {
 }
 
 impl Following {
-    /// Begins with what is in flight in a pipeline. The only error is out of memory.
-    pub fn begin(alloc: Global, pipeline: &Pipeline) -> Result<Following, AllocError>
-        ensures { IfOk result (FollowsFrom pipeline.now) }
+    /// Begins with what is in flight in hardware. The only error is out of memory.
+    pub fn begin<S: Simulated>(alloc: Global, pipeline: &S) -> Result<Following, AllocError>
+        ensures { IfOk result (FollowsFrom (S.hardware pipeline.now)) }
     {
         let table = begin_table(alloc, pipeline)?;
         let steps = Vec::with_capacity(alloc, 8)?;
@@ -35,51 +35,52 @@ impl Following {
     }
 }
 
-/// A table that begins with what is in flight in a pipeline. The only error is out of memory.
-pub fn begin_table(alloc: Global, pipeline: &Pipeline) -> Result<Table, AllocError>
-    ensures { IfOk result (BeginsAt pipeline.now) }
+/// A table that begins with what is in flight in hardware. The only error is out of memory.
+pub fn begin_table<S: Simulated>(alloc: Global, pipeline: &S) -> Result<Table, AllocError>
+    ensures { IfOk result (BeginsAt (S.hardware pipeline.now)) }
 {
+    let hardware = pipeline.shown();
     // Of hardware that a reset and cycles lead to, the buffers are as long as described.
-    let _ = pipeline.cycles_done();
-    Table::begin(alloc, pipeline.reorder_buffer(), pipeline.front())
+    let _ = hardware.cycles_done();
+    Table::begin(alloc, hardware.reorder_buffer(), hardware.front())
 }
 
-/// Follows instructions through a cycle that had these steps, and left the pipeline. Asks for no memory.
-pub fn follow(table: &mut Table, cycle: u64, steps: &[Step], pipeline: &Pipeline)
+/// Follows instructions through a cycle that had these steps, and left the hardware. Asks for no memory.
+pub fn follow(table: &mut Table, cycle: u64, steps: &[Step], hardware: &ShownHardware<'_>)
     requires room { HasRoom table.old }
     requires countable { CanCount (passages_of table.old) }
     requires few { length steps.now ≤ 8 }
-    ensures { IsFollowedOn cycle steps.now pipeline.now table.old table.new }
+    ensures { IsFollowedOn cycle steps.now hardware.now table.old table.new }
 {
     // Of hardware that a reset and cycles lead to, the buffers are as long as described.
-    let _ = pipeline.cycles_done();
-    let pc = pipeline.observe().pc;
+    let _ = hardware.cycles_done();
+    let pc = hardware.observe().pc;
     table.follow(
         cycle,
         steps,
-        pipeline.reorder_buffer(),
-        pipeline.front(),
+        hardware.reorder_buffer(),
+        hardware.front(),
         pc,
     );
 }
 
 /// The same of a table whose rows show what was in flight before the cycle.
-pub fn follow_on(table: &mut Table, cycle: u64, steps: &[Step], pipeline: &Pipeline)
+pub fn follow_on(table: &mut Table, cycle: u64, steps: &[Step], hardware: &ShownHardware<'_>)
     requires room { HasRoom table.old }
     requires countable { CanCount (passages_of table.old) }
     requires few { length steps.now ≤ 8 }
-    requires still { AreStill cycle (with_steps steps.now pipeline.now.pc (passages_of table.old)).rows
-        (in_flight pipeline.now) }
-    ensures { IsFollowedOn cycle steps.now pipeline.now table.old table.new }
+    requires still { AreStill cycle (with_steps steps.now hardware.now.pc (passages_of table.old)).rows
+        (in_flight hardware.now) }
+    ensures { IsFollowedOn cycle steps.now hardware.now table.old table.new }
 {
     // Of hardware that a reset and cycles lead to, the buffers are as long as described.
-    let _ = pipeline.cycles_done();
-    let pc = pipeline.observe().pc;
+    let _ = hardware.cycles_done();
+    let pc = hardware.observe().pc;
     table.follow_on(
         cycle,
         steps,
-        pipeline.reorder_buffer(),
-        pipeline.front(),
+        hardware.reorder_buffer(),
+        hardware.front(),
         pc,
     );
 }
@@ -87,20 +88,20 @@ pub fn follow_on(table: &mut Table, cycle: u64, steps: &[Step], pipeline: &Pipel
 /// Notes of such a cycle by their numbers alone which instructions are in flight at its end, for cycles that are not
 /// shown: what else the table says of them may be what an earlier cycle left. The next cycle that `follow` follows
 /// gives that too. Asks for no memory.
-pub fn follow_numbers(table: &mut Table, cycle: u64, steps: &[Step], pipeline: &Pipeline)
+pub fn follow_numbers(table: &mut Table, cycle: u64, steps: &[Step], hardware: &ShownHardware<'_>)
     requires room { HasRoom table.old }
     requires countable { CanCount (passages_of table.old) }
     requires few { length steps.now ≤ 8 }
-    ensures { IsNumberedOn cycle steps.now pipeline.now table.old table.new }
+    ensures { IsNumberedOn cycle steps.now hardware.now table.old table.new }
 {
     // Of hardware that a reset and cycles lead to, the buffers are as long as described.
-    let _ = pipeline.cycles_done();
-    let pc = pipeline.observe().pc;
+    let _ = hardware.cycles_done();
+    let pc = hardware.observe().pc;
     table.follow_numbers(
         cycle,
         steps,
-        pipeline.reorder_buffer(),
-        pipeline.front(),
+        hardware.reorder_buffer(),
+        hardware.front(),
         pc,
     );
 }

@@ -1,5 +1,5 @@
 ghost use Rattle.std.specs.Prelude.{[]};
-ghost use Rattle.rv_core.specs.Watching.{watched};
+ghost use Rattle.rv_watch.specs.Watching.{watched};
 ghost use Rattle.rv_hardware.specs.Guided.{guided};
 ghost use Rattle.rv_view.specs.Following.{FollowsFrom};
 ghost use Rattle.rv_view.specs.Viewing.{IsViewedRun};
@@ -8,12 +8,12 @@ use crate::following::{Following, follow_on};
 use crate::shown_cycle::ShownCycle;
 use crate::view::View;
 use rv_arch::Stop;
-use rv_core::{Pipeline, Progress, Watcher, watch};
 use rv_front::Predictor;
 use rv_hardware::Step;
 use rv_isa::Arrivals;
 use rv_passage::Table;
 use rv_text::Sink;
+use rv_watch::{Progress, ShownHardware, Simulated, Watcher};
 use std::io::Write;
 
 /// A view at the end of a run.
@@ -57,16 +57,16 @@ impl<V: View> Watcher for Follower<V> {
         &mut self,
         cycle: u64,
         steps: &[Step],
-        pipeline: &Pipeline,
+        hardware: &ShownHardware<'_>,
         progress: &Progress,
         output: &mut W,
     ) {
-        follow_on(&mut self.table, cycle, steps, pipeline);
+        follow_on(&mut self.table, cycle, steps, hardware);
         let shown = ShownCycle {
             number: cycle,
             steps,
             rows: self.table.rows(),
-            pipeline,
+            hardware,
             progress,
         };
         let mut out = Sink::after(output, self.has_failed);
@@ -81,8 +81,8 @@ impl<V: View> Watcher for Follower<V> {
 /// instructions that were in flight before it or fetched in it. What the view says is written as far as no write fails,
 /// or has failed before. Asks for no memory but what the view asks for before a cycle; where it refuses, the pipeline
 /// stands at the end of its last whole cycle.
-pub fn run_view<V: View, W: Write>(
-    pipeline: &mut Pipeline,
+pub fn run_view<S: Simulated, V: View, W: Write>(
+    pipeline: &mut S,
     predictor: &mut dyn Predictor,
     arrivals: &Arrivals,
     limit: u64,
@@ -91,11 +91,11 @@ pub fn run_view<V: View, W: Write>(
     has_failed: bool,
     writer: &mut W,
 ) -> Viewed<V, V::Refusal>
-    requires follows { FollowsFrom pipeline.old following }
-    requires ready { V.has_seen view view (watched arrivals.now (guided pipeline.old (known predictor.old)) []
-        (guided pipeline.old (known predictor.old))) }
-    ensures { IsViewedRun V.has_seen V.text arrivals.now limit (guided pipeline.old (known predictor.old))
-        (guided pipeline.new (known predictor.new)) view result.view result.table result.progress result.stop
+    requires follows { FollowsFrom (S.hardware pipeline.old) following }
+    requires ready { V.has_seen view view (watched arrivals.now (guided (S.hardware pipeline.old) (known predictor.old)) []
+        (guided (S.hardware pipeline.old) (known predictor.old))) }
+    ensures { IsViewedRun V.has_seen V.text arrivals.now limit (guided (S.hardware pipeline.old) (known predictor.old))
+        (guided (S.hardware pipeline.new) (known predictor.new)) view result.view result.table result.progress result.stop
         has_failed result.has_failed (W.contents writer.old) (W.contents writer.new) }
 {
     let Following { table, steps } = following;
@@ -104,15 +104,7 @@ pub fn run_view<V: View, W: Write>(
         table,
         has_failed,
     };
-    let ended = watch(
-        pipeline,
-        predictor,
-        arrivals,
-        limit,
-        steps,
-        &mut follower,
-        writer,
-    );
+    let ended = pipeline.watch(predictor, arrivals, limit, steps, &mut follower, writer);
     let Follower {
         view,
         table,

@@ -2,13 +2,18 @@ use crate::machine::{described, pipeline};
 use rv_core::Pipeline;
 use rv_isa::Values;
 use rv_passage::Table;
+use rv_watch::Simulated;
 use std::alloc::{AllocError, Global};
 
 // A table that begins with what is in flight in a pipeline.
 fn begun(alloc: Global, pipeline: &Pipeline) -> Result<Table, AllocError> {
     // Of hardware that a reset and cycles lead to, the buffers are as long as described.
     let _ = pipeline.cycles_done();
-    Table::begin(alloc, pipeline.reorder_buffer(), pipeline.front())
+    Table::begin(
+        alloc,
+        pipeline.shown().reorder_buffer(),
+        pipeline.shown().front(),
+    )
 }
 
 // What becomes of instructions in a run is tested by the pictures and logs that stand on tables.

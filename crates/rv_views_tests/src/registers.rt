@@ -1,6 +1,7 @@
 use crate::machine::{described, pipeline};
 use rv_front::NotTaken;
 use rv_isa::{Lines, Values};
+use rv_watch::Simulated;
 
 // addi x1,x0,-1; addi x2,x0,1; sltu x3,x1,x2; sltu x4,x2,x1; blt x1,x2,8; addi x5,x0,1; csrrw x0,mcause,x1; csrrs x6,mcause,x0;
 // jal x0,0
@@ -19,7 +20,7 @@ fn a_run_of_the_core_leaves_what_the_manual_says(rt: HostRuntime) {
     for _ in 0..60 {
         pipeline.cycle(&mut predictor, Lines::default());
     }
-    let registers = pipeline.observe().regs;
+    let registers = pipeline.shown().observe().regs;
     let found = (registers[3], registers[4], registers[5], registers[6]);
     assert_eq!(rt; found, (0, 1, 0, 0xffff_ffff));
 }

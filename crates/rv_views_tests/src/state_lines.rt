@@ -1,5 +1,4 @@
 use crate::machine::{described, narrow, pipeline};
-use rv_core::Progress;
 use rv_decode::Decoded;
 use rv_front::{DescribedPredictor, NotTaken};
 use rv_hardware::{Stall, StallCounts, Step};
@@ -7,6 +6,7 @@ use rv_isa::{Cause, Issue, Lines, Reg};
 use rv_passage::{Ending, Passage, Producers};
 use rv_states::write_cycle;
 use rv_text::Sink;
+use rv_watch::{Progress, Simulated};
 
 // An addition, and a breakpoint.
 const PROGRAM: &[u8] = &[0x93, 0x00, 0x50, 0x00, 0x73, 0x00, 0x10, 0x00];
@@ -128,7 +128,7 @@ fn a_cycle_shows_its_instructions_and_the_hardware(rt: HostRuntime) {
         2,
         &rows,
         &steps,
-        &pipeline,
+        &pipeline.shown(),
         &progress,
         &predictor,
     );

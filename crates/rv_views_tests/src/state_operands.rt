@@ -5,6 +5,7 @@ use rv_front::NotTaken;
 use rv_isa::Lines;
 use rv_states::write_start;
 use rv_text::Sink;
+use rv_watch::Simulated;
 
 // addi x1,x0,11; addi x2,x0,3; div x3,x1,x2; addi x1,x0,17; sub x4,x3,x1; addi x3,x4,19; xor x18,x3,x4; add x7,x2,x18
 const PROGRAM: [u8; 32] = [
@@ -37,6 +38,11 @@ fn what_an_instruction_waits_for_is_the_youngest_older_result(rt: HostRuntime) {
         let _report = pipeline.cycle(&mut NotTaken, Lines::default());
     }
     let mut line = Vec::new(alloc);
-    write_start(&mut Sink::new(&mut line), &[], &pipeline, &counts(None));
+    write_start(
+        &mut Sink::new(&mut line),
+        &[],
+        &pipeline.shown(),
+        &counts(None),
+    );
     assert!(&rt; has_part(line.as_slice(), WAITING));
 }

@@ -1,6 +1,5 @@
 use crate::machine::{described, narrow, pipeline};
 use crate::states::has_part;
-use rv_core::Progress;
 use rv_decode::Decoded;
 use rv_front::NotTaken;
 use rv_hardware::{Stall, StallCounts};
@@ -8,6 +7,7 @@ use rv_isa::Lines;
 use rv_passage::{Ending, Passage, Producers};
 use rv_states::write_start;
 use rv_text::Sink;
+use rv_watch::{Progress, Simulated};
 
 // addi x1,x0,5
 const ADDITION: [u8; 4] = [0x93, 0x00, 0x50, 0x00];
@@ -68,7 +68,7 @@ fn the_hardware_before_a_window_has_the_number_of_its_first_cycle(rt: HostRuntim
     write_start(
         &mut Sink::new(&mut line),
         &[row()],
-        &pipeline,
+        &pipeline.shown(),
         &counts(None),
     );
     assert_eq!(&rt; line.as_slice(), START);
@@ -91,7 +91,7 @@ fn the_reason_to_dispatch_nothing_has_its_name(rt: HostRuntime) {
         write_start(
             &mut Sink::new(&mut line),
             &[],
-            &pipeline,
+            &pipeline.shown(),
             &counts(Some(stall)),
         );
         assert!(&rt; has_part(line.as_slice(), part.as_bytes()));

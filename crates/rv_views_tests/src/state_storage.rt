@@ -7,6 +7,7 @@ use rv_front::NotTaken;
 use rv_isa::Lines;
 use rv_states::{write_memory, write_sets, write_start};
 use rv_text::Sink;
+use rv_watch::Simulated;
 use std::alloc::Global;
 use std::process::Abort;
 
@@ -39,9 +40,9 @@ fn memory_before_a_run_is_the_program(rt: HostRuntime) {
     let alloc = rt.alloc();
     let pipeline = after(&rt, alloc, 0);
     let mut lines = Vec::new(alloc);
-    write_memory(&mut Sink::new(&mut lines), &pipeline);
+    write_memory(&mut Sink::new(&mut lines), &pipeline.shown());
     assert_eq!(&rt; lines.as_slice(), PROGRAM_LINES);
-    write_sets(&mut Sink::new(&mut lines), &pipeline);
+    write_sets(&mut Sink::new(&mut lines), &pipeline.shown());
     assert_eq!(&rt; lines.as_slice(), PROGRAM_LINES);
 }
 
@@ -56,7 +57,7 @@ fn memory_has_what_programs_see(rt: HostRuntime) {
     let alloc = rt.alloc();
     let pipeline = after(&rt, alloc, 80);
     let mut lines = Vec::new(alloc);
-    write_memory(&mut Sink::new(&mut lines), &pipeline);
+    write_memory(&mut Sink::new(&mut lines), &pipeline.shown());
     assert!(&rt; lines.as_slice().starts_with(PROGRAM_LINES));
     assert!(&rt; lines.as_slice().ends_with(STORED));
 }
@@ -72,7 +73,7 @@ fn a_set_has_the_line_first_that_was_stored_to_last(rt: HostRuntime) {
     let alloc = rt.alloc();
     let pipeline = after(&rt, alloc, 80);
     let mut lines = Vec::new(alloc);
-    write_sets(&mut Sink::new(&mut lines), &pipeline);
+    write_sets(&mut Sink::new(&mut lines), &pipeline.shown());
     assert_eq!(&rt; lines.as_slice(), SETS);
 }
 
@@ -89,7 +90,12 @@ fn a_load_that_misses_keeps_the_port(rt: HostRuntime) {
     let alloc = rt.alloc();
     let pipeline = after(&rt, alloc, 5);
     let mut line = Vec::new(alloc);
-    write_start(&mut Sink::new(&mut line), &[], &pipeline, &counts(None));
+    write_start(
+        &mut Sink::new(&mut line),
+        &[],
+        &pipeline.shown(),
+        &counts(None),
+    );
     for part in MISSING {
         assert!(&rt; has_part(line.as_slice(), part));
     }

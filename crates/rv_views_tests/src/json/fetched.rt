@@ -4,6 +4,7 @@ use rv_front::NotTaken;
 use rv_isa::{Lines, Values};
 use rv_json::write_fetch_buffer;
 use rv_text::Sink;
+use rv_watch::Simulated;
 
 // jal x0,-8, at the first address of RAM
 const JUMP: [u8; 4] = [0x6f, 0xf0, 0x9f, 0xff];
@@ -24,7 +25,7 @@ fn a_fetched_word_has_its_cycle_and_its_prediction(rt: HostRuntime) {
     for expected in FETCHED {
         let _report = pipeline.cycle(&mut NotTaken, Lines::default());
         let mut text = Vec::new(alloc);
-        write_fetch_buffer(&mut Sink::new(&mut text), pipeline.front());
+        write_fetch_buffer(&mut Sink::new(&mut text), pipeline.shown().front());
         expect_text(&rt, &text, expected);
     }
 }

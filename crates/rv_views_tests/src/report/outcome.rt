@@ -4,6 +4,7 @@ use rv_core::run;
 use rv_front::NotTaken;
 use rv_isa::{Lines, Values};
 use rv_report::{Options, write_report};
+use rv_watch::Simulated;
 use std::test::Fail;
 
 // addi x1,x0,5, and ebreak.
@@ -25,7 +26,7 @@ fn the_outcome_of_a_run_is_reported_with_its_steps(rt: HostRuntime) -> Result<()
         return Err(Fail::from("no memory for the steps"));
     };
     let mut report = Vec::new(alloc);
-    write_report(&outcome, &pipeline, &OPTIONS, &mut report)?;
+    write_report(&outcome, &pipeline.shown(), &OPTIONS, &mut report)?;
     let lines = b"R 80000000 00500093 F0 D1 I2 B3 C4 x1=00000005
 T 80000004 00000003 00000000 C4
 stop breakpoint

@@ -6,6 +6,7 @@ use rv_isa::{Arrival, Arrivals, Cause, Line, Reg, Values};
 use rv_report::{
     Options, StepCounts, Totals, write_reference, write_run, write_totals, write_trace,
 };
+use rv_watch::Simulated;
 use std::alloc::Global;
 use std::test::Fail;
 
@@ -169,7 +170,7 @@ fn each_count_of_a_run_has_its_own_line(rt: HostRuntime) -> Result<(), Fail> {
     };
     let mut report = Vec::new(alloc);
     let pipeline = pipeline(&rt, alloc, &described(&rt, Values::standard()), &[]);
-    write_totals(&totals, &pipeline, &OPTIONS, &mut report)?;
+    write_totals(&totals, &pipeline.shown(), &OPTIONS, &mut report)?;
     let lines = b"stop stale 80000014
 cycles 1009
 retired 300

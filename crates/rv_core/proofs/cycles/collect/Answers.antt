@@ -1,6 +1,6 @@
 use Rattle.rv_core.proofs.Words.{None, sym, subst, guided, reports_of, IsCutShort, IsOutcome, OutOfMemory, Outcome}
-use Rattle.rv_core.proofs.RunReports.{run_of_cycles}
-use Rattle.rv_core.proofs.Shown.{cut_short_by, cycles_shown, stops_by}
+use Rattle.rv_core.proofs.RunCycles.{run_of_cycles}
+use Rattle.rv_watch.proofs.Shown.{cut_short_by, cycles_shown, stops_by}
 use Rattle.rv_core.proofs.cycles.collect.Goals as goal
 
 pub watch-ended-requires-clause-ready : goal.watch-ended-requires-clause-ready

@@ -1,5 +1,5 @@
 use Rattle.rv_core.proofs.Words.{[], sym, subst, arith, IsCutShort, IsOutcome, OutOfMemory, Outcome}
-use Rattle.rv_core.proofs.RunReports.{run_of_none}
+use Rattle.rv_core.proofs.RunCycles.{run_of_none}
 use Rattle.rv_core.proofs.cycles.not_run.Goals as goal
 
 pub returns-then-limit-eq0 : goal.returns-then-limit-eq0

@@ -1,6 +1,6 @@
 use Rattle.rv_core.proofs.Words.{◌+◌, sym, ap, ◌∙◌, arith, leb-false, leb-true, Err, Ok, Exhausted, Limit, Progress}
-use Rattle.rv_core.proofs.Shown.{bounded_so_far, ended_as, shown_now, so_many_shown, watched_to, watched_to_stop}
-use Rattle.rv_core.proofs.Shown.{watching_nothing, watching_on, watching_still}
+use Rattle.rv_watch.proofs.Shown.{bounded_so_far, ended_as, shown_now, so_many_shown, watched_to, watched_to_stop}
+use Rattle.rv_watch.proofs.Shown.{watching_nothing, watching_on, watching_still}
 use Rattle.rv_core.proofs.watching.watch.Goals as goal
 
 pub loop-init : goal.loop-init
@@ -38,8 +38,8 @@ returns-in-Err g c =
     (watched_to g.T.Watcher.has_seen c.args.arrivals.now _ c.args.watcher.now _ way c.args.limit (Err c.in-Err.refusal)
     (way.none_stops, omega (arith, count, c.loop-test.true)))
 
-pub see-requires-clause-shown : goal.see-requires-clause-shown
-see-requires-clause-shown g c =
+pub show-requires-clause-shown : goal.show-requires-clause-shown
+show-requires-clause-shown g c =
     let way = watching_still g.T.Watcher.has_seen c.args.arrivals.now _ c.args.watcher.now _ c.loop.invariant.0
     c.make_room.ensures.kept in
     let within = leb-false 1099511627776 c.loop.pipeline.cycle (sym c.is_exhausted.ensures.exhausted ∙ c.if-is_exhausted.false) in
@@ -65,7 +65,7 @@ returns-in-Some g c =
     ended_as c.finished-in-Some.ensures.progress c.finished-in-Some.ensures.stop
     (watched_to_stop g.T.Watcher.has_seen c.args.arrivals.now _ c.args.watcher.now _ way next c.clear.ensures.items
     c.as_slice.ensures.value c.cycles_done-cycle.ensures.reached number (omega (arith, number, within))
-    (λ before. c.see.ensures c.args.watcher.now _ before shown) c.args.limit c.in-Some.stop c.in-Some.is
+    (λ before. c.show.ensures c.args.watcher.now _ before shown) c.args.limit c.in-Some.stop c.in-Some.is
     (omega (arith, c.loop.invariant.1, c.loop-test.true)))
 
 pub loop-preserved : goal.loop-preserved
@@ -79,7 +79,7 @@ loop-preserved g c =
     c.as_slice.ensures.value c.cycles_done-cycle.ensures.reached number (omega (arith, number, within)) in (
       watching_on g.T.Watcher.has_seen c.args.arrivals.now _ c.args.watcher.now _ way next c.clear.ensures.items
           c.as_slice.ensures.value c.cycles_done-cycle.ensures.reached number (omega (arith, number, within))
-          (λ before. c.see.ensures c.args.watcher.now _ before shown) c.in_default-stop.is,
+          (λ before. c.show.ensures c.args.watcher.now _ before shown) c.in_default-stop.is,
       ap (λ (p : Progress). p.cycles) next.counted ∙ ap (λ n. n + 1) c.loop.invariant.1,
       omega (arith, c.run_cycle-stop.ensures.capacity, c.clear.ensures.capacity, c.loop.invariant.2),
     )

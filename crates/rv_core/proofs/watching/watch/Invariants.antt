@@ -1,5 +1,5 @@
 use Rattle.rv_core.proofs.Words.{◌≡◌, ◌≤◌, vec_capacity, guided}
-use Rattle.rv_core.proofs.Shown.{IsWatching}
+use Rattle.rv_watch.proofs.Shown.{IsWatching}
 use Rattle.rv_core.proofs.watching.watch.Given as goal
 
 -- the cycles so far were shown, and the list keeps its room

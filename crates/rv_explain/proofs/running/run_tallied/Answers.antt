@@ -1,12 +1,16 @@
-use Rattle.std.proofs.Common.{arith}
+use Rattle.std.proofs.Common.{◌∙◌, ap, arith, length}
+use Rattle.rv_hardware.specs.Draining.{drain_end}
+use Rattle.rv_hardware.specs.Hardware.{Hardware}
 use Rattle.rv_view.proofs.EndedView.{ended_by}
 use Rattle.rv_explain.proofs.Tallying.{fetched_counted, places_of_all, nothing_tallied, tallied_to_the_end}
 use Rattle.rv_explain.proofs.running.run_tallied.Goals as goal
 
 pub run_view-view-requires-clause-ready : goal.run_view-view-requires-clause-ready
 run_view-view-requires-clause-ready g c =
-    nothing_tallied c.args.description.now c.args.arrivals.now _ c.args.tally c.observe.result.regs c.drain_end-drain_end.result c.in_flight-in_flight.result c.requires.of_no_cycle c.observe.ensures.registers c.drain_end-drain_end.ensures
-    c.in_flight-in_flight.ensures.counted c.in_flight-in_flight.ensures.few
+    nothing_tallied c.args.description.now c.args.arrivals.now _ c.args.tally c.observe.result.regs c.drain_end-drain_end.result c.in_flight-in_flight.result c.requires.of_no_cycle
+    (c.observe.ensures.registers ∙ ap (λ (h : Hardware). h.registers) c.shown-shown.ensures)
+    (c.drain_end-drain_end.ensures ∙ ap drain_end c.shown-shown.ensures)
+    (c.in_flight-in_flight.ensures.counted ∙ ap (λ (h : Hardware). length h.rob.entries) c.shown-shown.ensures) c.in_flight-in_flight.ensures.few
 
 pub overflow_add-fetched : goal.overflow_add-fetched
 overflow_add-fetched g c =

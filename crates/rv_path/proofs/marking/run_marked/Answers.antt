@@ -12,9 +12,9 @@ run_view-view-requires-clause-ready g c =
     let begun = c.in_ok-path.ensures in
     let numbered = c.in_ok-numbering.ensures in
     let rows = c.rows-rows.result.now in
-    let rows_are : rows ≡ (table_at c.args.pipeline.now).rows = search rules in
+    let rows_are : rows ≡ (table_at (g.S.Simulated.hardware c.args.pipeline.now)).rows = search rules in
     let few : length rows ≤ 576 = omega (arith, ap length c.rows-rows.ensures, c.in_ok-following.ensures.table.few) in
-    let path = pathing_nothing c.args.pipeline.now c.in_ok-path.path rows rows_are begun.ways begun.holds begun.before begun.window begun.passes in
+    let path = pathing_nothing (g.S.Simulated.hardware c.args.pipeline.now) c.in_ok-path.path rows rows_are begun.ways begun.holds begun.before begun.window begun.passes in
     (marking_nothing _ _ _ rows rows_are few path refl numbered.numbers numbered.fetched, refl)
 
 pub returns-in_err-following-clause-run : goal.returns-in_err-following-clause-run

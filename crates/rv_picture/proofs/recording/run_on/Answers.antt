@@ -1,5 +1,5 @@
 use Rattle.std.proofs.Common.{None}
-use Rattle.rv_core.proofs.Shown.{stops_by}
+use Rattle.rv_watch.proofs.Shown.{stops_by}
 use Rattle.rv_picture.proofs.recording.run_on.Goals as goal
 
 pub watch-ended-requires-clause-ready : goal.watch-ended-requires-clause-ready

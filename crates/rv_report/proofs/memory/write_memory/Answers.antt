@@ -12,8 +12,8 @@ loop-number-init g c = says_nothing _
 
 pub loop-number-preserved : goal.loop-number-preserved
 loop-number-preserved g c =
-    let layout = layout_of c.args.pipeline.now.values in
-    let ram = (seen c.args.pipeline.now).ram in
+    let layout = layout_of c.args.hardware.now.values in
+    let ram = (seen c.args.hardware.now).ram in
     let is = line_is layout ram c.args.address c.loop-number.number c.word_at.result c.word_at.ensures in
     says_below (line_in layout ram c.args.address) c.loop-number.number c.loop-number.invariant (says_same is c.write_word.ensures)
 
@@ -21,4 +21,4 @@ pub returns : goal.returns
 unfolding texts_below seen_memory_lines
 returns g c =
     let all : c.loop-number.number ≡ c.args.words = omega arith in
-    says_same (ap (texts_below (line_in (layout_of c.args.pipeline.now.values) (seen c.args.pipeline.now).ram c.args.address)) all) c.loop-number.invariant
+    says_same (ap (texts_below (line_in (layout_of c.args.hardware.now.values) (seen c.args.hardware.now).ram c.args.address)) all) c.loop-number.invariant

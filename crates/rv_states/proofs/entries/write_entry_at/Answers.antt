@@ -1,5 +1,5 @@
 use Rattle.std.proofs.Common.{◌∙◌, ap}
-use Rattle.rv_core.specs.Ties.{values_in}
+use Rattle.rv_watch.specs.Registers.{values_in}
 use Rattle.rv_states.specs.Entries.{entry_json}
 use Rattle.rv_states.specs.Operands.{status_at}
 use Rattle.rv_states.proofs.Status.{entry_at}

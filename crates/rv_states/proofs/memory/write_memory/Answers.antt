@@ -11,13 +11,13 @@ loop-number-init g c = says_nothing _
 
 pub loop-number-preserved : goal.loop-number-preserved
 loop-number-preserved g c =
-    let line = says_same (ap (memory_line c.args.pipeline.now) c.word_address.ensures) c.write_memory_line.ensures in
-    says_below (λ number. memory_line c.args.pipeline.now (word_address c.values-values.result.now.ram_base number)) c.loop-number.number c.loop-number.invariant line
+    let line = says_same (ap (memory_line c.args.hardware.now) c.word_address.ensures) c.write_memory_line.ensures in
+    says_below (λ number. memory_line c.args.hardware.now (word_address c.values-values.result.now.ram_base number)) c.loop-number.number c.loop-number.invariant line
 
 pub returns : goal.returns
 unfolding texts_below memory_lines
 returns g c =
     let values = c.values-values.result.now in
     let all : c.loop-number.number ≡ values.ram_size / 4 = omega arith in
-    let lines = ap (texts_below (λ number. memory_line c.args.pipeline.now (word_address values.ram_base number))) all in
-    says_same (lines ∙ (λ i. memory_lines c.args.pipeline.now (c.values-values.ensures i))) c.loop-number.invariant
+    let lines = ap (texts_below (λ number. memory_line c.args.hardware.now (word_address values.ram_base number))) all in
+    says_same (lines ∙ (λ i. memory_lines c.args.hardware.now (c.values-values.ensures i))) c.loop-number.invariant

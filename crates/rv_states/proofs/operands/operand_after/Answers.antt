@@ -1,4 +1,4 @@
-use Rattle.rv_core.specs.Ties.{values_in}
+use Rattle.rv_watch.specs.Registers.{values_in}
 use Rattle.rv_states.proofs.Status.{given_more}
 use Rattle.rv_states.proofs.operands.operand_after.Goals as goal
 

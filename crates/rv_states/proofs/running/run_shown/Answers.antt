@@ -1,6 +1,6 @@
 use Rattle.std.proofs.Common.{ap, ◌∙◌}
-use Rattle.rv_core.proofs.Shown.{stops_by}
-use Rattle.rv_core.specs.declared.outcome.Progress.{Progress}
+use Rattle.rv_watch.proofs.Shown.{stops_by}
+use Rattle.rv_watch.specs.declared.progress.Progress.{Progress}
 use Rattle.rv_passage.specs.Table.{Passages}
 use Rattle.rv_states.proofs.Showing.{showing_nothing, shown_to_the_end}
 use Rattle.rv_states.proofs.running.run_shown.Goals as goal

@@ -1,5 +1,5 @@
 use Rattle.std.specs.Prelude.{◌++◌, codes, map}
-use Rattle.rv_core.specs.Ties.{values_in}
+use Rattle.rv_watch.specs.Registers.{values_in}
 use Rattle.rv_json.specs.Fetched.{fetched_json, next_fetch_text}
 use Rattle.rv_json.specs.Json.{also, array}
 use Rattle.rv_states.specs.Entries.{entries_json}

@@ -1,5 +1,6 @@
 use Rattle.std.proofs.Common.{◌∙◌, ap, arith}
 use Rattle.rv_isa.specs.declared.values.Values.{Values}
+use Rattle.rv_hardware.specs.Hardware.{Hardware}
 use Rattle.rv_hardware.proofs.Always.Sound.{sound}
 use Rattle.rv_states.specs.Predictor.{untaught_predictor}
 use Rattle.rv_states.proofs.OneText.{one_text}
@@ -13,6 +14,7 @@ new-requires g c =
 
 pub run_shown-shown-requires-clause-untaught : goal.run_shown-shown-requires-clause-untaught
 run_shown-shown-requires-clause-untaught g c = c.in-Ok-new.ensures ∙ ap untaught_predictor c.values.ensures
+    ∙ ap (λ (h : Hardware). untaught_predictor h.values) c.shown-hardware.ensures
 
 pub returns-then-shown-clause-written : goal.returns-then-shown-clause-written
 returns-then-shown-clause-written g c =

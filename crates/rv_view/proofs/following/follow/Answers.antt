@@ -12,5 +12,5 @@ follow-requires c = record {
 
 pub returns : goal.returns
 returns c =
-    followed_on c.args.pipeline.now c.reorder_buffer.ensures c.front.ensures c.observe-pc.ensures.pc c.args.cycle
+    followed_on c.args.hardware.now c.reorder_buffer.ensures c.front.ensures c.observe-pc.ensures.pc c.args.cycle
     c.args.steps.now c.args.table.now c.follow.new.self c.follow.ensures.followed

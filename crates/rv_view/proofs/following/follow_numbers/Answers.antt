@@ -12,5 +12,5 @@ follow_numbers-requires c = record {
 
 pub returns : goal.returns
 returns c =
-    numbered_on c.args.pipeline.now c.reorder_buffer.ensures c.front.ensures c.observe-pc.ensures.pc c.args.cycle
+    numbered_on c.args.hardware.now c.reorder_buffer.ensures c.front.ensures c.observe-pc.ensures.pc c.args.cycle
     c.args.steps.now c.args.table.now c.follow_numbers.new.self c.follow_numbers.ensures.followed

@@ -13,10 +13,10 @@ follow_on-requires-clause-ready c = record {
 
 pub follow_on-requires-clause-still : goal.follow_on-requires-clause-still
 follow_on-requires-clause-still c =
-    stills c.args.pipeline.now c.reorder_buffer.ensures c.front.ensures c.observe-pc.ensures.pc c.args.cycle
+    stills c.args.hardware.now c.reorder_buffer.ensures c.front.ensures c.observe-pc.ensures.pc c.args.cycle
     c.args.steps.now (passages_of c.args.table.now) c.requires.still
 
 pub returns : goal.returns
 returns c =
-    followed_on c.args.pipeline.now c.reorder_buffer.ensures c.front.ensures c.observe-pc.ensures.pc c.args.cycle
+    followed_on c.args.hardware.now c.reorder_buffer.ensures c.front.ensures c.observe-pc.ensures.pc c.args.cycle
     c.args.steps.now c.args.table.now c.follow_on.new.self c.follow_on.ensures.followed

@@ -1,5 +1,5 @@
 use Rattle.rv_core.proofs.Words.{◌++◌, sym, ◌∙◌, arith}
-use Rattle.rv_core.proofs.Shown.{shown_steps-push}
+use Rattle.rv_watch.proofs.Shown.{shown_steps-push}
 use Rattle.rv_core.proofs.collector.CollectorWatcher.see.Goals as goal
 
 pub add-requires : goal.add-requires

@@ -19,7 +19,7 @@ pub returns : goal.returns
 returns g c start seen before shown both =
     let speculated = c.follow-2.ensures.followed ∙ (λ i. speculated_after c.args.cycle c.args.steps.now (c.reorder_buffer-buffer.ensures i) (c.front-front.ensures i) (c.observe-pc.ensures.pc i) c.args.self.now.speculation) in
     let happened = c.follow.ensures ∙ ap (λ end. counted_after c.args.cycle c.args.steps.now end c.args.self.now.events) c.drain_end.ensures in
-    let few : length c.args.pipeline.now.rob.entries ≤ 256 = omega (arith, c.in_buffer.ensures.counted, c.in_buffer.ensures.few) in (
+    let few : length c.args.hardware.now.rob.entries ≤ 256 = omega (arith, c.in_buffer.ensures.counted, c.in_buffer.ensures.few) in (
       tallied_on shown both.0 c.count_all.new.self c.follow-2.new.self c.follow.new.self c.count_all.ensures speculated happened c.follow-2.ensures.fetched c.follow-2.ensures.mispredicted,
       placed_on shown both.1 c.values-values.result.now c.reorder_buffer-buffer.result.now c.front-front.result.now c.values-values.ensures c.reorder_buffer-buffer.ensures c.front-front.ensures few
           c.placed-self.result c.placed-self.ensures,

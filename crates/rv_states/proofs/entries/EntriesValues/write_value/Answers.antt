@@ -1,4 +1,4 @@
-use Rattle.rv_core.specs.Ties.{values_in}
+use Rattle.rv_watch.specs.Registers.{values_in}
 use Rattle.rv_states.proofs.Status.{within_entries}
 use Rattle.rv_states.proofs.entries.EntriesValues.write_value.Goals as goal
 

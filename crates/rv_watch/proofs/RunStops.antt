@@ -1,7 +1,8 @@
 -- The reason of a run's last cycle is a reason of the run.
-use Rattle.rv_core.proofs.Words.{◌≡◌, ℕ, ◌<◌, List, [], ◌∷◌, ◌++◌, length, Some, refl, arith, length-append, Stop}
-use Rattle.rv_core.proofs.Words.{Hardware, Report, IsStop, NoneStops, IsCommitStop}
+use Rattle.rv_hardware.proofs.Words.{◌≡◌, ℕ, ◌<◌, List, [], ◌∷◌, ◌++◌, length, Some, refl, arith, length-append, Stop}
+use Rattle.rv_hardware.proofs.Words.{Hardware, Report, IsStop, NoneStops}
 use Rattle.rv_arch.specs.declared.outcome.Stop.TheVariants as stop
+use Rattle.rv_watch.specs.Progress.{IsCommitStop}
 
 -- the reason of a run's last cycle is a reason of the run
 pub is_stop : (limit : ℕ) (reports : List Report) (last : Report) (new : Hardware) (reason : Stop) → NoneStops reports →

@@ -1,15 +1,20 @@
 -- What was shown of a run that is watched is what it reported, at each cycle and at its end.
-use Rattle.rv_core.proofs.Words.{◌≡◌, ℕ, ◌+◌, ◌^◌, ◌<◌, ◌≤◌, List, [], ◌∷◌, ◌++◌, length, Some, None, Option, sym, refl}
-use Rattle.rv_core.proofs.Words.{ap, ◌∙◌, subst, arith, length-append, lines_at, Arrival, Lines, Stop, Hardware, Report}
-use Rattle.rv_core.proofs.Words.{IsStop, NoneStops, Reachable, steps_of, Err, Ok, Result, Guide, GuidedCycles}
-use Rattle.rv_core.proofs.Words.{GuidedHardware, IsGuidedCycle, guided_cycled, guided_ended, guided, History, Moment}
-use Rattle.rv_core.proofs.Words.{cycled, ended, reports_of, Step, IsBounded, IsNextCycle, progress_after, progress_of}
-use Rattle.rv_core.proofs.Words.{IsCommitStop, HaveFewSteps, IsEnd, IsShown, IsWatchedRun, Sight, Watched, watched}
-use Rattle.rv_core.proofs.Words.{Progress}
+use Rattle.rv_hardware.proofs.Words.{◌≡◌, ℕ, ◌+◌, ◌^◌, ◌<◌, ◌≤◌, List, [], ◌∷◌, ◌++◌, length, Some, None, Option}
+use Rattle.rv_hardware.proofs.Words.{sym, refl, ap, ◌∙◌, subst, arith, length-append, lines_at, Arrival, Lines, Stop}
+use Rattle.rv_hardware.proofs.Words.{Hardware, Report, IsStop, NoneStops, Reachable, steps_of}
+use Rattle.std.proofs.Common.{Err, Ok, Result}
+use Rattle.rv_front.specs.Guide.{Guide}
+use Rattle.rv_hardware.specs.Guided.{GuidedCycles, GuidedHardware, IsGuidedCycle, cycled as guided_cycled}
+use Rattle.rv_hardware.specs.Guided.{ended as guided_ended, guided}
+use Rattle.rv_hardware.specs.History.{History, Moment, cycled, ended, reports_of}
+use Rattle.rv_hardware.specs.declared.step.Step.{Step}
 use Rattle.rv_hardware.proofs.AnyPrediction.{cycles_of}
 use Rattle.rv_hardware.proofs.Headline.Reached.{cycles_counted}
-use Rattle.rv_core.proofs.RunReports.{NoneStops-push, progress-bounded, progress_of-push, steps_of-push}
-use Rattle.rv_core.proofs.RunStops.{is_stop}
+use Rattle.rv_watch.specs.Progress.{IsBounded, IsCommitStop, IsNextCycle, progress_after, progress_of}
+use Rattle.rv_watch.specs.Watching.{HaveFewSteps, IsEnd, IsShown, IsWatchedRun, Sight, Watched, watched}
+use Rattle.rv_watch.specs.declared.progress.Progress.{Progress}
+use Rattle.rv_watch.proofs.RunReports.{NoneStops-push, progress-bounded, progress_of-push, steps_of-push}
+use Rattle.rv_watch.proofs.RunStops.{is_stop}
 
 -- what one more cycle reported comes last
 pub reports_of-push : (moments : List Moment) (last : Moment) →

@@ -1,17 +1,13 @@
 -- What is counted of the cycles of a run is what their reports say, with each cycle that comes.
-use Rattle.rv_core.proofs.Words.{◌≡◌, ℕ, ◌+◌, ◌-◌, ◌≤◌, take, drop, subst, lines_at, Lines, IsGuidedCycle, IsCommitStop}
-use Rattle.rv_core.proofs.Words.{IsNextCycle, report_with, max, Bool, cond, not, List, [], ◌∷◌, ◌++◌, length, ◌==◌}
-use Rattle.rv_core.proofs.Words.{None, Option, sym, refl, ap, ◌∙◌, append_assoc, append-nil, arith, length-append}
-use Rattle.rv_core.proofs.Words.{Arrival, Report, NoneStops, busy_of, counted_stall, is_silent, longest_gap_from}
-use Rattle.rv_core.proofs.Words.{stalls_from, stalls_of, steps_of, count_by-le-length, GuidedCycles, GuidedHardware}
-use Rattle.rv_core.proofs.Words.{guided_ended as ended, Stall, StallCounts, Step, IsBounded, last_stall_of}
-use Rattle.rv_core.proofs.Words.{progress_after, progress_of, silence_after, silence_from, IsRun, Progress}
-use Rattle.std.proofs.Math.Seq.{drop-append_seam}
-use Rattle.std.proofs.lemmas.List.{take_all}
+use Rattle.rv_hardware.proofs.Words.{◌≡◌, ℕ, ◌+◌, ◌≤◌, max, Bool, cond, not, List, [], ◌∷◌, ◌++◌, length, ◌==◌, None}
+use Rattle.rv_hardware.proofs.Words.{Option, sym, refl, ap, ◌∙◌, append_assoc, append-nil, arith, length-append}
+use Rattle.rv_hardware.proofs.Words.{Report, NoneStops, busy_of, counted_stall, is_silent, longest_gap_from}
+use Rattle.rv_hardware.proofs.Words.{stalls_from, stalls_of, steps_of}
+use Rattle.std.proofs.lemmas.List.Sums.{count_by-le-length, sum_by_push}
+use Rattle.rv_hardware.specs.declared.report.Stall.{Stall}
+use Rattle.rv_hardware.specs.declared.report.StallCounts.{StallCounts}
+use Rattle.rv_watch.specs.Progress.{IsBounded, last_stall_of, progress_after, progress_of, silence_after, silence_from}
 use Rattle.rv_hardware.specs.Report.{count_of}
-use Rattle.rv_core.specs.Told.{AppendsCycle}
-use Rattle.rv_core.specs.declared.outcome.CycleEnd.{CycleEnd}
-use Rattle.std.proofs.lemmas.List.Sums.{sum_by_push}
 
 -- ---- each count, with one more report at the end
 
@@ -93,51 +89,3 @@ progress-bounded rs = record {
 pub NoneStops-push : (rs : List Report) (r : Report) → NoneStops rs → r.stop ≡ None → NoneStops (rs ++ r ∷ [])
 NoneStops-push [] r none is = (is, tt)
 NoneStops-push (x ∷ rs) r none is = (none.0, NoneStops-push rs r none.1 is)
-
-module _ (arrivals : List Arrival) where
-  -- what is reported of cycles whose counts these are
-  pub run_of_cycles : (old now : GuidedHardware) (reports : List Report) (progress : Progress) (steps : List Step) →
-      GuidedCycles arrivals old reports now → progress ≡ progress_of reports → steps ≡ steps_of reports
-      → IsRun arrivals old now reports steps progress.stalls progress.busy progress.cycles progress.longest_gap
-  run_of_cycles old now reports progress steps goes counted listed = record {
-    cycled = goes;
-    steps_are = listed;
-    stalls_are = ap (λ (p : Progress). p.stalls) counted;
-    busy_is = ap (λ (p : Progress). p.busy) counted;
-    cycles_are = ap (λ (p : Progress). p.cycles) counted;
-    longest_gap_is = ap (λ (p : Progress). p.longest_gap) counted;
-  }
-
-  -- what is reported of no cycle
-  pub run_of_none : (h : GuidedHardware) (progress : Progress) (steps : List Step) → progress ≡ progress_of [] →
-      steps ≡ [] →
-      IsRun arrivals h h [] steps progress.stalls progress.busy progress.cycles progress.longest_gap
-  run_of_none h progress steps counts none = run_of_cycles h h [] progress steps ended counts none
-
--- ---- a cycle of a run
-
--- the steps after those that were there before
-pub listed_after : (old new steps : List Step) (before : ℕ) → before ≡ length old → new ≡ old ++ steps →
-    take (length new - before) (drop before new) ≡ steps
-listed_after old new steps before is appended =
-    rw (is, appended, drop-append_seam old steps)
-    (take_all (length (old ++ steps) - length old) steps (omega (arith, length-append old steps)))
-
-pub before_within : (old new steps : List Step) (before : ℕ) → before ≡ length old → new ≡ old ++ steps → before ≤ length new
-before_within old new steps before is appended = omega (arith, is, ap length appended, length-append old steps)
-
--- a cycle that was counted with the lines of its number is the run's next
-pub next_cycle : {arrivals : List Arrival} {old new : GuidedHardware} {steps steps' : List Step} {progress progress' : Progress}
-    (lines : Lines) (end : CycleEnd) (done : AppendsCycle lines old new steps steps' end) →
-    lines ≡ lines_at arrivals old.hardware.cycle → IsCommitStop end.stop →
-    progress' ≡ progress_after (report_with done.0 end) progress →
-    IsNextCycle arrivals old new steps steps' progress progress' end.stop
-next_cycle {old = old} {new = new} lines end done are reason counts = record {
-  report = report_with done.0 end;
-  cycle = subst (λ l. IsGuidedCycle l old (report_with done.0 end) new) are done.3;
-  few = done.2;
-  steps_are = done.1;
-  counted = counts;
-  stop_is = refl;
-  reason = reason;
-}

@@ -1,14 +1,14 @@
 -- The counts of a run after some cycles.
-use Rattle.std.specs.Prelude.{◌≡◌, ℕ, ◌+◌, ◌≤◌, max, ◌==◌, Bool, if◌then◌else◌, List, [], ◌∷◌, ◌++◌, length, Option, None}
+use Rattle.std.specs.Prelude.{◌≡◌, ℕ, ◌+◌, ◌≤◌, max, ◌==◌, Bool, if◌then◌else◌, List, [], ◌∷◌, ◌++◌, length, Option, Some, None}
 use Rattle.rv_isa.specs.Arrivals.{lines_at}
 use Rattle.rv_isa.specs.declared.lines.Arrival.{Arrival}
 use Rattle.rv_arch.specs.declared.outcome.Stop.{Stop}
+use Rattle.rv_arch.specs.declared.outcome.Stop.TheVariants.{Breakpoint, Stale, Limit, Exhausted}
 use Rattle.rv_hardware.specs.Guided.{GuidedHardware, IsGuidedCycle}
 use Rattle.rv_hardware.specs.Report.{Report, count_of}
 use Rattle.rv_hardware.specs.Run.{busy_of, counted_stall, is_silent, longest_gap_of, stalls_of}
 use Rattle.rv_hardware.specs.declared.{report.Stall.Stall, step.Step.Step}
-use Rattle.rv_core.specs.Told.{IsCommitStop}
-use Rattle.rv_core.specs.declared.outcome.Progress.{Progress}
+use Rattle.rv_watch.specs.declared.progress.Progress.{Progress}
 
 -- the cycles since the last step, with one more
 abbrev pub silence_after : Bool → ℕ → ℕ
@@ -46,6 +46,14 @@ progress_after report progress = record {
   silent = silence_after (is_silent report.steps) progress.silent;
   longest_gap = max progress.longest_gap (silence_after (is_silent report.steps) progress.silent);
 }
+
+-- why a commit stops a run, if it does: a breakpoint, or a stale word
+abbrev pub IsCommitStop : Option Stop → Type 0
+IsCommitStop None = Unit {0}
+IsCommitStop (Some Breakpoint) = Unit {0}
+IsCommitStop (Some (Stale pc)) = Unit {0}
+IsCommitStop (Some Limit) = ⊥
+IsCommitStop (Some Exhausted) = ⊥
 
 -- one more cycle of a run, with the lines of its number: its steps stand after those before, and it is counted
 pub record IsNextCycle (arrivals : List Arrival) (old new : GuidedHardware) (steps steps' : List Step) (progress progress' : Progress) (stop : Option Stop) : Type 0 where

@@ -13,8 +13,8 @@ use Rattle.rv_hardware.specs.History.{History, Moment, reports_of}
 use Rattle.rv_hardware.specs.Report.{Report}
 use Rattle.rv_hardware.specs.Run.{IsStop, NoneStops, Reachable, steps_of}
 use Rattle.rv_hardware.specs.declared.step.Step.{Step}
-use Rattle.rv_core.specs.Progress.{progress_of}
-use Rattle.rv_core.specs.declared.outcome.Progress.{Progress}
+use Rattle.rv_watch.specs.Progress.{progress_of}
+use Rattle.rv_watch.specs.declared.progress.Progress.{Progress}
 
 -- what there was to see so far: cycles one after another, from some hardware on
 pub record Watched : Type 0 where

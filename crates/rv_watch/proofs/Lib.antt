@@ -1,0 +1,3 @@
+pub mod RunReports
+pub mod Shown
+pub mod RunStops
