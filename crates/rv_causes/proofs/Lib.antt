@@ -4,6 +4,7 @@ mod AllLeft
 mod Backwards
 mod Brought
 pub mod Caused
+mod Counted
 mod Cycles
 mod Drains
 mod EventLists
@@ -15,9 +16,11 @@ mod Lookups
 mod Meetings
 mod Moves
 mod News
+mod NoHolds
 mod Nothing
 mod Passing
 mod Queued
+mod StoreWords
 pub mod Unmarked
 mod Waits
 pub mod Walks

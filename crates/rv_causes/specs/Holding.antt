@@ -4,11 +4,13 @@ use Rattle.std.specs.Option.{option_or, unwrap_or}
 use Rattle.rv_isa.specs.Instruction.{kind_of_word}
 use Rattle.rv_isa.specs.PerKind.{at_kind}
 use Rattle.rv_isa.specs.declared.{issues.Issue.Issue, operations.Kind.Kind, values.Values.Values}
+use Rattle.rv_passage.specs.Result.{issued_in}
 use Rattle.rv_passage.specs.declared.passage.Passage.{Passage}
 use Rattle.rv_causes.specs.Event.{Wait, again_by, waits}
 use Rattle.rv_causes.specs.Leaving.{lines_event}
 use Rattle.rv_causes.specs.Lookup.{Journey, first_of}
 use Rattle.rv_causes.specs.Setting.{Setting, after_port, last_left, made}
+use Rattle.rv_causes.specs.Sought.{is_at}
 use Rattle.rv_causes.specs.WaitingStores.{oldest}
 use Rattle.rv_causes.specs.declared.{before.DrainHold.DrainHold, before.Facts.Facts, before.Holder.Holder, before.PortHold.PortHold}
 use Rattle.rv_causes.specs.declared.{before.UnitHold.UnitHold, event.Event.Event, leaving.Leaving.Leaving, way.Way.Way}
@@ -103,6 +105,14 @@ unfoldable pub hold_of : ℕ → Values → Passage → Way → Option Issue →
 hold_of number values p w None = []
 hold_of number values p w (Some issue) =
     if issue.cycle == number then hold_of_kind values p w issue (kind_of_word p.instruction) else []
+
+-- an instruction is issued in the cycle, and its unit is not pipelined
+abbrev pub is_held : Values → Option Kind → Bool
+is_held values None = false
+is_held values (Some kind) = not (at_kind kind values.kinds).pipelined
+
+abbrev pub begins_hold : ℕ → Values → Passage → Bool
+begins_hold number values p = is_at number (issued_in p) && is_held values (kind_of_word p.instruction)
 
 -- those that begin in the cycle
 abbrev pub new_holds : ℕ → Values → List Passage → List Way → List UnitHold

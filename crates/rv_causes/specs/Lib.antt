@@ -3,6 +3,7 @@ pub mod Point
 pub mod Claims
 pub mod Event
 pub mod Causes
+pub mod Census
 pub mod Way
 pub mod Walk
 pub mod Account

@@ -68,6 +68,7 @@ pub(crate) struct Claim {
 }
 
 impl Stages {
+    #[inline(always)]
     fn has(self, stage: Stage) -> bool
         ensures { result ≡ has_stage self stage }
     {
@@ -103,6 +104,7 @@ impl Stages {
 }
 
 impl When {
+    #[inline(always)]
     fn is(self, first: u64, second: u64) -> bool
         ensures { result ≡ comes self first second }
     {
@@ -115,6 +117,7 @@ impl When {
 }
 
 impl Whose {
+    #[inline(always)]
     fn is(self, waited: &Point, waits: &Point) -> bool
         ensures { result ≡ is_of self waited.now waits.now }
     {
@@ -132,6 +135,7 @@ impl Whose {
 }
 
 impl Claim {
+    #[inline(always)]
     fn new(waits: Stages, waited: Stages, when: When, whose: Whose) -> Claim
         ensures { result ≡ claim waits waited when whose }
     {
@@ -143,126 +147,160 @@ impl Claim {
         }
     }
 
-    /// That of a cause.
-    pub(crate) fn of(cause: Cause) -> Claim
-        ensures { result ≡ claim_of cause }
-    {
-        match cause {
-            Cause::BeforeFirst => Claim::new(
-                Stages::Any,
-                Stages::Begin,
-                When::NotBefore,
-                Whose::Any,
-            ),
-            Cause::AfterLast => Claim::new(Stages::End, Stages::Left, When::NotBefore, Whose::Any),
-            Cause::RefillPrediction
-            | Cause::RefillTrap
-            | Cause::RefillInterrupt
-            | Cause::RefillSerialising => Claim::new(
-                Stages::Fetched,
-                Stages::Any,
-                When::NotBefore,
-                Whose::Any,
-            ),
-            Cause::FetchWidth | Cause::FetchJump => Claim::new(
-                Stages::Fetch,
-                Stages::Fetched,
-                When::CycleAfter,
-                Whose::Older,
-            ),
-            Cause::FrontEnd => Claim::new(
-                Stages::Dispatch,
-                Stages::Fetched,
-                When::CycleAfter,
-                Whose::Own,
-            ),
-            Cause::DispatchWidth => Claim::new(
-                Stages::Dispatch,
-                Stages::Dispatched,
-                When::CycleAfter,
-                Whose::Older,
-            ),
-            Cause::StoreQueueFull => Claim::new(
-                Stages::Dispatch,
-                Stages::Draining,
-                When::Later,
-                Whose::Any,
-            ),
-            Cause::DispatchToIssue => Claim::new(
-                Stages::Issue,
-                Stages::Dispatched,
-                When::CycleAfter,
-                Whose::Own,
-            ),
-            Cause::Operand | Cause::StoreAddress => Claim::new(
-                Stages::Issue,
-                Stages::Broadcast,
-                When::CycleAfter,
-                Whose::Older,
-            ),
-            Cause::AluBusy | Cause::MulBusy | Cause::DivBusy | Cause::MemBusy => Claim::new(
-                Stages::Issue,
-                Stages::Issue,
-                When::Later,
-                Whose::Another,
-            ),
-            Cause::PortStore => Claim::new(Stages::Port, Stages::Draining, When::Later, Whose::Any),
-            Cause::PortLoad => Claim::new(Stages::Port, Stages::Issue, When::Later, Whose::Any),
-            Cause::PortLines => Claim::new(Stages::Port, Stages::Writing, When::Later, Whose::Any),
-            Cause::AluExecution
-            | Cause::MulExecution
-            | Cause::DivExecution
-            | Cause::MemExecution
-            | Cause::LoadForwarded
-            | Cause::LoadHit
-            | Cause::LoadMiss => Claim::new(
-                Stages::Broadcast,
-                Stages::Issue,
-                When::Later,
-                Whose::Same,
-            ),
-            Cause::BusFull => Claim::new(
-                Stages::Broadcast,
-                Stages::Broadcast,
-                When::CycleAfter,
-                Whose::Another,
-            ),
-            Cause::Commit => Claim::new(Stages::Head, Stages::Known, When::CycleAfter, Whose::Own),
-            Cause::CommitInOrder => Claim::new(
-                Stages::Head,
-                Stages::Commit,
-                When::CycleAfter,
-                Whose::Older,
-            ),
-            Cause::CommitWidth => Claim::new(
-                Stages::Commit,
-                Stages::Commit,
-                When::CycleAfter,
-                Whose::Older,
-            ),
-            Cause::LinesWritten => Claim::new(
-                Stages::Commit,
-                Stages::Writing,
-                When::Later,
-                Whose::Own,
-            ),
-            Cause::UntilInterrupt => Claim::new(
-                Stages::Interrupt,
-                Stages::Left,
-                When::Later,
-                Whose::Any,
-            ),
-            Cause::Other => Claim::new(Stages::Any, Stages::Any, When::NotBefore, Whose::Any),
-        }
-    }
-
-    /// Whether it is so of two events, after so many cycles each.
-    pub(crate) fn is_so(self, waited: &Point, first: u64, waits: &Point, second: u64) -> bool
+    // Whether it is so of two events, after so many cycles each.
+    #[inline(always)]
+    fn is_so(self, waited: &Point, first: u64, waits: &Point, second: u64) -> bool
         ensures { result ≡ is_so self waited.now first waits.now second }
     {
         self.waits.has(waits.stage)
             && self.waited.has(waited.stage)
             && self.when.is(first, second)
             && self.whose.is(waited, waits)
+    }
+}
+
+/// Whether what a cause says is so of two events, after so many cycles each. A claim stands where it is tested,
+/// so that none is made when it runs.
+#[inline(always)]
+pub(crate) fn is_so_of(cause: Cause, waited: &Point, first: u64, waits: &Point, second: u64) -> bool
+    ensures { result ≡ is_so (claim_of cause) waited.now first waits.now second }
+{
+    match cause {
+        Cause::BeforeFirst => Claim::new(
+            Stages::Any,
+            Stages::Begin,
+            When::NotBefore,
+            Whose::Any,
+        ).is_so(waited, first, waits, second),
+        Cause::AfterLast => Claim::new(
+            Stages::End,
+            Stages::Left,
+            When::NotBefore,
+            Whose::Any,
+        ).is_so(waited, first, waits, second),
+        Cause::RefillPrediction
+        | Cause::RefillTrap
+        | Cause::RefillInterrupt
+        | Cause::RefillSerialising => Claim::new(
+            Stages::Fetched,
+            Stages::Any,
+            When::NotBefore,
+            Whose::Any,
+        ).is_so(waited, first, waits, second),
+        Cause::FetchWidth | Cause::FetchJump => Claim::new(
+            Stages::Fetch,
+            Stages::Fetched,
+            When::CycleAfter,
+            Whose::Older,
+        )
+        .is_so(waited, first, waits, second),
+        Cause::FrontEnd => Claim::new(
+            Stages::Dispatch,
+            Stages::Fetched,
+            When::CycleAfter,
+            Whose::Own,
+        )
+        .is_so(waited, first, waits, second),
+        Cause::DispatchWidth => Claim::new(
+            Stages::Dispatch,
+            Stages::Dispatched,
+            When::CycleAfter,
+            Whose::Older,
+        )
+        .is_so(waited, first, waits, second),
+        Cause::StoreQueueFull => Claim::new(
+            Stages::Dispatch,
+            Stages::Draining,
+            When::Later,
+            Whose::Any,
+        ).is_so(waited, first, waits, second),
+        Cause::DispatchToIssue => Claim::new(
+            Stages::Issue,
+            Stages::Dispatched,
+            When::CycleAfter,
+            Whose::Own,
+        )
+        .is_so(waited, first, waits, second),
+        Cause::Operand | Cause::StoreAddress => Claim::new(
+            Stages::Issue,
+            Stages::Broadcast,
+            When::CycleAfter,
+            Whose::Older,
+        )
+        .is_so(waited, first, waits, second),
+        Cause::AluBusy | Cause::MulBusy | Cause::DivBusy | Cause::MemBusy => Claim::new(
+            Stages::Issue,
+            Stages::Issue,
+            When::Later,
+            Whose::Another,
+        ).is_so(waited, first, waits, second),
+        Cause::PortStore => Claim::new(
+            Stages::Port,
+            Stages::Draining,
+            When::Later,
+            Whose::Any,
+        ).is_so(waited, first, waits, second),
+        Cause::PortLoad => Claim::new(Stages::Port, Stages::Issue, When::Later, Whose::Any).is_so(
+            waited, first, waits, second,
+        ),
+        Cause::PortLines => Claim::new(
+            Stages::Port,
+            Stages::Writing,
+            When::Later,
+            Whose::Any,
+        ).is_so(waited, first, waits, second),
+        Cause::AluExecution
+        | Cause::MulExecution
+        | Cause::DivExecution
+        | Cause::MemExecution
+        | Cause::LoadForwarded
+        | Cause::LoadHit
+        | Cause::LoadMiss => Claim::new(
+            Stages::Broadcast,
+            Stages::Issue,
+            When::Later,
+            Whose::Same,
+        ).is_so(waited, first, waits, second),
+        Cause::BusFull => Claim::new(
+            Stages::Broadcast,
+            Stages::Broadcast,
+            When::CycleAfter,
+            Whose::Another,
+        )
+        .is_so(waited, first, waits, second),
+        Cause::Commit => Claim::new(
+            Stages::Head,
+            Stages::Known,
+            When::CycleAfter,
+            Whose::Own,
+        ).is_so(waited, first, waits, second),
+        Cause::CommitInOrder => Claim::new(
+            Stages::Head,
+            Stages::Commit,
+            When::CycleAfter,
+            Whose::Older,
+        ).is_so(waited, first, waits, second),
+        Cause::CommitWidth => Claim::new(
+            Stages::Commit,
+            Stages::Commit,
+            When::CycleAfter,
+            Whose::Older,
+        )
+        .is_so(waited, first, waits, second),
+        Cause::LinesWritten => Claim::new(
+            Stages::Commit,
+            Stages::Writing,
+            When::Later,
+            Whose::Own,
+        ).is_so(waited, first, waits, second),
+        Cause::UntilInterrupt => Claim::new(
+            Stages::Interrupt,
+            Stages::Left,
+            When::Later,
+            Whose::Any,
+        ).is_so(waited, first, waits, second),
+        Cause::Other => Claim::new(Stages::Any, Stages::Any, When::NotBefore, Whose::Any).is_so(
+            waited, first, waits, second,
+        ),
     }
 }

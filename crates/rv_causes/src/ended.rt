@@ -19,7 +19,7 @@ fn push_word(fetch: &Event, ways: &mut Vec<Way>)
     ensures few { length ways.new.items ≤ length ways.old.items + 1 }
     ensures capacity { vec_capacity ways.old ≤ vec_capacity ways.new }
 {
-    ways.push(Way::from(*fetch)).unwrap();
+    ways.push_reserved(Way::from(*fetch));
 }
 
 /// Appends so many that begin with one event, if there is one.
@@ -52,7 +52,7 @@ fn push_way(way: Option<&Way>, out: &mut Vec<Way>)
     ensures capacity { vec_capacity out.old ≤ vec_capacity out.new }
 {
     if let Some(way) = way {
-        out.push(*way).unwrap();
+        out.push_reserved(*way);
     }
 }
 

@@ -3,7 +3,7 @@ ghost use Rattle.std.specs.Option.{option_to_list};
 ghost use Rattle.rv_causes.specs.Event.{again, anew, ends_with, event_after, event_from, event_if, goes_on_through, named_after, refill_of, refill_past, refilled_after, waits};
 
 use crate::cause::Cause;
-use crate::claim::Claim;
+use crate::claim::is_so_of;
 use crate::point::{Point, Reason, Stage};
 use std::marker::Model;
 
@@ -57,6 +57,7 @@ impl<'a> Model for Anew<'a> {
 }
 
 // A refill goes on with the fetch and the dispatch of words.
+#[inline(always)]
 fn goes_on_through(stage: Stage) -> bool
     ensures { result ≡ goes_on_through stage }
 {
@@ -64,6 +65,7 @@ fn goes_on_through(stage: Stage) -> bool
 }
 
 // A wait of an issue or a commit may be one, too.
+#[inline(always)]
 fn ends_with(stage: Stage) -> bool
     ensures { result ≡ ends_with stage }
 {
@@ -90,11 +92,12 @@ impl Event {
     };
 
     // A reason to wait for this one, of one at a point after so many cycles: its cause is named where it is so of the two.
+    #[inline(always)]
     #[tactic(auto, unfolding(crate::specs::Event::named_after))]
     pub(crate) fn named(&self, at: Point, cycle: u64, reason: Reason) -> Reason
         ensures { result ≡ named_after self.now at cycle reason }
     {
-        let is = Claim::of(reason.cause).is_so(&self.at, self.cycle, &at, cycle);
+        let is = is_so_of(reason.cause, &self.at, self.cycle, &at, cycle);
         let cause = if is { reason.cause } else { Cause::Other };
         Reason { cause, ..reason }
     }
@@ -126,6 +129,7 @@ impl<'a> Waited<'a> {
     }
 
     // The refill in which it waited.
+    #[inline(always)]
     fn refill(&self) -> Option<Reason>
         ensures { result ≡ refill_of self.now }
     {
@@ -133,6 +137,7 @@ impl<'a> Waited<'a> {
     }
 
     // The one that goes on past it.
+    #[inline(always)]
     fn refill_past(&self, refilled: bool, stage: Stage) -> Option<Reason>
         ensures { result ≡ refill_past refilled stage self.now }
     {
@@ -210,7 +215,7 @@ pub(crate) fn push_event(event: &Option<Event>, events: &mut Vec<Event>)
     ensures capacity { vec_capacity events.old ≤ vec_capacity events.new }
 {
     if let Some(event) = event {
-        events.push(*event).unwrap();
+        events.push_reserved(*event);
     }
 }
 
@@ -223,6 +228,6 @@ pub(crate) fn push_event_if(is: bool, event: &Event, events: &mut Vec<Event>)
     ensures capacity { vec_capacity events.old ≤ vec_capacity events.new }
 {
     if is {
-        events.push(*event).unwrap();
+        events.push_reserved(*event);
     }
 }

@@ -1,8 +1,9 @@
 ghost use Rattle.std.specs.Prelude.{◌≡◌, ◌+◌, ◌<◌, ◌^◌, ◌≤◌, ◌++◌, None, if◌then◌else◌, filter, is_some, length, vec_capacity};
 ghost use Rattle.std.specs.Option.{option_or, option_to_list};
+ghost use Rattle.std.specs.List.{list_any};
 ghost use Rattle.rv_isa.specs.Instruction.{kind_of_word};
 ghost use Rattle.rv_causes.specs.Holding.{at_its_commit, drain_event, drain_kept, drain_of, drain_wait, ends_at, goes_beyond, hold_of, hold_of_kind};
-ghost use Rattle.rv_causes.specs.Holding.{is_begun, is_taken, lines_hold, load_hold, new_holds, port_event, port_kept, taken_by};
+ghost use Rattle.rv_causes.specs.Holding.{begins_hold, is_begun, is_held, is_taken, lines_hold, load_hold, new_holds, port_event, port_kept, taken_by};
 ghost use Rattle.rv_causes.specs.Setting.{setting_of};
 
 use crate::before::{DrainHold, Facts, Holder, PortHold, UnitHold};
@@ -11,9 +12,9 @@ use crate::event::{Event, Waited};
 use crate::leaving::{Leaving, lines_event};
 use crate::point::{Point, Stage};
 use crate::scene::{Scene, last_left};
-use crate::sought::{Sought, first_of};
+use crate::sought::{Sought, first_of, is_at};
 use crate::way::{Found, Way};
-use rv_isa::{Issue, Values};
+use rv_isa::{Issue, Kind, Values};
 use rv_passage::Passage;
 
 /// Whether the port was taken in the cycle.
@@ -167,7 +168,7 @@ fn push_hold(values: &Values, row: &Passage, way: &Way, issue: Issue, holds: &mu
             number: row.number,
             event: *way.issued(),
         };
-        holds.push(hold).unwrap();
+        holds.push_reserved(hold);
     }
 }
 
@@ -197,15 +198,9 @@ pub(crate) fn drop_ended(number: u64, holds: &mut Vec<UnitHold>)
     holds.retain(|hold| goes_beyond(number, hold));
 }
 
-/// Appends the holds of units that begin in a cycle.
+// Appends the holds of units that begin in a cycle with some instructions.
 #[tactic(auto, using(crate::proofs::Nothing::new_holds_nothing))]
-pub(crate) fn push_holds(
-    number: u64,
-    values: &Values,
-    rows: &[Passage],
-    ways: &[Way],
-    holds: &mut Vec<UnitHold>,
-)
+fn push_all(number: u64, values: &Values, rows: &[Passage], ways: &[Way], holds: &mut Vec<UnitHold>)
     requires cycles { number < 2 ^ 40 }
     requires room { length holds.old.items + length rows.now ≤ vec_capacity holds.old }
     ensures items { holds.new.items ≡ holds.old.items ++ new_holds number values.now rows.now ways.now }
@@ -218,7 +213,51 @@ pub(crate) fn push_holds(
         return;
     };
     push_begun(number, values, row, way, holds);
-    push_holds(number, values, other_rows, other_ways, holds);
+    push_all(number, values, other_rows, other_ways, holds);
+}
+
+// Whether the units of a kind are not pipelined, if there is one.
+fn is_held(values: &Values, kind: Option<Kind>) -> bool
+    ensures { result ≡ is_held values.now kind }
+{
+    match kind {
+        Some(kind) => !values.kinds.get(kind).pipelined,
+        None => false,
+    }
+}
+
+// Whether an instruction begins to hold a unit in a cycle.
+#[inline(always)]
+fn begins_hold(number: u64, values: &Values, row: &Passage) -> bool
+    ensures { result ≡ begins_hold number values.now row.now }
+{
+    is_at(number, row.issued()) && is_held(values, row.instruction.kind())
+}
+
+// Whether one of some instructions does.
+#[inline(always)]
+fn any_begins_hold(number: u64, values: &Values, rows: &[Passage]) -> bool
+    ensures { result ≡ list_any (begins_hold number values.now) rows.now }
+{
+    rows.iter().any(|row| begins_hold(number, values, row))
+}
+
+/// Appends the holds of units that begin in a cycle: mostly none does.
+pub(crate) fn push_holds(
+    number: u64,
+    values: &Values,
+    rows: &[Passage],
+    ways: &[Way],
+    holds: &mut Vec<UnitHold>,
+)
+    requires cycles { number < 2 ^ 40 }
+    requires room { length holds.old.items + length rows.now ≤ vec_capacity holds.old }
+    ensures items { holds.new.items ≡ holds.old.items ++ new_holds number values.now rows.now ways.now }
+    ensures capacity { vec_capacity holds.old ≤ vec_capacity holds.new }
+{
+    if any_begins_hold(number, values, rows) {
+        push_all(number, values, rows, ways, holds);
+    }
 }
 
 /// The event from which the port is held, but for a load's, which is its issue.

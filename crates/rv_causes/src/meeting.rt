@@ -31,7 +31,7 @@ pub(crate) fn walk(events: &[Event], wanted: Option<Point>, path: &mut Vec<Event
         front -= 1;
         let event = &events[front];
         if is_wanted(wanted, event) {
-            path.push(*event).unwrap();
+            path.push_reserved(*event);
             wanted = event.before;
         }
     }
@@ -45,7 +45,7 @@ fn push_before(before: Option<Point>, wanted: &mut Vec<Point>)
     ensures capacity { vec_capacity wanted.old ≤ vec_capacity wanted.new }
 {
     if let Some(point) = before {
-        wanted.push(point).unwrap();
+        wanted.push_reserved(point);
     }
 }
 

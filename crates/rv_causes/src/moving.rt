@@ -1,18 +1,20 @@
-ghost use Rattle.std.specs.Prelude.{◌≡◌, ◌+◌, ◌++◌, ◌≤◌, [], ◌∷◌, length, vec_capacity};
+ghost use Rattle.std.specs.Prelude.{◌≡◌, ◌+◌, ◌++◌, ◌≤◌, [], ◌∷◌, Some, length, vec_capacity};
+ghost use Rattle.std.specs.Option.{option_or};
+ghost use Rattle.rv_isa.specs.Instruction.{kind_of_word};
+ghost use Rattle.rv_causes.specs.Census.{buffered_in, dispatched_before, stationed_in};
 ghost use Rattle.rv_causes.specs.Moving.{advance_of, advances, advances_at, after_previous, after_width, all_moved};
 ghost use Rattle.rv_causes.specs.Moving.{all_new, dispatch_wait, issue_of, moved_at, new_at, room_by_drain};
 ghost use Rattle.rv_causes.specs.Moving.{room_by_issue, room_by_leaving, room_for};
 ghost use Rattle.rv_causes.specs.Setting.{setting_of};
 
 use crate::cause::Cause;
+use crate::census::{Census, census_of};
 use crate::event::{Event, Waited, push_event_if};
 use crate::issuing::{broadcast_wait, issue_wait};
 use crate::leaving::Leaving;
 use crate::point::Stage;
 use crate::scene::Scene;
-use crate::sought::{
-    Sought, are_as_many, comes_after, first_of, is_at, is_just_before, one_before,
-};
+use crate::sought::{Sought, comes_after, first_of, is_at, is_just_before, one_before};
 use crate::way::{Found, Way};
 use rv_isa::Kind;
 use rv_passage::Passage;
@@ -33,14 +35,18 @@ impl<'a> Model for Advance<'a> {
     ghost view = { λ advance. record { stage = advance.stage; waited = advance.waited } };
 }
 
-fn room_by_leaving<'a>(scene: &Scene<'_>, leaving: &'a Leaving) -> Option<Waited<'a>>
+fn room_by_leaving<'a>(
+    scene: &Scene<'_>,
+    leaving: &'a Leaving,
+    buffered: usize,
+) -> Option<Waited<'a>>
+    requires buffered { buffered ≡ buffered_in scene.now.number scene.now.rows.now }
     ensures { result ≡ room_by_leaving (setting_of scene.now) leaving.now }
 {
     let Some(event) = &leaving.first else {
         return None;
     };
-    let sought = Sought::Buffered(scene.number);
-    if are_as_many(sought, scene.rows, scene.values.rob as usize) {
+    if buffered == scene.values.rob as usize {
         Some(Waited::again(event))
     } else {
         None
@@ -56,21 +62,34 @@ fn issue_of<'a>(found: Option<Found<'a>>) -> Option<Waited<'a>>
     }
 }
 
+fn room_of_kind<'a>(
+    scene: &'a Scene<'_>,
+    ways: &'a [Way],
+    kind: Kind,
+    stationed: usize,
+) -> Option<Waited<'a>>
+    requires stationed { stationed ≡ stationed_in (Some kind) scene.now.number scene.now.rows.now }
+    ensures { result ≡ room_by_issue (setting_of scene.now) ways.now (Some kind) }
+{
+    if stationed != scene.values.kinds.get(kind).stations as usize {
+        return None;
+    }
+    issue_of(first_of(Sought::IssuedIn(kind, scene.number), scene.rows, ways))
+}
+
 fn room_by_issue<'a>(
     scene: &'a Scene<'_>,
     ways: &'a [Way],
     kind: Option<Kind>,
+    stationed: usize,
 ) -> Option<Waited<'a>>
+    requires stationed { stationed ≡ stationed_in kind scene.now.number scene.now.rows.now }
     ensures { result ≡ room_by_issue (setting_of scene.now) ways.now kind }
 {
-    let Some(kind) = kind else {
-        return None;
-    };
-    let stations = scene.values.kinds.get(kind).stations as usize;
-    if !are_as_many(Sought::Stationed(kind, scene.number), scene.rows, stations) {
-        return None;
+    match kind {
+        Some(kind) => room_of_kind(scene, ways, kind, stationed),
+        None => None,
     }
-    issue_of(first_of(Sought::IssuedIn(kind, scene.number), scene.rows, ways))
 }
 
 fn room_by_drain<'a>(scene: &'a Scene<'_>) -> Option<Waited<'a>>
@@ -83,29 +102,34 @@ fn room_by_drain<'a>(scene: &'a Scene<'_>) -> Option<Waited<'a>>
     }
 }
 
+#[inline(always)]
 fn room_for<'a>(
     scene: &'a Scene<'_>,
     ways: &'a [Way],
     leaving: &'a Leaving,
     row: &Passage,
+    census: &Census,
 ) -> Option<Waited<'a>>
+    requires buffered { census.now.buffered ≡ buffered_in scene.now.number scene.now.rows.now }
+    requires stationed { census.now.stationed
+        ≡ stationed_in (kind_of_word row.now.instruction) scene.now.number scene.now.rows.now }
     ensures { result ≡ room_for (setting_of scene.now) ways.now leaving.now row.now }
 {
-    if let Some(event) = room_by_leaving(scene, leaving) {
+    if let Some(event) = room_by_leaving(scene, leaving, census.buffered) {
         return Some(event);
     }
-    if let Some(event) = room_by_issue(scene, ways, row.instruction.kind()) {
+    if let Some(event) = room_by_issue(scene, ways, row.instruction.kind(), census.stationed) {
         return Some(event);
     }
     room_by_drain(scene)
 }
 
-fn after_width<'a>(scene: &'a Scene<'_>, last: &Found<'a>) -> Option<Waited<'a>>
+fn after_width<'a>(scene: &Scene<'_>, last: &Found<'a>, dispatched: usize) -> Option<Waited<'a>>
+    requires dispatched { dispatched ≡ dispatched_before scene.now.number scene.now.rows.now }
     ensures { result ≡ after_width (setting_of scene.now) last.now }
 {
-    let sought = Sought::DispatchedBefore(scene.number);
     if is_just_before(scene.number, last.row().dispatched)
-        && are_as_many(sought, scene.rows, scene.values.dispatch_width as usize)
+        && dispatched == scene.values.dispatch_width as usize
     {
         Some(Waited::after(last.way().dispatched(), Cause::DispatchWidth))
     } else {
@@ -113,16 +137,43 @@ fn after_width<'a>(scene: &'a Scene<'_>, last: &Found<'a>) -> Option<Waited<'a>>
     }
 }
 
-fn after_previous<'a>(scene: &'a Scene<'_>, last: Option<Found<'a>>) -> Option<Waited<'a>>
-    ensures { result ≡ after_previous (setting_of scene.now) last.entry }
+// What a word waited for that was not just fetched, and was not dispatched with the one before it.
+fn after_another<'a>(
+    scene: &'a Scene<'_>,
+    ways: &'a [Way],
+    leaving: &'a Leaving,
+    row: &Passage,
+    last: &Found<'a>,
+) -> Option<Waited<'a>>
+    ensures { result ≡ option_or (after_width (setting_of scene.now) last.now)
+        (room_for (setting_of scene.now) ways.now leaving.now row.now) }
 {
-    match last {
-        Some(last) if is_at(scene.number, last.row().dispatched) => {
-            Some(Waited::again(last.way().dispatched()))
-        }
-        Some(last) => after_width(scene, &last),
-        None => None,
+    let census = census_of(scene.number, row.instruction.kind(), scene.rows);
+    match after_width(scene, last, census.dispatched) {
+        Some(waited) => Some(waited),
+        None => room_for(scene, ways, leaving, row, &census),
     }
+}
+
+// The same after the one before it, if there is one.
+fn after_last<'a>(
+    scene: &'a Scene<'_>,
+    ways: &'a [Way],
+    leaving: &'a Leaving,
+    row: &Passage,
+    last: Option<Found<'a>>,
+) -> Option<Waited<'a>>
+    ensures { result ≡ option_or (after_previous (setting_of scene.now) last.entry)
+        (room_for (setting_of scene.now) ways.now leaving.now row.now) }
+{
+    let Some(last) = last else {
+        let census = census_of(scene.number, row.instruction.kind(), scene.rows);
+        return room_for(scene, ways, leaving, row, &census);
+    };
+    if is_at(scene.number, last.row().dispatched) {
+        return Some(Waited::again(last.way().dispatched()));
+    }
+    after_another(scene, ways, leaving, row, &last)
 }
 
 // What a word waited for that is dispatched, after the one before it as that stands by then.
@@ -139,10 +190,8 @@ fn dispatch_wait<'a>(
     if comes_after(row.fetched, scene.number) {
         return Waited::after(&way.fetch, Cause::FrontEnd);
     }
-    if let Some(event) = after_previous(scene, one_before(place, scene.rows, ways)) {
-        return event;
-    }
-    match room_for(scene, ways, leaving, row) {
+    let last = one_before(place, scene.rows, ways);
+    match after_last(scene, ways, leaving, row, last) {
         Some(waited) => waited,
         None => Waited::after(&way.fetch, Cause::Other),
     }

@@ -27,7 +27,7 @@ fn push_numbers(rows: &[Passage], numbers: &mut Vec<u64>)
     ensures capacity { vec_capacity numbers.old ≤ vec_capacity numbers.new }
 {
     if let [row, others @ ..] = rows {
-        numbers.push(row.number).unwrap();
+        numbers.push_reserved(row.number);
         push_numbers(others, numbers);
     }
 }
@@ -41,7 +41,7 @@ fn push_in_flight(rows: &[Passage], numbers: &mut Vec<u64>)
 {
     if let [row, others @ ..] = rows {
         if row.is_in_flight() {
-            numbers.push(row.number).unwrap();
+            numbers.push_reserved(row.number);
         }
         push_in_flight(others, numbers);
     }

@@ -50,11 +50,12 @@ pub struct Point {
 }
 
 impl Point {
-    /// Whether two are the same event.
+    /// Whether two are the same event. Mostly their numbers differ.
+    #[inline(always)]
     pub(crate) fn is(&self, other: &Point) -> bool
         ensures { result ≡ is_point self.now other.now }
     {
-        self.stage.place() == other.stage.place() && self.number == other.number
+        self.number == other.number && self.stage.place() == other.stage.place()
     }
 }
 

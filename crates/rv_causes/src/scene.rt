@@ -61,6 +61,7 @@ impl<'a> Scene<'a> {
     ghost use Rattle.rv_causes.specs.Setting.{after_drain_at, after_drain_before, after_leaving, after_port, after_stores, is_hold_of, left_before, made, made_of, new_of, port_ended, setting_of};
 
     /// The event of the cycle at a point, of an address, by what it waited for.
+    #[inline(never)]
     pub(crate) fn made(&self, at: Point, address: Option<u32>, waited: &Waited<'_>) -> Event
         ensures { result ≡ made (setting_of self.now) at address waited.now }
     {

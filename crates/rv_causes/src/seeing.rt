@@ -160,7 +160,7 @@ fn see_anew(
     ensures capacity { vec_capacity events.old ≤ vec_capacity events.new }
 {
     let event = scene.fetched_anew(first, waited);
-    events.push(event).unwrap();
+    events.push_reserved(event);
     *fetch = Some(event);
 }
 

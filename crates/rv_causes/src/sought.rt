@@ -70,7 +70,7 @@ pub(crate) fn is_just_before(cycle: u64, stamp: Option<u64>) -> bool
 }
 
 #[inline(always)]
-fn is_before(cycle: u64, stamp: Option<u64>) -> bool
+pub(crate) fn is_before(cycle: u64, stamp: Option<u64>) -> bool
     ensures { result ≡ is_before cycle stamp }
 {
     match stamp {
@@ -103,7 +103,7 @@ pub(crate) fn is_end(ending: Ending) -> bool
     matches!(ending, Ending::Retired { .. } | Ending::Trapped { .. })
 }
 
-fn uses(kind: Kind, row: &Passage) -> bool
+pub(crate) fn uses(kind: Kind, row: &Passage) -> bool
     ensures { result ≡ uses kind row.now }
 {
     match row.instruction.kind() {

@@ -1,4 +1,6 @@
 ghost use Rattle.std.specs.Prelude.{◌≡◌, [], option_copied};
+ghost use Rattle.rv_isa.specs.Instruction.{is_store};
+ghost use Rattle.rv_decode.specs.Decodes.{instruction_of};
 ghost use Rattle.rv_causes.specs.WaitingStores.{entered, oldest, still_waiting, store_in, with_queue, with_queued, with_retired, with_steps};
 
 use crate::before::is_waiting;
@@ -8,12 +10,25 @@ use rv_hardware::Step;
 use rv_stores::{Store, StoreQueue};
 use std::marker::Model;
 
+// Unprivileged ISA 20191213, 24: the opcode of stores.
+const STORE: u32 = 0b010_0011;
+
+// Whether the instruction of a word is a store. A word with another opcode is not decoded: most are no stores.
+fn is_store_word(word: u32) -> bool
+    ensures { result ≡ is_store (instruction_of word) }
+{
+    if word & 0x7f != STORE {
+        return false;
+    }
+    Decoded::of(word).is_store()
+}
+
 // The address of the store that retires in a step, if one does.
 fn store_in(step: &Step) -> Option<u32>
     ensures { result ≡ store_in step.now }
 {
     match step {
-        Step::Retired(row) if Decoded::of(row.word).is_store() => Some(row.pc),
+        Step::Retired(row) if is_store_word(row.word) => Some(row.pc),
         _ => None,
     }
 }

@@ -80,7 +80,7 @@ impl Window {
         ensures new { Passes self.old event.before → Passes self.new (Some event.at) }
         ensures room { (more : ℕ) → HasRoomForEvents (more + 1) self.old → HasRoomForEvents more self.new }
     {
-        self.events.push(event).unwrap();
+        self.events.push_reserved(event);
     }
 
     // Makes the account that of the path to a point, of so many of the oldest events, with room for a word more. The only error is out of
