@@ -130,6 +130,7 @@ fn dispatch_in(cycle: u64, values: &Values, rob: &Rob, front: &Front) -> Dispatc
 
 /// The places of a cycle of a described machine, by its number, how many instructions were in the reorder buffer before it, its
 /// steps, and the buffers that it left.
+#[inline(always)]
 pub fn places_by(
     values: &Values,
     cycle: u64,

@@ -36,14 +36,7 @@ fn write_written<W: Write>(out: &mut Sink<'_, W>, register: Reg, word: u32)
     ensures { Says W.contents out.old out.new (written_text (Some (register, word))) }
 {
     let name = register_name(register);
-    if name.len() <= 8 {
-        write_named(out, u64::from(register.number()), name, word)
-    } else {
-        write_numbered(out, b"retired, x", u64::from(register.number()), b" (");
-        out.put(name);
-        out.put(b") = ");
-        out.put(hexadecimal(word).as_slice())
-    }
+    write_named(out, u64::from(register.number()), name, word)
 }
 
 #[tactic(auto, using(crate::proofs::AfterNumber::numbering), unfolding(crate::specs::Details::written_text))]

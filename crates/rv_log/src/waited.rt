@@ -7,7 +7,7 @@ ghost use Rattle.rv_text.specs.Said.{Says};
 use crate::numbered::{number_before, put_before, say, write_numbered};
 use crate::wait::{Awaited, Wait, bus_wait, dispatch_wait, head_wait, issue_wait, result_wait};
 use itoa::Buffer;
-use rv_drawing::{put_result, unit_name};
+use rv_drawing::unit_name;
 use rv_isa::Reg;
 use rv_passage::{Passage, register_name};
 use rv_text::{Sink, hexadecimal};
@@ -52,11 +52,7 @@ fn write_result<W: Write>(out: &mut Sink<'_, W>, register: Reg, pc: u32)
     ensures { Says W.contents out.old out.new (result_text register pc) }
 {
     let name = register_name(register);
-    if name.len() <= 8 {
-        write_named(out, u64::from(register.number()), name, pc)
-    } else {
-        put_result(out, register, pc)
-    }
+    write_named(out, u64::from(register.number()), name, pc)
 }
 
 // Writes the name of the result or the unit that is awaited.

@@ -34,7 +34,9 @@ impl Table {
         self.follow_as(cycle, steps, rob, front, pc, RowsAre::Current);
     }
 
-    // The same of a table whose rows may be said to be current.
+    // The same of a table whose rows may be said to be current. It stands in both with all that it calls for each row, so
+    // that none of that asks which they are.
+    #[inline(always)]
     fn follow_as(
         &mut self,
         cycle: u64,
@@ -56,6 +58,7 @@ impl Table {
     }
 
     // The same where there is room after the rows for a cycle, but for the count of those in flight.
+    #[inline(always)]
     fn follow_in_space(
         &mut self,
         cycle: u64,

@@ -30,6 +30,7 @@ pub(crate) fn trap_kept(rows: &mut [Passage], dropped: usize, cause: Cause, cycl
 }
 
 // The rows after the dropped ones go on through a cycle, as `move_on` says.
+#[inline(always)]
 pub(crate) fn move_kept_on(
     rows: &mut [Passage],
     dropped: usize,

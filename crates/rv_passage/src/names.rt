@@ -1,4 +1,4 @@
-ghost use Rattle.std.specs.Prelude.{◌≡◌, ◌<◌, [], get_or, length, map};
+ghost use Rattle.std.specs.Prelude.{◌≡◌, ◌≤◌, ◌<◌, [], get_or, length, map};
 ghost use Rattle.rv_passage.specs.Names.{register_name};
 
 use rv_isa::Reg;
@@ -20,7 +20,8 @@ fn name_at(names: &[&'static [u8]], place: usize) -> &'static [u8]
 
 /// The name of a register in the calling convention, such as `sp`.
 pub fn register_name(register: Reg) -> &'static [u8]
-    ensures { result.now ≡ register_name register }
+    ensures name { result.now ≡ register_name register }
+    ensures short { length result.now ≤ 4 }
 {
     name_at(&NAMES, usize::from(register.number()))
 }

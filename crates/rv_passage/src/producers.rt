@@ -221,6 +221,7 @@ impl Passage {
     }
 
     // It has come so far.
+    #[inline(always)]
     fn reach(&mut self, stage: &Stage)
         ensures { self.new ≡ record self.old { issue = issue_of stage.now; broadcast = broadcast_of stage.now } }
     {
@@ -259,6 +260,7 @@ impl Passage {
     }
 
     // The same of one that is still what it was, but for its dispatch, its issue and its broadcast.
+    #[inline(always)]
     pub(crate) fn stand_on_as_entry(&mut self, older: &[Passage], entry: &Entry)
         requires { IsStill self.old (of_entry entry.now) }
         ensures { self.new ≡ standing_at older.now (of_entry entry.now) self.old }

@@ -67,6 +67,7 @@ pub(crate) fn trap_oldest(rows: &mut [Passage], cause: Cause, cycle: u64)
 
 // An instruction in flight goes on as an entry, if there is one that was fetched before the cycle, or was squashed in
 // it. Answers whether it went on. Of a row that is current only what may be new is written.
+#[inline(always)]
 fn go_on_as_entry(
     row: &mut Passage,
     older: &[Passage],
@@ -95,6 +96,7 @@ fn go_on_as_entry(
 }
 
 // The same as a word in the fetch buffer.
+#[inline(always)]
 fn go_on_as_fetched(
     row: &mut Passage,
     older: &[Passage],
@@ -123,6 +125,7 @@ fn go_on_as_fetched(
 }
 
 // The same as the one at a place of those in flight.
+#[inline(always)]
 fn go_on(
     row: &mut Passage,
     older: &[Passage],
@@ -148,6 +151,7 @@ fn go_on(
 
 // What comes after the older ones is moved on to a cycle's end, where what is in flight from a place on is for it and
 // those after it. Answers from which place on it is for those after it.
+#[inline(always)]
 fn move_next(
     row: &mut Passage,
     older: &[Passage],
@@ -176,6 +180,7 @@ fn move_next(
 }
 
 // The same of the one at a place.
+#[inline(always)]
 fn move_at(
     rows: &mut [Passage],
     place: usize,
@@ -203,6 +208,7 @@ fn move_at(
 
 // What was in flight before a cycle goes on as it stands at the cycle's end, or was squashed in it. Answers the place
 // of the first that was fetched in the cycle, among those in flight.
+#[inline(always)]
 pub(crate) fn move_on(
     rows: &mut [Passage],
     cycle: u64,

@@ -158,6 +158,7 @@ impl Table {
     }
 
     // What was in flight before a cycle goes on, or was squashed in it.
+    #[inline(always)]
     pub(crate) fn move_rows_on(
         &mut self,
         cycle: u64,

@@ -132,7 +132,8 @@ fn station_stay(
     }
 }
 
-// Why one stays that was dispatched, and whose result was not broadcast before.
+// Why one stays that was dispatched, and whose result was not broadcast before. What was not issued has no result that
+// could wait for the bus.
 #[inline(always)]
 fn open_stay(
     cycle: u64,
@@ -143,19 +144,13 @@ fn open_stay(
 ) -> Stay
     ensures { result ≡ open_stay cycle has_unit (have_addresses cycle has_addresses older.now) passage.now }
 {
-    if passage.waits_for_bus(cycle) {
+    if passage.issue.is_none() {
+        let kind = passage.instruction.kind();
+        station_stay(cycle, has_unit, has_addresses, older, kind, passage)
+    } else if passage.waits_for_bus(cycle) {
         Stay::Bus
-    } else if passage.issue.is_some() {
-        Stay::Execution
     } else {
-        station_stay(
-            cycle,
-            has_unit,
-            has_addresses,
-            older,
-            passage.instruction.kind(),
-            passage,
-        )
+        Stay::Execution
     }
 }
 

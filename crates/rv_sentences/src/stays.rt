@@ -159,6 +159,7 @@ fn add_stays_from(
 /// Adds why some instructions stay in flight in a cycle, in order of fetch, and counts the cycle at the word that the oldest of them
 /// awaits that wait for an operand, if one does: whether a unit of loads and stores is free in the cycle, and all stores before them
 /// have their addresses.
+#[inline(never)]
 pub fn add_stays(
     stays: &mut Stays,
     awaited: &mut WordNotes<u64>,
