@@ -1,9 +1,11 @@
 mod Words
+mod CountedRun
 mod Guiding
 mod Issued
 mod Loads
 mod Phases
 mod Retired
 mod RunCycles
+mod Taken
 mod Ties
 mod TrueRun

@@ -16,6 +16,8 @@ use Rattle.rv_hardware.specs.Step.{is_breakpoint}
 use Rattle.rv_hardware.specs.declared.step.Step.{Step}
 use Rattle.rv_core.specs.declared.head.{CsrAccess.CsrAccess, HeadTurn.HeadTurn, Role.Role}
 use Rattle.rv_core.specs.declared.head.HeadTurn.TheVariants.{GoesOn, Ends}
+use Rattle.rv_core.specs.Steps.{Takes}
+use Rattle.rv_core.specs.declared.steps.Steps.{Steps}
 use Rattle.rv_core.specs.declared.head.Role.TheVariants as role
 
 -- the phase so far, where nothing has stopped the run
@@ -25,6 +27,11 @@ committing h steps = record { hardware = h; steps = steps; stop = None }
 -- a breakpoint stops the run
 abbrev pub stop_with : Step → Option Stop
 stop_with step = if is_breakpoint step then Some stop.Breakpoint else None
+
+-- the step of a turn, if it took one
+abbrev pub step_told : Option Step → List Step
+step_told None = []
+step_told (Some step) = step ∷ []
 
 -- the steps with one more, if there is one
 abbrev pub and_step : List Step → Option Step → List Step
@@ -55,12 +62,12 @@ lessons_left (Some step) next = lesson_of step next
 abbrev pub IsHead : Hardware → Entry → Type 0
 IsHead h e = (younger : List Entry) × (h.rob.entries ≡ e ∷ younger)
 
--- a turn of the commit phase: the step that it took, if it took one, is appended, and taught to the predictor
-pub record IsTurn (old new : Hardware) (before after : List Step) (taught learned : Guide)
+-- a turn of the commit phase: the step that it took, if it took one, is taken, and taught to the predictor
+pub record IsTurn (old new : Hardware) (before after : Steps) (taught learned : Guide)
     (turn : HeadTurn) : Type 0 where
   pub told : Option Step
   pub left : (steps : List Step) → commit_turn set.contains (committing old steps) ≡ turn_left new steps told turn
-  pub appended : after ≡ and_step before told
+  pub taken : Takes before after (step_told told)
   pub learns : AreTaught taught (lessons_left told new.pc) learned
 
 -- what no turn changes, and how far the count of retired instructions comes

@@ -1,5 +1,5 @@
 -- What a cycle reports, and what a turn of a phase leaves, by what it returns.
-use Rattle.std.specs.Prelude.{◌≡◌, ℕ, ◌+◌, List, [], ◌∷◌, ◌++◌, ◌≤◌, length, Option, Some, None, IfSome}
+use Rattle.std.specs.Prelude.{◌≡◌, ℕ, ◌+◌, List, [], ◌∷◌, ◌≤◌, length, Option, Some, None, IfSome}
 use Rattle.rv_isa.specs.declared.lines.Lines.{Lines}
 use Rattle.rv_arch.specs.Due.{due}
 use Rattle.rv_arch.specs.State.{State}
@@ -12,7 +12,9 @@ use Rattle.rv_hardware.specs.Repeated.{Turn, GoesOn, Ends}
 use Rattle.rv_hardware.specs.Report.{Report}
 use Rattle.rv_hardware.specs.declared.{report.Stall.Stall, step.Step.Step}
 use Rattle.rv_hardware.specs.declared.step.Step.TheVariants.{Interrupt}
+use Rattle.rv_core.specs.Steps.{Takes}
 use Rattle.rv_core.specs.declared.outcome.{CycleEnd.CycleEnd, CycleReport.CycleReport}
+use Rattle.rv_core.specs.declared.steps.Steps.{Steps}
 
 -- the dispatch phase once so many instructions were dispatched
 abbrev pub dispatching : Hardware → ℕ → Dispatching
@@ -28,10 +30,10 @@ dispatch_told (Some reason) h dispatched =
 abbrev pub report_with : List Step → CycleEnd → Report
 report_with steps end = record { steps = steps; dispatched = end.dispatched; stall = end.stall; stop = end.stop }
 
--- a cycle led from the one hardware to the other, and its steps, eight at most, stand after those before it
-abbrev pub AppendsCycle : Lines → GuidedHardware → GuidedHardware → List Step → List Step → CycleEnd → Type 0
-AppendsCycle lines old new before after end =
-    (steps : List Step) × (after ≡ before ++ steps) × (length steps ≤ 8) × IsGuidedCycle lines old (report_with steps end) new
+-- a cycle led from the one hardware to the other, and its steps, eight at most, were taken
+abbrev pub TakesCycle : Lines → GuidedHardware → GuidedHardware → Steps → Steps → CycleEnd → Type 0
+TakesCycle lines old new before after end =
+    (steps : List Step) × Takes before after steps × (length steps ≤ 8) × IsGuidedCycle lines old (report_with steps end) new
 
 -- what a cycle of a pipeline reports
 abbrev pub report_of_cycle : CycleReport → Report

@@ -1,4 +1,4 @@
-ghost use Rattle.std.specs.Prelude.{◌≡◌, ◌≢◌, ◌+◌, ◌*◌, ◌<◌, ◌≤◌, ◌++◌, ◌∷◌, ℕ, [], None, Some, IfSome, IsTrue, false, vec_len, vec_capacity};
+ghost use Rattle.std.specs.Prelude.{◌≡◌, ◌≢◌, ◌+◌, ◌*◌, ◌<◌, ◌≤◌, ◌++◌, [], ℕ, None, Some, IfSome, IsTrue, false};
 ghost use Rattle.std.specs.Option.{option_map};
 ghost use Rattle.std.specs.FinSet as set;
 ghost use Rattle.rv_isa.specs.Cause.{code_of};
@@ -14,13 +14,15 @@ ghost use Rattle.rv_hardware.specs.Commit.{commit};
 ghost use Rattle.rv_hardware.specs.InFlight.{broadcast_of};
 ghost use Rattle.rv_hardware.specs.Retirement.{row_of, stale_after, with_result};
 ghost use Rattle.rv_hardware.specs.Squash.{with_trap};
-ghost use Rattle.rv_core.specs.HeadTurn.{IsHead, IsKept, IsTurn, and_step, lessons_left, stop_after, stop_with};
+ghost use Rattle.rv_core.specs.HeadTurn.{IsHead, IsKept, IsTurn, lessons_left, step_told, stop_after, stop_with};
 ghost use Rattle.rv_hardware.specs.Lessons.{lesson_of, lessons_of};
 ghost use Rattle.rv_core.specs.Reached.{IsBegun};
 ghost use Rattle.rv_core.specs.Retiring.{registers_with, with_commit, without_target};
+ghost use Rattle.rv_core.specs.Steps.{HasRoom, Takes};
 
-use crate::head::{HeadTurn, message_of, row_of, waits_for_result};
+use crate::head::{HeadTurn, message_of, waits_for_result};
 use crate::parts::Parts;
+use crate::steps::Steps;
 use rv_arch::Stop;
 use rv_front::Predictor;
 use rv_hardware::Step;
@@ -72,20 +74,19 @@ impl Parts {
     pub(crate) fn commit(
         &mut self,
         predictor: &mut dyn Predictor,
-        steps: &mut Vec<Step>,
+        steps: &mut Steps,
     ) -> Option<Stop>
         requires numbers { self.old.rob.retired ≤ 8 * self.old.cycle }
-        requires room { vec_len steps.old + 8 ≤ vec_capacity steps.old }
+        requires room { HasRoom steps.old 8 }
         requires reached { IsBegun self.old }
         ensures hardware { self.new ≡ (commit set.contains self.old).hardware }
-        ensures steps { steps.new.items ≡ steps.old.items ++ (commit set.contains self.old).steps }
+        ensures steps { Takes steps.old steps.new (commit set.contains self.old).steps }
         ensures stop { result ≡ (commit set.contains self.old).stop }
-        ensures capacity { vec_capacity steps.new ≡ vec_capacity steps.old }
         ensures taught { AreTaught (known predictor.old) (lessons_of (commit set.contains self.old).steps self.new.pc) (known predictor.new) }
     {
         if let Some(code) = self.due_interrupt() {
             let step = self.interrupt(INTERRUPT + code);
-            append(steps, step);
+            steps.take(step);
             return None;
         }
         for _ in 0..self.values.commit_width {
@@ -141,13 +142,12 @@ impl Parts {
         Some(step)
     }
 
-    // One turn: the head, if there is one. Its step is appended, and the predictor learns from it.
-    fn commit_head(&mut self, predictor: &mut dyn Predictor, steps: &mut Vec<Step>) -> HeadTurn
+    // One turn: the head, if there is one. Its step is taken, and the predictor learns from it.
+    fn commit_head(&mut self, predictor: &mut dyn Predictor, steps: &mut Steps) -> HeadTurn
         requires retired { self.old.rob.retired < 8 * self.old.cycle + 8 }
-        requires room { vec_len steps.old < vec_capacity steps.old }
-        ensures turn { IsTurn self.old self.new steps.old.items steps.new.items (known predictor.old) (known predictor.new) result }
+        requires room { HasRoom steps.old 1 }
+        ensures turn { IsTurn self.old self.new steps.old steps.new (known predictor.old) (known predictor.new) result }
         ensures kept { IsKept self.old self.new }
-        ensures capacity { vec_capacity steps.new ≡ vec_capacity steps.old }
     {
         let Some(head) = self.rob.head() else {
             return HeadTurn::Ends(None);
@@ -167,14 +167,13 @@ impl Parts {
     }
 
     // An instruction whose result is known traps by its fault, if it has one, or retires.
-    fn finish_head(&mut self, predictor: &mut dyn Predictor, steps: &mut Vec<Step>) -> HeadTurn
+    fn finish_head(&mut self, predictor: &mut dyn Predictor, steps: &mut Steps) -> HeadTurn
         requires retired { self.old.rob.retired < 8 * self.old.cycle + 8 }
-        requires room { vec_len steps.old < vec_capacity steps.old }
+        requires room { HasRoom steps.old 1 }
         requires fresh { (e : EntryOf) → IsHead self.old e → set.contains self.old.stale (word_of e.pc) ≡ false }
         requires plain { (e : EntryOf) → IsHead self.old e → is_serialising e.instruction ≡ false }
-        ensures turn { IsTurn self.old self.new steps.old.items steps.new.items (known predictor.old) (known predictor.new) result }
+        ensures turn { IsTurn self.old self.new steps.old steps.new (known predictor.old) (known predictor.new) result }
         ensures kept { IsKept self.old self.new }
-        ensures capacity { vec_capacity steps.new ≡ vec_capacity steps.old }
     {
         let Some(head) = self.rob.head() else {
             return HeadTurn::Ends(None);
@@ -188,10 +187,7 @@ impl Parts {
             return end_with(predictor, steps, &step, self.pc);
         }
         let target = entry.instruction.target();
-        append(
-            steps,
-            row_of(&entry, written_by(target, message.value), self.cycle),
-        );
+        steps.take_row(head, target, message.value, self.cycle);
         predictor.learn(entry.pc, entry.word.unwrap_or(0), message.next_pc);
         self.retire(&entry, &message, &target);
         if message.next_pc == entry.predicted_next {
@@ -218,35 +214,24 @@ impl Parts {
     }
 }
 
-// Appends the step that ends the phase, if there is one, and teaches the predictor where the program goes on after it.
+// Takes the step that ends the phase, if there is one, and teaches the predictor where the program goes on after it.
 fn end_with(
     predictor: &mut dyn Predictor,
-    steps: &mut Vec<Step>,
+    steps: &mut Steps,
     step: &Option<Step>,
     next: u32,
 ) -> HeadTurn
-    requires { vec_len steps.old < vec_capacity steps.old }
+    requires { HasRoom steps.old 1 }
     ensures end { result ≡ HeadTurn.Ends (stop_after step.now) }
-    ensures items { steps.new.items ≡ and_step steps.old.items step.now }
+    ensures taken { Takes steps.old steps.new (step_told step.now) }
     ensures taught { AreTaught (known predictor.old) (lessons_left step.now next) (known predictor.new) }
-    ensures capacity { vec_capacity steps.new ≡ vec_capacity steps.old }
 {
     let Some(step) = *step else {
         return HeadTurn::Ends(None);
     };
     teach(predictor, &step, next);
-    append(steps, step);
+    steps.take(step);
     HeadTurn::Ends(stop_with(&step))
-}
-
-// The write of a value to an instruction's target, if it has one.
-fn written_by(target: Option<Reg>, value: u32) -> Option<(Reg, u32)>
-    ensures { result ≡ option_map (λ (register : ℕ). (register, value)) target }
-{
-    match target {
-        Some(register) => Some((register, value)),
-        None => None,
-    }
 }
 
 // Why the run stops with a step: a trap with cause 3 is a breakpoint.
@@ -267,13 +252,4 @@ fn teach(predictor: &mut dyn Predictor, step: &Step, next: u32)
     if let Step::Retired(row) = step {
         predictor.learn(row.pc, row.word, next);
     }
-}
-
-// Over any type, since at `Step` itself the checker has no proof for a push.
-fn append<T: Copy>(items: &mut Vec<T>, item: T)
-    requires { vec_len items.old < vec_capacity items.old }
-    ensures items { items.new.items ≡ items.old.items ++ item ∷ [] }
-    ensures capacity { vec_capacity items.new ≡ vec_capacity items.old }
-{
-    items.push_reserved(item);
 }

@@ -1,16 +1,21 @@
-ghost use Rattle.std.specs.Prelude.{◌≡◌, ◌+◌, ◌^◌, ◌<◌, ◌≤◌, vec_len, vec_capacity, List, IfOk};
+ghost use Rattle.std.specs.Prelude.{◌≡◌, ◌+◌, ◌^◌, ◌<◌, ◌≤◌, vec_capacity, List, IfOk};
 ghost use Rattle.rv_isa.specs.declared.lines.Arrival.{Arrival};
 ghost use Rattle.rv_hardware.specs.Guided.{GuidedHardware, guided};
 ghost use Rattle.rv_hardware.specs.Headline.{IsTrueStop};
 ghost use Rattle.rv_hardware.specs.Seen.{layout_of, seen};
-ghost use Rattle.rv_watch.specs.Progress.{IsBounded, IsNextCycle, progress_after};
+ghost use Rattle.rv_watch.specs.Progress.{IsBounded, progress_after};
+ghost use Rattle.rv_core.specs.Taking.{TakesNextCycle};
 ghost use Rattle.rv_core.specs.RunDone.{IsDone, KeepsItsPromise};
+ghost use Rattle.rv_core.specs.Steps.{HasRoom};
 ghost use Rattle.rv_core.specs.Told.{report_with};
+ghost use Rattle.rv_hardware.specs.Run.{is_silent as has_no_step};
+ghost use Rattle.rv_hardware.specs.declared.step.Step.{Step as StepOf};
 
 use crate::collector::Collector;
 use crate::errors::OutOfMemory;
 use crate::outcome::{CycleEnd, Outcome};
 use crate::pipeline::Pipeline;
+use crate::steps::Steps;
 use crate::watching::watch;
 use rv_arch::Stop;
 use rv_front::Predictor;
@@ -99,33 +104,34 @@ fn collect(
     }
 }
 
-/// Does one more cycle of a run, with the lines of its number and guided by a predictor, appends its steps to a list that
+/// Does one more cycle of a run, with the lines of its number and guided by a predictor, whose steps are taken by what
 /// has room for eight, and counts it. Takes no memory. Returns why the run stops with this cycle, if it does.
 pub(crate) fn run_cycle(
     progress: &mut Progress,
     pipeline: &mut Pipeline,
     predictor: &mut dyn Predictor,
     arrivals: &Arrivals,
-    steps: &mut Vec<Step>,
+    steps: &mut Steps,
 ) -> Option<Stop>
     requires exhausted { pipeline.old.cycle < 2 ^ 40 }
-    requires room { vec_len steps.old + 8 ≤ vec_capacity steps.old }
+    requires room { HasRoom steps.old 8 }
     requires bounded { IsBounded progress.old }
     requires countable { progress.old.cycles < 18446744073709551615 }
-    ensures cycle { IsNextCycle arrivals.now (guided pipeline.old (known predictor.old)) (guided pipeline.new (known predictor.new)) steps.old.items steps.new.items progress.old progress.new result }
-    ensures capacity { vec_capacity steps.new ≡ vec_capacity steps.old }
+    ensures { TakesNextCycle arrivals.now (guided pipeline.old (known predictor.old))
+        (guided pipeline.new (known predictor.new)) steps.old steps.new progress.old progress.new result }
 {
-    let before = steps.len();
+    let before = steps.count;
     let end = pipeline.advance(predictor, arrivals.at(pipeline.cycles_done()), steps);
-    count(progress, &steps.as_slice()[before..], &end);
+    count(progress, steps.count == before, &end);
     end.stop
 }
 
-// Counts one more cycle, which had these steps.
-fn count(progress: &mut Progress, steps: &[Step], end: &CycleEnd)
+// Counts one more cycle, which had a step, or was silent.
+fn count(progress: &mut Progress, is_silent: bool, end: &CycleEnd)
     requires bounded { IsBounded progress.old }
     requires countable { progress.old.cycles < 18446744073709551615 }
-    ensures { progress.new ≡ progress_after (report_with steps.now end.now) progress.old }
+    ensures { (steps : List StepOf) → has_no_step steps ≡ is_silent →
+        progress.new ≡ progress_after (report_with steps end.now) progress.old }
 {
     progress.cycles += 1;
     if end.dispatched > 0 {
@@ -135,11 +141,7 @@ fn count(progress: &mut Progress, steps: &[Step], end: &CycleEnd)
         progress.stalls.count(stall);
     }
     progress.stall = end.stall;
-    progress.silent = if steps.is_empty() {
-        progress.silent + 1
-    } else {
-        0
-    };
+    progress.silent = if is_silent { progress.silent + 1 } else { 0 };
     progress.longest_gap = progress.longest_gap.max(progress.silent);
 }
 

@@ -6,6 +6,7 @@
 mod broadcast;
 mod collector;
 mod commit;
+mod counting;
 mod cycles;
 mod dispatch;
 mod drain;
@@ -20,8 +21,10 @@ mod parts;
 mod pipeline;
 mod serialising;
 mod simulated;
+mod steps;
 mod watching;
 
+pub use counting::{Counted, count_run};
 pub use cycles::run;
 pub use errors::{NewError, OutOfMemory};
 pub use outcome::{CycleReport, Outcome};

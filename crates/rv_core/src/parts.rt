@@ -1,4 +1,4 @@
-ghost use Rattle.std.specs.Prelude.{◌≡◌, ◌+◌, ◌*◌, ◌^◌, ◌≤◌, ◌<◌, filter, length, vec_len, vec_capacity, nat_le, ◌⊎◌, Ok, Err, IfOk, IfErr};
+ghost use Rattle.std.specs.Prelude.{◌≡◌, ◌+◌, ◌*◌, ◌^◌, ◌≤◌, ◌<◌, filter, length, nat_le, ◌⊎◌, Ok, Err, IfOk, IfErr};
 ghost use Rattle.rv_isa.specs.PerKind.{for_each};
 ghost use Rattle.rv_front.specs.FetchBuffer.{FetchesInto};
 ghost use Rattle.rv_front.specs.Guide.{answers_of};
@@ -12,13 +12,14 @@ ghost use Rattle.rv_hardware.specs.Run.{Reachable};
 ghost use Rattle.rv_hardware.specs.Reset.{reset_hardware};
 ghost use Rattle.rv_hardware.specs.Squash.{flushed};
 ghost use Rattle.rv_watch.specs.Progress.{IsCommitStop};
-ghost use Rattle.rv_core.specs.Told.{AppendsCycle};
+ghost use Rattle.rv_core.specs.Steps.{HasRoom};
+ghost use Rattle.rv_core.specs.Told.{TakesCycle};
 
 use crate::outcome::CycleEnd;
+use crate::steps::Steps;
 use rv_arch::Csrs;
 use rv_cache::Cache;
 use rv_front::{FetchStop, Front, Predictor};
-use rv_hardware::Step;
 use rv_isa::{Description, Image, Lines, Values};
 use rv_memory::{Ram, StaleMap};
 use rv_rename::RenameMap;
@@ -121,16 +122,15 @@ impl Parts {
         &mut self,
         lines: Lines,
         predictor: &mut dyn Predictor,
-        steps: &mut Vec<Step>,
+        steps: &mut Steps,
     ) -> CycleEnd
         requires cycles { self.old.cycle < 2 ^ 40 }
         requires numbers { self.old.rob.retired ≤ 8 * self.old.cycle }
-        requires room { vec_len steps.old + 8 ≤ vec_capacity steps.old }
+        requires room { HasRoom steps.old 8 }
         requires reached { Reachable self.old }
-        ensures cycle { AppendsCycle lines (guided self.old (known predictor.old)) (guided self.new (known predictor.new)) steps.old.items steps.new.items result }
+        ensures cycle { TakesCycle lines (guided self.old (known predictor.old)) (guided self.new (known predictor.new)) steps.old steps.new result }
         ensures stop { IsCommitStop result.stop }
         ensures numbers { self.new.rob.retired ≤ 8 * self.new.cycle }
-        ensures capacity { vec_capacity steps.new ≡ vec_capacity steps.old }
     {
         let cycle = self.cycle;
         self.lines = lines;

@@ -1,17 +1,19 @@
-ghost use Rattle.std.specs.Prelude.{◌≡◌, ◌+◌, ◌^◌, ◌<◌, ◌≤◌, ◌↔◌, ◌==◌, false, None, is_some, length, nat_le, vec_len, vec_capacity, IsTrue, IfOk, IfErr};
+ghost use Rattle.std.specs.Prelude.{◌≡◌, ◌+◌, ◌^◌, ◌<◌, ◌≤◌, ◌↔◌, ◌==◌, false, None, is_some, length, nat_le, IsTrue, IfOk, IfErr};
 ghost use Rattle.rv_isa.specs.Description.{IsLegal};
 ghost use Rattle.rv_hardware.specs.Guided.{IsGuidedCycle, guided};
 ghost use Rattle.rv_hardware.specs.Headline.{IsTrueCycle};
 ghost use Rattle.rv_hardware.specs.Run.{Reachable};
 ghost use Rattle.rv_hardware.specs.Reset.{IsLoadable, reset_hardware};
 ghost use Rattle.rv_hardware.specs.Seen.{layout_of, seen};
-ghost use Rattle.rv_core.specs.Told.{AppendsCycle, TakesDue, exhausted_report, report_of_cycle};
+ghost use Rattle.rv_core.specs.Steps.{HasRoom};
+ghost use Rattle.rv_core.specs.Told.{TakesCycle, TakesDue, exhausted_report, report_of_cycle};
 ghost use Rattle.rv_watch.specs.Progress.{IsCommitStop};
 ghost use Rattle.rv_core.specs.declared.errors.NewError.TheVariants as refusal;
 
 use crate::errors::NewError;
 use crate::outcome::{CycleEnd, CycleReport};
 use crate::parts::Parts;
+use crate::steps::Steps;
 use arrayvec::ArrayVec;
 use rv_arch::Stop;
 use rv_front::Predictor;
@@ -31,7 +33,7 @@ pub struct Pipeline {
     // In a box, so that each owner drops it by one call.
     parts: Box<Parts>,
     // The steps of a cycle, with room for as many as can retire.
-    steps: Vec<Step>,
+    steps: Steps,
 }
 
 impl Model for Pipeline {
@@ -44,10 +46,9 @@ impl Model for Pipeline {
 
     ghost view = { λ pipeline. pipeline.parts.value };
 
-    ghost use Rattle.std.specs.Prelude.{vec_capacity};
     ghost use Rattle.rv_core.specs.Reached.{IsReached};
 
-    ghost invariant = { λ pipeline. IsReached pipeline.parts.value (vec_capacity pipeline.steps) };
+    ghost invariant = { λ pipeline. IsReached pipeline.parts.value pipeline.steps };
 }
 
 impl Pipeline {
@@ -71,8 +72,11 @@ impl Pipeline {
             return Err(NewError::ImageDoesNotFit);
         }
         let parts = Parts::new(alloc, description, image)?;
-        let steps = Vec::with_capacity(alloc, 8)?;
-        Ok(Pipeline { parts, steps })
+        let list = Vec::with_capacity(alloc, 8)?;
+        Ok(Pipeline {
+            parts,
+            steps: Steps::listing(list),
+        })
     }
 
     /// Does one cycle with these levels of the interrupt lines, guided by this predictor, and takes no memory. A pipeline
@@ -111,18 +115,17 @@ impl Pipeline {
         }
     }
 
-    /// Does one cycle, and appends its steps to a list that has room for eight.
+    /// Does one cycle, whose steps are taken by what has room for eight.
     pub(crate) fn advance(
         &mut self,
         predictor: &mut dyn Predictor,
         lines: Lines,
-        steps: &mut Vec<Step>,
+        steps: &mut Steps,
     ) -> CycleEnd
         requires cycles { self.old.cycle < 2 ^ 40 }
-        requires room { vec_len steps.old + 8 ≤ vec_capacity steps.old }
+        requires room { HasRoom steps.old 8 }
         ensures stop { IsCommitStop result.stop }
-        ensures cycle { AppendsCycle lines (guided self.old (known predictor.old)) (guided self.new (known predictor.new)) steps.old.items steps.new.items result }
-        ensures capacity { vec_capacity steps.new ≡ vec_capacity steps.old }
+        ensures cycle { TakesCycle lines (guided self.old (known predictor.old)) (guided self.new (known predictor.new)) steps.old steps.new result }
     {
         self.parts.advance(lines, predictor, steps)
     }

@@ -4,6 +4,7 @@ ghost use Rattle.rv_watch.specs.Watching.{HasSeenBegin, IsNextShown, IsWatchedRu
 
 use crate::cycles::run_cycle;
 use crate::pipeline::Pipeline;
+use crate::steps::Steps;
 use rv_arch::Stop;
 use rv_front::Predictor;
 use rv_hardware::Step;
@@ -54,7 +55,7 @@ pub(crate) fn watch<T: Watcher, W: Write>(
     requires ready { HasSeenBegin T.has_seen watcher.old arrivals.now (guided pipeline.old (known predictor.old)) (W.contents output.old) }
     ensures { IsWatchedRun T.has_seen arrivals.now limit (guided pipeline.old (known predictor.old)) (guided pipeline.new (known predictor.new)) result.progress result.stop watcher.old watcher.new (W.contents output.old) (W.contents output.new) }
 {
-    let mut steps = steps;
+    let mut steps = Steps::listing(steps);
     let mut progress = Progress::new();
     for _ in 0..limit {
         if pipeline.is_exhausted() {

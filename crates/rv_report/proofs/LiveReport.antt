@@ -9,6 +9,8 @@ use Rattle.rv_watch.specs.Progress.{progress_of}
 use Rattle.rv_watch.specs.Watching.{IsShown, Watched, with_shown}
 use Rattle.rv_watch.specs.declared.progress.Progress.{Progress}
 use Rattle.rv_watch.proofs.Shown.{cycles_shown, moments_counted, shown_steps-push}
+use Rattle.rv_core.specs.Counted.{IsCountedRun}
+use Rattle.rv_core.specs.declared.counting.Counted.{Counted}
 use Rattle.rv_hardware.specs.Guided.{GuidedHardware}
 use Rattle.rv_hardware.specs.Hardware.{Hardware}
 use Rattle.rv_hardware.specs.History.{History, Moment, reports_of}
@@ -67,15 +69,14 @@ pub said_to_the_end : {was failed : Bool} (before : Option (List ℕ)) {mid now 
 said_to_the_end before first is said extended = rw is at (extended.extends before first said)
 
 -- no step yet
-pub traced_nothing : (is_shown : Bool) (counts : StepCounts) (output : Option (List ℕ)) → (counts.retired ≡ 0) × ((counts.traps ≡ 0) × (counts.interrupts ≡ 0)) → HasTraced is_shown is_shown counts false [] output output
-traced_nothing is_shown counts output none = record {
-  same = refl;
+pub traced_nothing : (counts : StepCounts) (output : Option (List ℕ)) → (counts.retired ≡ 0) × ((counts.traps ≡ 0) × (counts.interrupts ≡ 0)) → HasTraced counts false [] output output
+traced_nothing counts output none = record {
   counted = λ i. record { retired = none.0 i; traps = none.1.0 i; interrupts = none.1.1 i };
-  trace = Appends-same output output _ _ (sym (trace_of-none is_shown)) (Appends-nothing output);
+  trace = Appends-same output output _ _ (sym (trace_of-none true)) (Appends-nothing output);
 }
 
 module _ {seen : Watched} {cycle : ℕ} {steps : List Step} {after : Hardware} {progress : Progress} (shown : IsShown seen cycle steps after progress)
-    {is_shown is_shown' : Bool} {counts : StepCounts} {failed : Bool} {before mid : Option (List ℕ)} (traced : HasTraced is_shown is_shown' counts failed seen.moments before mid) where
+    {counts : StepCounts} {failed : Bool} {before mid : Option (List ℕ)} (traced : HasTraced counts failed seen.moments before mid) where
   -- the steps of one more cycle can be counted
   pub room_for_more : HasRoom counts (length steps)
   room_for_more =
@@ -88,20 +89,19 @@ module _ {seen : Watched} {cycle : ℕ} {steps : List Step} {after : Hardware} {
       })
 
   -- one more cycle, whose steps are counted and written
-  pub traced_on : (is_shown'' : Bool) (counts' : StepCounts) (failed' : Bool) (now : Option (List ℕ)) → is_shown'' ≡ is_shown' → counts' ≡ both_counts counts (counts_of steps)
-      → IsSaid failed' before now (trace_of is_shown (steps_of (reports_of seen.moments)) ++ trace_of is_shown' steps) → HasTraced is_shown is_shown'' counts' failed' (with_shown seen shown).moments before now
-  traced_on is_shown'' counts' failed' now same counted wrote =
+  pub traced_on : (counts' : StepCounts) (failed' : Bool) (now : Option (List ℕ)) → counts' ≡ both_counts counts (counts_of steps)
+      → IsSaid failed' before now (trace_lines (steps_of (reports_of seen.moments)) ++ trace_lines steps) → HasTraced counts' failed' (with_shown seen shown).moments before now
+  traced_on counts' failed' now counted wrote =
       let so_far = steps_of (reports_of seen.moments) in
       let all : steps_of (reports_of (with_shown seen shown).moments) ≡ so_far ++ steps = shown_steps-push seen.moments _ ∙ ap (λ l. so_far ++ l) (sym shown.steps_are) in
       record {
-        same = same ∙ traced.same;
         counted = counted ∙ ap (λ c. both_counts c (counts_of steps)) traced.counted ∙ sym (ap counts_of all ∙ counts_of-append so_far steps);
-        trace = subst (IsSaid failed' before now) (ap (λ b. trace_of is_shown so_far ++ trace_of b steps) traced.same ∙ sym (ap (trace_of is_shown) all ∙ trace_of-append is_shown so_far steps)) wrote;
+        trace = subst (IsSaid failed' before now) (sym (ap trace_lines all ∙ trace_of-append true so_far steps)) wrote;
       }
 
 -- what a run came to whose cycles are traced
-pub traced_to_the_end : {arrivals : List Arrival} {options : Options} {old new : GuidedHardware} {moments : List Moment} {progress : Progress} {is_shown is_shown' : Bool} {counts : StepCounts} {failed : Bool} {before after : Option (List ℕ)} {stop : Stop} {totals : Totals}
-    → History arrivals old moments new → progress ≡ progress_of (reports_of moments) → IsStop options.limit (reports_of moments) new.hardware stop → is_shown ≡ options.trace → HasTraced is_shown is_shown' counts failed moments before after
+pub traced_to_the_end : {arrivals : List Arrival} {options : Options} {old new : GuidedHardware} {moments : List Moment} {progress : Progress} {counts : StepCounts} {failed : Bool} {before after : Option (List ℕ)} {stop : Stop} {totals : Totals}
+    → History arrivals old moments new → progress ≡ progress_of (reports_of moments) → IsStop options.limit (reports_of moments) new.hardware stop → true ≡ options.trace → HasTraced counts failed moments before after
     → totals ≡ totals_with progress counts stop → IsTraced arrivals options old new totals failed before after
 traced_to_the_end {moments = moments} {failed = failed} {before = before} {after = after} {stop = stop} passes counted stops shown traced is = rw is (record {
   reports = reports_of moments;
@@ -109,4 +109,15 @@ traced_to_the_end {moments = moments} {failed = failed} {before = before} {after
   stops = stops;
   totals_are = λ i. totals_with (counted i) (traced.counted i) stop;
   trace = subst (λ b. IsSaid failed before after (trace_of b (steps_of (reports_of moments)))) shown traced.trace;
+})
+
+-- what a run came to whose steps were counted, where no trace is asked for
+pub counted_to_the_end : {arrivals : List Arrival} {options : Options} {old new : GuidedHardware} {run : Counted} {totals : Totals} → IsCountedRun arrivals options.limit old new run → options.trace ≡ false
+    → totals ≡ totals_with run.progress (record { retired = run.retired; traps = run.traps; interrupts = run.interrupts }) run.stop → (output : Option (List ℕ)) → IsTraced arrivals options old new totals false output output
+counted_to_the_end {run = run} counted off is output = rw is (record {
+  reports = reports_of counted.moments;
+  cycles = cycles_shown counted.passes;
+  stops = counted.ends;
+  totals_are = λ i. totals_with (counted.progress i) (record { retired = counted.retired i; traps = counted.traps i; interrupts = counted.interrupts i }) run.stop;
+  trace = subst (λ b. IsSaid false output output (trace_of b (steps_of (reports_of counted.moments)))) (sym off) (Appends-nothing output);
 })

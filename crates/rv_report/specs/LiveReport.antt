@@ -8,17 +8,17 @@ use Rattle.rv_hardware.specs.History.{Moment, reports_of}
 use Rattle.rv_hardware.specs.Report.{Report}
 use Rattle.rv_hardware.specs.Run.{IsStop, steps_of}
 use Rattle.rv_hardware.specs.Seen.{layout_of, seen}
+use Rattle.rv_report.specs.Rows.{trace_lines}
 use Rattle.rv_report.specs.RunReport.{run_report, trace_of}
 use Rattle.rv_report.specs.Totals.{counts_of, totals_at}
 use Rattle.rv_text.specs.Said.{IsSaid}
 use Rattle.rv_text.specs.Written.{AppendsBeginning}
 use Rattle.rv_report.specs.declared.{options.Options.Options, totals.StepCounts.StepCounts, totals.Totals.Totals}
 
--- the steps of the cycles so far are counted, and their lines, where they are shown as they were at first, are said
-pub record HasTraced (is_shown is_shown' : Bool) (counts : StepCounts) (failed : Bool) (moments : List Moment) (before now : Option (List ℕ)) : Type 0 where
-  pub same : is_shown' ≡ is_shown
+-- the steps of the cycles so far are counted, and their lines are said
+pub record HasTraced (counts : StepCounts) (failed : Bool) (moments : List Moment) (before now : Option (List ℕ)) : Type 0 where
   pub counted : counts ≡ counts_of (steps_of (reports_of moments))
-  pub trace : IsSaid failed before now (trace_of is_shown (steps_of (reports_of moments)))
+  pub trace : IsSaid failed before now (trace_lines (steps_of (reports_of moments)))
 
 -- cycles that ended, with what they came to, and with their trace, where it is asked for, written
 pub record IsTraced (arrivals : List Arrival) (options : Options) (old new : GuidedHardware) (totals : Totals) (failed : Bool) (before after : Option (List ℕ)) : Type 0 where

@@ -33,7 +33,7 @@ fn write_stall_heads<W: Write>(out: &mut Sink<'_, W>)
     }
 }
 
-#[tactic(auto, using(rv_text::proofs::Saying::says_both), unfolding(crate::specs::Comparison::table_head))]
+// The names of the columns, but for those of what is shown besides.
 fn write_head<W: Write>(out: &mut Sink<'_, W>)
     ensures { Says W.contents out.old out.new table_head }
 {

@@ -1,4 +1,4 @@
-ghost use Rattle.std.specs.Prelude.{◌≤◌, vec_capacity};
+ghost use Rattle.std.specs.Prelude.{◌≡◌, ◌≤◌, ℕ, List, Option, true, false, vec_capacity};
 ghost use Rattle.rv_hardware.specs.Guided.{guided};
 ghost use Rattle.rv_report.specs.Learned.{IsTaughtByRun};
 ghost use Rattle.rv_report.specs.LiveReport.{IsRunReport, IsTraced, Reports};
@@ -7,7 +7,7 @@ use crate::options::Options;
 use crate::run_report::{say_totals, say_trace};
 use crate::totals::{StepCounts, Totals};
 use rv_arch::Stop;
-use rv_core::Pipeline;
+use rv_core::{Pipeline, count_run};
 use rv_front::Predictor;
 use rv_hardware::Step;
 use rv_isa::Arrivals;
@@ -16,11 +16,9 @@ use rv_watch::{Progress, ShownHardware, Simulated, Watcher};
 use std::convert::Infallible;
 use std::io::Write;
 
-// The steps of a run so far: how many there were of each sort, and whether a write of their lines, where they are shown,
-// failed.
+// The steps of a run so far: how many there were of each sort, and whether a write of their lines failed.
 #[derive(Clone, Copy)]
 struct Trace {
-    is_shown: bool,
     counts: StepCounts,
     has_failed: bool,
 }
@@ -30,7 +28,7 @@ impl Watcher for Trace {
 
     type Refusal = Infallible;
 
-    ghost has_seen = { λ start trace seen before now. HasTraced start.is_shown trace.is_shown trace.counts trace.has_failed seen.moments before now };
+    ghost has_seen = { λ _ trace seen before now. HasTraced trace.counts trace.has_failed seen.moments before now };
 
     ghost has_room = { λ _. Unit {0} };
 
@@ -48,7 +46,7 @@ impl Watcher for Trace {
     ) {
         self.counts.count_all(steps);
         let mut out = Sink::after(output, self.has_failed);
-        say_trace(&mut out, self.is_shown, steps);
+        say_trace(&mut out, true, steps);
         self.has_failed = out.has_failed();
     }
 }
@@ -82,7 +80,7 @@ pub fn write_run<W: Write>(
     ensures learned { IsTaughtByRun arrivals.now options.now.limit (guided pipeline (known predictor.old))
         (known predictor.new) }
 {
-    let run = run_traced(pipeline, predictor, arrivals, options, steps, writer);
+    let run = run_to_end(pipeline, predictor, arrivals, options, steps, writer);
     let mut out = Sink::after(writer, run.has_failed);
     say_totals(&run.totals, &run.pipeline.shown(), options, &mut out);
     if out.has_failed() {
@@ -93,7 +91,7 @@ pub fn write_run<W: Write>(
 }
 
 // Runs a pipeline to the end, and writes the trace, where it is asked for, as far as no write fails.
-fn run_traced<W: Write>(
+fn run_to_end<W: Write>(
     pipeline: Pipeline,
     predictor: &mut dyn Predictor,
     arrivals: &Arrivals,
@@ -106,9 +104,55 @@ fn run_traced<W: Write>(
         (guided result.pipeline (known predictor.new)) result.totals result.has_failed
         (W.contents writer.old) (W.contents writer.new) }
 {
+    if options.trace {
+        run_traced(pipeline, predictor, arrivals, options, steps, writer)
+    } else {
+        run_counted(pipeline, predictor, arrivals, options)
+    }
+}
+
+// Runs a pipeline to the end where no trace is asked for: the steps are counted alone.
+fn run_counted(
+    pipeline: Pipeline,
+    predictor: &mut dyn Predictor,
+    arrivals: &Arrivals,
+    options: &Options,
+) -> Traced
+    requires no_trace { options.now.trace ≡ false }
+    ensures { (output : Option (List ℕ)) → IsTraced arrivals.now options.now (guided pipeline (known predictor.old))
+        (guided result.pipeline (known predictor.new)) result.totals result.has_failed output output }
+{
+    let mut pipeline = pipeline;
+    let run = count_run(&mut pipeline, predictor, arrivals, options.limit);
+    let counts = StepCounts {
+        retired: run.retired,
+        traps: run.traps,
+        interrupts: run.interrupts,
+    };
+    Traced {
+        pipeline,
+        totals: Totals::new(&run.progress, counts, run.stop),
+        has_failed: false,
+    }
+}
+
+// Runs a pipeline to the end, and writes the trace as far as no write fails.
+fn run_traced<W: Write>(
+    pipeline: Pipeline,
+    predictor: &mut dyn Predictor,
+    arrivals: &Arrivals,
+    options: &Options,
+    steps: Vec<Step>,
+    writer: &mut W,
+) -> Traced
+    requires room { 8 ≤ vec_capacity steps }
+    requires traced { options.now.trace ≡ true }
+    ensures { IsTraced arrivals.now options.now (guided pipeline (known predictor.old))
+        (guided result.pipeline (known predictor.new)) result.totals result.has_failed
+        (W.contents writer.old) (W.contents writer.new) }
+{
     let mut pipeline = pipeline;
     let mut trace = Trace {
-        is_shown: options.trace,
         counts: StepCounts::default(),
         has_failed: false,
     };

@@ -1,6 +1,6 @@
 ghost use Rattle.std.specs.List.{flat_map};
 ghost use Rattle.rv_hardware.specs.Report.{all_stalls};
-ghost use Rattle.rv_states.specs.Counts.{counts_text, stall_count, stall_text};
+ghost use Rattle.rv_states.specs.Counts.{counts_json, counts_text, stall_count, stall_text};
 ghost use Rattle.rv_text.specs.Said.{Says};
 
 use rv_hardware::{Stall, StallCounts};
@@ -34,15 +34,22 @@ fn write_stall_counts<W: Write>(out: &mut Sink<'_, W>, stalls: &StallCounts)
     }
 }
 
+#[tactic(auto, using(rv_text::proofs::Saying::says_both), unfolding(crate::specs::Counts::counts_json))]
+fn write_object<W: Write>(out: &mut Sink<'_, W>, progress: &Progress)
+    ensures { Says W.contents out.old out.new (counts_json progress.now) }
+{
+    write_begin(out, "cycles", progress.cycles);
+    write_number(out, "busy", progress.busy);
+    write_stall_counts(out, &progress.stalls);
+    out.put(b"}")
+}
+
 /// Writes what the last cycle waited for, where it dispatched nothing, and the counts so far.
-#[tactic(auto, using(rv_text::proofs::Saying::says_both), unfolding(crate::specs::Counts::counts_text, crate::specs::Counts::counts_json, rv_json::specs::Json::also))]
+#[tactic(auto, using(rv_text::proofs::Saying::says_both), unfolding(crate::specs::Counts::counts_text, rv_json::specs::Json::also))]
 pub(crate) fn write_counts<W: Write>(out: &mut Sink<'_, W>, progress: &Progress)
     ensures { Says W.contents out.old out.new (counts_text progress.now) }
 {
     write_stall(out, progress.stall);
     write_key(out, "counts");
-    write_begin(out, "cycles", progress.cycles);
-    write_number(out, "busy", progress.busy);
-    write_stall_counts(out, &progress.stalls);
-    out.put(b"}")
+    write_object(out, progress)
 }

@@ -1,17 +1,21 @@
 -- What the turns of the commit phase have taken, with what is still to come, is the definition's commit phase.
-use Rattle.rv_core.proofs.Words.{◌≡◌, ℕ, ◌+◌, ◌*◌, ◌<◌, ◌≤◌, List, [], ◌++◌, length, Some, None, Option, sym, refl, ap}
-use Rattle.rv_core.proofs.Words.{◌∙◌, append_assoc, append-nil, arith, length-append, due, Committing, commit}
+use Rattle.rv_core.proofs.Words.{◌≡◌, ℕ, ◌+◌, ◌*◌, ◌<◌, ◌≤◌, List, [], ◌++◌, length, Some, None, Option, sym, refl, ap, subst}
+use Rattle.rv_core.proofs.Words.{◌∙◌, append-nil, arith, length-append, due, Committing, commit}
 use Rattle.rv_core.proofs.Words.{commit_turn, commit_unless, Hardware, Ends, repeated, Step, IsKept, and_step}
 use Rattle.rv_core.proofs.Words.{committing, turn_left, HeadTurn}
 use Rattle.std.proofs.Common.{Fits, rules, w32}
 use Rattle.std.specs.FinSet as set
+use Rattle.rv_core.specs.HeadTurn.{step_told}
+use Rattle.rv_core.specs.Steps.{HasRoom, Takes}
+use Rattle.rv_core.specs.declared.steps.Steps.{Steps}
+use Rattle.rv_core.proofs.Taken.{room_left, takes_more, takes_none}
 use Rattle.rv_core.proofs.Phases.Turned.{turned-ends, turned-goes}
 use Rattle.rv_core.specs.declared.head.HeadTurn.TheVariants.{GoesOn}
 
 -- after some turns, with others left to come: these lead to what all of them lead to
-pub record AreCommitted (start h : Hardware) (old new : List Step) (done left : ℕ) : Type 0 where
+pub record AreCommitted (start h : Hardware) (old new : Steps) (done left : ℕ) : Type 0 where
   pub steps : List Step
-  pub appended : new ≡ old ++ steps
+  pub taken : Takes old new steps
   pub few : length steps ≤ done
   pub to_come : repeated (commit_turn set.contains) left (committing h steps) ≡ commit set.contains start
   pub values : h.values ≡ start.values
@@ -24,12 +28,12 @@ pub interrupted : (h : Hardware) (code : ℕ) → Some code ≡ due h.csrs h.lin
 interrupted h code is = ap (λ (o : Option ℕ). commit_unless set.contains o h) is
 
 -- before the first turn, where no interrupt is due
-unfoldable pub none_committed : (h : Hardware) (old : List Step) (width : ℕ) → width ≡ h.values.commit_width →
+unfoldable pub none_committed : (h : Hardware) (old : Steps) (width : ℕ) → width ≡ h.values.commit_width →
     due h.csrs h.lines ≡ None →
     AreCommitted h h old old 0 width
 none_committed h old width is undisturbed = record {
   steps = [];
-  appended = sym (append-nil old);
+  taken = takes_none old;
   few = omega arith;
   to_come =
       ap (λ n. repeated (commit_turn set.contains) n (committing h [])) is
@@ -40,7 +44,7 @@ none_committed h old width is undisturbed = record {
 }
 
 -- a turn that ends the phase
-pub committed_whole : (start h : Hardware) (old new : List Step) (done left : ℕ) (before : AreCommitted start h old new done left)
+pub committed_whole : (start h : Hardware) (old new : Steps) (done left : ℕ) (before : AreCommitted start h old new done left)
     (told : Option Step) (turn : HeadTurn) (next : Hardware) (last : Committing) → 0 < left →
     ((steps : List Step) → commit_turn set.contains (committing h steps) ≡ turn_left next steps told turn) →
     turn_left next before.steps told turn ≡ Ends last →
@@ -49,25 +53,31 @@ committed_whole start h old new done left before told turn next last some is end
     turned-ends (commit_turn set.contains) (commit set.contains start) left (committing h before.steps) last some before.to_come
     (is before.steps ∙ ends)
 
+-- the step of a turn comes last
+told_last : (steps : List Step) (told : Option Step) → steps ++ step_told told ≡ and_step steps told
+told_last steps None = append-nil steps
+told_last steps (Some step) = refl
+
 -- the steps with those that were there before
-pub steps_with : (old before new : List Step) (so_far : List Step) (told : Option Step) → before ≡ old ++ so_far →
-    new ≡ and_step before told →
-    new ≡ old ++ and_step so_far told
-steps_with old before new so_far told appended more = grind (arith, append_assoc)
+pub steps_with : (old before new : Steps) (so_far : List Step) (told : Option Step) → Takes old before so_far →
+    Takes before new (step_told told) →
+    Takes old new (and_step so_far told)
+steps_with old before new so_far told taken more =
+    subst (Takes old new) (told_last so_far told) (takes_more so_far (step_told told) taken more)
 
 -- a turn takes one step at most
 pub few_with : (steps : List Step) (told : Option Step) (done : ℕ) → length steps ≤ done → length (and_step steps told) ≤ done + 1
 few_with steps told done few = grind (arith, length-append)
 
 -- a turn after which the phase goes on
-unfoldable pub committed_more : (start h : Hardware) (old new more : List Step) (done left rest : ℕ)
+unfoldable pub committed_more : (start h : Hardware) (old new more : Steps) (done left rest : ℕ)
     (before : AreCommitted start h old new done left)
     (told : Option Step) (turn : HeadTurn) (next : Hardware) → left ≡ rest + 1 →
     ((steps : List Step) → commit_turn set.contains (committing h steps) ≡ turn_left next steps told turn) → turn ≡ GoesOn →
-    IsKept h next → more ≡ and_step new told → AreCommitted start next old more (done + 1) rest
-committed_more start h old new more done left rest before told turn next another is goes kept appends = record {
+    IsKept h next → Takes new more (step_told told) → AreCommitted start next old more (done + 1) rest
+committed_more start h old new more done left rest before told turn next another is goes kept takes = record {
   steps = and_step before.steps told;
-  appended = steps_with old new more before.steps told before.appended appends;
+  taken = steps_with old new more before.steps told before.taken takes;
   few = few_with before.steps told done before.few;
   to_come =
       turned-goes (commit_turn set.contains) (commit set.contains start) left rest (committing h before.steps)
@@ -79,19 +89,18 @@ committed_more start h old new more done left rest before told turn next another
 }
 
 -- after all turns
-pub committed_all : (start h : Hardware) (old new : List Step) (done left : ℕ) (before : AreCommitted start h old new done left) →
+pub committed_all : (start h : Hardware) (old new : Steps) (done left : ℕ) (before : AreCommitted start h old new done left) →
     left ≡ 0 → committing h before.steps ≡ commit set.contains start
 committed_all start h old new done left before none =
     ap (λ n. repeated (commit_turn set.contains) n (committing h before.steps)) (sym none) ∙ before.to_come
 
 -- before a further turn of a width of eight at most, one more instruction can be counted, and one more step has room
-module _ {start h : Hardware} {old new : List Step} {done left : ℕ} (before : AreCommitted start h old new done left) (few : done < 8) where
+module _ {start h : Hardware} {old new : Steps} {done left : ℕ} (before : AreCommitted start h old new done left) (few : done < 8) where
   pub counts_one : start.rob.retired ≤ 8 * start.cycle → h.rob.retired < 8 * h.cycle + 8
   counts_one numbers = omega (arith, before.retired, before.cycle, numbers, few)
 
-  pub has_room : (room now : ℕ) → now ≡ room → length old + 8 ≤ room → length new < now
-  has_room room now same enough =
-      omega (arith, before.few, ap length before.appended, length-append old before.steps, same, enough, few)
+  pub has_room : HasRoom old 8 → HasRoom new 1
+  has_room enough = room_left before.taken enough (omega (arith, before.few, few))
 
 -- the cause of an interrupt is a word
 pub interrupt_fits : (code : ℕ) → code ≤ 11 → Fits w32 (2147483648 + code)

@@ -6,6 +6,8 @@ use Rattle.rv_core.proofs.Words.{is_serialising, Instr, word_of, Entry, Committi
 use Rattle.rv_core.proofs.Words.{execute_head, finish_broadcast, head_turn, Hardware, broadcast_of, Ends, Step, IsHead}
 use Rattle.rv_core.proofs.Words.{committing, instruction_of_access, role_of, CsrAccess as Access, WaitsForResult}
 use Rattle.std.specs.FinSet as set
+use Rattle.rv_core.specs.declared.steps.Steps.{Steps}
+use Rattle.rv_core.proofs.Taken.{takes_none}
 use Rattle.rv_isa.specs.declared.causes.Fault.{Fault}
 use Rattle.rv_hardware.specs.Commit.{finish_head, with_fault}
 use Rattle.rv_hardware.specs.Retirement.{written_of}
@@ -23,17 +25,17 @@ none_of [] none = refl
 none_of (e ∷ entries) none = absurd (cc)
 
 -- a turn that ends the phase, takes no step and changes nothing
-pub turn_ends : (h : Hardware) (steps : List Step) (known : Guide) (why : Option Stop) →
+pub turn_ends : (h : Hardware) (steps : Steps) (known : Guide) (why : Option Stop) →
     ((before : List Step) → commit_turn set.contains (committing h before) ≡ Ends (record { hardware = h; steps = before; stop = why })) →
     IsTurn h h steps steps known known (head.Ends why)
-turn_ends h steps known why left = record { told = None; left = left; appended = refl; learns = refl }
+turn_ends h steps known why left = record { told = None; left = left; taken = takes_none steps; learns = refl }
 
 -- with nothing in flight the phase ends
 pub ends_with_none : (h : Hardware) (steps : List Step) → slice_get h.rob.entries 0 ≡ None →
     commit_turn set.contains (committing h steps) ≡ Ends (committing h steps)
 ends_with_none h steps none = ap (λ l. commit_turn_of set.contains l (committing h steps)) (none_of h.rob.entries none)
 
-pub turn_of_none : (h : Hardware) (steps : List Step) (known : Guide) → slice_get h.rob.entries 0 ≡ None →
+pub turn_of_none : (h : Hardware) (steps : Steps) (known : Guide) → slice_get h.rob.entries 0 ≡ None →
     IsTurn h h steps steps known known (head.Ends None)
 turn_of_none h steps known none = turn_ends h steps known None (λ before. ends_with_none h before none)
 

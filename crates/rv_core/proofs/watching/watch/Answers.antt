@@ -1,5 +1,9 @@
-use Rattle.rv_core.proofs.Words.{◌+◌, sym, ap, ◌∙◌, arith, leb-false, leb-true, Err, Ok, Exhausted, Limit, Progress}
+use Rattle.rv_core.proofs.Words.{◌+◌, is_some, refl, sym, ap, ◌∙◌, arith, leb-false, leb-true, Err, Ok, Exhausted, Limit, Progress}
 use Rattle.rv_watch.proofs.Shown.{bounded_so_far, ended_as, shown_now, so_many_shown, watched_to, watched_to_stop}
+use Rattle.rv_core.specs.Steps.{room_of}
+use Rattle.rv_core.specs.declared.steps.Steps.{Steps}
+use Rattle.rv_core.proofs.RunCycles.{next_reported}
+use Rattle.rv_core.proofs.Taken.{listed_anew}
 use Rattle.rv_watch.proofs.Shown.{watching_nothing, watching_on, watching_still}
 use Rattle.rv_core.proofs.watching.watch.Goals as goal
 
@@ -8,8 +12,12 @@ loop-init g c = (
   watching_nothing g.T.Watcher.has_seen c.args.arrivals.now _ c.args.watcher.now _ c.new-progress.result
       c.new-progress.ensures,
   ap (λ (p : Progress). p.cycles) c.new-progress.ensures,
-  c.requires.room,
+  ap (λ (s : Steps). is_some s.list) c.listing-steps.ensures,
+  omega (arith, ap room_of c.listing-steps.ensures, c.requires.room),
 )
+
+pub run_cycle-stop-requires-clause-room : goal.run_cycle-stop-requires-clause-room
+run_cycle-stop-requires-clause-room g c = c.clear.ensures.room c.loop.invariant.3
 
 pub run_cycle-stop-requires-clause-bounded : goal.run_cycle-stop-requires-clause-bounded
 run_cycle-stop-requires-clause-bounded g c =
@@ -47,8 +55,9 @@ show-requires-clause-shown g c =
       c.args.watcher.now,
       _,
       c.requires.ready.0,
-      shown_now g.T.Watcher.has_seen c.args.arrivals.now _ c.args.watcher.now _ way c.run_cycle-stop.ensures.cycle
-          c.clear.ensures.items c.as_slice.ensures.value c.cycles_done-cycle.ensures.reached number
+      shown_now g.T.Watcher.has_seen c.args.arrivals.now _ c.args.watcher.now _ way (next_reported c.run_cycle-stop.ensures)
+          refl (c.as_slice.ensures ∙ listed_anew c.run_cycle-stop.ensures.taken (c.clear.ensures.kept ∙ c.loop.invariant.2) c.clear.ensures.none)
+          c.cycles_done-cycle.ensures.reached number
           (omega (arith, number, within)),
       way.seen c.requires.ready.0 c.requires.ready.1,
     )
@@ -59,12 +68,14 @@ returns-in-Some g c =
     c.make_room.ensures.kept in
     let within = leb-false 1099511627776 c.loop.pipeline.cycle (sym c.is_exhausted.ensures.exhausted ∙ c.if-is_exhausted.false) in
     let number = c.cycles_done-cycle.ensures.number in
-    let next = c.run_cycle-stop.ensures.cycle in
-    let shown = shown_now g.T.Watcher.has_seen c.args.arrivals.now _ c.args.watcher.now _ way next c.clear.ensures.items
-    c.as_slice.ensures.value c.cycles_done-cycle.ensures.reached number (omega (arith, number, within)) in
+    let next = c.run_cycle-stop.ensures in
+    let steps_are = c.as_slice.ensures
+    ∙ listed_anew next.taken (c.clear.ensures.kept ∙ c.loop.invariant.2) c.clear.ensures.none in
+    let shown = shown_now g.T.Watcher.has_seen c.args.arrivals.now _ c.args.watcher.now _ way (next_reported next) refl steps_are
+    c.cycles_done-cycle.ensures.reached number (omega (arith, number, within)) in
     ended_as c.finished-in-Some.ensures.progress c.finished-in-Some.ensures.stop
-    (watched_to_stop g.T.Watcher.has_seen c.args.arrivals.now _ c.args.watcher.now _ way next c.clear.ensures.items
-    c.as_slice.ensures.value c.cycles_done-cycle.ensures.reached number (omega (arith, number, within))
+    (watched_to_stop g.T.Watcher.has_seen c.args.arrivals.now _ c.args.watcher.now _ way (next_reported next) refl steps_are
+    c.cycles_done-cycle.ensures.reached number (omega (arith, number, within))
     (λ before. c.show.ensures c.args.watcher.now _ before shown) c.args.limit c.in-Some.stop c.in-Some.is
     (omega (arith, c.loop.invariant.1, c.loop-test.true)))
 
@@ -74,14 +85,17 @@ loop-preserved g c =
     c.make_room.ensures.kept in
     let within = leb-false 1099511627776 c.loop.pipeline.cycle (sym c.is_exhausted.ensures.exhausted ∙ c.if-is_exhausted.false) in
     let number = c.cycles_done-cycle.ensures.number in
-    let next = c.run_cycle-stop.ensures.cycle in
-    let shown = shown_now g.T.Watcher.has_seen c.args.arrivals.now _ c.args.watcher.now _ way next c.clear.ensures.items
-    c.as_slice.ensures.value c.cycles_done-cycle.ensures.reached number (omega (arith, number, within)) in (
-      watching_on g.T.Watcher.has_seen c.args.arrivals.now _ c.args.watcher.now _ way next c.clear.ensures.items
-          c.as_slice.ensures.value c.cycles_done-cycle.ensures.reached number (omega (arith, number, within))
+    let next = c.run_cycle-stop.ensures in
+    let steps_are = c.as_slice.ensures
+    ∙ listed_anew next.taken (c.clear.ensures.kept ∙ c.loop.invariant.2) c.clear.ensures.none in
+    let shown = shown_now g.T.Watcher.has_seen c.args.arrivals.now _ c.args.watcher.now _ way (next_reported next) refl steps_are
+    c.cycles_done-cycle.ensures.reached number (omega (arith, number, within)) in (
+      watching_on g.T.Watcher.has_seen c.args.arrivals.now _ c.args.watcher.now _ way (next_reported next) refl steps_are
+          c.cycles_done-cycle.ensures.reached number (omega (arith, number, within))
           (λ before. c.show.ensures c.args.watcher.now _ before shown) c.in_default-stop.is,
       ap (λ (p : Progress). p.cycles) next.counted ∙ ap (λ n. n + 1) c.loop.invariant.1,
-      omega (arith, c.run_cycle-stop.ensures.capacity, c.clear.ensures.capacity, c.loop.invariant.2),
+      next.taken.kept ∙ c.clear.ensures.kept ∙ c.loop.invariant.2,
+      omega (arith, next.taken.room, c.clear.ensures.capacity, c.loop.invariant.3),
     )
 
 pub returns : goal.returns

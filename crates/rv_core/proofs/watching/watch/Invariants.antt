@@ -1,5 +1,6 @@
-use Rattle.rv_core.proofs.Words.{◌≡◌, ◌≤◌, vec_capacity, guided}
+use Rattle.rv_core.proofs.Words.{◌≡◌, ◌≤◌, true, is_some, guided}
 use Rattle.rv_watch.proofs.Shown.{IsWatching}
+use Rattle.rv_core.specs.Steps.{room_of}
 use Rattle.rv_core.proofs.watching.watch.Given as goal
 
 -- the cycles so far were shown, and the list keeps its room
@@ -10,4 +11,4 @@ invariant-loop g l =
     (g.W.Write.contents l.fn.output)
     (guided l.pipeline ((goal.Predictor-dyn g l.predictor.now).known l.predictor.now.1)) l.progress l.watcher
     (g.W.Write.contents l.output)
-    × (l.progress.cycles ≡ l.counter) × (8 ≤ vec_capacity l.steps)
+    × (l.progress.cycles ≡ l.counter) × (is_some l.steps.list ≡ true) × (8 ≤ room_of l.steps)

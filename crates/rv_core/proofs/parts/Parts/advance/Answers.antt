@@ -1,4 +1,4 @@
-use Rattle.rv_core.proofs.Words.{◌≡◌, ◌+◌, ◌++◌, sym, refl, ap, ◌∙◌, subst, arith, IsLegal, broadcast, commit, IsCycle}
+use Rattle.rv_core.proofs.Words.{◌≡◌, ◌+◌, sym, refl, ap, ◌∙◌, subst, arith, IsLegal, broadcast, commit, IsCycle}
 use Rattle.rv_core.proofs.Words.{commit_with, execute, with_lines, dispatch, stall_of, Hardware, Reachable, hardware_of}
 use Rattle.rv_core.proofs.Words.{IsCommitStop, report_with}
 use Rattle.std.specs.FinSet as set
@@ -7,6 +7,7 @@ use Rattle.rv_hardware.specs.Issue.{issue}
 use Rattle.rv_core.proofs.Phases.Cycle.{committing-now, cycle-done, dispatched-now}
 use Rattle.rv_core.proofs.Phases.Steps.{Commits}
 use Rattle.rv_core.proofs.Phases.Numbered.{sound-numbered}
+use Rattle.rv_core.specs.Steps.{Takes}
 use Rattle.rv_core.proofs.Retired.Taught.{executed_here, taught_as}
 use Rattle.rv_core.proofs.parts.Parts.advance.Goals as goal
 use Rattle.rv_core.proofs.parts.Parts.advance.Goals.{After-self-2}
@@ -60,8 +61,8 @@ returns-clause-cycle g c =
     let at = (goal.at.returns-clause-cycle g c).After-self-2 in
     let old = c.args.self.now in
     let lines = c.args.lines in
-    let steps = c.commit-stop.ensures.steps
-    ∙ ap (λ h. c.args.steps.now.items ++ (commit set.contains (with_lines lines h)).steps) c.self.view_is in
+    let steps = subst (Takes c.args.steps.now c.commit-stop.new.steps)
+    (ap (λ h. (commit set.contains (with_lines lines h)).steps) c.self.view_is) c.commit-stop.ensures.steps in
     let done =
     cycle-done lines old c.commit-stop.new.self (legal g at).pipeline.commit_width.0
     (commits g at) c.dispatch-dispatched.new.self (executed g at) _ c.fetch.new.self c.fetch.result

@@ -1,7 +1,8 @@
-use Rattle.rv_core.proofs.Words.{◌≡◌, ◌+◌, ◌-◌, ◌<◌, ◌≤◌, vec_capacity, [], ◌∷◌, ◌++◌, Some, sym, refl, ap, ◌∙◌, subst}
+use Rattle.rv_core.proofs.Words.{◌≡◌, ◌+◌, ◌-◌, ◌<◌, [], ◌∷◌, Some, sym, ap, ◌∙◌, subst}
 use Rattle.rv_core.proofs.Words.{arith, Committing, commit, commit_unless, Hardware, AreTaught, lessons_of, Step}
 use Rattle.rv_core.proofs.Words.{and_step, committing, turn_left}
 use Rattle.std.specs.FinSet as set
+use Rattle.rv_core.specs.Steps.{Takes}
 use Rattle.rv_core.proofs.Retired.Loop.{none_committed, committed_all, committed_whole, committed_more, counts_one}
 use Rattle.rv_core.proofs.Retired.Loop.{has_room, interrupt_fits, interrupted, steps_with}
 use Rattle.rv_core.proofs.Retired.Taught.{none_taught, taught_all, taught_at_end, teaching_begins, teaching_goes}
@@ -12,10 +13,9 @@ use Rattle.rv_core.proofs.parts.Parts.commit.Given.{Over}
 pub loop-init : goal.loop-init
 unfolding none_committed
 loop-init g c = (
-  none_committed c.args.self.now c.args.steps.now.items (c.self.inside.values.commit_width - 0)
+  none_committed c.args.self.now c.args.steps.now (c.self.inside.values.commit_width - 0)
       (omega (arith, ap (λ (h : Hardware). h.values.commit_width) c.self.view_is))
       (sym c.due_interrupt.ensures.due ∙ c.in_default.is),
-  refl,
   teaching_begins c.args.self.now _ c.requires.reached (sym c.due_interrupt.ensures.due ∙ c.in_default.is),
 )
 
@@ -29,9 +29,9 @@ returns-in-Some-clause-hardware g c = c.interrupt-step.ensures.hardware
 
 pub returns-in-Some-clause-steps : goal.returns-in-Some-clause-steps
 returns-in-Some-clause-steps g c =
-    c.append.ensures.items
-    ∙ ap (λ (s : Step). c.args.steps.now.items ++ s ∷ []) c.interrupt-step.ensures.step
-    ∙ ap (λ (x : Committing). c.args.steps.now.items ++ x.steps) (taken g (goal.at.returns-in-Some-clause-steps g c).In-Some)
+    subst (Takes c.args.steps.now _)
+    (ap (λ (s : Step). s ∷ []) c.interrupt-step.ensures.step
+    ∙ ap (λ (x : Committing). x.steps) (taken g (goal.at.returns-in-Some-clause-steps g c).In-Some)) c.take.ensures
 
 pub returns-in-Some-clause-stop : goal.returns-in-Some-clause-stop
 returns-in-Some-clause-stop g c = ap (λ (x : Committing). x.stop) (taken g (goal.at.returns-in-Some-clause-stop g c).In-Some)
@@ -50,7 +50,7 @@ ends : (g : Over) (c : In-Ends g) →
       stop = c.in-Ends.stop;
     } ≡ commit set.contains c.args.self.now
 ends g c =
-    committed_whole c.args.self.now c.loop.self c.args.steps.now.items c.loop.steps.items c.loop.counter
+    committed_whole c.args.self.now c.loop.self c.args.steps.now c.loop.steps c.loop.counter
     (c.self.inside.values.commit_width - c.loop.counter) c.loop.invariant.0 c.commit_head.ensures.turn.told
     c.commit_head.result c.commit_head.new.self _ (omega (arith, c.loop-test.true)) c.commit_head.ensures.turn.left
     (ap (turn_left c.commit_head.new.self c.loop.invariant.0.steps c.commit_head.ensures.turn.told) c.in-Ends.is)
@@ -61,9 +61,10 @@ returns-in-Ends-clause-hardware g c =
 
 pub returns-in-Ends-clause-steps : goal.returns-in-Ends-clause-steps
 returns-in-Ends-clause-steps g c =
-    steps_with c.args.steps.now.items c.loop.steps.items c.commit_head.new.steps.items c.loop.invariant.0.steps
-    c.commit_head.ensures.turn.told c.loop.invariant.0.appended c.commit_head.ensures.turn.appended
-    ∙ ap (λ (x : Committing). c.args.steps.now.items ++ x.steps) (ends g (goal.at.returns-in-Ends-clause-steps g c).In-Ends)
+    subst (Takes c.args.steps.now _)
+    (ap (λ (x : Committing). x.steps) (ends g (goal.at.returns-in-Ends-clause-steps g c).In-Ends))
+    (steps_with c.args.steps.now c.loop.steps c.commit_head.new.steps c.loop.invariant.0.steps
+    c.commit_head.ensures.turn.told c.loop.invariant.0.taken c.commit_head.ensures.turn.taken)
 
 pub returns-in-Ends-clause-stop : goal.returns-in-Ends-clause-stop
 returns-in-Ends-clause-stop g c =
@@ -71,7 +72,7 @@ returns-in-Ends-clause-stop g c =
 
 pub returns-in-Ends-clause-taught : goal.returns-in-Ends-clause-taught
 returns-in-Ends-clause-taught g c =
-    taught_at_end c.args.self.now c.loop.self c.loop.invariant.0.steps _ _ c.loop.invariant.2
+    taught_at_end c.args.self.now c.loop.self c.loop.invariant.0.steps _ _ c.loop.invariant.1
     c.commit_head.ensures.turn.told c.commit_head.result
     c.commit_head.new.self (c.commit_head.ensures.turn.left c.loop.invariant.0.steps) c.in-Ends.stop _ c.in-Ends.is
     c.commit_head.ensures.turn.learns (commit set.contains c.args.self.now).steps
@@ -80,7 +81,7 @@ returns-in-Ends-clause-taught g c =
 -- all turns of the phase leave what the definition leaves
 turned : (g : Over) (c : After-loop g) → committing c.loop.self c.loop.invariant.0.steps ≡ commit set.contains c.args.self.now
 turned g c =
-    committed_all c.args.self.now c.loop.self c.args.steps.now.items c.loop.steps.items c.loop.counter
+    committed_all c.args.self.now c.loop.self c.args.steps.now c.loop.steps c.loop.counter
     (c.self.inside.values.commit_width - c.loop.counter) c.loop.invariant.0 (omega (arith, c.loop-test.false))
 
 pub returns-clause-hardware : goal.returns-clause-hardware
@@ -89,30 +90,29 @@ returns-clause-hardware g c =
 
 pub returns-clause-steps : goal.returns-clause-steps
 returns-clause-steps g c =
-    c.loop.invariant.0.appended
-    ∙ ap (λ (x : Committing). c.args.steps.now.items ++ x.steps) (turned g (goal.at.returns-clause-steps g c).After-loop)
+    subst (Takes c.args.steps.now _)
+    (ap (λ (x : Committing). x.steps) (turned g (goal.at.returns-clause-steps g c).After-loop)) c.loop.invariant.0.taken
 
 pub returns-clause-stop : goal.returns-clause-stop
 returns-clause-stop g c = ap (λ (x : Committing). x.stop) (turned g (goal.at.returns-clause-stop g c).After-loop)
 
 pub returns-clause-taught : goal.returns-clause-taught
 returns-clause-taught g c =
-    taught_all c.args.self.now c.loop.self c.loop.invariant.0.steps _ _ c.loop.invariant.2
+    taught_all c.args.self.now c.loop.self c.loop.invariant.0.steps _ _ c.loop.invariant.1
     (commit set.contains c.args.self.now).steps
     (ap (λ (x : Committing). x.steps) (turned g (goal.at.returns-clause-taught g c).After-loop))
 
 pub loop-preserved : goal.loop-preserved
 unfolding committed_more
 loop-preserved g c = (
-  committed_more c.args.self.now c.loop.self c.args.steps.now.items c.loop.steps.items c.commit_head.new.steps.items
+  committed_more c.args.self.now c.loop.self c.args.steps.now c.loop.steps c.commit_head.new.steps
       c.loop.counter
       (c.self.inside.values.commit_width - c.loop.counter)
       (c.self.inside.values.commit_width - (c.loop.counter + 1)) c.loop.invariant.0 c.commit_head.ensures.turn.told
       c.commit_head.result c.commit_head.new.self
       (omega (arith, c.loop-test.true)) c.commit_head.ensures.turn.left c.in-GoesOn.is
-      c.commit_head.ensures.kept c.commit_head.ensures.turn.appended,
-  c.commit_head.ensures.capacity ∙ c.loop.invariant.1,
-  teaching_goes c.args.self.now c.loop.self c.loop.invariant.0.steps _ _ c.loop.invariant.2
+      c.commit_head.ensures.kept c.commit_head.ensures.turn.taken,
+  teaching_goes c.args.self.now c.loop.self c.loop.invariant.0.steps _ _ c.loop.invariant.1
       c.commit_head.ensures.turn.told c.commit_head.result
       c.commit_head.new.self (c.commit_head.ensures.turn.left c.loop.invariant.0.steps) _ c.in-GoesOn.is
       c.commit_head.ensures.turn.learns,
@@ -129,6 +129,4 @@ commit_head-requires-clause-retired g c =
 pub commit_head-requires-clause-room : goal.commit_head-requires-clause-room
 commit_head-requires-clause-room g c =
     let few : c.loop.counter < 8 = omega (arith, c.loop-test.true, c.self.invariant.sound.legal.pipeline.commit_width) in
-    subst (λ n. n < vec_capacity c.loop.steps) (sym c.loop.steps.ok.0)
-    (has_room c.loop.invariant.0 few (vec_capacity c.args.steps.now) (vec_capacity c.loop.steps) c.loop.invariant.1
-    (subst (λ n. n + 8 ≤ vec_capacity c.args.steps.now) c.args.steps.now.ok.0 c.requires.room))
+    has_room c.loop.invariant.0 few c.requires.room

@@ -48,13 +48,13 @@ finish_head-requires-clause-plain g c =
 pub returns-then-is_stale-clause-turn : goal.returns-then-is_stale-clause-turn
 returns-then-is_stale-clause-turn g c =
     let at = (goal.at.returns-then-is_stale-clause-turn g c).After-is_stale in
-    turn_ends c.args.self.now c.args.steps.now.items _ _ (λ steps.
+    turn_ends c.args.self.now c.args.steps.now _ _ (λ steps.
     turn_of_stale c.args.self.now c.in-Some.head.now steps (head g at) (stale g at ∙ c.if-is_stale.true))
 
 pub returns-then-waits_for_result-clause-turn : goal.returns-then-waits_for_result-clause-turn
 returns-then-waits_for_result-clause-turn g c =
     let at = (goal.at.returns-then-waits_for_result-clause-turn g c).After-is_stale in
-    turn_ends c.args.self.now c.args.steps.now.items _ None (λ steps.
+    turn_ends c.args.self.now c.args.steps.now _ None (λ steps.
     turn_finishes c.args.self.now c.in-Some.head.now steps None (head g at) (stale g at ∙ c.if-is_stale.false)
     (c.waits_for_result.ensures.role c.if-waits_for_result.true) (c.waits_for_result.ensures.unknown c.if-waits_for_result.true))
 
@@ -67,13 +67,13 @@ returns-then-is_serialising-clause-turn g c =
           c.serial_head-step.ensures.turn steps
           ∙ ended_as c.serial_head-step.new.self steps told
           ∙ ap (turn_left c.serial_head-step.new.self steps told) (sym c.end_with.ensures.end);
-      appended = c.end_with.ensures.items;
+      taken = c.end_with.ensures.taken;
       learns = learns_at _ _ told _ _ (ap (λ (x : Hardware). x.pc) c.self-then-is_serialising.view_is) c.end_with.ensures.taught;
     }
 
 pub returns-in_default-clause-turn : goal.returns-in_default-clause-turn
 returns-in_default-clause-turn g c =
-    turn_of_none c.args.self.now c.args.steps.now.items _
+    turn_of_none c.args.self.now c.args.steps.now _
     (ap (λ (h : Hardware). slice_get h.rob.entries 0) (sym c.self.view_is) ∙ sym c.in_default.ensures)
 
 pub returns-in_default-clause-kept : goal.returns-in_default-clause-kept

@@ -1,12 +1,13 @@
-use Rattle.rv_core.proofs.Words.{◌≡◌, ◌∷◌, [], ◌++◌, ℕ, Some, None, slice_get, option_map, sym, ap, ◌∙◌, Hardware}
+use Rattle.rv_core.proofs.Words.{◌≡◌, ◌∷◌, [], ℕ, Some, None, slice_get, option_map, sym, ap, ◌∙◌, subst, Hardware}
 use Rattle.rv_core.proofs.Words.{IsHead, committing, row_of, flushed, turn_ended, turn_left}
 use Rattle.rv_hardware.specs.Retirement.{written_of}
+use Rattle.rv_core.specs.Steps.{Takes}
 use Rattle.rv_core.specs.declared.head.HeadTurn.TheVariants as turn
 use Rattle.rv_core.proofs.Retired.Roles.{ended_as, first_is_head, kept_flushed, kept_retired, kept_trapped}
 use Rattle.rv_core.proofs.Retired.Roles.{retires_last, retires_on, traps_by, turn_ends, turn_finishes, turn_of_none}
 use Rattle.rv_core.proofs.Retired.Taught.{learns_at}
 use Rattle.rv_core.proofs.parts.Parts.finish_head.Goals as goal
-use Rattle.rv_core.proofs.parts.Parts.finish_head.Goals.{After-append, In-Some}
+use Rattle.rv_core.proofs.parts.Parts.finish_head.Goals.{After-take_row, In-Some}
 use Rattle.rv_core.proofs.parts.Parts.finish_head.Given.{Over}
 
 head : (g : Over) (c : In-Some g) → IsHead c.args.self.now c.in-Some.head.now
@@ -24,7 +25,7 @@ pub returns-in_default-message_of-clause-turn : goal.returns-in_default-message_
 returns-in_default-message_of-clause-turn g c =
     let e = c.in-Some.head.now in
     let at = head g (goal.at.returns-in_default-message_of-clause-turn g c).In-Some in
-    turn_ends c.args.self.now c.args.steps.now.items _ None (λ steps.
+    turn_ends c.args.self.now c.args.steps.now _ None (λ steps.
     turn_finishes c.args.self.now e steps None at (c.requires.fresh e at) (c.requires.plain e at)
     (sym c.message_of.ensures ∙ c.in_default-message_of.is))
 
@@ -44,19 +45,21 @@ returns-in-Some-fault-clause-turn g c =
           ∙ sym (λ i. turn_ended (c.trap-step.ensures.hardware i) steps (c.trap-step.ensures.step i))
           ∙ ended_as c.trap-step.new.self steps told
           ∙ ap (turn_left c.trap-step.new.self steps told) (sym c.end_with.ensures.end);
-      appended = c.end_with.ensures.items;
+      taken = c.end_with.ensures.taken;
       learns = learns_at _ _ told _ _ (ap (λ (x : Hardware). x.pc) c.self-in-Some-fault.view_is) c.end_with.ensures.taught;
     }
 
 -- the step that is appended
-row : (g : Over) (c : After-append g) →
-    c.row_of.result ≡ row_of c.in-Some.head.now (written_of c.in-Some.head.now c.in-Some-message_of.message) c.args.self.now.cycle
+row : (g : Over) (c : After-take_row g) →
+    row_of c.in-Some.head.now
+    (option_map (λ (register : ℕ). (register, c.in-Some-message_of.message.value)) c.target-target.result)
+    c.self.inside.cycle
+    ≡ row_of c.in-Some.head.now (written_of c.in-Some.head.now c.in-Some-message_of.message) c.args.self.now.cycle
 row g c =
     let e = c.in-Some.head.now in
     let m = c.in-Some-message_of.message in
-    c.row_of.ensures
-    ∙ ap (λ w. row_of e w c.self.inside.cycle)
-    (c.written_by.ensures ∙ ap (option_map (λ (register : ℕ). (register, m.value))) c.target-target.ensures.target)
+    ap (λ w. row_of e w c.self.inside.cycle)
+    (ap (option_map (λ (register : ℕ). (register, m.value))) c.target-target.ensures.target)
     ∙ ap (λ (x : Hardware). row_of e (written_of e m) x.cycle) c.self.view_is
 
 pub returns-then-message-entry-clause-turn : goal.returns-then-message-entry-clause-turn
@@ -74,7 +77,7 @@ returns-then-message-entry-clause-turn g c =
           (sym c.message_of.ensures ∙ c.in-Some-message_of.is)
           ∙ retires_on e m h steps c.in_default-fault.is c.if-message-entry.true
           ∙ sym (ap (λ x. turn_left x steps told turn.GoesOn) c.retire.ensures);
-      appended = c.append.ensures.items ∙ ap (λ s. c.args.steps.now.items ++ s ∷ []) (row g at.After-append);
+      taken = subst (λ s. Takes c.args.steps.now c.take_row.new.self (s ∷ [])) (row g at.After-take_row) c.take_row.ensures;
       learns = learns_at ((goal.Predictor-dyn g c.args.predictor.now).known c.args.predictor.now.1) _ told _ _
           (sym (ap (λ (x : Hardware). x.pc) c.retire.ensures))
           (rw (← c.unwrap_or.ensures) c.learn.ensures);
@@ -96,7 +99,7 @@ returns-clause-turn g c =
           (sym c.message_of.ensures ∙ c.in-Some-message_of.is)
           ∙ retires_last e m h steps c.in_default-fault.is c.if-message-entry.false
           ∙ sym (ap (λ x. turn_left x steps told (turn.Ends None)) flushed_is);
-      appended = c.append.ensures.items ∙ ap (λ s. c.args.steps.now.items ++ s ∷ []) (row g at.After-append);
+      taken = subst (λ s. Takes c.args.steps.now c.take_row.new.self (s ∷ [])) (row g at.After-take_row) c.take_row.ensures;
       learns = learns_at ((goal.Predictor-dyn g c.args.predictor.now).known c.args.predictor.now.1) _ told _ _
           (sym (ap (λ (x : Hardware). x.pc) flushed_is))
           (rw (← c.unwrap_or.ensures) c.learn.ensures);
@@ -104,7 +107,7 @@ returns-clause-turn g c =
 
 pub returns-in_default-clause-turn : goal.returns-in_default-clause-turn
 returns-in_default-clause-turn g c =
-    turn_of_none c.args.self.now c.args.steps.now.items _
+    turn_of_none c.args.self.now c.args.steps.now _
     (ap (λ (h : Hardware). slice_get h.rob.entries 0) (sym c.self.view_is) ∙ sym c.in_default.ensures)
 
 pub returns-in-Some-fault-clause-kept : goal.returns-in-Some-fault-clause-kept

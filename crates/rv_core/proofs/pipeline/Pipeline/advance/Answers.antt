@@ -8,6 +8,7 @@ invariant_of-self g c = record {
   reached = by_cycle c.self.invariant.reached (rw (← c.self.view_is) at c.requires.cycles)
       (any_cycle (rw c.deref_mut.ensures.value at c.advance.ensures.cycle.3.cycle));
   numbers = c.advance.ensures.numbers;
+  lists = c.self.invariant.lists;
   has_room = c.self.invariant.has_room;
 }
 

@@ -1,7 +1,8 @@
-use Rattle.rv_core.proofs.Words.{◌≡◌, ◌^◌, ◌≤◌, false, ◌++◌, length, nat_le, sym, ap, ◌∙◌, subst, arith, leb-false}
+use Rattle.rv_core.proofs.Words.{◌≡◌, ◌^◌, ◌≤◌, false, length, nat_le, sym, ap, ◌∙◌, subst, arith, leb-false}
 use Rattle.rv_core.proofs.Words.{leb-true, Hardware, by_cycle, report_with}
 use Rattle.rv_hardware.proofs.AnyPrediction.{any_cycle}
 use Rattle.rv_core.proofs.Guiding.{cycle_from, cycle_with}
+use Rattle.rv_core.proofs.Taken.{listed_anew}
 use Rattle.rv_core.proofs.pipeline.Pipeline.next_cycle.Goals as goal
 
 pub invariant_of-self-2 : goal.invariant_of-self-2
@@ -12,7 +13,8 @@ invariant_of-self-2 g c =
       reached = by_cycle c.self.invariant.reached (leb-false _ _ counted)
           (any_cycle (rw c.deref_mut.ensures.value at c.advance-end.ensures.cycle.3.cycle));
       numbers = c.advance-end.ensures.numbers;
-      has_room = omega (arith, c.advance-end.ensures.capacity, c.clear.ensures.capacity, c.self.invariant.has_room);
+      lists = c.advance-end.ensures.cycle.1.kept ∙ c.clear.ensures.kept ∙ c.self.invariant.lists;
+      has_room = c.advance-end.ensures.cycle.1.room ∙ c.clear.ensures.capacity ∙ c.self.invariant.has_room;
     }
 
 pub returns-clause-cycled : goal.returns-clause-cycled
@@ -20,13 +22,18 @@ returns-clause-cycled g c = λ counted.
     let end = c.advance-end.result in
     let done = c.advance-end.ensures.cycle in
     let listed : c.listed.result.items ≡ done.0 =
-    c.listed.ensures ∙ c.as_slice.ensures.value ∙ done.1 ∙ ap (λ l. l ++ done.0) c.clear.ensures.items in
+    c.listed.ensures ∙ c.as_slice.ensures
+    ∙ listed_anew done.1 (c.clear.ensures.kept ∙ c.self.invariant.lists) c.clear.ensures.none in
     cycle_with (ap (λ steps. report_with steps end) (sym listed)) (cycle_from (c.deref_mut.ensures.value ∙ c.self.view_is) done.3)
 
 pub listed-requires : goal.listed-requires
 listed-requires g c =
     let done = c.advance-end.ensures.cycle in
-    subst (λ l. length l ≤ 8) (sym (c.as_slice.ensures.value ∙ done.1 ∙ ap (λ l. l ++ done.0) c.clear.ensures.items)) done.2
+    subst (λ l. length l ≤ 8)
+    (sym (c.as_slice.ensures ∙ listed_anew done.1 (c.clear.ensures.kept ∙ c.self.invariant.lists) c.clear.ensures.none)) done.2
+
+pub advance-end-requires-clause-room : goal.advance-end-requires-clause-room
+advance-end-requires-clause-room g c = c.clear.ensures.room (omega (arith, c.self.invariant.has_room))
 
 pub returns-then-is_exhausted-clause-cycled : goal.returns-then-is_exhausted-clause-cycled
 returns-then-is_exhausted-clause-cycled g c = λ counted.

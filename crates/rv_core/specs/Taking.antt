@@ -1,0 +1,22 @@
+-- A cycle of a run whose steps are taken.
+use Rattle.std.specs.Prelude.{◌≡◌, ◌≤◌, List, length, Option}
+use Rattle.rv_isa.specs.Arrivals.{lines_at}
+use Rattle.rv_isa.specs.declared.lines.Arrival.{Arrival}
+use Rattle.rv_arch.specs.declared.outcome.Stop.{Stop}
+use Rattle.rv_hardware.specs.Guided.{GuidedHardware, IsGuidedCycle}
+use Rattle.rv_hardware.specs.Report.{Report}
+use Rattle.rv_watch.specs.Progress.{IsCommitStop, progress_after}
+use Rattle.rv_watch.specs.declared.progress.Progress.{Progress}
+use Rattle.rv_core.specs.Steps.{Takes}
+use Rattle.rv_core.specs.declared.steps.Steps.{Steps}
+
+-- one more cycle of a run, with the lines of its number: its steps are taken, and it is counted
+pub record TakesNextCycle (arrivals : List Arrival) (old new : GuidedHardware) (steps steps' : Steps)
+    (progress progress' : Progress) (stop : Option Stop) : Type 0 where
+  pub report : Report
+  pub cycle : IsGuidedCycle (lines_at arrivals old.hardware.cycle) old report new
+  pub few : length report.steps ≤ 8
+  pub taken : Takes steps steps' report.steps
+  pub counted : progress' ≡ progress_after report progress
+  pub stop_is : report.stop ≡ stop
+  pub reason : IsCommitStop stop
