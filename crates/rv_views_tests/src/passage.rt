@@ -7,13 +7,10 @@ use std::alloc::{AllocError, Global};
 
 // A table that begins with what is in flight in a pipeline.
 fn begun(alloc: Global, pipeline: &Pipeline) -> Result<Table, AllocError> {
+    let shown = pipeline.shown();
     // Of hardware that a reset and cycles lead to, the buffers are as long as described.
-    let _ = pipeline.cycles_done();
-    Table::begin(
-        alloc,
-        pipeline.shown().reorder_buffer(),
-        pipeline.shown().front(),
-    )
+    let _ = shown.cycles_done();
+    Table::begin(alloc, shown.reorder_buffer(), shown.front())
 }
 
 // What becomes of instructions in a run is tested by the pictures and logs that stand on tables.
