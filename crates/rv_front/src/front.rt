@@ -130,9 +130,7 @@ impl Front {
         // What comes next is at the pc that it predicts.
         ensures chain { head_pc self.new ≡ result.predicted }
     {
-        let oldest = *self.ring.front().unwrap();
-        self.ring.pop_front();
-        oldest
+        self.ring.pop_front().unwrap()
     }
 
     /// Empties the buffer, and fetches from `pc` on.
