@@ -58,6 +58,20 @@ impl Parts {
         ensures turn { turn_of (is_some result) self.new ≡ issue_turn kind self.old }
         ensures passed { IfSome result (λ passed. NoneIssues kind passed self.new) }
     {
+        // Mostly none has its operands: what follows has the large variables.
+        if !self.stations.may_be_ready(kind) {
+            return None;
+        }
+        self.issue_ready(kind, passed)
+    }
+
+    // The same, where an instruction of the kind may have its operands.
+    #[inline(always)]
+    fn issue_ready(&mut self, kind: Kind, passed: usize) -> Option<usize>
+        requires { NoneIssues kind passed self.old }
+        ensures turn { turn_of (is_some result) self.new ≡ issue_turn kind self.old }
+        ensures passed { IfSome result (λ passed. NoneIssues kind passed self.new) }
+    {
         if !self.units.free(kind, self.cycle) {
             return None;
         }

@@ -1,4 +1,4 @@
-ghost use Rattle.std.specs.Prelude.{ℕ, ◌≡◌, ◌<◌, ◌≤◌, ◌-◌, ◌==◌, IfOk, get_or, length, remove, slice_index, vec_len};
+ghost use Rattle.std.specs.Prelude.{ℕ, false, ◌≡◌, ◌<◌, ◌≤◌, ◌-◌, ◌==◌, IfOk, get_or, length, remove, slice_index, vec_len};
 ghost use Rattle.std.specs.Int.{bit_at};
 ghost use Rattle.std.specs.List.{All, insert, range_with_len};
 
@@ -50,6 +50,14 @@ pub fn first_marked(places: &[u8], from: usize, end: usize, mask: u64) -> usize
         }
     }
     end
+}
+
+/// Whether a mask marks a place.
+#[inline(always)]
+pub fn marks_any(mask: u64) -> bool
+    ensures { result ≡ false → (place : ℕ) → bit_at mask place ≡ 0 }
+{
+    mask != 0
 }
 
 #[inline(always)]

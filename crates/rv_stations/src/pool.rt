@@ -1,4 +1,4 @@
-ghost use Rattle.std.specs.Prelude.{ℕ, ◌≡◌, ◌<◌, ◌≤◌, ◌↔◌, Bool, [], Some, length, take, nat_le, slice_get, IsTrue, IfOk, IfSome, option_and_then, false, true};
+ghost use Rattle.std.specs.Prelude.{ℕ, ◌≡◌, ◌<◌, ◌≤◌, ◌↔◌, Bool, [], None, Some, length, take, nat_le, slice_get, IsTrue, IfOk, IfSome, option_and_then, false, true};
 ghost use Rattle.rv_isa.specs.Description.{Within};
 ghost use Rattle.rv_isa.specs.Instruction.{is_load};
 ghost use Rattle.rv_isa.specs.Numbered.{AreBelow, IsInOrder, below};
@@ -7,7 +7,7 @@ ghost use Rattle.std.specs.Option.{option_map};
 
 use crate::column::OperandColumn;
 use crate::marks::{marked, one_of, unmarked};
-use crate::places::{first_marked, first_places, move_back};
+use crate::places::{first_marked, first_places, marks_any, move_back};
 use crate::waiting::{Taken, Verdict, Waiting};
 use rv_isa::{Instr, KindValues};
 use std::alloc::{AllocError, Global};
@@ -97,6 +97,15 @@ impl StationPool {
         ensures { IsTrue result ↔ (self.now.waiting ≡ []) }
     {
         self.count == 0
+    }
+
+    /// Whether an instruction may have its operands. Where none may, none has.
+    #[inline(always)]
+    pub fn may_be_ready(&self) -> bool
+        ensures { result ≡ false → (test : Waiting → Bool) → oldest_ready test self.now.waiting ≡ None }
+    {
+        let waiting = self.first.waiting() | self.second.waiting();
+        marks_any(unmarked(self.held, waiting))
     }
 
     /// Whether a sequence number is above all that wait.

@@ -1,6 +1,6 @@
-ghost use Rattle.std.specs.Prelude.{◌≡◌, ◌<◌, ◌≤◌, ◌↔◌, Bool, [], length, nat_le, IsTrue, IfOk, IfSome};
+ghost use Rattle.std.specs.Prelude.{◌≡◌, ◌<◌, ◌≤◌, ◌↔◌, Bool, false, [], None, length, nat_le, IsTrue, IfOk, IfSome};
 ghost use Rattle.rv_isa.specs.Numbered.{AreBelow, IsInOrder};
-ghost use Rattle.rv_stations.specs.Waiting.{seq_of, ArePassedBy, IsOperand, next_ready, ready_taken};
+ghost use Rattle.rv_stations.specs.Waiting.{seq_of, ArePassedBy, IsOperand, next_ready, oldest_ready, ready_taken};
 ghost use Rattle.rv_isa.specs.PerKind.{at_kind, with_kind, for_each};
 ghost use Rattle.rv_stations.specs.Pool.{Searches, empty_pool, with_waiting, woken_pool, issued, squashed};
 
@@ -53,6 +53,14 @@ impl Stations {
         ensures { IsTrue result ↔ ((at_kind kind self.now).waiting ≡ []) }
     {
         self.pools.get(kind).is_empty()
+    }
+
+    /// Whether an instruction of a kind may have its operands. Where none may, none has, and a search finds none.
+    #[inline(always)]
+    pub fn may_be_ready(&self, kind: Kind) -> bool
+        ensures { result ≡ false → (test : Waiting → Bool) → oldest_ready test (at_kind kind self.now).waiting ≡ None }
+    {
+        self.pools.get(kind).may_be_ready()
     }
 
     /// Whether a sequence number is above those of all instructions of a kind that wait.

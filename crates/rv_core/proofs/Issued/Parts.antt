@@ -154,11 +154,15 @@ module _ {parts : Inside} (sound : IsSound parts) {old : Hardware} (view : hardw
             ap (λ (y : Hardware). GoesOn y) (sym seen ∙ is_issued sound.sound leaving x queued)
             ∙ turn_of_found free leaving.found
 
-  -- where no instruction of the kind waits, a turn ends the phase and changes nothing
-  pub turn_empty : (at_kind kind parts.stations).waiting ≡ [] → Ends h ≡ issue_turn kind old
-  turn_empty empty = elim (cases_Bool (is_free parts.cycle (at_kind kind parts.units))) [
-    | inl free ↦ turn_ends (sym (ap (λ ws. option_and_then ready_of (oldest_ready code_test ws)) empty)) free refl
+  -- where no instruction of the kind has its operands, a turn ends the phase and changes nothing
+  pub turn_unready : ((test : Station → Bool) → oldest_ready test (at_kind kind parts.stations).waiting ≡ None) → Ends h ≡ issue_turn kind old
+  turn_unready none = elim (cases_Bool (is_free parts.cycle (at_kind kind parts.units))) [
+    | inl free ↦ turn_ends (sym (ap (option_and_then ready_of) (none code_test))) free refl
     | inr held ↦ sym (cond-false (is_free parts.cycle (at_kind kind parts.units))
         (issue_oldest kind h (oldest (is_ready_entry h kind) h.rob.entries)) (Ends h) held)
         ∙ ap (issue_turn kind) view
   ]
+
+  -- and so where none waits
+  pub turn_empty : (at_kind kind parts.stations).waiting ≡ [] → Ends h ≡ issue_turn kind old
+  turn_empty empty = turn_unready (λ test. ap (oldest_ready test) empty)

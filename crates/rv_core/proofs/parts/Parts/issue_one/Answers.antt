@@ -1,83 +1,8 @@
-use Rattle.rv_core.proofs.Words.{ap, ◌∙◌, sym, hardware_of, KindValues, Layout, path_cost}
-use Rattle.rv_stations.specs.Waiting.{ready_taken}
-use Rattle.rv_core.specs.Access.{path_of_ready}
-use Rattle.rv_core.proofs.Issued.Executed.{Execution}
-use Rattle.rv_core.proofs.Issued.Parts.{absent, passed_after, passed_in_code, room, sound_after, sound_still}
-use Rattle.rv_core.proofs.Issued.Parts.{turn_after, turn_ends}
+use Rattle.rv_core.proofs.Words.{ap, sym, refl, ◌∙◌, Ends, Hardware}
+use Rattle.rv_core.proofs.Issued.Parts.{turn_unready}
 use Rattle.rv_core.proofs.parts.Parts.issue_one.Goals as goal
-use Rattle.rv_core.proofs.parts.Parts.issue_one.Goals.{After-start}
 
-pub take_ready-requires : goal.take_ready-requires
-take_ready-requires c =
-    passed_in_code c.self.invariant c.self.view_is c.args.kind c.is_port_idle-port_idle.ensures c.args.passed c.requires
-
-pub invariant_of-self : goal.invariant_of-self
-invariant_of-self c =
-    sound_still c.self.invariant c.self.view_is c.args.kind c.is_port_idle-port_idle.ensures c.take_ready.ensures.oldest
-    (ap ready_taken c.in_default.is) c.take_ready.ensures.others
-
-pub returns-in_default-clause-turn : goal.returns-in_default-clause-turn
-returns-in_default-clause-turn c =
-    turn_ends c.self.invariant c.self.view_is c.args.kind c.is_port_idle-port_idle.ensures c.take_ready.ensures.oldest
-    (sym c.free.ensures ∙ c.if-not-free.false) (ap ready_taken c.in_default.is)
-
-pub accept-requires-clause-room : goal.accept-requires-clause-room
-accept-requires-clause-room c =
-    room c.self.invariant c.self.view_is c.args.kind c.is_port_idle-port_idle.ensures c.take_ready.ensures.oldest
-    (ap ready_taken c.in-Some.is)
-
-pub accept-requires-clause-absent : goal.accept-requires-clause-absent
-accept-requires-clause-absent c =
-    absent c.self.invariant c.self.view_is c.args.kind c.is_port_idle-port_idle.ensures c.take_ready.ensures.oldest
-    (ap ready_taken c.in-Some.is)
-
--- what the execution gave
-abbrev executed : (c : After-start) → Execution (hardware_of c.self.inside) c.args.kind c.self.inside.stores c.in-Some.taken.ready
-executed c =
-    let p = c.self.inside in
-    let path = path_of_ready p.cache p.stores c.in-Some.taken.ready in
-    let gave = c.execute-executed.ensures in
-    record {
-      message = c.execute-executed.result.message;
-      cost = c.execute-executed.result.cost;
-      port_free = c.execute-executed.result.port_free;
-      cache = c.execute-executed.new.cache;
-      costs = gave.cost ∙ ap (λ (k : KindValues). path_cost k.latency p.values.forward p.cache path) c.get.ensures;
-      ports = gave.port;
-      caches = gave.cache;
-      gives = gave.message;
-    }
-
-pub invariant_of-self-2 : goal.invariant_of-self-2
-invariant_of-self-2 c =
-    sound_after c.self.invariant c.self.view_is c.args.kind c.is_port_idle-port_idle.ensures c.take_ready.ensures.oldest
-    (ap ready_taken c.in-Some.is) (executed (goal.at.invariant_of-self-2 c).After-start)
-    c.hold_unit.ensures c.start.ensures c.take_ready.ensures.others c.accept.ensures
-
-pub returns-clause-turn : goal.returns-clause-turn
-returns-clause-turn c =
-    turn_after c.self.invariant c.self.view_is c.args.kind c.is_port_idle-port_idle.ensures c.take_ready.ensures.oldest
-    (ap ready_taken c.in-Some.is) (executed (goal.at.returns-clause-turn c).After-start)
-    c.hold_unit.ensures c.start.ensures c.take_ready.ensures.others c.accept.ensures
-    (sym c.free.ensures ∙ c.if-not-free.false)
-
-pub returns-clause-passed : goal.returns-clause-passed
-returns-clause-passed c =
-    passed_after c.self.invariant c.self.view_is c.args.kind c.is_port_idle-port_idle.ensures c.take_ready.ensures.oldest
-    (ap ready_taken c.in-Some.is) (executed (goal.at.returns-clause-passed c).After-start)
-    c.hold_unit.ensures c.start.ensures c.take_ready.ensures.others c.accept.ensures
-    c.in-Some.taken.passed (rw c.in-Some.is at c.take_ready.ensures.passed)
-
-pub execute-executed-requires-clause-over_ram : goal.execute-executed-requires-clause-over_ram
-execute-executed-requires-clause-over_ram c =
-    let cache = c.self.invariant.sound.cache in
-    record {
-      base = cache.base ∙ sym (ap (λ (l : Layout). l.base) cache.layout);
-      size = cache.bytes ∙ sym (ap (λ (l : Layout). l.size) cache.layout);
-    }
-
-pub execute-executed-requires-clause-cycle : goal.execute-executed-requires-clause-cycle
-execute-executed-requires-clause-cycle c = c.self.invariant.sound.cycles
-
-pub accept-requires-clause-cycle : goal.accept-requires-clause-cycle
-accept-requires-clause-cycle c = c.self.invariant.sound.cycles
+pub returns-then-not-may_be_ready-clause-turn : goal.returns-then-not-may_be_ready-clause-turn
+returns-then-not-may_be_ready-clause-turn c =
+    ap (λ (h : Hardware). Ends h) (sym c.self.view_is)
+    ∙ turn_unready c.self.invariant c.self.view_is c.args.kind refl (c.may_be_ready.ensures c.if-not-may_be_ready.true)
