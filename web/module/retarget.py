@@ -148,24 +148,35 @@ class Retargeted:
         return line
 
 
+def retargeted(path):
+    """The lines of a module for WebAssembly, or why there are none."""
+    module, written = Retargeted(), []
+    with open(path, encoding="utf-8") as lines:
+        for number, line in enumerate(lines, 1):
+            try:
+                written.append(module.line(line))
+            except Unknown as unknown:
+                raise Unknown(f"{path}:{number}: {unknown}: {line.strip()[:120]}") from None
+    text = "".join(written)
+    if text.count("define i32 @rv_main()") != 1:
+        raise Unknown(f"{path} has no entry 'define i32 @main()'")
+    return text
+
+
 def main():
     if len(sys.argv) != 3:
         print("usage: retarget.py IN.ll OUT.ll", file=sys.stderr)
         return 2
-    retargeted, written = Retargeted(), []
-    with open(sys.argv[1]) as module:
-        for number, line in enumerate(module, 1):
-            try:
-                written.append(retargeted.line(line))
-            except Unknown as unknown:
-                print(f"retarget: {sys.argv[1]}:{number}: {unknown}: {line.strip()[:120]}", file=sys.stderr)
-                return 1
-    text = "".join(written)
-    if text.count("define i32 @rv_main()") != 1:
-        print(f"retarget: {sys.argv[1]} has no entry 'define i32 @main()'", file=sys.stderr)
+    try:
+        text = retargeted(sys.argv[1])
+        with open(sys.argv[2], "w", encoding="utf-8") as out:
+            out.write(text)
+    except (OSError, Unknown) as fault:
+        print(f"retarget: {fault}", file=sys.stderr)
         return 1
-    with open(sys.argv[2], "w") as out:
-        out.write(text)
+    except UnicodeDecodeError:
+        print(f"retarget: {sys.argv[1]}: no UTF-8 text", file=sys.stderr)
+        return 1
     return 0
 
 
