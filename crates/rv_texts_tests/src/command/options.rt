@@ -96,7 +96,7 @@ fn also_is_refused(rt: &impl Abort, alloc: Global, texts: &[&str]) -> Result<(),
 
 #[test]
 fn a_machine_is_tried_with_four_values_of_a_users_own_at_most(rt: HostRuntime) -> Result<(), Fail> {
-    const NO_VALUES: [&str; 19] = [
+    const NO_VALUES: [&str; 20] = [
         "rob",
         "rob=",
         "=64",
@@ -112,6 +112,7 @@ fn a_machine_is_tried_with_four_values_of_a_users_own_at_most(rt: HostRuntime) -
         "ram_base=4096",
         "ram_size=8192",
         "rom_bytes=4096",
+        "rom_bytes=0",
         "report.dump_address=4",
         "report.dump_words=1",
         "div.pipelined=yes",
