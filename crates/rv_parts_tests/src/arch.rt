@@ -22,7 +22,7 @@ use std::test::Fail;
 
 #[test]
 fn load_takes_the_stored_word(rt: HostRuntime) {
-    const CASES: [Case<'static>; 2] = [
+    static CASES: [Case<'static>; 2] = [
         Case {
             words: &FORWARDED,
             registers: &[(7, 7)],
@@ -39,7 +39,7 @@ fn load_takes_the_stored_word(rt: HostRuntime) {
 
 #[test]
 fn divisions_and_products(rt: HostRuntime) {
-    const CASE: Case<'static> = Case {
+    static CASE: Case<'static> = Case {
         words: &DIVISIONS,
         registers: &[
             (3, 0x8000_0000),
@@ -62,7 +62,7 @@ fn divisions_and_products(rt: HostRuntime) {
 
 #[test]
 fn load_after_ram_faults(rt: HostRuntime) {
-    const CASE: Case<'static> = Case {
+    static CASE: Case<'static> = Case {
         words: &LOAD_PAST_RAM,
         traps: 2,
         registers: &[(6, 0), (10, 5), (11, 0x8001_0000), (12, 0x8000_0014)],
@@ -73,7 +73,7 @@ fn load_after_ram_faults(rt: HostRuntime) {
 
 #[test]
 fn jump_to_no_multiple_of_4_writes_no_link(rt: HostRuntime) {
-    const CASE: Case<'static> = Case {
+    static CASE: Case<'static> = Case {
         words: &JUMP_TO_ODD_HALF,
         traps: 2,
         registers: &[(1, 0), (10, 0), (11, 0x8000_001a), (12, 0x8000_0014)],
@@ -84,7 +84,7 @@ fn jump_to_no_multiple_of_4_writes_no_link(rt: HostRuntime) {
 
 #[test]
 fn branch_skips_an_illegal_word(rt: HostRuntime) {
-    const CASE: Case<'static> = Case {
+    static CASE: Case<'static> = Case {
         words: &BRANCH_TO_ILLEGAL,
         traps: 2,
         registers: &[(10, 2), (11, 0xffff_ffff), (12, 0x8000_0014)],
@@ -95,7 +95,7 @@ fn branch_skips_an_illegal_word(rt: HostRuntime) {
 
 #[test]
 fn external_comes_before_software_and_that_before_timer(rt: HostRuntime) {
-    const CASES: [Case<'static>; 2] = [
+    static CASES: [Case<'static>; 2] = [
         Case {
             words: &THREE_LINES,
             lines: HIGH,
@@ -115,7 +115,7 @@ fn external_comes_before_software_and_that_before_timer(rt: HostRuntime) {
 
 #[test]
 fn illegal_csr_accesses_trap_with_the_word(rt: HostRuntime) {
-    const CASES: [Case<'static>; 3] = [
+    static CASES: [Case<'static>; 3] = [
         Case {
             words: &WRITE_MHARTID,
             lines: TIMER,
@@ -143,7 +143,7 @@ fn illegal_csr_accesses_trap_with_the_word(rt: HostRuntime) {
 
 #[test]
 fn csrs_keep_their_legal_bits(rt: HostRuntime) {
-    const CASE: Case<'static> = Case {
+    static CASE: Case<'static> = Case {
         words: &WARL,
         registers: &[
             (6, 0x0000_1888),
@@ -160,7 +160,7 @@ fn csrs_keep_their_legal_bits(rt: HostRuntime) {
 
 #[test]
 fn the_read_only_front_is_kept_from_stores(rt: HostRuntime) {
-    const CASES: [Case<'static>; 3] = [
+    static CASES: [Case<'static>; 3] = [
         Case {
             words: &ROM_STORE,
             rom_bytes: 4096,
@@ -223,7 +223,7 @@ fn check_stale(rt: &impl Abort, alloc: Global) {
 
 #[test]
 fn stale_word_stops_the_run_until_a_fence(rt: HostRuntime) {
-    const FENCED: Case<'static> = Case {
+    static FENCED: Case<'static> = Case {
         words: &STORE_AND_FENCE,
         registers: &[(7, 1)],
         ..PLAIN
@@ -242,7 +242,7 @@ fn stamps_lead_to_where_the_run_stops(rt: HostRuntime) {
 
 #[test]
 fn vectored_interrupt_goes_to_its_own_place(rt: HostRuntime) {
-    const CASE: Case<'static> = Case {
+    static CASE: Case<'static> = Case {
         words: &VECTORED,
         lines: TIMER,
         interrupts: 1,

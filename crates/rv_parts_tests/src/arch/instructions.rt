@@ -110,7 +110,7 @@ const CSR_INSTRUCTIONS: [u32; 15] = [
 
 #[test]
 fn loads_extend_by_the_sign_or_by_zeros(rt: HostRuntime) {
-    const CASE: Case<'static> = Case {
+    static CASE: Case<'static> = Case {
         words: &LOADS,
         registers: &[
             (6, 0xffff_ff80),
@@ -133,7 +133,7 @@ fn loads_extend_by_the_sign_or_by_zeros(rt: HostRuntime) {
 
 #[test]
 fn stores_write_the_low_bytes_alone(rt: HostRuntime) {
-    const CASE: Case<'static> = Case {
+    static CASE: Case<'static> = Case {
         words: &STORES,
         registers: &[
             (7, 0x8765_4321),
@@ -148,7 +148,7 @@ fn stores_write_the_low_bytes_alone(rt: HostRuntime) {
 
 #[test]
 fn operations_take_registers_and_immediates(rt: HostRuntime) {
-    const CASE: Case<'static> = Case {
+    static CASE: Case<'static> = Case {
         words: &OPERATIONS,
         registers: &[
             (0, 0),
@@ -175,7 +175,7 @@ fn operations_take_registers_and_immediates(rt: HostRuntime) {
 // A branch that isn't taken does not fault, whatever its target; JALR clears bit 0 of its own.
 #[test]
 fn jumps_and_branches_go_to_their_targets(rt: HostRuntime) {
-    const CASE: Case<'static> = Case {
+    static CASE: Case<'static> = Case {
         words: &JUMPS,
         registers: &[(5, 0x8000_0004), (6, 0), (8, 0x8000_0010), (9, 9)],
         ..PLAIN
@@ -186,7 +186,7 @@ fn jumps_and_branches_go_to_their_targets(rt: HostRuntime) {
 // x0 and the immediate 0 set and clear nothing, so that they may name a read-only register.
 #[test]
 fn csr_instructions_answer_the_old_value(rt: HostRuntime) {
-    const CASE: Case<'static> = Case {
+    static CASE: Case<'static> = Case {
         words: &CSR_INSTRUCTIONS,
         registers: &[
             (6, 0),

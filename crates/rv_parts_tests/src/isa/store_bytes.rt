@@ -3,7 +3,7 @@ use rv_isa::{StoreBytes, Width};
 
 #[test]
 fn the_low_bytes_of_a_word_come_first(rt: HostRuntime) {
-    const CASES: [(Width, &[u8]); 3] = [
+    static CASES: [(Width, &[u8]); 3] = [
         (Width::Byte, &[0x81]),
         (Width::Half, &[0x81, 2]),
         (Width::Word, &[0x81, 2, 3, 4]),
