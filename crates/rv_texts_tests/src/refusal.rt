@@ -16,7 +16,7 @@ pub(crate) struct Refused {
     pub(crate) why: &'static [u8],
 }
 
-const REFUSED: [Refused; 17] = [
+static REFUSED: [Refused; 17] = [
     Refused {
         job: b"rob = 8\n%%\nnop\n\tslli x1, x1, 32 # \xc3\xa4\n",
         why: b"\
@@ -202,7 +202,7 @@ and 1 more
 ];
 
 // Jobs with no description that are refused by their first line, which looks like one of a description or has a mark of one.
-const FIRST_LINES: [Refused; 7] = [
+static FIRST_LINES: [Refused; 7] = [
     Refused {
         job: b"lui a0, %hi(x)",
         why: b"\
@@ -306,7 +306,7 @@ const IMMEDIATE: &str = "\nexpected: a value from -2048 to 2047\n";
 const UPPER: &str = "\nexpected: a value from 0 to 1048575\n";
 
 // Statements with a value that is out of range, and the range.
-const RANGES: [(&str, &str); 16] = [
+static RANGES: [(&str, &str); 16] = [
     ("lui x1, 0x100000", UPPER),
     ("auipc x1, 0x100000", UPPER),
     (".equ far, 0\nj far", JUMP),
@@ -338,7 +338,7 @@ const RANGES: [(&str, &str); 16] = [
 ];
 
 // Statements with operands that they do not have, and those that they may have.
-const SHAPES: [(&str, &str); 16] = [
+static SHAPES: [(&str, &str); 16] = [
     (
         "add x1",
         "\nexpected: add rd, rs1, rs2, as in 'add x5, x6, x7'\n",
@@ -394,7 +394,7 @@ const SHAPES: [(&str, &str); 16] = [
 ];
 
 // Other faults, and what is said of each.
-const OTHERS: [(&str, &str); 6] = [
+static OTHERS: [(&str, &str); 6] = [
     (
         "nop ; nop",
         "\nexpected: names, numbers up to 4294967295, strings that end on their line, and the marks , : ( ) + -\n",

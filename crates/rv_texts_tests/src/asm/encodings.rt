@@ -3,7 +3,7 @@ use std::test::Fail;
 
 #[test]
 fn each_base_instruction_has_the_word_of_the_manual(rt: HostRuntime) -> Result<(), Fail> {
-    const CASES: [(&str, u32); 44] = [
+    static CASES: [(&str, u32); 44] = [
         ("lui x5,0xfffff", 0xfffff2b7),
         ("auipc x31,1", 0x00001f97),
         ("a: jal x5,a+1048574", 0x7ffff2ef),
@@ -56,7 +56,7 @@ fn each_base_instruction_has_the_word_of_the_manual(rt: HostRuntime) -> Result<(
 fn each_instruction_of_an_extension_has_the_word_of_the_manual(
     rt: HostRuntime,
 ) -> Result<(), Fail> {
-    const CASES: [(&str, u32); 19] = [
+    static CASES: [(&str, u32); 19] = [
         ("mul x5,x6,x7", 0x027302b3),
         ("mulh x5,x6,x7", 0x027312b3),
         ("mulhsu x5,x6,x7", 0x027322b3),
@@ -82,7 +82,7 @@ fn each_instruction_of_an_extension_has_the_word_of_the_manual(
 
 #[test]
 fn a_pseudo_instruction_is_the_instruction_that_it_stands_for(rt: HostRuntime) -> Result<(), Fail> {
-    const CASES: [(&str, u32); 34] = [
+    static CASES: [(&str, u32); 34] = [
         ("nop", 0x00000013),
         ("mv x5,x6", 0x00030293),
         ("not x5,x6", 0xfff34293),
@@ -123,7 +123,7 @@ fn a_pseudo_instruction_is_the_instruction_that_it_stands_for(rt: HostRuntime) -
 
 #[test]
 fn li_is_one_instruction_where_one_is_enough(rt: HostRuntime) -> Result<(), Fail> {
-    const CASES: [(&str, &[u32]); 15] = [
+    static CASES: [(&str, &[u32]); 15] = [
         ("li x5,0", &[0x00000293]),
         ("li x5,2047", &[0x7ff00293]),
         ("li x5,-2048", &[0x80000293]),
@@ -147,7 +147,7 @@ fn li_is_one_instruction_where_one_is_enough(rt: HostRuntime) -> Result<(), Fail
 fn la_counts_from_its_first_instruction_and_modulo_2_to_the_32(
     rt: HostRuntime,
 ) -> Result<(), Fail> {
-    const CASES: [(&str, &[u32]); 7] = [
+    static CASES: [(&str, &[u32]); 7] = [
         ("a: la x5,a", &[0x00000297, 0x00028293]),
         ("a: la x5,a+2047", &[0x00000297, 0x7ff28293]),
         ("a: la x5,a+2048", &[0x00001297, 0x80028293]),

@@ -37,7 +37,7 @@ macro_rules! wrong_alone {
 
 #[test]
 fn a_wrong_value_of_a_users_own_is_told_what_its_key_takes(rt: HostRuntime) -> Result<(), Fail> {
-    const CASES: [(&[&str], &str); 22] = [
+    static CASES: [(&[&str], &str); 22] = [
         wrong_alone!("rob=9999", "rob is a number from 1 to 256"),
         wrong_alone!("rob=", "rob is a number from 1 to 256"),
         wrong_alone!(

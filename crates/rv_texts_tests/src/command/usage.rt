@@ -361,7 +361,7 @@ pub(super) fn each_is_shown(
 
 #[test]
 fn help_and_version_have_their_texts(rt: HostRuntime) -> Result<(), Fail> {
-    const CASES: [(&[&str], &str); 15] = [
+    static CASES: [(&[&str], &str); 15] = [
         (&["rv_sim", "--help"], HELP),
         (&["rv_sim", "help"], HELP),
         (&["rv_sim", "run", "-h"], HELP_OF_RUN),
@@ -385,7 +385,7 @@ fn help_and_version_have_their_texts(rt: HostRuntime) -> Result<(), Fail> {
 fn mistakes_have_their_texts_with_a_hint_where_a_word_may_be_a_file(
     rt: HostRuntime,
 ) -> Result<(), Fail> {
-    const CASES: [(&[&str], &str); 7] = [
+    static CASES: [(&[&str], &str); 7] = [
         (&["rv_sim", "reference", "--limit", "0"], LIMIT_OF_ZERO),
         (&["rv_sim", "compare", "--limit=0"], LIMIT_OF_ZERO),
         (&["rv_sim", "picture", "--from", "1000000"], FROM_TOO_LATE),

@@ -2,7 +2,7 @@ use crate::refusal::{Refused, check_whole};
 use std::test::Fail;
 
 // Lists of arrivals that are refused by a field of an entry that stands on a line, and why.
-const FIELDS: [Refused; 8] = [
+static FIELDS: [Refused; 8] = [
     Refused {
         job: b"%%\n\xef\xbb\xbf[[arrival]]\ncycle = 5\nline = \"timer\"\n[[arrival]]\ncycle = 6\nline = \"clock\"\n%%\nebreak\n",
         why: b"\
@@ -78,7 +78,7 @@ expected: level is 0 or 1, by default 1
 ];
 
 // Lists of arrivals that are refused by a field that is missing or stands on no line of its own, or by the list itself.
-const MISSING: [Refused; 7] = [
+static MISSING: [Refused; 7] = [
     Refused {
         job: b"%%\n[[arrival]]\ncycle = 1\nline = \"timer\"\n [[ arrival ]] # the second\nline = \"timer\"\n%%\nebreak\n",
         why: b"\
@@ -141,7 +141,7 @@ expected: TOML, as in '[[arrival]]': a value for each key, strings and brackets 
 ];
 
 // Lists of arrivals with names that are not known.
-const NAMES: [Refused; 10] = [
+static NAMES: [Refused; 10] = [
     Refused {
         job: b"%%\ncycle=5\n%%\nebreak\n",
         why: b"\

@@ -2,7 +2,7 @@ use crate::refusal::{Refused, check_whole};
 use std::test::Fail;
 
 // Names that are known in small letters; a symbol may have capital ones.
-const CAPITALS: [Refused; 5] = [
+static CAPITALS: [Refused; 5] = [
     Refused {
         job: b"nop\nADDI x1, x0, 5",
         why: b"\

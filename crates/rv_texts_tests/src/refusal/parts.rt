@@ -2,7 +2,7 @@ use crate::refusal::{Refused, check_whole};
 use std::test::Fail;
 
 // Descriptions that are refused by the value at a key, and why.
-const VALUES: [Refused; 11] = [
+static VALUES: [Refused; 11] = [
     Refused {
         job: b"\xef\xbb\xbf[cache]\nsets = 3\n%%\nebreak\n",
         why: b"\
@@ -105,7 +105,7 @@ expected: predictor.kind is \"not_taken\", \"backward_taken\" or \"bimodal\", by
 ];
 
 // Descriptions with names that are not known, one without the line's name, and one that is no TOML.
-const NAMES: [Refused; 7] = [
+static NAMES: [Refused; 7] = [
     Refused {
         job: b"\xef\xbb\xbfrbo = 8\nrob = 8\n%%\n",
         why: b"\
@@ -172,7 +172,7 @@ names are written in small letters: rob
 ];
 
 // Texts that are no TOML.
-const NO_TOML: [Refused; 7] = [
+static NO_TOML: [Refused; 7] = [
     Refused {
         job: b"rob 8\n%%\n",
         why: b"\
@@ -239,7 +239,7 @@ expected: TOML, as in 'rob = 8': a value for each key, strings and brackets clos
 ];
 
 // Images that do not fit.
-const IMAGES: [Refused; 2] = [
+static IMAGES: [Refused; 2] = [
     Refused {
         job: b".zero 65537\n",
         why: b"\
