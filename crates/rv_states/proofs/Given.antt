@@ -2,8 +2,8 @@
 use Rattle.std.proofs.Common.{◌≡◌, ◌∙◌, ℕ, ◌+◌, ◌<◌, ◌≤◌, List, [], length, get_or, map, take, Option, refl, ap, arith}
 use Rattle.std.specs.List.{flat_map}
 use Rattle.std.proofs.lemmas.List.{take_all}
-use Rattle.rv_json.specs.Json.{Json, values_from}
-use Rattle.rv_json.proofs.Arrays.{count_given, says_given}
+use Rattle.rv_states.specs.Json.{Json, values_from}
+use Rattle.rv_states.proofs.Arrays.{count_given, says_given}
 use Rattle.rv_text.specs.Said.{Says}
 use Rattle.rv_text.specs.declared.sink.Sink.{Sink}
 use Rattle.rv_text.proofs.Saying.{says_nothing, says_same}

@@ -31,18 +31,18 @@ use Rattle.rv_passage.proofs.Walk.{passages_after-push}
 use Rattle.rv_source.specs.Listing.{Listed}
 use Rattle.rv_text.specs.Said.{Extends}
 use Rattle.rv_text.proofs.Saying.{extends_both, extends_nothing, extends_same, extends_whole}
-use Rattle.rv_json.specs.Instruction.{ended_text, instruction_json, passage_text}
-use Rattle.rv_json.specs.Json.{Json, also, array, begins, numeral}
-use Rattle.rv_json.specs.Step.{step_json}
-use Rattle.rv_json.specs.Stop.{stop_line}
 use Rattle.rv_states.specs.Cycle.{cycle_line, json_in_flight, rest_text, start_line}
+use Rattle.rv_states.specs.Instruction.{ended_text, instruction_json, passage_text}
+use Rattle.rv_states.specs.Json.{Json, also, array, begins, numeral}
 use Rattle.rv_states.specs.Page.{after_lines, before_lines}
 use Rattle.rv_states.specs.Predictor.{after_lessons, predictor_lines, predictor_text, untaught_predictor}
 use Rattle.rv_states.specs.Showing.{IsFollowing, IsShowing, kept_of}
 use Rattle.rv_states.specs.States.{WritesStates, begun_text, cycle_text, cycles_text, head_text, lines_text, shown_text, states_text, storage_text, taught_by, window_text}
+use Rattle.rv_states.specs.Step.{step_json}
+use Rattle.rv_states.specs.Stop.{stop_line}
 use Rattle.rv_states.specs.declared.form.Form.{Form}
-use Rattle.rv_states.proofs.Markup.{states_plain}
-use Rattle.rv_states.proofs.WellFormed.{states_are}
+use Rattle.rv_states.proofs.PlainStates.{states_plain}
+use Rattle.rv_states.proofs.JsonStates.{states_are}
 use Rattle.rv_view.specs.Following.{BeginsAt, IsFollowedOn, IsNumberedOn}
 use Rattle.rv_view.specs.Viewing.{cycle_shown, cycles_seen}
 use Rattle.rv_view.proofs.EndedView.{cycles_seen-push}

@@ -4,7 +4,7 @@ use Rattle.std.specs.List.{flat_map}
 use Rattle.rv_watch.specs.declared.progress.Progress.{Progress}
 use Rattle.rv_hardware.specs.Report.{all_stalls, count_of, stall_name}
 use Rattle.rv_hardware.specs.declared.report.{Stall.Stall, StallCounts.StallCounts}
-use Rattle.rv_json.specs.Json.{Json, also, begins, numeral, quoted}
+use Rattle.rv_states.specs.Json.{Json, also, begins, numeral, quoted}
 
 -- what the last cycle waited for, where it dispatched nothing
 unfoldable pub stall_text : Option Stall → List ℕ

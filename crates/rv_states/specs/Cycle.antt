@@ -8,11 +8,11 @@ use Rattle.rv_hardware.specs.declared.step.Step.{Step}
 use Rattle.rv_passage.specs.Passage.{is_in_flight}
 use Rattle.rv_passage.specs.declared.passage.Passage.{Passage}
 use Rattle.rv_states.specs.Counts.{counts_text}
-use Rattle.rv_json.specs.Instruction.{instruction_json}
-use Rattle.rv_json.specs.Json.{Json, also, array, begins, numeral}
+use Rattle.rv_states.specs.Instruction.{instruction_json}
+use Rattle.rv_states.specs.Json.{Json, also, array, begins, numeral}
 use Rattle.rv_states.specs.Predictor.{predictor_text}
 use Rattle.rv_states.specs.State.{state_json}
-use Rattle.rv_json.specs.Step.{step_json}
+use Rattle.rv_states.specs.Step.{step_json}
 
 -- the counts so far, and the hardware
 unfoldable pub rest_text : Hardware → Progress → List ℕ

@@ -1,11 +1,11 @@
 -- The instructions in the reorder buffer, as JSON.
 use Rattle.std.specs.Prelude.{ℕ, ◌+◌, List, [], ◌∷◌, ◌++◌, codes}
 use Rattle.rv_watch.specs.Registers.{RegisterStatus, status_with, values_in}
-use Rattle.rv_json.specs.Entry.{entry_text}
-use Rattle.rv_json.specs.Json.{Json}
+use Rattle.rv_states.specs.Entry.{entry_text}
+use Rattle.rv_states.specs.Json.{Json}
+use Rattle.rv_states.specs.Operands.{operands_text}
 use Rattle.rv_rob.specs.ReorderBuffer.{ReorderBuffer}
 use Rattle.rv_rob.specs.declared.entry.Entry.{Entry}
-use Rattle.rv_states.specs.Operands.{operands_text}
 
 -- an instruction by its sequence number, where the registers give it this
 unfoldable pub entry_json : RegisterStatus → ℕ → Entry → Json

@@ -6,8 +6,8 @@ use Rattle.rv_isa.specs.declared.values.Values.{Values}
 use Rattle.rv_memory.specs.Memory.{Layout, byte_seen, word_of}
 use Rattle.rv_hardware.specs.Hardware.{Hardware}
 use Rattle.rv_hardware.specs.Seen.{layout_of, seen}
-use Rattle.rv_json.specs.Place.{word_address}
-use Rattle.rv_json.specs.Word.{word_text}
+use Rattle.rv_states.specs.Place.{word_address}
+use Rattle.rv_states.specs.Word.{word_text}
 
 -- the word of four bytes from an address on, the lowest first; none outside RAM
 unfoldable pub word_seen : Layout → List ℕ → ℕ → Option ℕ

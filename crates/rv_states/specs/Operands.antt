@@ -6,8 +6,8 @@ use Rattle.rv_watch.specs.Registers.{RegisterStatus, status_after, values_in}
 use Rattle.rv_rob.specs.ReorderBuffer.{ReorderBuffer}
 use Rattle.rv_rob.specs.declared.entry.{Stage.Stage}
 use Rattle.rv_rob.specs.declared.entry.Stage.TheVariants.{Waiting, Running, Finished}
-use Rattle.rv_json.specs.Json.{also}
-use Rattle.rv_json.specs.Operand.{operand_json}
+use Rattle.rv_states.specs.Json.{also}
+use Rattle.rv_states.specs.Operand.{operand_json}
 
 -- what each register gives after the oldest so many instructions of a reorder buffer
 abbrev pub status_at : List ℕ → ReorderBuffer → ℕ → RegisterStatus

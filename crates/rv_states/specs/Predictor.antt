@@ -11,8 +11,8 @@ use Rattle.rv_front.specs.declared.{fetched.Fetched.Fetched, flow.Flow.Flow, pre
 use Rattle.rv_front.specs.declared.flow.Flow.TheVariants.{Sequential, Jump, Branch, Indirect}
 use Rattle.rv_hardware.specs.declared.step.Step.{Step}
 use Rattle.rv_hardware.specs.declared.step.Step.TheVariants.{Retired, Trap, Interrupt}
-use Rattle.rv_json.specs.Json.{Json, also, array}
-use Rattle.rv_json.specs.Predictor.{asked_json, place_json}
+use Rattle.rv_states.specs.Json.{Json, also, array}
+use Rattle.rv_states.specs.Prediction.{asked_json, place_json}
 
 -- the machine's predictor that was taught nothing
 abbrev pub untaught_predictor : Values → DescribedPredictor

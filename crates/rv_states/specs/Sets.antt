@@ -3,7 +3,7 @@ use Rattle.std.specs.Prelude.{ℕ, List, [], ◌∷◌, get_or}
 use Rattle.std.specs.List.{flat_map, range_with_len}
 use Rattle.rv_cache.specs.declared.line.CacheLine.{CacheLine}
 use Rattle.rv_hardware.specs.Hardware.{Hardware}
-use Rattle.rv_json.specs.Set.{lines_text}
+use Rattle.rv_states.specs.Set.{lines_text}
 
 -- the line of a set, but for one that holds no line
 abbrev pub lines_if : ℕ → List CacheLine → List ℕ

@@ -2,12 +2,12 @@
 use Rattle.std.specs.Prelude.{ℕ, List, ◌++◌, codes, map}
 use Rattle.rv_watch.specs.Queue.{queue_of}
 use Rattle.rv_hardware.specs.Hardware.{Hardware}
-use Rattle.rv_json.specs.Fetched.{fetched_json, next_fetch_text}
-use Rattle.rv_json.specs.Json.{Json, also, array, numeral}
-use Rattle.rv_json.specs.Observed.{observed_text}
-use Rattle.rv_json.specs.Queue.{store_json}
-use Rattle.rv_json.specs.Units.{units_json}
 use Rattle.rv_states.specs.Entries.{buffer_json}
+use Rattle.rv_states.specs.Fetched.{fetched_json, next_fetch_text}
+use Rattle.rv_states.specs.Json.{Json, also, array, numeral}
+use Rattle.rv_states.specs.Observed.{observed_text}
+use Rattle.rv_states.specs.Queue.{store_json}
+use Rattle.rv_states.specs.Units.{units_json}
 
 -- what is in flight
 unfoldable pub in_flight_text : Hardware → List ℕ

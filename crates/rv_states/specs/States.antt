@@ -17,16 +17,16 @@ use Rattle.rv_passage.specs.Walk.{FollowedCycle, walk}
 use Rattle.rv_passage.specs.declared.passage.Passage.{Passage}
 use Rattle.rv_source.specs.Listing.{Listed}
 use Rattle.rv_text.specs.Said.{IsSaid}
-use Rattle.rv_states.specs.Page.{after_lines, before_lines}
 use Rattle.rv_states.specs.Cycle.{cycle_line, start_line}
-use Rattle.rv_json.specs.Grammar.{AreLines}
-use Rattle.rv_json.specs.Listing.{listing_lines}
-use Rattle.rv_json.specs.Machine.{header_line}
-use Rattle.rv_json.specs.Markup.{HasNoMarkup}
+use Rattle.rv_states.specs.Grammar.{AreLines}
+use Rattle.rv_states.specs.Listing.{listing_lines}
+use Rattle.rv_states.specs.Machine.{header_line}
+use Rattle.rv_states.specs.Markup.{HasNoMarkup}
 use Rattle.rv_states.specs.Memory.{memory_lines}
+use Rattle.rv_states.specs.Page.{after_lines, before_lines}
 use Rattle.rv_states.specs.Predictor.{after_lessons, predictor_lines, untaught_predictor}
 use Rattle.rv_states.specs.Sets.{set_lines}
-use Rattle.rv_json.specs.Stop.{stop_line}
+use Rattle.rv_states.specs.Stop.{stop_line}
 use Rattle.rv_states.specs.declared.form.Form.{Form}
 
 -- the lines of memory and the cache

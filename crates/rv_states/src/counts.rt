@@ -3,8 +3,8 @@ ghost use Rattle.rv_hardware.specs.Report.{all_stalls};
 ghost use Rattle.rv_states.specs.Counts.{counts_json, counts_text, stall_count, stall_text};
 ghost use Rattle.rv_text.specs.Said.{Says};
 
+use crate::json::{write_begin, write_key, write_name, write_number};
 use rv_hardware::{Stall, StallCounts};
-use rv_json::{write_begin, write_key, write_name, write_number};
 use rv_text::Sink;
 use rv_watch::Progress;
 use std::io::Write;
@@ -45,7 +45,7 @@ fn write_object<W: Write>(out: &mut Sink<'_, W>, progress: &Progress)
 }
 
 /// Writes what the last cycle waited for, where it dispatched nothing, and the counts so far.
-#[tactic(auto, using(rv_text::proofs::Saying::says_both), unfolding(crate::specs::Counts::counts_text, rv_json::specs::Json::also))]
+#[tactic(auto, using(rv_text::proofs::Saying::says_both), unfolding(crate::specs::Counts::counts_text, crate::specs::Json::also))]
 pub(crate) fn write_counts<W: Write>(out: &mut Sink<'_, W>, progress: &Progress)
     ensures { Says W.contents out.old out.new (counts_text progress.now) }
 {

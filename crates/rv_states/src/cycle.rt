@@ -1,13 +1,16 @@
 ghost use Rattle.rv_states.specs.Cycle.{cycle_line, rest_text, start_line};
 ghost use Rattle.rv_text.specs.Said.{Says};
 
+use crate::array::write_array_member;
 use crate::counts::write_counts;
 use crate::in_flight::write_instructions_in_flight;
+use crate::instruction::Instructions;
+use crate::json::write_begin;
 use crate::predictor::write_predictor;
 use crate::state::write_state;
+use crate::step::Steps;
 use rv_front::DescribedPredictor;
 use rv_hardware::Step;
-use rv_json::{Instructions, Steps, write_array_member, write_begin};
 use rv_passage::Passage;
 use rv_text::Sink;
 use rv_watch::{Progress, ShownHardware};

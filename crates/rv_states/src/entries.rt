@@ -3,8 +3,9 @@ ghost use Rattle.rv_states.specs.Entries.{buffer_json, entry_json};
 ghost use Rattle.rv_states.specs.Operands.{status_at};
 ghost use Rattle.rv_text.specs.Said.{Says};
 
+use crate::array::Values;
+use crate::entry::write_entry;
 use crate::operands::{entry_at, number_at, write_operands};
-use rv_json::{Values, write_entry};
 use rv_rob::{Entry, Rob};
 use rv_text::Sink;
 use std::io::Write;

@@ -1,10 +1,12 @@
 ghost use Rattle.std.specs.Prelude.{◌≡◌, ◌+◌, ◌<◌, ◌≤◌, codes, length};
 ghost use Rattle.std.specs.List.{flat_map};
-ghost use Rattle.rv_json.specs.Json.{also, array, values_from};
 ghost use Rattle.rv_states.specs.Cycle.{json_in_flight};
+ghost use Rattle.rv_states.specs.Json.{also, array, values_from};
 ghost use Rattle.rv_text.specs.Said.{Says};
 
-use rv_json::{Instructions, Values, write_comma, write_key};
+use crate::array::{Values, write_comma};
+use crate::instruction::Instructions;
+use crate::json::write_key;
 use rv_passage::Passage;
 use rv_text::Sink;
 use std::io::Write;
@@ -36,7 +38,7 @@ fn write_all_in_flight<W: Write>(out: &mut Sink<'_, W>, rows: &[Passage])
 }
 
 /// Writes the member that has those of the instructions that are in flight.
-#[tactic(auto, using(rv_text::proofs::Saying::says_both), unfolding(rv_json::specs::Json::also, rv_json::specs::Json::array))]
+#[tactic(auto, using(rv_text::proofs::Saying::says_both), unfolding(crate::specs::Json::also, crate::specs::Json::array))]
 pub(crate) fn write_instructions_in_flight<W: Write>(out: &mut Sink<'_, W>, rows: &[Passage])
     ensures { Says W.contents out.old out.new (also (codes "instructions") (array (flat_map json_in_flight rows.now))) }
 {

@@ -3,7 +3,8 @@ ghost use Rattle.rv_hardware.specs.Seen.{layout_of, seen};
 ghost use Rattle.rv_states.specs.Memory.{memory_line, memory_lines, word_seen};
 ghost use Rattle.rv_text.specs.Said.{Says};
 
-use rv_json::{word_address, write_word};
+use crate::place::word_address;
+use crate::word::write_word;
 use rv_text::Sink;
 use rv_watch::ShownHardware;
 use std::io::Write;

@@ -1,20 +1,22 @@
 ghost use Rattle.std.specs.Prelude.{◌≡◌, [], ◌++◌};
 ghost use Rattle.rv_states.specs.Page.{after_lines, before_lines};
 ghost use Rattle.rv_states.specs.States.{begun_text, head_text, opening_text, shown_text, window_text};
-ghost use Rattle.rv_json.specs.Stop.{stop_line};
+ghost use Rattle.rv_states.specs.Stop.{stop_line};
 ghost use Rattle.rv_text.specs.Said.{Says};
 
 use crate::cycle::{write_cycle, write_start};
 use crate::form::Form;
+use crate::listing::write_listing;
+use crate::machine::write_header;
 use crate::memory::write_memory;
 use crate::page::{write_after, write_before};
 use crate::predictor::write_predictor_lines;
 use crate::sets::write_sets;
+use crate::stop::write_stop;
 use rv_arch::Stop;
 use rv_front::DescribedPredictor;
 use rv_hardware::Step;
 use rv_isa::Values;
-use rv_json::{write_header, write_listing, write_stop};
 use rv_passage::Passage;
 use rv_source::Listing;
 use rv_text::Sink;

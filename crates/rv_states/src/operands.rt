@@ -4,8 +4,9 @@ ghost use Rattle.rv_hardware.specs.InFlight.{broadcast_of, writes};
 ghost use Rattle.rv_states.specs.Operands.{both_text, operand_text, operands_of, operands_text, status_at};
 ghost use Rattle.rv_text.specs.Said.{Says};
 
+use crate::entry::broadcast;
+use crate::operand::write_operand;
 use rv_isa::{Instr, Reg, sources};
-use rv_json::{broadcast, write_operand};
 use rv_rob::{Entry, Rob, Stage};
 use rv_stations::Operand;
 use rv_text::Sink;

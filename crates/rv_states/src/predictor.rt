@@ -1,13 +1,15 @@
 ghost use Rattle.std.specs.Prelude.{◌≡◌, ◌+◌, ◌<◌, ◌≤◌, [], get_or, length, map, None};
 ghost use Rattle.std.specs.List.{flat_map};
 ghost use Rattle.rv_hardware.specs.Lessons.{lesson_of, lessons_of};
-ghost use Rattle.rv_json.specs.Json.{values_from};
+ghost use Rattle.rv_states.specs.Json.{values_from};
 ghost use Rattle.rv_states.specs.Predictor.{after_lessons, asked_in, asked_text, learned_text, place_at, place_in, place_line, place_lines, place_taught, predictor_lines, predictor_text, uses_tables};
 ghost use Rattle.rv_text.specs.Said.{Says};
 
+use crate::array::write_comma;
+use crate::json::write_key;
+use crate::prediction::{write_asked, write_place};
 use rv_front::{Bimodal, DescribedPredictor, Fetched, Flow, Front, Predictor};
 use rv_hardware::{Step, first_pc};
-use rv_json::{write_asked, write_comma, write_key, write_place};
 use rv_text::Sink;
 use rv_watch::ShownHardware;
 use std::io::Write;
@@ -121,7 +123,7 @@ fn write_all_taught<W: Write>(out: &mut Sink<'_, W>, tables: &Bimodal, steps: &[
     }
 }
 
-#[tactic(auto, using(rv_text::proofs::Saying::says_both), unfolding(crate::specs::Predictor::learned_text, rv_json::specs::Json::also, rv_json::specs::Json::array))]
+#[tactic(auto, using(rv_text::proofs::Saying::says_both), unfolding(crate::specs::Predictor::learned_text, crate::specs::Json::also, crate::specs::Json::array))]
 fn write_learned<W: Write>(out: &mut Sink<'_, W>, predictor: &DescribedPredictor, steps: &[Step])
     ensures { Says W.contents out.old out.new (learned_text predictor.now steps.now) }
 {
@@ -203,7 +205,7 @@ fn write_all_asked<W: Write>(
     }
 }
 
-#[tactic(auto, using(rv_text::proofs::Saying::says_both), unfolding(crate::specs::Predictor::asked_text, rv_json::specs::Json::also, rv_json::specs::Json::array))]
+#[tactic(auto, using(rv_text::proofs::Saying::says_both), unfolding(crate::specs::Predictor::asked_text, crate::specs::Json::also, crate::specs::Json::array))]
 fn write_asked_words<W: Write>(
     out: &mut Sink<'_, W>,
     predictor: &DescribedPredictor,

@@ -3,7 +3,7 @@ ghost use Rattle.rv_hardware.specs.Guided.{guided};
 ghost use Rattle.rv_states.specs.Page.{after_lines, before_lines};
 ghost use Rattle.rv_states.specs.Predictor.{untaught_predictor};
 ghost use Rattle.rv_states.specs.States.{WritesStates, head_text};
-ghost use Rattle.rv_json.specs.Stop.{stop_line};
+ghost use Rattle.rv_states.specs.Stop.{stop_line};
 ghost use Rattle.rv_text.specs.Said.{Extends};
 ghost use Rattle.rv_view.specs.Following.{BeginsAt};
 

@@ -1,7 +1,7 @@
 ghost use Rattle.rv_states.specs.Sets.{set_line, set_lines};
 ghost use Rattle.rv_text.specs.Said.{Says};
 
-use rv_json::write_set;
+use crate::set::write_set;
 use rv_text::Sink;
 use rv_watch::ShownHardware;
 use std::io::Write;

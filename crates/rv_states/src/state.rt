@@ -1,13 +1,15 @@
 ghost use Rattle.std.specs.Prelude.{codes};
-ghost use Rattle.rv_json.specs.Json.{also};
+ghost use Rattle.rv_states.specs.Json.{also};
 ghost use Rattle.rv_states.specs.State.{in_flight_text, parts_text, state_json};
 ghost use Rattle.rv_text.specs.Said.{Says};
 
+use crate::array::write_array_member;
 use crate::entries::Entries;
-use rv_json::{
-    write_array_member, write_fetch_buffer, write_key, write_number, write_observed,
-    write_store_queue, write_units,
-};
+use crate::fetched::write_fetch_buffer;
+use crate::json::{write_key, write_number};
+use crate::observed::write_observed;
+use crate::queue::write_store_queue;
+use crate::units::write_units;
 use rv_text::Sink;
 use rv_watch::ShownHardware;
 use std::io::Write;
@@ -33,7 +35,7 @@ fn write_parts<W: Write>(out: &mut Sink<'_, W>, hardware: &ShownHardware<'_>)
 }
 
 /// Writes the member that has the hardware.
-#[tactic(auto, using(rv_text::proofs::Saying::says_both), unfolding(rv_json::specs::Json::also, crate::specs::State::state_json))]
+#[tactic(auto, using(rv_text::proofs::Saying::says_both), unfolding(crate::specs::Json::also, crate::specs::State::state_json))]
 pub(crate) fn write_state<W: Write>(out: &mut Sink<'_, W>, hardware: &ShownHardware<'_>)
     ensures { Says W.contents out.old out.new (also (codes "state") (state_json hardware.now)) }
 {

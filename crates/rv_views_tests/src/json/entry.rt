@@ -1,8 +1,8 @@
 use crate::json::expect_text;
 use rv_decode::{Decoded, encode};
 use rv_isa::{AluOp, Cause, Fault, Immediate, Instr, Issue, Message, Reg, Width};
-use rv_json::write_entry;
 use rv_rob::{Entry, Stage};
+use rv_states::write_entry;
 use rv_text::Sink;
 
 fn register(number: u8) -> Reg {

@@ -2,7 +2,7 @@ use crate::json::expect_text;
 use crate::machine::{described, pipeline};
 use rv_front::NotTaken;
 use rv_isa::{Lines, Values};
-use rv_json::write_fetch_buffer;
+use rv_states::write_fetch_buffer;
 use rv_text::Sink;
 use rv_watch::Simulated;
 

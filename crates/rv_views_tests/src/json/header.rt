@@ -3,7 +3,7 @@ use rv_isa::{
     CacheValues, KindValues, PerKind, PredictorKind, PredictorValues, Recovery, ReportValues,
     Values,
 };
-use rv_json::write_header;
+use rv_states::write_header;
 use rv_text::Sink;
 
 // No two numbers of it are equal.

@@ -1,8 +1,8 @@
 use crate::json::expect_text;
 use rv_decode::Decoded;
 use rv_isa::{Cause, Issue, Reg};
-use rv_json::{Instructions, write_array_member};
 use rv_passage::{Ending, Passage, Producers};
+use rv_states::{Instructions, write_array_member};
 use rv_text::Sink;
 
 // An instruction that passed through all stages.

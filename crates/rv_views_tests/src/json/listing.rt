@@ -1,8 +1,8 @@
 use crate::json::expect_text;
 use crate::machine::listing;
 use rv_isa::Values;
-use rv_json::write_listing;
 use rv_source::{Listing, SourceLine};
+use rv_states::write_listing;
 use rv_text::Sink;
 
 // The values of a RAM of three words.

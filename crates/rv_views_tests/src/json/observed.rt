@@ -1,7 +1,7 @@
 use crate::json::expect_text;
 use rv_arch::{CsrOperand, Csrs, Observed};
 use rv_isa::{CsrAddress, CsrOp, Lines};
-use rv_json::write_observed;
+use rv_states::write_observed;
 use rv_text::Sink;
 use std::process::Abort;
 

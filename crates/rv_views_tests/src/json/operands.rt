@@ -1,6 +1,6 @@
 use crate::json::expect_text;
 use rv_isa::Reg;
-use rv_json::write_operand;
+use rv_states::write_operand;
 use rv_stations::Operand;
 use rv_text::Sink;
 

@@ -1,6 +1,6 @@
 use crate::json::expect_text;
 use rv_cache::CacheLine;
-use rv_json::write_set;
+use rv_states::write_set;
 use rv_text::Sink;
 
 #[test]

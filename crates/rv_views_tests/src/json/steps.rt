@@ -1,7 +1,7 @@
 use crate::json::expect_text;
 use rv_hardware::{Execution, Row, Step};
 use rv_isa::{Cause, Reg};
-use rv_json::{Steps, write_array_member};
+use rv_states::{Steps, write_array_member};
 use rv_text::Sink;
 
 // A load that retired.

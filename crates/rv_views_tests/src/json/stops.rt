@@ -1,6 +1,6 @@
 use crate::json::expect_text;
 use rv_arch::Stop;
-use rv_json::write_stop;
+use rv_states::write_stop;
 use rv_text::Sink;
 
 const STOPS: [(Stop, &[u8]); 4] = [

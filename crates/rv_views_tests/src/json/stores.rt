@@ -1,7 +1,7 @@
 use crate::json::expect_text;
 use crate::machine::described;
 use rv_isa::{StoreAccess, StoreBytes, Values, Width};
-use rv_json::write_store_queue;
+use rv_states::write_store_queue;
 use rv_stores::StoreQueue;
 use rv_text::Sink;
 

@@ -1,7 +1,7 @@
 use crate::json::expect_text;
 use crate::machine::described;
 use rv_isa::{Kind, Values};
-use rv_json::write_units;
+use rv_states::write_units;
 use rv_text::Sink;
 use rv_units::Units;
 

@@ -1,5 +1,5 @@
 use crate::json::expect_text;
-use rv_json::write_word;
+use rv_states::write_word;
 use rv_text::Sink;
 
 #[test]

@@ -1,5 +1,5 @@
 use Rattle.std.proofs.Common.{◌<◌, length, arith}
-use Rattle.rv_json.proofs.Arrays.{given_at}
+use Rattle.rv_states.proofs.Arrays.{given_at}
 use Rattle.rv_states.specs.Cycle.{json_in_flight}
 use Rattle.rv_states.proofs.Given.{given_all, given_none, given_on}
 use Rattle.rv_states.proofs.in_flight.write_all_in_flight.Goals as goal

@@ -1,6 +1,6 @@
 use Rattle.std.proofs.Common.{◌≡◌, ◌/◌, ◌∙◌, ap, arith}
 use Rattle.rv_states.specs.Memory.{memory_line, memory_lines}
-use Rattle.rv_json.specs.Place.{word_address}
+use Rattle.rv_states.specs.Place.{word_address}
 use Rattle.rv_text.proofs.Saying.{says_below, says_nothing, says_same}
 use Rattle.rv_text.proofs.Writing.{texts_below}
 use Rattle.rv_states.proofs.memory.write_memory.Goals as goal

@@ -1,5 +1,5 @@
 use Rattle.rv_states.specs.Memory.{memory_line}
-use Rattle.rv_json.specs.Place.{word_address}
+use Rattle.rv_states.specs.Place.{word_address}
 use Rattle.rv_text.proofs.Writing.{texts_below}
 use Rattle.rv_text.specs.Said.{Says}
 use Rattle.rv_states.proofs.memory.write_memory.Given as goal

@@ -1,5 +1,5 @@
 use Rattle.std.proofs.Common.{◌<◌, length, arith}
-use Rattle.rv_json.proofs.Arrays.{given_at}
+use Rattle.rv_states.proofs.Arrays.{given_at}
 use Rattle.rv_states.specs.Predictor.{place_taught}
 use Rattle.rv_states.proofs.Given.{given_all, given_none, given_on}
 use Rattle.rv_states.proofs.predictor.write_all_taught.Goals as goal

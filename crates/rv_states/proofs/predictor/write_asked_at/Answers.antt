@@ -1,7 +1,7 @@
 use Rattle.std.proofs.Common.{◌∙◌, ◌+◌, sym, ap, length, arith}
-use Rattle.rv_json.specs.Json.{values_from}
-use Rattle.rv_json.proofs.Arrays.{found_given, missing_given}
+use Rattle.rv_states.specs.Json.{values_from}
 use Rattle.rv_states.specs.Predictor.{asked_in}
+use Rattle.rv_states.proofs.Arrays.{found_given, missing_given}
 use Rattle.rv_text.proofs.Saying.{says_nothing, says_same}
 use Rattle.rv_states.proofs.predictor.write_asked_at.Goals as goal
 

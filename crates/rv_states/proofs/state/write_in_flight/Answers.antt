@@ -1,8 +1,8 @@
 use Rattle.std.specs.Prelude.{◌++◌, codes, map}
 use Rattle.rv_watch.specs.Registers.{values_in}
-use Rattle.rv_json.specs.Fetched.{fetched_json, next_fetch_text}
-use Rattle.rv_json.specs.Json.{also, array}
 use Rattle.rv_states.specs.Entries.{entries_json}
+use Rattle.rv_states.specs.Fetched.{fetched_json, next_fetch_text}
+use Rattle.rv_states.specs.Json.{also, array}
 use Rattle.rv_states.specs.State.{in_flight_text}
 use Rattle.rv_text.proofs.Saying.{says_both, says_same}
 use Rattle.rv_states.proofs.state.write_in_flight.Goals as goal

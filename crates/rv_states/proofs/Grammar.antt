@@ -1,0 +1,203 @@
+-- What the texts are made of is JSON, or a part of it.
+use Rattle.std.proofs.Common.{◌≡◌, ◌∙◌, ℕ, suc, ◌+◌, ◌==◌, ◌||◌, ◌&&◌, nat_le, Bool, true, false, not, if◌then◌else◌, List, [], ◌∷◌, ◌++◌, map, codes, Option, Some, None, refl, sym, ap, subst, append_assoc, append-nil, add-one}
+use Rattle.std.specs.List.{flat_map, list_all}
+use Rattle.std.proofs.lemmas.Bool.{and_from, and_parts}
+use Rattle.rv_text.specs.Plain.{plain_byte}
+use Rattle.rv_states.specs.Grammar.{AreCharacters, AreLines, AreMembers, AreValues, IsJson, IsMember, IsString, empty_array, escaped, further_member, further_value, is_unescaped, line, named, no_characters, no_lines, no_members, no_values, unescaped}
+use Rattle.rv_states.specs.Grammar as grammar
+use Rattle.rv_states.specs.Json.{Json, also, also_some, array, begins, comma_at, json_byte, key, numeral, opens, quoted, string, truth, values_from}
+use Rattle.rv_states.proofs.Numerals.{numeral_is_number}
+
+-- a number, and a truth value
+pub number : (n : ℕ) → IsJson (numeral n)
+number n = grammar.number (numeral n) (numeral_is_number n)
+
+pub truth_of : (value : Bool) → IsJson (truth value)
+unfolding truth
+truth_of true = grammar.truth
+truth_of false = grammar.falsehood
+
+-- characters that need no escape
+plain : (text : List ℕ) → list_all is_unescaped text ≡ true → AreCharacters text
+plain [] all = no_characters
+plain (byte ∷ bytes) all =
+    let parts = and_parts (is_unescaped byte) (list_all is_unescaped bytes) all in unescaped byte bytes parts.0 (plain bytes parts.1)
+
+a_string : (text : List ℕ) → list_all is_unescaped text ≡ true → IsString (codes "\"" ++ (text ++ codes "\""))
+a_string text all = grammar.in_quotes text (plain text all)
+
+pub in_quotes : (text : List ℕ) → list_all is_unescaped text ≡ true → IsJson (quoted text)
+unfolding quoted
+in_quotes text all = grammar.string _ (a_string text all)
+
+-- a user's text
+both_characters : {xs ys : List ℕ} → AreCharacters xs → AreCharacters ys → AreCharacters (xs ++ ys)
+both_characters no_characters after = after
+both_characters {ys = ys} (unescaped byte others test more) after = unescaped byte (others ++ ys) test (both_characters more after)
+both_characters {ys = ys} (escaped high low others test more) after = escaped high low (others ++ ys) test (both_characters more after)
+
+one_of : (test : Bool) {xs ys : List ℕ} → (test ≡ true → AreCharacters xs) → (test ≡ false → AreCharacters ys) → AreCharacters (if test then xs else ys)
+one_of true first second = first refl
+one_of false first second = second refl
+
+shown : (byte : ℕ) → (byte == 34) ≡ false → (byte == 92) ≡ false → AreCharacters (plain_byte byte)
+unfolding plain_byte
+shown byte no_quote no_backslash =
+    one_of (nat_le 32 byte && nat_le byte 126)
+    (λ printing. unescaped byte [] (and_from _ _ printing (λ i. not (no_quote i || no_backslash i))) no_characters)
+    (λ _. one_of (byte == 9) (λ _. plain (codes " ") refl) (λ _. plain (codes "?") refl))
+
+byte_of : (byte : ℕ) → AreCharacters (json_byte byte)
+unfolding json_byte
+byte_of byte =
+    one_of (byte == 34) (λ _. escaped 50 50 [] refl no_characters) (λ no_quote.
+    one_of (byte == 38) (λ _. escaped 50 54 [] refl no_characters) (λ _.
+    one_of (byte == 60) (λ _. escaped 51 99 [] refl no_characters) (λ _.
+    one_of (byte == 62) (λ _. escaped 51 101 [] refl no_characters) (λ _.
+    one_of (byte == 92) (λ _. escaped 53 99 [] refl no_characters) (λ no_backslash. shown byte no_quote no_backslash)))))
+
+bytes_of : (text : List ℕ) → AreCharacters (flat_map json_byte text)
+bytes_of [] = no_characters
+bytes_of (byte ∷ bytes) = both_characters (byte_of byte) (bytes_of bytes)
+
+pub string_of : (text : List ℕ) → IsJson (string text)
+unfolding string
+string_of text = grammar.string _ (grammar.in_quotes _ (bytes_of text))
+
+-- the values of an array
+abbrev pub AllJson : List Json → Type 0
+AllJson [] = Unit {0}
+AllJson (value ∷ values) = IsJson value × AllJson values
+
+further_values : (place : ℕ) (values : List Json) → AllJson values → AreValues (values_from (suc place) values)
+unfolding comma_at
+further_values place [] all = no_values
+further_values place (value ∷ values) all =
+    subst (λ n. AreValues (codes "," ++ (value ++ values_from n values))) (sym (add-one (suc place))) (further_value value (values_from (suc (suc place)) values) all.0 (further_values (suc place) values all.1))
+
+pub array_of : (values : List Json) → AllJson values → IsJson (array values)
+unfolding array comma_at
+array_of [] all = empty_array
+array_of (value ∷ values) all =
+    subst IsJson (ap (λ l. codes "[" ++ l) (sym (append_assoc value (values_from 1 values) (codes "]")))) (grammar.array value (values_from 1 values) all.0 (further_values 0 values all.1))
+
+pub each_json : {X : Type 0} (json : X → Json) → ((x : X) → IsJson (json x)) → (xs : List X) → AllJson (map json xs)
+each_json json is [] = tt
+each_json json is (x ∷ xs) = (is x, each_json json is xs)
+
+-- further members of an object
+pub both : {xs ys : List ℕ} → AreMembers xs → AreMembers ys → AreMembers (xs ++ ys)
+both no_members after = after
+both {ys = ys} (further_member first others is more) after =
+    subst AreMembers (ap (λ l. codes "," ++ l) (sym (append_assoc first others ys))) (further_member first (others ++ ys) is (both more after))
+
+-- those of items one after the other
+pub members_each : {X : Type 0} (text : X → List ℕ) → ((x : X) → AreMembers (text x)) → (xs : List X) → AreMembers (flat_map text xs)
+members_each text are [] = no_members
+members_each text are (x ∷ xs) = both (are x) (members_each text are xs)
+
+-- a member of a name that needs no escape
+member_text : List ℕ → List ℕ → List ℕ
+member_text name value = (codes "\"" ++ (name ++ codes "\"")) ++ (codes ":" ++ value)
+
+a_member : (name : List ℕ) {value : List ℕ} → list_all is_unescaped name ≡ true → IsJson value → IsMember (member_text name value)
+unfolding member_text
+a_member name {value} all is = named (codes "\"" ++ (name ++ codes "\"")) value (a_string name all) is
+
+pub member : (name : List ℕ) {value : List ℕ} → list_all is_unescaped name ≡ true → IsJson value → AreMembers (also name value)
+unfolding member_text key also
+member name {value} all is =
+    let same : codes "," ++ (member_text name value ++ []) ≡ also name value = simp (append_assoc, append-nil) in
+    subst AreMembers same (further_member (member_text name value) [] (a_member name all is) no_members)
+
+pub counted : (name : List ℕ) → list_all is_unescaped name ≡ true → (n : ℕ) → AreMembers (also name (numeral n))
+counted name all n = member name all (number n)
+
+pub counted_some : (name : List ℕ) → list_all is_unescaped name ≡ true → (n : Option ℕ) → AreMembers (also_some name n)
+counted_some name all None = no_members
+counted_some name all (Some n) = counted name all n
+
+-- the beginning of an object, which stays open
+pub record IsOpen (text : List ℕ) : Type 0 where
+  pub first : List ℕ
+  pub others : List ℕ
+  pub is : IsMember first
+  pub are : AreMembers others
+  pub text_is : text ≡ codes "{" ++ (first ++ others)
+
+pub beginning : (name : List ℕ) {value : List ℕ} → list_all is_unescaped name ≡ true → IsJson value → IsOpen (begins name value)
+unfolding member_text opens begins
+beginning name {value} all is =
+    record { first = member_text name value; others = []; is = a_member name all is; are = no_members; text_is = simp (append_assoc, append-nil) }
+
+pub begun : {xs ys : List ℕ} → IsOpen xs → AreMembers ys → IsOpen (xs ++ ys)
+begun {ys = ys} front more = record {
+  first = front.first;
+  others = front.others ++ ys;
+  is = front.is;
+  are = both front.are more;
+  text_is = ap (λ l. l ++ ys) front.text_is ∙ ap (λ l. codes "{" ++ l) (append_assoc front.first front.others ys);
+}
+
+-- the rest of an object, with what stands after it
+pub record Closes (end text : List ℕ) : Type 0 where
+  pub members : List ℕ
+  pub are : AreMembers members
+  pub text_is : text ≡ members ++ (codes "}" ++ end)
+
+pub closes : {end : List ℕ} → Closes end (codes "}" ++ end)
+closes = record { members = []; are = no_members; text_is = refl }
+
+pub more : {end xs ys : List ℕ} → AreMembers xs → Closes end ys → Closes end (xs ++ ys)
+more {end = end} {xs = xs} first rest = record {
+  members = xs ++ rest.members;
+  are = both first rest.are;
+  text_is = ap (λ l. xs ++ l) rest.text_is ∙ sym (append_assoc xs rest.members (codes "}" ++ end));
+}
+
+-- a last member, whose value and what stands after it are one text
+pub last : {end : List ℕ} (name : List ℕ) {value : List ℕ} → list_all is_unescaped name ≡ true → IsJson value → Closes end (key name ++ (value ++ (codes "}" ++ end)))
+unfolding also
+last {end = end} name {value} all is = subst (Closes end) (append_assoc (key name) value (codes "}" ++ end)) (more (member name all is) closes)
+
+-- an object is JSON, and with a line feed after it a line
+whole : List ℕ → List ℕ → List ℕ
+whole first others = codes "{" ++ (first ++ (others ++ codes "}"))
+
+whole_is : {end xs ys : List ℕ} (front : IsOpen xs) (rest : Closes end ys) → whole front.first (front.others ++ rest.members) ++ end ≡ xs ++ ys
+unfolding whole
+whole_is {end = end} front rest =
+    let same : whole front.first (front.others ++ rest.members) ++ end ≡ (codes "{" ++ (front.first ++ front.others)) ++ (rest.members ++ (codes "}" ++ end)) = simp append_assoc in
+    same ∙ (λ i. sym front.text_is i ++ sym rest.text_is i)
+
+whole_json : {end xs ys : List ℕ} (front : IsOpen xs) (rest : Closes end ys) → IsJson (whole front.first (front.others ++ rest.members))
+unfolding whole
+whole_json front rest = grammar.object front.first (front.others ++ rest.members) front.is (both front.are rest.are)
+
+pub object : {xs ys : List ℕ} → IsOpen xs → Closes [] ys → IsJson (xs ++ ys)
+object front rest = subst IsJson (sym (append-nil _) ∙ whole_is front rest) (whole_json front rest)
+
+pub object_line : {xs ys : List ℕ} → IsOpen xs → Closes (codes "\n") ys → AreLines (xs ++ ys)
+object_line front rest = subst AreLines (whole_is front rest) (line _ [] (whole_json front rest) no_lines)
+
+-- lines
+pub one_line : {value : List ℕ} → IsJson value → AreLines (value ++ codes "\n")
+one_line {value} is = line value [] is no_lines
+
+pub lines_both : {xs ys : List ℕ} → AreLines xs → AreLines ys → AreLines (xs ++ ys)
+lines_both no_lines after = after
+lines_both {ys = ys} (line value others is more) after =
+    subst AreLines (sym (append_assoc value (codes "\n" ++ others) ys)) (line value (others ++ ys) is (lines_both more after))
+
+pub lines_each : {X : Type 0} (text : X → List ℕ) → ((x : X) → AreLines (text x)) → (xs : List X) → AreLines (flat_map text xs)
+lines_each text are [] = no_lines
+lines_each text are (x ∷ xs) = lines_both (are x) (lines_each text are xs)
+
+-- lines where something holds, else none, and the other way round
+pub lines_where : (shown : Bool) {text : List ℕ} → AreLines text → AreLines (if shown then text else [])
+lines_where true are = are
+lines_where false are = no_lines
+
+pub lines_unless : (hidden : Bool) {text : List ℕ} → AreLines text → AreLines (if hidden then [] else text)
+lines_unless true are = no_lines
+lines_unless false are = are
