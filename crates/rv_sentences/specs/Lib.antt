@@ -14,6 +14,7 @@ pub mod OutcomeText
 pub mod Spot
 pub mod Hotspot
 pub mod Worst
+pub mod Longest
 pub mod Series
 pub mod Kinds
 pub mod Exception

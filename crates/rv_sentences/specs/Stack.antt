@@ -8,6 +8,10 @@ use Rattle.rv_hardware.specs.declared.report.{Stall.Stall, StallCounts.StallCoun
 abbrev pub parts_of : ℕ → ℕ → ℕ → ℕ
 parts_of parts count all = if all == 0 then 0 else (2 * parts * count + all) / (2 * all)
 
+-- a part of all, in brackets, by its tenths of a percent
+unfoldable pub share_text : ℕ → List ℕ
+share_text tenths = codes " (" ++ (decimal (tenths / 10) ++ (codes "." ++ (decimal (tenths % 10) ++ codes "%)")))
+
 -- the spaces before a text, so that both have the width of so many spaces
 unfoldable pub indent : List ℕ → List ℕ → List ℕ
 indent spaces text = drop (length text) spaces

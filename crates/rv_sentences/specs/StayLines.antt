@@ -1,19 +1,15 @@
 -- The lines on why instructions stayed in flight.
-use Rattle.std.specs.Prelude.{ℕ, ◌/◌, ◌%◌, ◌==◌, if◌then◌else◌, List, [], ◌∷◌, ◌++◌, codes, decimal, get_or, slice_set, Option, Some, None}
+use Rattle.std.specs.Prelude.{ℕ, ◌==◌, if◌then◌else◌, List, [], ◌∷◌, ◌++◌, codes, decimal, get_or, slice_set}
 use Rattle.std.specs.List.{flat_map}
 use Rattle.rv_memory.specs.Memory.{word_of}
 use Rattle.rv_source.specs.Listing.{Listed}
-use Rattle.rv_sentences.specs.OutcomeText.{has_any, outcomes_text}
+use Rattle.rv_sentences.specs.OutcomeText.{loads_aside}
 use Rattle.rv_source.specs.PlaceText.{place_text}
 use Rattle.rv_sentences.specs.Spot.{first_greatest, greatest_lines}
-use Rattle.rv_sentences.specs.Stack.{part_line, parts_of}
+use Rattle.rv_sentences.specs.Stack.{part_line, parts_of, share_text}
 use Rattle.rv_sentences.specs.Stay.{all_stays}
 use Rattle.rv_sentences.specs.WordNotes.{Notes, note_at}
 use Rattle.rv_sentences.specs.declared.{outcomes.Outcomes.Outcomes, spot.Greatest.Greatest, spot.Spot.Spot, stays.Stays.Stays}
-
--- a part of all, in brackets, by its tenths of a percent
-unfoldable pub share_text : ℕ → List ℕ
-share_text tenths = codes " (" ++ (decimal (tenths / 10) ++ (codes "." ++ (decimal (tenths % 10) ++ codes "%)")))
 
 -- what instructions in flight wait for
 unfoldable pub wait_names : List (List ℕ)
@@ -77,16 +73,11 @@ some_parts_text all s = if all == 0 then [] else parts_text all s
 abbrev pub stays_text : Stays → List ℕ
 stays_text s = some_parts_text (all_stays s) s
 
--- the loads in a word that retired, in brackets
-unfoldable pub awaited_loads : Option Outcomes → List ℕ
-awaited_loads None = []
-awaited_loads (Some outcomes) = if has_any outcomes then outcomes_text (codes " (its loads") outcomes ++ codes ")" else []
-
 -- a line whose result was awaited: in how many of all cycles, its loads, and where it is
 unfoldable pub awaited_line : Listed → ℕ → Notes Outcomes → Spot → List ℕ
 awaited_line listing all outcomes spot =
     codes "Awaited most, for " ++ (decimal spot.count ++ (codes " of " ++ (decimal all ++ (codes " cycles" ++
-    (awaited_loads (note_at outcomes (word_of spot.address)) ++ (codes ": " ++ place_text listing spot.address))))))
+    (loads_aside (note_at outcomes (word_of spot.address)) ++ (codes ": " ++ place_text listing spot.address))))))
 
 -- the line whose result was awaited most, if any operand was awaited, by the word that the oldest one awaited in each of so many cycles
 unfoldable pub awaited_text : Listed → ℕ → Notes Outcomes → Notes ℕ → List ℕ

@@ -1,5 +1,5 @@
 ghost use Rattle.std.specs.Prelude.{◌≡◌};
-ghost use Rattle.rv_sentences.specs.OutcomeText.{forwarded_text, has_any, outcomes_text};
+ghost use Rattle.rv_sentences.specs.OutcomeText.{forwarded_text, has_any, loads_aside, outcomes_aside, outcomes_text, stores_aside};
 ghost use Rattle.rv_text.specs.Said.{Says};
 
 use crate::outcomes::Outcomes;
@@ -36,4 +36,33 @@ pub(crate) fn write_outcomes<W: Write>(out: &mut Sink<'_, W>, name: &[u8], outco
     out.put_decimal(outcomes.misses);
     out.put(b", write-backs ");
     out.put_decimal(outcomes.write_backs);
+}
+
+// Writes the same in brackets, where there is one.
+#[tactic(auto, using(rv_text::proofs::Saying::saying), unfolding(crate::specs::OutcomeText::outcomes_aside))]
+fn write_outcomes_aside<W: Write>(out: &mut Sink<'_, W>, name: &[u8], outcomes: &Outcomes)
+    ensures { Says W.contents out.old out.new (outcomes_aside name.now outcomes.now) }
+{
+    if has_any(outcomes) {
+        write_outcomes(out, name, outcomes);
+        out.put(b")");
+    }
+}
+
+/// Writes the loads in a word in brackets, by what they cost.
+#[tactic(auto, unfolding(crate::specs::OutcomeText::loads_aside))]
+pub(crate) fn write_loads_aside<W: Write>(out: &mut Sink<'_, W>, outcomes: Option<Outcomes>)
+    ensures { Says W.contents out.old out.new (loads_aside outcomes) }
+{
+    if let Some(outcomes) = outcomes {
+        write_outcomes_aside(out, b" (its loads", &outcomes);
+    }
+}
+
+/// Writes the drains of the stores in a word in brackets, by what they cost.
+#[tactic(auto, unfolding(crate::specs::OutcomeText::stores_aside))]
+pub(crate) fn write_stores_aside<W: Write>(out: &mut Sink<'_, W>, outcomes: &Outcomes)
+    ensures { Says W.contents out.old out.new (stores_aside outcomes.now) }
+{
+    write_outcomes_aside(out, b" (its stores", outcomes);
 }

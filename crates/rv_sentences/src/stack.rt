@@ -1,6 +1,6 @@
-ghost use Rattle.std.specs.Prelude.{◌≡◌, take, drop};
+ghost use Rattle.std.specs.Prelude.{◌≡◌, [], drop, get_or, map, take};
 ghost use Rattle.rv_hardware.specs.Report.{all_stalls};
-ghost use Rattle.rv_sentences.specs.Stack.{column_line, parts_of, part_line, share_line, count_text, stall_line, stall_text};
+ghost use Rattle.rv_sentences.specs.Stack.{column_line, parts_of, part_line, share_line, share_text, count_text, stall_line, stall_text};
 ghost use Rattle.std.specs.List.{flat_map};
 ghost use Rattle.rv_text.specs.Said.{Says};
 
@@ -18,6 +18,29 @@ pub fn parts_of(parts: u32, count: u64, all: u64) -> u128
     } else {
         (2 * u128::from(parts) * u128::from(count) + u128::from(all)) / (2 * u128::from(all))
     }
+}
+
+/// The name at a place of a table, none behind its end.
+pub(crate) fn name_at(names: &[&'static [u8]], place: usize) -> &'static [u8]
+    ensures { result.now ≡ get_or (map (λ name. name.now) names.now) place [] }
+{
+    if place < names.len() {
+        names[place]
+    } else {
+        b""
+    }
+}
+
+/// Writes a part of all in brackets, by its tenths of a percent.
+#[tactic(auto, using(rv_text::proofs::Saying::saying), unfolding(crate::specs::Stack::share_text))]
+pub(crate) fn write_share_of<W: Write>(out: &mut Sink<'_, W>, tenths: u128)
+    ensures { Says W.contents out.old out.new (share_text tenths) }
+{
+    let mut percent_buffer = Buffer::new();
+    let percent = percent_buffer.format(tenths / 10).as_bytes();
+    let mut tenth_buffer = Buffer::new();
+    let tenth = tenth_buffer.format(tenths % 10).as_bytes();
+    out.put_all(&[b" (", percent, b".", tenth, b"%)"]);
 }
 
 /// What of a text is after so many bytes.

@@ -1,17 +1,16 @@
-ghost use Rattle.std.specs.Prelude.{◌≡◌, ◌≤◌, ◌<◌, ◌^◌, [], get_or, map, sum};
+ghost use Rattle.std.specs.Prelude.{◌≡◌, ◌≤◌, ◌<◌, ◌^◌, [], get_or, sum};
 ghost use Rattle.std.specs.List.{flat_map};
 ghost use Rattle.rv_sentences.specs.Stay.{all_stays};
-ghost use Rattle.rv_sentences.specs.StayLines.{awaited_line, awaited_loads, awaited_text, greatest_waits_text, parts_text, second_wait_text, share_text, some_parts_text, stays_text, two_waits_text, wait_counts, wait_names, wait_text, waits_text};
+ghost use Rattle.rv_sentences.specs.StayLines.{awaited_line, awaited_text, greatest_waits_text, parts_text, second_wait_text, some_parts_text, stays_text, two_waits_text, wait_counts, wait_names, wait_text, waits_text};
 ghost use Rattle.rv_text.specs.Said.{Says};
 
 use crate::greatest_lines::greatest_lines;
-use crate::outcome_text::{has_any, write_outcomes};
+use crate::outcome_text::write_loads_aside;
 use crate::outcomes::Outcomes;
 use crate::spot::{Greatest, Spot};
-use crate::stack::{Share, parts_of, write_shares};
+use crate::stack::{Share, name_at, parts_of, write_share_of, write_shares};
 use crate::stays::Stays;
 use crate::word_notes::{WordNotes, clear, first_greatest};
-use itoa::Buffer;
 use rv_source::{Listing, write_place};
 use rv_text::Sink;
 use std::io::Write;
@@ -28,17 +27,6 @@ static NAMES: [&[u8]; 9] = [
     b" waiting for the bus",
     b" waiting for retirement",
 ];
-
-// The name at a place of a table.
-fn name_at(names: &[&'static [u8]], place: usize) -> &'static [u8]
-    ensures { result.now ≡ get_or (map (λ name. name.now) names.now) place [] }
-{
-    if place < names.len() {
-        names[place]
-    } else {
-        b""
-    }
-}
 
 fn wait_name(place: usize) -> &'static [u8]
     ensures { result.now ≡ get_or wait_names place [] }
@@ -61,17 +49,6 @@ fn wait_counts(stays: &Stays) -> [u64; 9]
         stays.bus,
         stays.retirement,
     ]
-}
-
-#[tactic(auto, using(rv_text::proofs::Saying::saying), unfolding(crate::specs::StayLines::share_text))]
-fn write_share_of<W: Write>(out: &mut Sink<'_, W>, tenths: u128)
-    ensures { Says W.contents out.old out.new (share_text tenths) }
-{
-    let mut percent_buffer = Buffer::new();
-    let percent = percent_buffer.format(tenths / 10).as_bytes();
-    let mut tenth_buffer = Buffer::new();
-    let tenth = tenth_buffer.format(tenths % 10).as_bytes();
-    out.put_all(&[b" (", percent, b".", tenth, b"%)"]);
 }
 
 // Writes a wait, for how many cycles, and what part of all that is.
@@ -204,19 +181,6 @@ pub fn write_stays<W: Write>(out: &mut Sink<'_, W>, stays: &Stays)
     write_some_parts(out, stays.all(), stays);
 }
 
-// Writes the loads in a word, in brackets.
-#[tactic(auto, using(rv_text::proofs::Saying::saying), unfolding(crate::specs::StayLines::awaited_loads))]
-fn write_awaited_loads<W: Write>(out: &mut Sink<'_, W>, outcomes: Option<Outcomes>)
-    ensures { Says W.contents out.old out.new (awaited_loads outcomes) }
-{
-    if let Some(outcomes) = outcomes {
-        if has_any(&outcomes) {
-            write_outcomes(out, b" (its loads", &outcomes);
-            out.put(b")");
-        }
-    }
-}
-
 fn write_awaited_line<W: Write>(
     out: &mut Sink<'_, W>,
     listing: &Listing,
@@ -231,7 +195,7 @@ fn write_awaited_line<W: Write>(
     out.put(b" of ");
     out.put_decimal(all);
     out.put(b" cycles");
-    write_awaited_loads(out, outcomes.at(spot.address / 4));
+    write_loads_aside(out, outcomes.at(spot.address / 4));
     out.put(b": ");
     write_place(out, listing, spot.address);
 }

@@ -1,6 +1,7 @@
 use Rattle.std.proofs.Common.{ap}
 use Rattle.rv_text.proofs.Saying.{says_both, says_same}
-use Rattle.rv_sentences.specs.StayLines.{share_text, wait_text}
+use Rattle.rv_sentences.specs.Stack.{share_text}
+use Rattle.rv_sentences.specs.StayLines.{wait_text}
 use Rattle.rv_sentences.proofs.stay_lines.write_wait.Goals as goal
 
 pub returns : goal.returns
