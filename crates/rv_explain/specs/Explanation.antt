@@ -25,7 +25,8 @@ use Rattle.rv_hardware.specs.History.{Moment, reports_of}
 use Rattle.rv_sentences.specs.Hotspot.{hotspots_text}
 use Rattle.rv_sentences.specs.Interrupt.{interrupts_text}
 use Rattle.rv_sentences.specs.Load.{load_text}
-use Rattle.rv_sentences.specs.PlaceLines.{places_text}
+use Rattle.rv_sentences.specs.Longest.{longest_text}
+use Rattle.rv_sentences.specs.PlaceLines.{greatest_places_text, places_text}
 use Rattle.rv_counts.specs.Places.{AddUp, AreLostFor}
 use Rattle.rv_sentences.specs.Stack.{count_text, stall_text}
 use Rattle.rv_explain.specs.Tally.{tally_of_run}
@@ -60,11 +61,15 @@ cycle_text progress retired =
 abbrev pub untaken_lines : Hardware → Tally → List ℕ
 untaken_lines h tally = all_untaken_text tally.raised tally.interrupts (value_of h.csrs h.lines Mstatus) (value_of h.csrs h.lines Mie)
 
--- what instructions in flight waited for most, the line that was awaited most, and what became of the places for dispatch
+-- what instructions in flight waited for most and what became of most places for dispatch, the lines that were awaited most and stood
+-- longest at the head of the reorder buffer, and what became of all places
 unfoldable pub lead_text : Listed → Hardware → Progress → Tally → List ℕ
 lead_text listing h progress tally =
-    greatest_waits_text tally.stays ++ (awaited_text listing progress.cycles tally.outcomes tally.awaited ++
-    places_text progress.cycles h.values.dispatch_width (length h.rob.entries) tally.places)
+    greatest_waits_text tally.stays ++
+    (greatest_places_text progress.cycles h.values.dispatch_width (length h.rob.entries) tally.places ++
+    (awaited_text listing progress.cycles tally.outcomes tally.awaited ++
+    (longest_text listing progress.cycles tally.heads tally.outcomes tally.stores tally.branches tally.mispredicted ++
+    places_text progress.cycles h.values.dispatch_width (length h.rob.entries) tally.places)))
 
 -- where the cycles went
 unfoldable pub cost_text : Listed → Progress → ℕ → Tally → List ℕ
@@ -74,8 +79,8 @@ cost_text listing progress fetched tally =
     (load_text tally.loads ++ (drain_text tally.drains ++
     hotspots_text listing progress.cycles tally.idle tally.heads tally.outcomes tally.stores))))))
 
--- how a run ended, its exceptions, interrupts and lines never taken, its greatest waits and the line that was awaited most, what became of its places for dispatch, and where its cycles went, by
--- how many words were fetched among others
+-- how a run ended, its exceptions, interrupts and lines never taken, what leads to its cause, and where its cycles went, by how many words
+-- were fetched among others
 unfoldable pub whole_text : Listed → Stop → Hardware → Progress → ℕ → Tally → List ℕ
 whole_text listing stop h progress fetched tally =
     ending_text listing stop h tally.last_stores ++ (first_passed_text listing tally.exceptions.all ++

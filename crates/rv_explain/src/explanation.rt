@@ -23,8 +23,8 @@ use rv_isa::{Arrivals, Csr, Description};
 use rv_path::PathAccount;
 use rv_sentences::{
     Exception, write_awaited, write_counts, write_dispatches, write_drains, write_exceptions,
-    write_greatest_waits, write_hotspots, write_interrupts, write_loads, write_places,
-    write_stalls, write_stays, write_untaken, write_work, write_worst,
+    write_greatest_places, write_greatest_waits, write_hotspots, write_interrupts, write_loads,
+    write_longest, write_places, write_stalls, write_stays, write_untaken, write_work, write_worst,
 };
 use rv_source::Listing;
 use rv_text::{Field, ReportError, Sink, TextError, Value};
@@ -78,31 +78,40 @@ fn write_untaken_lines<W: Write>(out: &mut Sink<'_, W>, hardware: &ShownHardware
     write_untaken(out, &tally.raised, &tally.interrupts, mstatus, mie);
 }
 
-// What instructions in flight waited for most, the line that was awaited most, and what became of the places for dispatch.
+// What instructions in flight waited for most, what became of most places for dispatch, the line that was awaited most,
+// the one that stood longest at the head of the reorder buffer, and what became of all places.
 fn write_lead<W: Write>(
     out: &mut Sink<'_, W>,
     listing: &Listing,
     hardware: &ShownHardware<'_>,
     progress: &Progress,
-    tally: &mut Tally,
+    tally: &Tally,
 )
     requires places { progress.now.cycles * hardware.now.values.dispatch_width < 2 ^ 64 }
-    requires stays { all_stays tally.old.stays < 2 ^ 64 }
-    requires awaited { sum tally.old.awaited.words ≤ progress.now.cycles }
-    ensures text { Says W.contents out.old out.new (lead_text listing.now hardware.now progress.now tally.old) }
-    ensures kept { tally.new ≡ record tally.old { awaited = tally.new.awaited } }
+    requires stays { all_stays tally.now.stays < 2 ^ 64 }
+    requires awaited { sum tally.now.awaited.words ≤ progress.now.cycles }
+    requires heads { sum tally.now.heads.words ≤ progress.now.cycles }
+    requires branches { sum tally.now.branches.words < 2 ^ 64 }
+    requires mispredicted { sum tally.now.mispredicted.words < 2 ^ 64 }
+    ensures { Says W.contents out.old out.new (lead_text listing.now hardware.now progress.now tally.now) }
 {
-    write_greatest_waits(out, &tally.stays);
     let cycles = progress.cycles;
-    write_awaited(out, listing, cycles, &tally.outcomes, &mut tally.awaited);
     let width = u64::from(hardware.values().dispatch_width);
-    write_places(
+    let left = in_flight(hardware);
+    write_greatest_waits(out, &tally.stays);
+    write_greatest_places(out, cycles, width, left as u64, &tally.places);
+    write_awaited(out, listing, cycles, &tally.outcomes, &tally.awaited);
+    write_longest(
         out,
+        listing,
         cycles,
-        width,
-        in_flight(hardware) as u64,
-        &tally.places,
+        &tally.heads,
+        &tally.outcomes,
+        &tally.stores,
+        &tally.branches,
+        &tally.mispredicted,
     );
+    write_places(out, cycles, width, left as u64, &tally.places);
 }
 
 // Where the cycles went.
@@ -235,7 +244,8 @@ fn write_run_text<W: Write>(
 /// exhaustion or so many cycles, and then writes what the run came to, in plain sentences: where a path is shown, its greatest
 /// causes with their lines; how it ended, where and why,
 /// and for a stale word the last store to it; its exceptions and interrupts, and the interrupt lines that are high and were
-/// never taken; what instructions in flight waited for most, and the line that was awaited most; what became of the places for dispatch; where the cycles went;
+/// never taken; what instructions in flight waited for most, and what became of most places for dispatch; the line that was
+/// awaited most, and the one that stood longest at the head of the reorder buffer; what became of all places; where the cycles went;
 /// how many dispatched only what did not retire; how many words were fetched and how many of them squashed; how many
 /// branches and jumps retired, and how many of them were mispredicted, with the three lines that most of those come from;
 /// why instructions stayed in flight; what its loads and the drains of its stores cost; and the five lines that most cycles left at the head of the reorder buffer, or that had flushed it, with their

@@ -34,6 +34,8 @@ ebreak
 const SENTENCES: &[u8] = b"\
 The run ended at a breakpoint, at 80000004, line 2: ebreak
 cycles of instructions in flight: 6, of them 4 waiting for retirement (66.7%)
+places for dispatch: 10, of them 1 retired (10.0%), 4 squashed by traps (40.0%), 4 lost: fetch gave no word (40.0%), 1 trapped (10.0%)
+Longest at the head of the reorder buffer, or had flushed it, for 3 of 5 cycles: 80000000, line 1: addi x1,x0,5
 Where the 10 places for dispatch went, 2 in each cycle:
 squashed by traps                     4   40.0%  ####################
 lost: fetch gave no word              4   40.0%  ####################

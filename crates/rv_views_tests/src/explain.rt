@@ -20,6 +20,8 @@ Exceptions by cause and place:
       1 in cycle 4: Environment call from M-mode, at 80000004, line 2: ecall
       7 in cycles 6 to 18: Instruction access fault, at 00000000, which no line of the program fills
 cycles of instructions in flight: 6, of them 4 waiting for retirement (66.7%)
+places for dispatch: 40, of them 1 retired (2.5%), 26 lost: fetch gave no word (65.0%), 8 trapped (20.0%), 4 squashed by traps (10.0%)
+Longest at the head of the reorder buffer, or had flushed it, for 3 of 20 cycles: 80000000, line 1: addi x1,x0,5
 Where the 40 places for dispatch went, 2 in each cycle:
 lost: fetch gave no word             26   65.0%  #################################
 trapped                               8   20.0%  ##########
@@ -171,6 +173,48 @@ fn of_two_operands_the_first_that_is_missing_is_awaited(rt: HostRuntime) {
     let awaited =
         b"Awaited most, for 17 of 24 cycles: 80000004, which no line of the program fills";
     assert!(&rt; has_part(output.as_slice(), awaited));
+}
+
+// auipc x1,0; lw x2,256(x1); ebreak
+const LOAD_THAT_MISSES: [u8; 12] = [
+    0x97, 0x00, 0x00, 0x00, 0x03, 0xa1, 0x00, 0x10, 0x73, 0x00, 0x10, 0x00,
+];
+
+// sw x0,1024(x0); ebreak
+const STORE_THAT_MISSES: [u8; 8] = [0x23, 0x20, 0x00, 0x40, 0x73, 0x00, 0x10, 0x00];
+
+// beq x0,x0,8; addi x1,x0,1; ebreak
+const WRONG_BRANCH: [u8; 12] = [
+    0x63, 0x04, 0x00, 0x00, 0x93, 0x00, 0x10, 0x00, 0x73, 0x00, 0x10, 0x00,
+];
+
+// The load is issued in cycle 4, when it has its address, costs 11, and stands at the head from the end of cycle 4 to that
+// of 15. The store has its address in cycle 3 and stands there up to its retirement in 4, in which its drain begins; the
+// breakpoint traps in the same cycle. The branch retires in cycle 4, and leaves the reorder buffer empty in that one, too.
+const LONGEST: [(u32, &[u8], &[u8]); 3] = [
+    (
+        0x8000_0000,
+        &LOAD_THAT_MISSES,
+        b"\nLongest at the head of the reorder buffer, or had flushed it, for 12 of 17 cycles (its loads: hits 0, misses 1, write-backs 0): 80000004, which",
+    ),
+    (
+        0,
+        &STORE_THAT_MISSES,
+        b"\nLongest at the head of the reorder buffer, or had flushed it, for 3 of 5 cycles (its stores: hits 0, misses 1, write-backs 0): 00000000, which",
+    ),
+    (
+        0,
+        &WRONG_BRANCH,
+        b"\nLongest at the head of the reorder buffer, or had flushed it, for 4 of 7 cycles (its branches and jumps: 1, of them 1 mispredicted): 00000000, which",
+    ),
+];
+
+#[test]
+fn the_line_that_stood_longest_at_the_head_is_named_with_what_it_did(rt: HostRuntime) {
+    for (base, program, line) in LONGEST {
+        let output = told(&rt, rt.alloc(), base, program);
+        assert!(&rt; has_part(output.as_slice(), line));
+    }
 }
 
 // auipc x1,0; lw x2,256(x1); sw x0,256(x1); jal x0,0

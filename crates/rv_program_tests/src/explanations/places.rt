@@ -16,6 +16,8 @@ ebreak
 const SENTENCES: &[u8] = b"\
 The run ended at a breakpoint, at 80000008, line 3: ebreak
 cycles of instructions in flight: 8, of them 4 waiting for retirement (50.0%)
+places for dispatch: 12, of them 2 retired (16.7%), 4 squashed by traps (33.3%), 4 lost: fetch gave no word (33.3%), 1 trapped (8.3%)
+Longest at the head of the reorder buffer, or had flushed it, for 3 of 6 cycles: 80000000, line 1: addi x1,x0,5
 Where the 12 places for dispatch went, 2 in each cycle:
 squashed by traps                     4   33.3%  #################
 lost: fetch gave no word              4   33.3%  #################
