@@ -27,13 +27,7 @@ impl Progress {
         ensures { result ≡ progress_of [] }
     {
         Progress {
-            stalls: StallCounts {
-                fetch: 0,
-                serial: 0,
-                rob: 0,
-                station: 0,
-                store: 0,
-            },
+            stalls: StallCounts::new(),
             busy: 0,
             cycles: 0,
             stall: None,
