@@ -9,7 +9,7 @@ use Rattle.rv_passage.specs.Result.{issued_in}
 use Rattle.rv_passage.specs.declared.passage.Passage.{Passage}
 use Rattle.rv_causes.specs.Event.{Wait, again_by, waits, with_events}
 use Rattle.rv_causes.specs.Lookup.{Journey, first_of, journey_of, one_before}
-use Rattle.rv_causes.specs.Moving.{Move, advance_of, advanced, after_previous, dispatch_wait, issue_of, moved_at, moved_by, moved_up_to}
+use Rattle.rv_causes.specs.Moving.{Move, advance_of, advanced, after_previous, dispatch_wait, fills_dispatch, issue_of, moved_at, moved_by, moved_up_to}
 use Rattle.rv_causes.specs.Moving.{new_advanced, new_at, new_at_one, new_up_to, room_by_drain, room_by_issue, room_by_leaving, room_for}
 use Rattle.rv_causes.specs.Setting.{Setting, made_of}
 use Rattle.rv_causes.specs.Sought.{is_at, is_just_before, is_sought}
@@ -70,28 +70,28 @@ module _ (s : Setting) (P : Event → Type 0) (holds : AreHoldsOf P s.holds) (be
       if_with O (count_by (is_sought (sought.Stationed kind s.number)) s.rows == (at_kind kind s.values.kinds).stations)
       (issue_of_V (first_of what s.rows ws) (first_have P what s.rows ws ws-are)) tt
 
-  room_for_V : (p : Passage) → O (room_for s ws leaving p)
-  room_for_V p =
+  room_for_V : (place : ℕ) (p : Passage) → O (room_for s ws leaving place p)
+  room_for_V place p =
       let kind = kind_of_word p.instruction in
-      or_with V (room_by_leaving s leaving) (option_or (room_by_issue s ws kind) (room_by_drain s))
-      (if_with O (count_by (is_sought (sought.Buffered s.number)) s.rows == s.values.rob) (again_have P leaving.first gone.first) tt)
+      or_with V (room_by_leaving s leaving place) (option_or (room_by_issue s ws kind) (room_by_drain s))
+      (if_with O (place == s.values.rob) (again_have P leaving.first gone.first) tt)
       (or_with V (room_by_issue s ws kind) (room_by_drain s) (room_by_issue_V kind)
       (if_with O (s.before.facts.stores == s.values.store_queue) (after_drain_V s P V waits_V holds before cause.StoreQueueFull) tt))
 
-  after_previous_V : (o : Option Journey) → OJ P o → O (after_previous s o)
-  after_previous_V None is = tt
-  after_previous_V (Some last) is =
+  after_previous_V : (place : ℕ) (o : Option Journey) → OJ P o → O (after_previous s place o)
+  after_previous_V place None is = tt
+  after_previous_V place (Some last) is =
       let event = dispatched_have P last.way is in
-      let width = count_by (is_sought (sought.DispatchedBefore s.number)) s.rows == s.values.dispatch_width in
-      if_with O (is_at s.number last.row.dispatched) event (if_with O (is_just_before s.number last.row.dispatched && width) event tt)
+      if_with O (is_at s.number last.row.dispatched) event
+      (if_with O (is_just_before s.number last.row.dispatched && fills_dispatch s place) event tt)
 
   dispatch_wait_V : (p : Passage) (place : ℕ) (w : Way) → IsWayOf P w → V (dispatch_wait s ws leaving p place w)
   dispatch_wait_V p place w is =
       let last = one_before place s.rows ws in
       if_with V (p.fetched + 1 == s.number) is.fetch
-      (unwrap_with V (option_or (after_previous s last) (room_for s ws leaving p)) (waits cause.Other w.fetch)
-      (or_with V (after_previous s last) (room_for s ws leaving p)
-      (after_previous_V last (one_before_have P place s.rows ws ws-are)) (room_for_V p))
+      (unwrap_with V (option_or (after_previous s place last) (room_for s ws leaving place p)) (waits cause.Other w.fetch)
+      (or_with V (after_previous s place last) (room_for s ws leaving place p)
+      (after_previous_V place last (one_before_have P place s.rows ws ws-are)) (room_for_V place p))
       is.fetch)
 
   pub advance_has : (place : ℕ) (p : Passage) (w : Way) → IsWayOf P w

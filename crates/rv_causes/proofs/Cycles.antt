@@ -12,7 +12,7 @@ use Rattle.rv_rob.specs.ReorderBuffer.{youngest}
 use Rattle.rv_rob.specs.declared.entry.Entry.{Entry}
 use Rattle.rv_causes.specs.Event.{Wait, waits, with_events}
 use Rattle.rv_causes.specs.Fetching.{after_flush, after_mend, after_redirection, after_room, after_word, anew_by, fetch_event, fetch_wait}
-use Rattle.rv_causes.specs.Fetching.{fetched_by, goes_on, is_jump, is_mended, mend_of, new_fetched, room_of}
+use Rattle.rv_causes.specs.Fetching.{fetched_by, fills_fetch, goes_on, is_jump, is_mended, mend_of, new_fetched, room_of}
 use Rattle.rv_causes.specs.Holding.{drain_begun, drain_event, goes_beyond, hold_of, hold_of_kind, is_begun, is_taken}
 use Rattle.rv_causes.specs.Holding.{drain_kept, lines_hold, load_hold, new_holds, port_event, port_kept, port_taken, taken_event}
 use Rattle.rv_causes.specs.Leaving.{interrupt_event, is_interrupted, leaving_of, left_by, left_events, lines_event, newly_left}
@@ -122,10 +122,10 @@ module _ (s : Setting) (P : Event → Type 0) (ws : List Way) (leaving : Leaving
       (if_with O (mends_early s.values.recovery)
       (mend_of_V (youngest after.rob.entries) (last_of sought.Entry s.rows ws) (last_have P sought.Entry s.rows ws known.ways)) tt)
 
-  after_word_V : (last : Journey) → J P last → O (after_word s last)
+  after_word_V : (last : Journey) → J P last → O (after_word s ws last)
   after_word_V last is =
       if_with O (last.row.fetched + 1 == s.number)
-      (if_with O (count_by (is_sought (sought.FetchedBefore s.number)) s.rows == s.values.fetch_width) is.fetch
+      (if_with O (fills_fetch s ws) is.fetch
       (if_with O (is_jump last.row) is.fetch tt)) tt
 
   room_of_V : (p : Option Passage) (w : Option Way) → IfSome w (IsWayOf P) → O (room_of s p w)
@@ -143,8 +143,8 @@ module _ (s : Setting) (P : Event → Type 0) (ws : List Way) (leaving : Leaving
   goes_on_V None is =
       since_left_V s P (WaitsFor P) (λ why event has. has) known.holds known.before cause.Other
   goes_on_V (Some last) is =
-      unwrap_with V (option_or (after_word s last) (after_room s ws)) (waits cause.Other last.way.fetch)
-      (or_with V (after_word s last) (after_room s ws) (after_word_V last is) after_room_V) is.fetch
+      unwrap_with V (option_or (after_word s ws last) (after_room s ws)) (waits cause.Other last.way.fetch)
+      (or_with V (after_word s ws last) (after_room s ws) (after_word_V last is) after_room_V) is.fetch
 
   pub fetch_wait_V : (interrupted : Bool) (after : HardwareRead) (first : Passage) → AllOf P (interrupt_taken s interrupted)
       → V (fetch_wait s ws interrupted leaving after first)

@@ -4,7 +4,6 @@ mod AllLeft
 mod Backwards
 mod Brought
 pub mod Caused
-mod Counted
 mod Cycles
 mod Drains
 mod EventLists

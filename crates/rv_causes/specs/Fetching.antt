@@ -1,5 +1,5 @@
 -- The event by which the words of a cycle are fetched.
-use Rattle.std.specs.Prelude.{◌+◌, ◌-◌, ◌%◌, ◌^◌, ◌==◌, ◌&&◌, nat_le, Bool, false, if◌then◌else◌, List, [], length, count_by, Option, Some}
+use Rattle.std.specs.Prelude.{ℕ, ◌+◌, ◌-◌, ◌%◌, ◌^◌, ◌==◌, ◌&&◌, nat_le, Bool, false, if◌then◌else◌, List, [], length, Option, Some}
 use Rattle.std.specs.Prelude.{None, slice_get}
 use Rattle.std.specs.Option.{option_or, unwrap_or}
 use Rattle.rv_hardware.specs.Broadcast.{mends_early}
@@ -12,7 +12,7 @@ use Rattle.rv_causes.specs.Leaving.{interrupt_event}
 use Rattle.rv_causes.specs.Lookup.{Journey, last_of, one_before}
 use Rattle.rv_causes.specs.Reading.{HardwareRead}
 use Rattle.rv_causes.specs.Setting.{Setting, made_of, new_of, since_left}
-use Rattle.rv_causes.specs.Sought.{is_at, is_sought}
+use Rattle.rv_causes.specs.Sought.{is_at}
 use Rattle.rv_causes.specs.declared.{event.Event.Event, point.Reason.Reason, leaving.Leaving.Leaving, way.Way.Way}
 use Rattle.rv_causes.specs.Way.{broadcast_by, dispatched_by}
 use Rattle.rv_causes.specs.declared.cause.Cause.TheVariants as cause
@@ -64,12 +64,22 @@ after_redirection s ways interrupted leaving after first =
 abbrev pub is_jump : Passage → Bool
 is_jump p = differ p.predicted (Some ((p.pc + 4) % 2 ^ 32))
 
--- what ended the fetches of the cycle before, but for the buffer
-abbrev pub after_word : Setting → Journey → Option Wait
-after_word s last =
+-- one was fetched in the cycle before
+abbrev pub was_fetched : ℕ → Option Passage → Bool
+was_fetched number None = false
+was_fetched number (Some p) = p.fetched + 1 == number
+
+-- the one was that stands as many before the first word of the cycle as the fetch is wide
+abbrev pub fills_fetch : Setting → List Way → Bool
+fills_fetch s ways =
+    if nat_le s.values.fetch_width (length ways) then was_fetched s.number (slice_get s.rows (length ways - s.values.fetch_width)) else false
+
+-- what ended the fetches of the cycle before, but for the buffer: their width, or a jump
+abbrev pub after_word : Setting → List Way → Journey → Option Wait
+after_word s ways last =
     if last.row.fetched + 1 == s.number
     then (
-    if count_by (is_sought (sought.FetchedBefore s.number)) s.rows == s.values.fetch_width then Some (waits cause.FetchWidth last.way.fetch)
+    if fills_fetch s ways then Some (waits cause.FetchWidth last.way.fetch)
     else (if is_jump last.row then Some (waits cause.FetchJump last.way.fetch) else None))
     else None
 
@@ -89,7 +99,7 @@ after_room s ways =
 -- the fetch goes on after the last word, or where there is none, after the last that left
 abbrev pub goes_on : Setting → List Way → Option Journey → Wait
 goes_on s ways None = since_left cause.Other s.before.left
-goes_on s ways (Some last) = unwrap_or (option_or (after_word s last) (after_room s ways)) (waits cause.Other last.way.fetch)
+goes_on s ways (Some last) = unwrap_or (option_or (after_word s ways last) (after_room s ways)) (waits cause.Other last.way.fetch)
 
 -- What words waited for that are fetched in the cycle, after those that were in flight before it: fetch began anew, or goes on.
 abbrev pub fetch_wait : Setting → List Way → Bool → Leaving → HardwareRead → Passage → Wait

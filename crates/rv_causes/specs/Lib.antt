@@ -3,7 +3,6 @@ pub mod Point
 pub mod Claims
 pub mod Event
 pub mod Causes
-pub mod Census
 pub mod Way
 pub mod Walk
 pub mod Account

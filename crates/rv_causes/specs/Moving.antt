@@ -1,5 +1,5 @@
 -- The events by which instructions are dispatched, and what a cycle makes of the events of those that were in flight before it.
-use Rattle.std.specs.Prelude.{ℕ, zero, suc, ◌+◌, ◌==◌, ◌&&◌, ◌||◌, Bool, false, if◌then◌else◌, List, [], ◌++◌, length, count_by, Option}
+use Rattle.std.specs.Prelude.{ℕ, zero, suc, ◌+◌, ◌-◌, ◌==◌, ◌&&◌, ◌||◌, nat_le, Bool, false, if◌then◌else◌, List, [], ◌++◌, length, count_by, Option}
 use Rattle.std.specs.Prelude.{Some, None, slice_get, slice_set}
 use Rattle.std.specs.Option.{option_or, unwrap_or}
 use Rattle.rv_isa.specs.Instruction.{kind_of_word}
@@ -18,9 +18,9 @@ use Rattle.rv_causes.specs.declared.cause.Cause.TheVariants as cause
 use Rattle.rv_causes.specs.declared.point.Stage.TheVariants as stage
 use Rattle.rv_causes.specs.declared.sought.Sought.TheVariants as sought
 
--- the reorder buffer was full when the cycle began: the first to leave made room
-abbrev pub room_by_leaving : Setting → Leaving → Option Wait
-room_by_leaving s leaving = if count_by (is_sought (sought.Buffered s.number)) s.rows == s.values.rob then again_by leaving.first else None
+-- as many stood before a word as the reorder buffer holds: the first to leave made room
+abbrev pub room_by_leaving : Setting → Leaving → ℕ → Option Wait
+room_by_leaving s leaving place = if place == s.values.rob then again_by leaving.first else None
 
 -- the event by which an instruction was issued that is looked for
 abbrev pub issue_of : Option Journey → Option Wait
@@ -40,28 +40,39 @@ abbrev pub room_by_drain : Setting → Option Wait
 room_by_drain s =
     if s.before.facts.stores == s.values.store_queue then after_drain_at s cause.StoreQueueFull s.number s.before.drain else None
 
--- what a word waited for that did not come after another one, of these the first
-abbrev pub room_for : Setting → List Way → Leaving → Passage → Option Wait
-room_for s ways leaving p =
-    option_or (room_by_leaving s leaving) (option_or (room_by_issue s ways (kind_of_word p.instruction)) (room_by_drain s))
+-- what the word at a place waited for that did not come after another one, of these the first
+abbrev pub room_for : Setting → List Way → Leaving → ℕ → Passage → Option Wait
+room_for s ways leaving place p =
+    option_or (room_by_leaving s leaving place) (option_or (room_by_issue s ways (kind_of_word p.instruction)) (room_by_drain s))
 
--- as many words as the dispatch is wide went first in the cycle before, and the last of them was the one before it
-abbrev pub after_width : Setting → Journey → Option Wait
-after_width s last =
-    if is_just_before s.number last.row.dispatched && count_by (is_sought (sought.DispatchedBefore s.number)) s.rows == s.values.dispatch_width
+-- one was dispatched in the cycle before
+abbrev pub was_dispatched : ℕ → Option Passage → Bool
+was_dispatched number None = false
+was_dispatched number (Some p) = is_just_before number p.dispatched
+
+-- the one was that stands as many before a place as the dispatch is wide
+abbrev pub fills_dispatch : Setting → ℕ → Bool
+fills_dispatch s place =
+    if nat_le s.values.dispatch_width place then was_dispatched s.number (slice_get s.rows (place - s.values.dispatch_width)) else false
+
+-- so was the last one before the place: all between them filled the width
+abbrev pub after_width : Setting → ℕ → Journey → Option Wait
+after_width s place last =
+    if is_just_before s.number last.row.dispatched && fills_dispatch s place
     then Some (waits cause.DispatchWidth (dispatched_by last.way))
     else None
 
 -- it goes with the one before it, or waited for its width
-abbrev pub after_previous : Setting → Option Journey → Option Wait
-after_previous s None = None
-after_previous s (Some last) = if is_at s.number last.row.dispatched then Some (again (dispatched_by last.way)) else after_width s last
+abbrev pub after_previous : Setting → ℕ → Option Journey → Option Wait
+after_previous s place None = None
+after_previous s place (Some last) =
+    if is_at s.number last.row.dispatched then Some (again (dispatched_by last.way)) else after_width s place last
 
 -- what the word at a place waited for that is dispatched
 abbrev pub dispatch_wait : Setting → List Way → Leaving → Passage → ℕ → Way → Wait
 dispatch_wait s ways leaving p place w =
     if p.fetched + 1 == s.number then waits cause.FrontEnd w.fetch
-    else unwrap_or (option_or (after_previous s (one_before place s.rows ways)) (room_for s ways leaving p)) (waits cause.Other w.fetch)
+    else unwrap_or (option_or (after_previous s place (one_before place s.rows ways)) (room_for s ways leaving place p)) (waits cause.Other w.fetch)
 
 -- what an instruction comes to, and what that waited for
 pub record Move : Type 0 where

@@ -42,9 +42,6 @@ is_sought sought.InFlight p = is_in_flight p
 is_sought sought.Entry p = is_in_flight p && is_some p.dispatched
 is_sought sought.Ended p = is_end p.ending
 is_sought (sought.Number number) p = p.number == number
-is_sought (sought.FetchedBefore cycle) p = p.fetched + 1 == cycle
-is_sought (sought.DispatchedBefore cycle) p = is_just_before cycle p.dispatched
-is_sought (sought.Buffered cycle) p = is_before cycle p.dispatched
 is_sought (sought.Stationed kind cycle) p = uses kind p && (is_before cycle p.dispatched && not (is_before cycle (issued_in p)))
 is_sought (sought.IssuedIn kind cycle) p = uses kind p && is_at cycle (issued_in p)
 is_sought (sought.IssuedBefore kind cycle) p = uses kind p && is_just_before cycle (issued_in p)

@@ -1,6 +1,6 @@
 ghost use Rattle.std.specs.Prelude.{◌≡◌, false, option_copied};
 ghost use Rattle.rv_causes.specs.Fetching.{after_flush, after_mend, after_redirection, after_room, after_word};
-ghost use Rattle.rv_causes.specs.Fetching.{goes_on, handler_wait, is_jump, is_mended};
+ghost use Rattle.rv_causes.specs.Fetching.{fills_fetch, goes_on, handler_wait, is_jump, is_mended, was_fetched};
 ghost use Rattle.rv_causes.specs.Reading.{after_of};
 ghost use Rattle.rv_causes.specs.Setting.{setting_of};
 
@@ -10,7 +10,7 @@ use crate::event::{Anew, Event, Waited};
 use crate::leaving::{Leaving, differ, mends_early};
 use crate::point::Reason;
 use crate::scene::{Scene, since_left};
-use crate::sought::{Sought, are_as_many, comes_after, is_at, last_of};
+use crate::sought::{Sought, comes_after, is_at, last_of};
 use crate::way::{Found, Way};
 use rv_passage::Passage;
 use rv_rob::Entry;
@@ -75,15 +75,34 @@ fn is_jump(row: &Passage) -> bool
     differ(row.predicted, Some(row.pc.wrapping_add(4)))
 }
 
+fn was_fetched(number: u64, row: Option<&Passage>) -> bool
+    ensures { result ≡ was_fetched number (option_copied row.entry) }
+{
+    match row {
+        Some(row) => comes_after(row.fetched, number),
+        None => false,
+    }
+}
+
+// Whether the words of the cycle before filled the fetch, if the last one was fetched then.
+fn fills_fetch(scene: &Scene<'_>, ways: &[Way]) -> bool
+    ensures { result ≡ fills_fetch (setting_of scene.now) ways.now }
+{
+    let width = scene.values.fetch_width as usize;
+    if ways.len() < width {
+        return false;
+    }
+    was_fetched(scene.number, scene.rows.get(ways.len() - width))
+}
+
 // What ended the fetches of the cycle before, but for the buffer.
-fn after_word<'a>(scene: &'a Scene<'_>, last: &Found<'a>) -> Option<Waited<'a>>
-    ensures { result ≡ after_word (setting_of scene.now) last.now }
+fn after_word<'a>(scene: &'a Scene<'_>, ways: &[Way], last: &Found<'a>) -> Option<Waited<'a>>
+    ensures { result ≡ after_word (setting_of scene.now) ways.now last.now }
 {
     if !comes_after(last.row().fetched, scene.number) {
         return None;
     }
-    let sought = Sought::FetchedBefore(scene.number);
-    if are_as_many(sought, scene.rows, scene.values.fetch_width as usize) {
+    if fills_fetch(scene, ways) {
         Some(Waited::after(&last.way().fetch, Cause::FetchWidth))
     } else if is_jump(last.row()) {
         Some(Waited::after(&last.way().fetch, Cause::FetchJump))
@@ -120,7 +139,7 @@ pub(crate) fn goes_on<'a>(
     let Some(last) = last else {
         return since_left(Cause::Other, &scene.before.left);
     };
-    if let Some(waited) = after_word(scene, &last) {
+    if let Some(waited) = after_word(scene, ways, &last) {
         return waited;
     }
     match after_room(scene, ways) {

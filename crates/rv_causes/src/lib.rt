@@ -10,7 +10,6 @@ mod account;
 mod account_text;
 mod before;
 mod cause;
-mod census;
 mod claim;
 mod cycle;
 mod ended;

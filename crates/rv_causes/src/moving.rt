@@ -1,20 +1,18 @@
-ghost use Rattle.std.specs.Prelude.{◌≡◌, ◌+◌, ◌++◌, ◌≤◌, [], ◌∷◌, Some, length, vec_capacity};
-ghost use Rattle.std.specs.Option.{option_or};
-ghost use Rattle.rv_isa.specs.Instruction.{kind_of_word};
-ghost use Rattle.rv_causes.specs.Census.{buffered_in, dispatched_before, stationed_in};
+ghost use Rattle.std.specs.Prelude.{◌≡◌, ◌+◌, ◌++◌, ◌≤◌, [], ◌∷◌, Some, length, option_copied, vec_capacity};
 ghost use Rattle.rv_causes.specs.Moving.{advance_of, advances, advances_at, after_previous, after_width, all_moved};
-ghost use Rattle.rv_causes.specs.Moving.{all_new, dispatch_wait, issue_of, moved_at, new_at, room_by_drain};
-ghost use Rattle.rv_causes.specs.Moving.{room_by_issue, room_by_leaving, room_for};
+ghost use Rattle.rv_causes.specs.Moving.{all_new, dispatch_wait, fills_dispatch, issue_of, moved_at, new_at, room_by_drain};
+ghost use Rattle.rv_causes.specs.Moving.{room_by_issue, room_by_leaving, room_for, was_dispatched};
 ghost use Rattle.rv_causes.specs.Setting.{setting_of};
 
 use crate::cause::Cause;
-use crate::census::{Census, census_of};
 use crate::event::{Event, Waited, push_event_if};
 use crate::issuing::{broadcast_wait, issue_wait};
 use crate::leaving::Leaving;
 use crate::point::Stage;
 use crate::scene::Scene;
-use crate::sought::{Sought, comes_after, first_of, is_at, is_just_before, one_before};
+use crate::sought::{
+    Sought, are_as_many, comes_after, first_of, is_at, is_just_before, one_before,
+};
 use crate::way::{Found, Way};
 use rv_isa::Kind;
 use rv_passage::Passage;
@@ -35,18 +33,13 @@ impl<'a> Model for Advance<'a> {
     ghost view = { λ advance. record { stage = advance.stage; waited = advance.waited } };
 }
 
-fn room_by_leaving<'a>(
-    scene: &Scene<'_>,
-    leaving: &'a Leaving,
-    buffered: usize,
-) -> Option<Waited<'a>>
-    requires buffered { buffered ≡ buffered_in scene.now.number scene.now.rows.now }
-    ensures { result ≡ room_by_leaving (setting_of scene.now) leaving.now }
+fn room_by_leaving<'a>(scene: &Scene<'_>, leaving: &'a Leaving, place: usize) -> Option<Waited<'a>>
+    ensures { result ≡ room_by_leaving (setting_of scene.now) leaving.now place }
 {
     let Some(event) = &leaving.first else {
         return None;
     };
-    if buffered == scene.values.rob as usize {
+    if place == scene.values.rob as usize {
         Some(Waited::again(event))
     } else {
         None
@@ -62,16 +55,11 @@ fn issue_of<'a>(found: Option<Found<'a>>) -> Option<Waited<'a>>
     }
 }
 
-fn room_of_kind<'a>(
-    scene: &'a Scene<'_>,
-    ways: &'a [Way],
-    kind: Kind,
-    stationed: usize,
-) -> Option<Waited<'a>>
-    requires stationed { stationed ≡ stationed_in (Some kind) scene.now.number scene.now.rows.now }
+fn room_of_kind<'a>(scene: &'a Scene<'_>, ways: &'a [Way], kind: Kind) -> Option<Waited<'a>>
     ensures { result ≡ room_by_issue (setting_of scene.now) ways.now (Some kind) }
 {
-    if stationed != scene.values.kinds.get(kind).stations as usize {
+    let stations = scene.values.kinds.get(kind).stations as usize;
+    if !are_as_many(Sought::Stationed(kind, scene.number), scene.rows, stations) {
         return None;
     }
     issue_of(first_of(Sought::IssuedIn(kind, scene.number), scene.rows, ways))
@@ -81,13 +69,11 @@ fn room_by_issue<'a>(
     scene: &'a Scene<'_>,
     ways: &'a [Way],
     kind: Option<Kind>,
-    stationed: usize,
 ) -> Option<Waited<'a>>
-    requires stationed { stationed ≡ stationed_in kind scene.now.number scene.now.rows.now }
     ensures { result ≡ room_by_issue (setting_of scene.now) ways.now kind }
 {
     match kind {
-        Some(kind) => room_of_kind(scene, ways, kind, stationed),
+        Some(kind) => room_of_kind(scene, ways, kind),
         None => None,
     }
 }
@@ -107,73 +93,65 @@ fn room_for<'a>(
     scene: &'a Scene<'_>,
     ways: &'a [Way],
     leaving: &'a Leaving,
+    place: usize,
     row: &Passage,
-    census: &Census,
 ) -> Option<Waited<'a>>
-    requires buffered { census.now.buffered ≡ buffered_in scene.now.number scene.now.rows.now }
-    requires stationed { census.now.stationed
-        ≡ stationed_in (kind_of_word row.now.instruction) scene.now.number scene.now.rows.now }
-    ensures { result ≡ room_for (setting_of scene.now) ways.now leaving.now row.now }
+    ensures { result ≡ room_for (setting_of scene.now) ways.now leaving.now place row.now }
 {
-    if let Some(event) = room_by_leaving(scene, leaving, census.buffered) {
+    if let Some(event) = room_by_leaving(scene, leaving, place) {
         return Some(event);
     }
-    if let Some(event) = room_by_issue(scene, ways, row.instruction.kind(), census.stationed) {
+    if let Some(event) = room_by_issue(scene, ways, row.instruction.kind()) {
         return Some(event);
     }
     room_by_drain(scene)
 }
 
-fn after_width<'a>(scene: &Scene<'_>, last: &Found<'a>, dispatched: usize) -> Option<Waited<'a>>
-    requires dispatched { dispatched ≡ dispatched_before scene.now.number scene.now.rows.now }
-    ensures { result ≡ after_width (setting_of scene.now) last.now }
+fn was_dispatched(number: u64, row: Option<&Passage>) -> bool
+    ensures { result ≡ was_dispatched number (option_copied row.entry) }
 {
-    if is_just_before(scene.number, last.row().dispatched)
-        && dispatched == scene.values.dispatch_width as usize
-    {
+    match row {
+        Some(row) => is_just_before(number, row.dispatched),
+        None => false,
+    }
+}
+
+// Whether the words before a place filled the dispatch of the cycle before, if the last one was dispatched then.
+fn fills_dispatch(scene: &Scene<'_>, place: usize) -> bool
+    ensures { result ≡ fills_dispatch (setting_of scene.now) place }
+{
+    let width = scene.values.dispatch_width as usize;
+    if place < width {
+        return false;
+    }
+    was_dispatched(scene.number, scene.rows.get(place - width))
+}
+
+fn after_width<'a>(scene: &Scene<'_>, place: usize, last: &Found<'a>) -> Option<Waited<'a>>
+    ensures { result ≡ after_width (setting_of scene.now) place last.now }
+{
+    if is_just_before(scene.number, last.row().dispatched) && fills_dispatch(scene, place) {
         Some(Waited::after(last.way().dispatched(), Cause::DispatchWidth))
     } else {
         None
     }
 }
 
-// What a word waited for that was not just fetched, and was not dispatched with the one before it.
-fn after_another<'a>(
-    scene: &'a Scene<'_>,
-    ways: &'a [Way],
-    leaving: &'a Leaving,
-    row: &Passage,
-    last: &Found<'a>,
-) -> Option<Waited<'a>>
-    ensures { result ≡ option_or (after_width (setting_of scene.now) last.now)
-        (room_for (setting_of scene.now) ways.now leaving.now row.now) }
-{
-    let census = census_of(scene.number, row.instruction.kind(), scene.rows);
-    match after_width(scene, last, census.dispatched) {
-        Some(waited) => Some(waited),
-        None => room_for(scene, ways, leaving, row, &census),
-    }
-}
-
-// The same after the one before it, if there is one.
-fn after_last<'a>(
-    scene: &'a Scene<'_>,
-    ways: &'a [Way],
-    leaving: &'a Leaving,
-    row: &Passage,
+// What a word waited for after the one before it, if there is one.
+fn after_previous<'a>(
+    scene: &Scene<'_>,
+    place: usize,
     last: Option<Found<'a>>,
 ) -> Option<Waited<'a>>
-    ensures { result ≡ option_or (after_previous (setting_of scene.now) last.entry)
-        (room_for (setting_of scene.now) ways.now leaving.now row.now) }
+    ensures { result ≡ after_previous (setting_of scene.now) place last.entry }
 {
     let Some(last) = last else {
-        let census = census_of(scene.number, row.instruction.kind(), scene.rows);
-        return room_for(scene, ways, leaving, row, &census);
+        return None;
     };
     if is_at(scene.number, last.row().dispatched) {
         return Some(Waited::again(last.way().dispatched()));
     }
-    after_another(scene, ways, leaving, row, &last)
+    after_width(scene, place, &last)
 }
 
 // What a word waited for that is dispatched, after the one before it as that stands by then.
@@ -191,7 +169,10 @@ fn dispatch_wait<'a>(
         return Waited::after(&way.fetch, Cause::FrontEnd);
     }
     let last = one_before(place, scene.rows, ways);
-    match after_last(scene, ways, leaving, row, last) {
+    if let Some(waited) = after_previous(scene, place, last) {
+        return waited;
+    }
+    match room_for(scene, ways, leaving, place, row) {
         Some(waited) => waited,
         None => Waited::after(&way.fetch, Cause::Other),
     }

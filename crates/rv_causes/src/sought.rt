@@ -20,12 +20,6 @@ pub(crate) enum Sought {
     Ended,
     /// The one of a number.
     Number(u64),
-    /// Fetched in the cycle just before.
-    FetchedBefore(u64),
-    /// Dispatched in the cycle just before.
-    DispatchedBefore(u64),
-    /// Dispatched in a cycle before: it was in the reorder buffer when the cycle began.
-    Buffered(u64),
     /// It was in a station of the kind when the cycle began.
     Stationed(Kind, u64),
     /// Issued to a unit of the kind in the cycle.
@@ -123,9 +117,6 @@ pub(crate) fn is_sought(sought: Sought, row: &Passage) -> bool
         Sought::Entry => row.is_in_flight() && row.dispatched.is_some(),
         Sought::Ended => is_end(row.ending),
         Sought::Number(number) => row.number == number,
-        Sought::FetchedBefore(cycle) => comes_after(row.fetched, cycle),
-        Sought::DispatchedBefore(cycle) => is_just_before(cycle, row.dispatched),
-        Sought::Buffered(cycle) => is_before(cycle, row.dispatched),
         Sought::Stationed(kind, cycle) => {
             is_before(cycle, row.dispatched) && !is_before(cycle, row.issued()) && uses(kind, row)
         }
