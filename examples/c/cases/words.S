@@ -6,6 +6,7 @@ _start: la sp, x
  jr 4(t0)
  jalr t1, 8(t2)
  fence rw,w
+ fence.tso
  fence
  fence.i
  csrr a0, mstatus

@@ -1,0 +1,1 @@
+error: assembly line 1: BadOperands
