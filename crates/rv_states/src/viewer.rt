@@ -5,19 +5,19 @@ pub(crate) const BEFORE: &[u8] = br#"<!DOCTYPE html>
 <html lang="en">
 <head>
 <meta charset="utf-8">
-<meta http-equiv="Content-Security-Policy" content="default-src 'none'; script-src 'sha256-T9uGUrVekvNG0iXBl47E/IVmAfA8c1pfDlgTqfFaZ+c='; style-src 'sha256-GPCyShncOqn8lQqPPv8BVc0LVw4uR+PINRuIegbju/I='; img-src data:; frame-src 'self' file:; base-uri 'none'; form-action 'none'">
+<meta http-equiv="Content-Security-Policy" content="default-src 'none'; script-src 'sha256-T9uGUrVekvNG0iXBl47E/IVmAfA8c1pfDlgTqfFaZ+c='; style-src 'sha256-sPEeIcrqAjPmoSsSbyXpKh+ozFAbLQInseJXZoVLOo8='; img-src data:; frame-src 'self' file:; base-uri 'none'; form-action 'none'">
 <meta name="viewport" content="width=device-width, initial-scale=1">
 <title>rv_sim: a run, cycle by cycle</title>
 <style>
 /* Sizes are in rem, which follows the window, so that the page fills a lecture's screen. Each mark differs in form or lightness too. */
 :root {
   color-scheme: light dark;
-  --ground: #fff; --panel: #fff; --text: #111; --quiet: #555; --edge: #bbb; --title: #eef1f5; --accent: #0b57d0; --mark: #fff1b8; --fault: #a00;
-  --f: #e3eefc; --d: #b5d3f5; --i: #7fb2ea; --e: #fbe3a3; --b: #f0a848; --c: #1f7a3d; --t: #8c1616; --x: #777; --w: #f1f1f1; --r: #b06a00; --on: #000;
+  --ground: #fff; --panel: #fff; --text: #111; --quiet: #555; --edge: #bbb; --rim: #858585; --free: #6e6e6e; --title: #eef1f5; --accent: #0b57d0; --mark: #fff1b8; --fault: #a00;
+  --f: #e3eefc; --d: #b5d3f5; --i: #7fb2ea; --e: #fbe3a3; --b: #f0a848; --c: #1f7a3d; --t: #8c1616; --x: #6f6f6f; --w: #f1f1f1; --r: #9a5d00; --on: #000;
 }
 @media screen and (prefers-color-scheme: dark) {
   :root {
-    --ground: #16181c; --panel: #1b1e23; --text: #e4e4e4; --quiet: #a8a8a8; --edge: #484c54; --title: #272b32; --accent: #8ab4f8; --mark: #5a4a10; --fault: #ff8080;
+    --ground: #16181c; --panel: #1b1e23; --text: #e4e4e4; --quiet: #a8a8a8; --edge: #484c54; --rim: #868b95; --free: #8e939c; --title: #272b32; --accent: #8ab4f8; --mark: #463a0a; --fault: #ff8080;
     --w: #2c3038; --r: #f0a848;
   }
   .w { color: #bbb; }
@@ -34,7 +34,7 @@ header p { grid-column: 1 / 3; }
 #following { color: var(--accent); }
 #tools { display: flex; flex-wrap: wrap; align-items: center; gap: 0.3rem 0.5rem; }
 #slider { flex: 1 1 10rem; min-width: 6rem; }
-button, input, select { font: inherit; color: inherit; background: var(--title); border: 1px solid var(--edge); border-radius: 0.25rem; padding: 0 0.4rem; }
+button, input, select { font: inherit; color: inherit; background: var(--title); border: 1px solid var(--rim); border-radius: 0.25rem; padding: 0 0.4rem; }
 input[type=number] { width: 6.5rem; }
 :focus-visible { outline: 2px solid var(--accent); outline-offset: -1px; }
 main { flex: 1 1 auto; min-height: 0; display: flex; gap: 0.4rem; }
@@ -78,7 +78,7 @@ td.wide { width: 99%; max-width: 0; text-overflow: ellipsis; }
 #rob td:nth-child(n + 5):nth-child(-n + 7) { min-width: 2.4rem; }
 #rob td:nth-child(8) { min-width: 8.6rem; max-width: 12.6rem; text-overflow: ellipsis; }
 #rob th { min-width: 3.1rem; }
-.free { color: var(--edge); }
+.free { color: var(--free); }
 .tag { border: 0; background: none; padding: 0; color: var(--accent); cursor: pointer; border-radius: 0; }
 .list > div { position: relative; min-width: 100%; }
 .list .row { position: absolute; left: 0; right: 0; height: 1.25rem; white-space: pre; overflow: hidden; display: flex; gap: 0.4rem; padding: 0 0.25rem; }
@@ -124,9 +124,9 @@ td.wide { width: 99%; max-width: 0; text-overflow: ellipsis; }
 #picture-arrows svg { display: block; }
 .arrow { fill: none; stroke: var(--fault); stroke-width: 0.15; }
 /* The critical path: rings around its events, lines between them, and above them the cause of each cycle. Each sort has a letter besides. */
-.sort-refill { --sort: #c0392b; } .sort-front { --sort: #3b6fb5; } .sort-room { --sort: #9b59b6; } .sort-operand { --sort: #0e8a9c; }
-.sort-unit { --sort: #9c6633; } .sort-execution { --sort: #b7791f; } .sort-load { --sort: #d81b60; } .sort-port { --sort: #7b8a00; }
-.sort-bus { --sort: #e65100; } .sort-commit { --sort: #2e7d32; } .sort-interrupt { --sort: #6b7280; } .sort-rest { --sort: #6b7280; }
+.sort-refill { --sort: #c0392b; } .sort-front { --sort: #3b6fb5; } .sort-room { --sort: #9b59b6; } .sort-operand { --sort: #0c7c8c; }
+.sort-unit { --sort: #9c6633; } .sort-execution { --sort: #96640f; } .sort-load { --sort: #d81b60; } .sort-port { --sort: #6b7700; }
+.sort-bus { --sort: #c94700; } .sort-commit { --sort: #2e7d32; } .sort-interrupt { --sort: #6b7280; } .sort-rest { --sort: #6b7280; }
 .badge { display: inline-block; width: 1.05rem; text-align: center; background: var(--sort); color: #fff; font-weight: bold; }
 .bar[class*="sort-"] { background: var(--sort); }
 #picture .cell.on-path, #legend .on-path { outline: 2px solid var(--text); font-weight: bold; }
@@ -159,7 +159,7 @@ tr.on-path { background: var(--title); }
 .busy { background: #1f7a3d; color: #fff; } .fetch { background: #e3eefc; color: #000; } .serial { background: #8c1616; color: #fff; }
 .rob { background: #7fb2ea; color: #000; } .station { background: #fbe3a3; color: #000; } .store { background: #f0a848; color: #000; }
 .six { max-height: 6.4rem; } .ten { max-height: 10.2rem; } [data-panel="fetch"] .ten, [data-panel="stores"] .ten { max-height: 11.4rem; } .fourteen { max-height: 15.2rem; } .eighteen { max-height: 21.4rem; }
-@media screen and (max-width: 60rem) { html:not(.framed) body { height: auto; } html:not(.framed) main { display: block; } html:not(.framed) .column { margin-bottom: 0.4rem; } html:not(.framed) .panel.grows { height: 24rem; flex: none; } }
+@media screen and (max-width: 60rem) { html:not(.framed) { font-size: calc(var(--size, 1) * 11px); } html:not(.framed) body { height: auto; } html:not(.framed) main { display: block; } html:not(.framed) .column { margin-bottom: 0.4rem; } html:not(.framed) .panel.grows { height: 24rem; flex: none; } }
 /* Two runs side by side. */
 body.pair > header, body.pair > main { display: none; }
 #pair { display: flex; flex-direction: column; height: 100%; gap: 0.4rem; }
@@ -188,10 +188,10 @@ body.pair > header, body.pair > main { display: none; }
 <header>
 <h1>rv_sim</h1>
 <div role="toolbar" aria-label="Cursor" id="tools">
-<button type="button" data-step="first" title="first (Home)">|&lt;</button>
-<button type="button" data-step="back" title="a cycle back (left arrow)">&lt;</button>
-<button type="button" data-step="on" title="a cycle on (right arrow)">&gt;</button>
-<button type="button" data-step="last" title="last (End)">&gt;|</button>
+<button type="button" data-step="first" title="first (Home)" aria-label="first cycle">|&lt;</button>
+<button type="button" data-step="back" title="a cycle back (left arrow)" aria-label="a cycle back">&lt;</button>
+<button type="button" data-step="on" title="a cycle on (right arrow)" aria-label="a cycle on">&gt;</button>
+<button type="button" data-step="last" title="last (End)" aria-label="last cycle">&gt;|</button>
 <button type="button" id="play" aria-pressed="false" title="play and pause (space); + and - change the speed">play</button>
 <input type="range" id="slider" aria-label="cycle" step="1">
 <label>cycle <input type="number" id="cycle" title="type a cycle (g)"></label> <span id="range"></span>
@@ -208,7 +208,7 @@ body.pair > header, body.pair > main { display: none; }
 <label title="Tomasulo's tables as in the textbook (o)"><input type="checkbox" id="textbook"> tables</label>
 <label title="mark the events that waited for one another, back from the last step of the page, and the cause of each cycle (l)"><input type="checkbox" id="path"> critical path</label>
 <button type="button" id="panels" aria-expanded="false" aria-controls="switches" title="which panels are shown (p)">panels</button>
-<button type="button" id="help" aria-expanded="false" aria-controls="keys" title="keys (?)">?</button>
+<button type="button" id="help" aria-expanded="false" aria-controls="keys" title="keys (?)" aria-label="keys">?</button>
 </div>
 <p id="machine"></p>
 <div id="switches" role="group" aria-label="Panels" hidden></div>
