@@ -97,6 +97,7 @@ async function run(isTyped) {
   if (mine !== turn) return;
   if (!isGood || (isTyped && !byId("auto").checked)) {
     setBusy(false);
+    showNothing();
     if (isGood) say("The program takes the job. Run it to see it.");
     return;
   }
@@ -124,7 +125,7 @@ async function resultOf(view, mine) {
   return made;
 }
 
-// A tab that is chosen where the job does not run, as one that is refused.
+// Where nothing is shown yet, and the job does not run, as one that is refused.
 function showNothing() {
   if (byId("shown").firstChild || byId("result").getAttribute("aria-busy") === "true") return;
   byId("shown").append(element("p", { className: "note", textContent: "Nothing to show: the job as it stands has not run." }));

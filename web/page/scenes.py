@@ -28,6 +28,10 @@ text:   .ascii "</script><script>document.title = 3</script><img src=x onerror=d
 """
 
 
+# what a tab shows of a job that does not run
+NOTHING = "Nothing to show: the job as it stands has not run."
+
+
 def packed(data):
     maker = zlib.compressobj(9, zlib.DEFLATED, -15)
     return base64.urlsafe_b64encode(maker.compress(data) + maker.flush()).decode().rstrip("=")
