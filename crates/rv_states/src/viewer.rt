@@ -5,7 +5,7 @@ pub(crate) const BEFORE: &[u8] = br#"<!DOCTYPE html>
 <html lang="en">
 <head>
 <meta charset="utf-8">
-<meta http-equiv="Content-Security-Policy" content="default-src 'none'; script-src 'sha256-T9uGUrVekvNG0iXBl47E/IVmAfA8c1pfDlgTqfFaZ+c='; style-src 'sha256-sPEeIcrqAjPmoSsSbyXpKh+ozFAbLQInseJXZoVLOo8='; img-src data:; frame-src 'self' file:; base-uri 'none'; form-action 'none'">
+<meta http-equiv="Content-Security-Policy" content="default-src 'none'; script-src 'sha256-T9uGUrVekvNG0iXBl47E/IVmAfA8c1pfDlgTqfFaZ+c='; style-src 'sha256-OE7LlOLY1KaAs9SzxI14XBYjQwxoJqU1AMeaS/ojdME='; img-src data:; frame-src 'self' file:; base-uri 'none'; form-action 'none'">
 <meta name="viewport" content="width=device-width, initial-scale=1">
 <title>rv_sim: a run, cycle by cycle</title>
 <style>
@@ -25,6 +25,7 @@ pub(crate) const BEFORE: &[u8] = br#"<!DOCTYPE html>
 * { box-sizing: border-box; margin: 0; }
 html { font-size: calc(var(--size, 1) * clamp(9px, min(0.84vw, 1.5vh), 24px)); }
 html.framed { font-size: calc(var(--size, 1) * clamp(8px, min(1.55vw, 1.5vh), 24px)); }
+@media screen and (max-width: 60rem) { html:not(.framed) { font-size: calc(var(--size, 1) * 11px); } }
 [hidden] { display: none !important; }
 body { font: 1rem/1.25rem "DejaVu Sans Mono", Menlo, Consolas, monospace; background: var(--ground); color: var(--text); height: 100vh; display: flex; flex-direction: column; padding: 0.4rem; gap: 0.4rem; }
 h1, h2 { font: inherit; font-weight: bold; }
@@ -159,7 +160,7 @@ tr.on-path { background: var(--title); }
 .busy { background: #1f7a3d; color: #fff; } .fetch { background: #e3eefc; color: #000; } .serial { background: #8c1616; color: #fff; }
 .rob { background: #7fb2ea; color: #000; } .station { background: #fbe3a3; color: #000; } .store { background: #f0a848; color: #000; }
 .six { max-height: 6.4rem; } .ten { max-height: 10.2rem; } [data-panel="fetch"] .ten, [data-panel="stores"] .ten { max-height: 11.4rem; } .fourteen { max-height: 15.2rem; } .eighteen { max-height: 21.4rem; }
-@media screen and (max-width: 60rem) { html:not(.framed) { font-size: calc(var(--size, 1) * 11px); } html:not(.framed) body { height: auto; } html:not(.framed) main { display: block; } html:not(.framed) .column { margin-bottom: 0.4rem; } html:not(.framed) .panel.grows { height: 24rem; flex: none; } }
+@media screen and (max-width: 60rem) { html:not(.framed) body { height: auto; } html:not(.framed) main { display: block; } html:not(.framed) .column { margin-bottom: 0.4rem; } html:not(.framed) .panel.grows { height: 24rem; flex: none; } }
 /* Two runs side by side. */
 body.pair > header, body.pair > main { display: none; }
 #pair { display: flex; flex-direction: column; height: 100%; gap: 0.4rem; }
