@@ -63,7 +63,7 @@ function ownValues(all, at) {
   return keys.length === 0 ? "the job's machine" : keys.slice(0, 3).map((key) => key + " " + own.get(key)).join(", ") + (keys.length > 3 ? ", .." : "");
 }
 
-const NO_MACHINES = "Add machines above: by name, or one for each value of a key. They stand in the text there, a line %% between two.";
+const NO_MACHINES = "Add machines above: by name, or one for each value of a key. They stand in the text there, a line %\u2060% between two.";
 
 function showComparison({ output }) {
   const lines = textOf(output).trimEnd().split("\n"), names = lines[0].split("\t");

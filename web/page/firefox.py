@@ -24,7 +24,7 @@ class Socket:
     """A WebSocket (RFC 6455): texts in both directions."""
 
     def __init__(self, port):
-        self.socket, self.rest = socket.create_connection(("127.0.0.1", port), 60), b""
+        self.socket, self.rest = socket.create_connection(("127.0.0.1", port), 300), b""
         key = base64.b64encode(os.urandom(16)).decode()
         self.socket.sendall((f"GET /session HTTP/1.1\r\nHost: 127.0.0.1:{port}\r\nUpgrade: websocket\r\nConnection: Upgrade\r\n"
                              f"Sec-WebSocket-Key: {key}\r\nSec-WebSocket-Version: 13\r\n\r\n").encode())

@@ -97,6 +97,7 @@ async function run(isTyped) {
   if (mine !== turn) return;
   if (!isGood || (isTyped && !byId("auto").checked)) {
     setBusy(false);
+    showNothing();
     if (isGood) say("The program takes the job. Run it to see it.");
     return;
   }
@@ -124,10 +125,16 @@ async function resultOf(view, mine) {
   return made;
 }
 
+// Where nothing is shown yet, and the job does not run, as one that is refused.
+function showNothing() {
+  if (byId("shown").firstChild || byId("result").getAttribute("aria-busy") === "true") return;
+  byId("shown").append(element("p", { className: "note", textContent: "Nothing to show: the job as it stands has not run." }));
+}
+
 // Shows the chosen tab. While a job is run it waits for that; a call for another tab is ended.
 async function showView(given) {
   const view = currentView;
-  if (runs.now === undefined || isStale) return;
+  if (runs.now === undefined || isStale) return showNothing();
   if (given === undefined) runner.stop();
   const mine = given === undefined ? (turn += 1) : given;
   const made = await resultOf(view, mine);
@@ -141,6 +148,9 @@ async function showView(given) {
   document.documentElement.dataset.turn = mine;
 }
 
-function saveView() {
-  resultOf(currentView, turn).then((made) => { if (made.output) save(fileOf(currentView), made.output); });
+// Of a job that is refused there is nothing to save, though what it was before may still be shown.
+async function saveView() {
+  const view = currentView, misplaced = separatorIn(jobNow()), made = misplaced ? { status: 1 } : await resultOf(view, turn);
+  if (made.output && made.status !== 1) return save(fileOf(view), made.output);
+  say("Nothing was saved: " + (trouble(made) || (misplaced ? misplaced.errors : textOf(made.errors).trim().replace(/^error: /, ""))), true);
 }

@@ -28,6 +28,10 @@ text:   .ascii "</script><script>document.title = 3</script><img src=x onerror=d
 """
 
 
+# what a tab shows of a job that does not run
+NOTHING = "Nothing to show: the job as it stands has not run."
+
+
 def packed(data):
     maker = zlib.compressobj(9, zlib.DEFLATED, -15)
     return base64.urlsafe_b64encode(maker.compress(data) + maker.flush()).decode().rstrip("=")
@@ -45,6 +49,32 @@ HOSTILE_ADDRESSES = (
     ("view=<script>document.title=1</script>&limit=1e9&cycle=<b>&follow=-&steps-cycles=99999999", "Done"),
     ("job=" + packed(b"<script>document.title=1</script>\n%%\n%%\n%%\n<img src=x onerror=alert(1)>\n"), "Refused"),
 )
+
+# The texts whose contrast to what is behind them is less than 4.5 (WCAG 2.2, 1.4.3), and the fields whose edge has less than 3 (1.4.11).
+# What is disabled is left out.
+FAINT = """(() => {
+  const canvas = document.createElement("canvas").getContext("2d", { willReadFrequently: true });
+  const painted = (colours) => { canvas.clearRect(0, 0, 1, 1); for (const each of colours) { canvas.fillStyle = each; canvas.fillRect(0, 0, 1, 1); } return [...canvas.getImageData(0, 0, 1, 1).data]; };
+  const ancestors = (each) => (each ? [...ancestors(each.parentElement), each] : []);
+  const behind = (each) => ["Canvas", ...ancestors(each).map((other) => getComputedStyle(other).backgroundColor)];
+  const light = (colour) => colour.slice(0, 3).map((part) => (part /= 255) <= 0.04045 ? part / 12.92 : ((part + 0.055) / 1.055) ** 2.4).reduce((sum, part, k) => sum + part * [0.2126, 0.7152, 0.0722][k], 0);
+  const ratio = (one, other) => { const [less, more] = [light(one), light(other)].sort((a, b) => a - b); return (more + 0.05) / (less + 0.05); };
+  const opacity = (each) => ancestors(each).reduce((part, other) => part * getComputedStyle(other).opacity, 1);
+  const isSeen = (each) => each.getClientRects().length > 0 && getComputedStyle(each).visibility === "visible" && !each.closest(":disabled");
+  const faint = [], walker = document.createTreeWalker(document.body, NodeFilter.SHOW_TEXT);
+  for (let text; (text = walker.nextNode()); ) {
+    const each = text.parentElement, ground = painted(behind(each));
+    if (text.data.trim() === "" || each.matches("script, style, textarea, option, optgroup") || !isSeen(each)) continue;
+    const drawn = painted([...behind(each), getComputedStyle(each).color]), part = opacity(each);
+    const found = ratio(drawn.map((value, k) => part * value + (1 - part) * ground[k]), ground);
+    if (found < 4.5) faint.push(text.data.trim().slice(0, 30) + " " + found.toFixed(2));
+  }
+  for (const each of document.querySelectorAll("input:not([type=checkbox]), select, button:not(.link, [role=tab]), .editor")) {
+    const ground = painted(behind(each.parentElement)), found = ratio(painted([...behind(each.parentElement), getComputedStyle(each).borderTopColor]), ground);
+    if (isSeen(each) && found < 3) faint.push("the edge of " + (each.id || each.textContent) + " " + found.toFixed(2));
+  }
+  return faint.join("; ");
+})()"""
 
 # for how many milliseconds at most the page did nothing, in one second and a half
 STANDSTILL = """new Promise((tell) => {

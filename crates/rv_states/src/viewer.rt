@@ -5,19 +5,19 @@ pub(crate) const BEFORE: &[u8] = br#"<!DOCTYPE html>
 <html lang="en">
 <head>
 <meta charset="utf-8">
-<meta http-equiv="Content-Security-Policy" content="default-src 'none'; script-src 'sha256-T9uGUrVekvNG0iXBl47E/IVmAfA8c1pfDlgTqfFaZ+c='; style-src 'sha256-GPCyShncOqn8lQqPPv8BVc0LVw4uR+PINRuIegbju/I='; img-src data:; frame-src 'self' file:; base-uri 'none'; form-action 'none'">
+<meta http-equiv="Content-Security-Policy" content="default-src 'none'; script-src 'sha256-T9uGUrVekvNG0iXBl47E/IVmAfA8c1pfDlgTqfFaZ+c='; style-src 'sha256-OE7LlOLY1KaAs9SzxI14XBYjQwxoJqU1AMeaS/ojdME='; img-src data:; frame-src 'self' file:; base-uri 'none'; form-action 'none'">
 <meta name="viewport" content="width=device-width, initial-scale=1">
 <title>rv_sim: a run, cycle by cycle</title>
 <style>
 /* Sizes are in rem, which follows the window, so that the page fills a lecture's screen. Each mark differs in form or lightness too. */
 :root {
   color-scheme: light dark;
-  --ground: #fff; --panel: #fff; --text: #111; --quiet: #555; --edge: #bbb; --title: #eef1f5; --accent: #0b57d0; --mark: #fff1b8; --fault: #a00;
-  --f: #e3eefc; --d: #b5d3f5; --i: #7fb2ea; --e: #fbe3a3; --b: #f0a848; --c: #1f7a3d; --t: #8c1616; --x: #777; --w: #f1f1f1; --r: #b06a00; --on: #000;
+  --ground: #fff; --panel: #fff; --text: #111; --quiet: #555; --edge: #bbb; --rim: #858585; --free: #6e6e6e; --title: #eef1f5; --accent: #0b57d0; --mark: #fff1b8; --fault: #a00;
+  --f: #e3eefc; --d: #b5d3f5; --i: #7fb2ea; --e: #fbe3a3; --b: #f0a848; --c: #1f7a3d; --t: #8c1616; --x: #6f6f6f; --w: #f1f1f1; --r: #9a5d00; --on: #000;
 }
 @media screen and (prefers-color-scheme: dark) {
   :root {
-    --ground: #16181c; --panel: #1b1e23; --text: #e4e4e4; --quiet: #a8a8a8; --edge: #484c54; --title: #272b32; --accent: #8ab4f8; --mark: #5a4a10; --fault: #ff8080;
+    --ground: #16181c; --panel: #1b1e23; --text: #e4e4e4; --quiet: #a8a8a8; --edge: #484c54; --rim: #868b95; --free: #8e939c; --title: #272b32; --accent: #8ab4f8; --mark: #463a0a; --fault: #ff8080;
     --w: #2c3038; --r: #f0a848;
   }
   .w { color: #bbb; }
@@ -25,6 +25,7 @@ pub(crate) const BEFORE: &[u8] = br#"<!DOCTYPE html>
 * { box-sizing: border-box; margin: 0; }
 html { font-size: calc(var(--size, 1) * clamp(9px, min(0.84vw, 1.5vh), 24px)); }
 html.framed { font-size: calc(var(--size, 1) * clamp(8px, min(1.55vw, 1.5vh), 24px)); }
+@media screen and (max-width: 60rem) { html:not(.framed) { font-size: calc(var(--size, 1) * 11px); } }
 [hidden] { display: none !important; }
 body { font: 1rem/1.25rem "DejaVu Sans Mono", Menlo, Consolas, monospace; background: var(--ground); color: var(--text); height: 100vh; display: flex; flex-direction: column; padding: 0.4rem; gap: 0.4rem; }
 h1, h2 { font: inherit; font-weight: bold; }
@@ -34,7 +35,7 @@ header p { grid-column: 1 / 3; }
 #following { color: var(--accent); }
 #tools { display: flex; flex-wrap: wrap; align-items: center; gap: 0.3rem 0.5rem; }
 #slider { flex: 1 1 10rem; min-width: 6rem; }
-button, input, select { font: inherit; color: inherit; background: var(--title); border: 1px solid var(--edge); border-radius: 0.25rem; padding: 0 0.4rem; }
+button, input, select { font: inherit; color: inherit; background: var(--title); border: 1px solid var(--rim); border-radius: 0.25rem; padding: 0 0.4rem; }
 input[type=number] { width: 6.5rem; }
 :focus-visible { outline: 2px solid var(--accent); outline-offset: -1px; }
 main { flex: 1 1 auto; min-height: 0; display: flex; gap: 0.4rem; }
@@ -78,7 +79,7 @@ td.wide { width: 99%; max-width: 0; text-overflow: ellipsis; }
 #rob td:nth-child(n + 5):nth-child(-n + 7) { min-width: 2.4rem; }
 #rob td:nth-child(8) { min-width: 8.6rem; max-width: 12.6rem; text-overflow: ellipsis; }
 #rob th { min-width: 3.1rem; }
-.free { color: var(--edge); }
+.free { color: var(--free); }
 .tag { border: 0; background: none; padding: 0; color: var(--accent); cursor: pointer; border-radius: 0; }
 .list > div { position: relative; min-width: 100%; }
 .list .row { position: absolute; left: 0; right: 0; height: 1.25rem; white-space: pre; overflow: hidden; display: flex; gap: 0.4rem; padding: 0 0.25rem; }
@@ -124,9 +125,9 @@ td.wide { width: 99%; max-width: 0; text-overflow: ellipsis; }
 #picture-arrows svg { display: block; }
 .arrow { fill: none; stroke: var(--fault); stroke-width: 0.15; }
 /* The critical path: rings around its events, lines between them, and above them the cause of each cycle. Each sort has a letter besides. */
-.sort-refill { --sort: #c0392b; } .sort-front { --sort: #3b6fb5; } .sort-room { --sort: #9b59b6; } .sort-operand { --sort: #0e8a9c; }
-.sort-unit { --sort: #9c6633; } .sort-execution { --sort: #b7791f; } .sort-load { --sort: #d81b60; } .sort-port { --sort: #7b8a00; }
-.sort-bus { --sort: #e65100; } .sort-commit { --sort: #2e7d32; } .sort-interrupt { --sort: #6b7280; } .sort-rest { --sort: #6b7280; }
+.sort-refill { --sort: #c0392b; } .sort-front { --sort: #3b6fb5; } .sort-room { --sort: #9b59b6; } .sort-operand { --sort: #0c7c8c; }
+.sort-unit { --sort: #9c6633; } .sort-execution { --sort: #96640f; } .sort-load { --sort: #d81b60; } .sort-port { --sort: #6b7700; }
+.sort-bus { --sort: #c94700; } .sort-commit { --sort: #2e7d32; } .sort-interrupt { --sort: #6b7280; } .sort-rest { --sort: #6b7280; }
 .badge { display: inline-block; width: 1.05rem; text-align: center; background: var(--sort); color: #fff; font-weight: bold; }
 .bar[class*="sort-"] { background: var(--sort); }
 #picture .cell.on-path, #legend .on-path { outline: 2px solid var(--text); font-weight: bold; }
@@ -188,10 +189,10 @@ body.pair > header, body.pair > main { display: none; }
 <header>
 <h1>rv_sim</h1>
 <div role="toolbar" aria-label="Cursor" id="tools">
-<button type="button" data-step="first" title="first (Home)">|&lt;</button>
-<button type="button" data-step="back" title="a cycle back (left arrow)">&lt;</button>
-<button type="button" data-step="on" title="a cycle on (right arrow)">&gt;</button>
-<button type="button" data-step="last" title="last (End)">&gt;|</button>
+<button type="button" data-step="first" title="first (Home)" aria-label="first cycle">|&lt;</button>
+<button type="button" data-step="back" title="a cycle back (left arrow)" aria-label="a cycle back">&lt;</button>
+<button type="button" data-step="on" title="a cycle on (right arrow)" aria-label="a cycle on">&gt;</button>
+<button type="button" data-step="last" title="last (End)" aria-label="last cycle">&gt;|</button>
 <button type="button" id="play" aria-pressed="false" title="play and pause (space); + and - change the speed">play</button>
 <input type="range" id="slider" aria-label="cycle" step="1">
 <label>cycle <input type="number" id="cycle" title="type a cycle (g)"></label> <span id="range"></span>
@@ -208,7 +209,7 @@ body.pair > header, body.pair > main { display: none; }
 <label title="Tomasulo's tables as in the textbook (o)"><input type="checkbox" id="textbook"> tables</label>
 <label title="mark the events that waited for one another, back from the last step of the page, and the cause of each cycle (l)"><input type="checkbox" id="path"> critical path</label>
 <button type="button" id="panels" aria-expanded="false" aria-controls="switches" title="which panels are shown (p)">panels</button>
-<button type="button" id="help" aria-expanded="false" aria-controls="keys" title="keys (?)">?</button>
+<button type="button" id="help" aria-expanded="false" aria-controls="keys" title="keys (?)" aria-label="keys">?</button>
 </div>
 <p id="machine"></p>
 <div id="switches" role="group" aria-label="Panels" hidden></div>
