@@ -41,7 +41,6 @@ use Rattle.rv_states.specs.States.{WritesStates, begun_text, cycle_text, cycles_
 use Rattle.rv_states.specs.Step.{step_json}
 use Rattle.rv_states.specs.Stop.{stop_line}
 use Rattle.rv_states.specs.declared.form.Form.{Form}
-use Rattle.rv_states.proofs.PlainStates.{states_plain}
 use Rattle.rv_states.proofs.JsonStates.{states_are}
 use Rattle.rv_view.specs.Following.{BeginsAt, IsFollowedOn, IsNumberedOn}
 use Rattle.rv_view.specs.Viewing.{cycle_shown, cycles_seen}
@@ -345,13 +344,14 @@ shown_to_the_end {from = from} {listing = listing} {old = old} {moments = moment
     let rest = extends_both (extends_same told goes_on) (extends_same stopped ends) in
     let written = extends_both (extends_same begun begin) rest in
     let last = stop_line (length moments) stop in
-    let whole = parts-whole (before_lines form) head (cycles_text from known seen) last (after_lines form) in (
+    let whole = parts-whole (before_lines form) head (cycles_text from known seen) last (after_lines form) in
+    let lines = states_are from listing old.hardware moments stop in (
       before_lines form ++ (text ++ after_lines form),
       record {
         moments = moments;
         run = run;
-        json = states_are from listing old.hardware moments stop;
-        no_markup = states_plain from listing old.hardware moments stop;
+        json = lines.is;
+        no_markup = lines.plain;
         text_is = refl;
       },
       extends_whole (extends_same whole written),
