@@ -58,9 +58,9 @@ shown-more from untaught (cycle ∷ cycles) last =
     ∙ sym (append_assoc (cycle_text from cycle after) (cycles_text from after cycles) added)
 
 -- the whole text, from its parts
-parts-whole : (around head told stopped after : List ℕ) →
-    (around ++ head) ++ (told ++ (stopped ++ after)) ≡ around ++ (((head ++ told) ++ stopped) ++ after)
-parts-whole around head told stopped after = simp append_assoc
+parts-whole : (around head cycles stopped after : List ℕ) →
+    (around ++ head) ++ (cycles ++ (stopped ++ after)) ≡ around ++ (((head ++ cycles) ++ stopped) ++ after)
+parts-whole around head cycles stopped after = simp append_assoc
 
 -- ---- what is shown of the rows
 
@@ -172,8 +172,8 @@ module _ {seen : Watched} {cycle : ℕ} {steps : List Step} {after : Hardware} {
   seen_now = with_shown seen shown
 
   -- what the cycles before it showed
-  abbrev told : List ℕ
-  told = cycles_text from untaught (cycles_seen seen)
+  abbrev so_far : List ℕ
+  so_far = cycles_text from untaught (cycles_seen seen)
 
   -- the passages at its end, where such were kept before it
   abbrev ended : Passages → Passages
@@ -257,9 +257,9 @@ module _ {seen : Watched} {cycle : ℕ} {steps : List Step} {after : Hardware} {
 
     -- its text
     text_on : (more : List ℕ) → more ≡ cycle_text from last taught →
-        told ++ more ≡ cycles_text from untaught (cycles_seen seen_now)
+        so_far ++ more ≡ cycles_text from untaught (cycles_seen seen_now)
     text_on more is =
-        ap (λ l. told ++ l) (is ∙ ap (cycle_text from last) knows)
+        ap (λ l. so_far ++ l) (is ∙ ap (cycle_text from last) knows)
         ∙ sym (shown-more from untaught (cycles_seen seen) last)
         ∙ ap (cycles_text from untaught) (sym (cycles_seen-push seen shown))
 
@@ -280,7 +280,7 @@ module _ {seen : Watched} {cycle : ℕ} {steps : List Step} {after : Hardware} {
           same = showing.same;
           known = known_on;
           followed = following_on table' on.followed never on.fetched on.retired on.few on.quiet on.rows on.interrupts;
-          said = extends_same (sym (append-nil told) ∙ text_on [] nothing) showing.said;
+          said = extends_same (sym (append-nil so_far) ∙ text_on [] nothing) showing.said;
         }
 
     -- what is shown of rows
@@ -339,9 +339,9 @@ shown_to_the_end {from = from} {listing = listing} {old = old} {moments = moment
     let text = states_text from listing old.hardware moments stop in
     let begun : before_lines form ++ head_text from listing rows old.hardware untaught ≡ before_lines form ++ head =
     λ i. before_lines form ++ head_text from listing (rows_are i) old.hardware (untaught_is i) in
-    let told = ap (λ (predictor : DescribedPredictor). cycles_text from predictor seen) untaught_is in
+    let same_cycles = ap (λ (predictor : DescribedPredictor). cycles_text from predictor seen) untaught_is in
     let stopped = ap (λ (n : ℕ). stop_line n stop ++ after_lines form) (cycles_are ∙ length-reports_of moments) in
-    let rest = extends_both (extends_same told goes_on) (extends_same stopped ends) in
+    let rest = extends_both (extends_same same_cycles goes_on) (extends_same stopped ends) in
     let written = extends_both (extends_same begun begin) rest in
     let last = stop_line (length moments) stop in
     let whole = parts-whole (before_lines form) head (cycles_text from known seen) last (after_lines form) in
