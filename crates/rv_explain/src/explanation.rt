@@ -120,18 +120,18 @@ fn write_costs<W: Write>(
     listing: &Listing,
     progress: &Progress,
     fetched: u64,
-    tally: &mut Tally,
+    tally: &Tally,
 )
-    requires heads { sum tally.old.heads.words ≤ progress.now.cycles }
-    requires branches { sum tally.old.branches.words < 2 ^ 64 }
-    requires mispredicted { sum tally.old.mispredicted.words < 2 ^ 64 }
-    requires stays { all_stays tally.old.stays < 2 ^ 64 }
-    ensures { Says W.contents out.old out.new (cost_text listing.now progress.now fetched tally.old) }
+    requires heads { sum tally.now.heads.words ≤ progress.now.cycles }
+    requires branches { sum tally.now.branches.words < 2 ^ 64 }
+    requires mispredicted { sum tally.now.mispredicted.words < 2 ^ 64 }
+    requires stays { all_stays tally.now.stays < 2 ^ 64 }
+    ensures { Says W.contents out.old out.new (cost_text listing.now progress.now fetched tally.now) }
 {
     write_cycles(out, progress, tally.retired);
     write_dispatches(out, progress.busy, &tally.dispatches);
     write_work(out, fetched, &tally.work);
-    write_worst(out, listing, &mut tally.branches, &mut tally.mispredicted);
+    write_worst(out, listing, &tally.branches, &tally.mispredicted);
     write_stays(out, &tally.stays);
     write_loads(out, &tally.loads);
     write_drains(out, &tally.drains);
@@ -142,7 +142,7 @@ fn write_costs<W: Write>(
         tally.idle,
         &tally.outcomes,
         &tally.stores,
-        &mut tally.heads,
+        &tally.heads,
     );
 }
 
@@ -154,15 +154,15 @@ fn write_whole<W: Write>(
     hardware: &ShownHardware<'_>,
     progress: &Progress,
     fetched: u64,
-    tally: &mut Tally,
+    tally: &Tally,
 )
-    requires heads { sum tally.old.heads.words ≤ progress.now.cycles }
-    requires branches { sum tally.old.branches.words < 2 ^ 64 }
-    requires mispredicted { sum tally.old.mispredicted.words < 2 ^ 64 }
-    requires stays { all_stays tally.old.stays < 2 ^ 64 }
-    requires awaited { sum tally.old.awaited.words ≤ progress.now.cycles }
+    requires heads { sum tally.now.heads.words ≤ progress.now.cycles }
+    requires branches { sum tally.now.branches.words < 2 ^ 64 }
+    requires mispredicted { sum tally.now.mispredicted.words < 2 ^ 64 }
+    requires stays { all_stays tally.now.stays < 2 ^ 64 }
+    requires awaited { sum tally.now.awaited.words ≤ progress.now.cycles }
     requires places { progress.now.cycles * hardware.now.values.dispatch_width < 2 ^ 64 }
-    ensures { Says W.contents out.old out.new (whole_text listing.now stop hardware.now progress.now fetched tally.old) }
+    ensures { Says W.contents out.old out.new (whole_text listing.now stop hardware.now progress.now fetched tally.now) }
 {
     write_ending(out, listing, stop, hardware, &tally.last_stores);
     write_first_passed(out, listing, tally.exceptions.all());
@@ -194,15 +194,15 @@ fn write_sentences<W: Write>(
     hardware: &ShownHardware<'_>,
     progress: &Progress,
     fetched: u64,
-    tally: &mut Tally,
+    tally: &Tally,
 )
-    requires heads { sum tally.old.heads.words ≤ progress.now.cycles }
-    requires branches { sum tally.old.branches.words < 2 ^ 64 }
-    requires mispredicted { sum tally.old.mispredicted.words < 2 ^ 64 }
-    requires stays { all_stays tally.old.stays < 2 ^ 64 }
-    requires awaited { sum tally.old.awaited.words ≤ progress.now.cycles }
+    requires heads { sum tally.now.heads.words ≤ progress.now.cycles }
+    requires branches { sum tally.now.branches.words < 2 ^ 64 }
+    requires mispredicted { sum tally.now.mispredicted.words < 2 ^ 64 }
+    requires stays { all_stays tally.now.stays < 2 ^ 64 }
+    requires awaited { sum tally.now.awaited.words ≤ progress.now.cycles }
     requires places { progress.now.cycles * hardware.now.values.dispatch_width < 2 ^ 64 }
-    ensures { Says W.contents out.old out.new (path_text listing.now (option_copied path.entry) ++ run_text crash listing.now stop hardware.now progress.now fetched tally.old) }
+    ensures { Says W.contents out.old out.new (path_text listing.now (option_copied path.entry) ++ run_text crash listing.now stop hardware.now progress.now fetched tally.now) }
 {
     write_path(out, path, listing);
     match crash {
@@ -222,15 +222,15 @@ fn write_run_text<W: Write>(
     hardware: &ShownHardware<'_>,
     progress: &Progress,
     fetched: u64,
-    tally: &mut Tally,
+    tally: &Tally,
 ) -> Result<(), ReportError>
-    requires heads { sum tally.old.heads.words ≤ progress.now.cycles }
-    requires branches { sum tally.old.branches.words < 2 ^ 64 }
-    requires mispredicted { sum tally.old.mispredicted.words < 2 ^ 64 }
-    requires stays { all_stays tally.old.stays < 2 ^ 64 }
-    requires awaited { sum tally.old.awaited.words ≤ progress.now.cycles }
+    requires heads { sum tally.now.heads.words ≤ progress.now.cycles }
+    requires branches { sum tally.now.branches.words < 2 ^ 64 }
+    requires mispredicted { sum tally.now.mispredicted.words < 2 ^ 64 }
+    requires stays { all_stays tally.now.stays < 2 ^ 64 }
+    requires awaited { sum tally.now.awaited.words ≤ progress.now.cycles }
     requires places { progress.now.cycles * hardware.now.values.dispatch_width < 2 ^ 64 }
-    ensures { IsWritten result (W.contents writer.old) (W.contents writer.new) (explanation figures (option_copied path.entry) listing.now stop hardware.now progress.now fetched tally.old) }
+    ensures { IsWritten result (W.contents writer.old) (W.contents writer.new) (explanation figures (option_copied path.entry) listing.now stop hardware.now progress.now fetched tally.now) }
 {
     let crash = lone_crash(figures, stop, tally.exceptions.all());
     let mut out = Sink::new(writer);
@@ -291,7 +291,7 @@ pub fn write_explanation<S: Simulated, W: Write>(
         beginning.following,
         beginning.tally,
     );
-    let mut tally = tallied.tally;
+    let tally = tallied.tally;
     let written = write_run_text(
         writer,
         figures,
@@ -301,7 +301,7 @@ pub fn write_explanation<S: Simulated, W: Write>(
         &pipeline.shown(),
         &tallied.progress,
         tallied.fetched,
-        &mut tally,
+        &tally,
     );
     // By one call: at each end of its scope a tally is dropped field by field.
     drop(tally);
