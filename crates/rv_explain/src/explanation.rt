@@ -1,5 +1,5 @@
-ghost use Rattle.std.specs.Prelude.{◌≡◌, ◌*◌, ◌++◌, ◌≤◌, ◌<◌, ◌^◌, Err, List, [], sum, IfOk, option_copied};
-ghost use Rattle.rv_explain.specs.Explanation.{HasOneExplanation, IsExplanation, cost_text, cycle_text, explanation, lead_text, path_text, run_text, untaken_lines, whole_text};
+ghost use Rattle.std.specs.Prelude.{◌≡◌, ◌++◌, ◌≤◌, ◌<◌, ◌^◌, Err, List, [], sum, IfOk, option_copied};
+ghost use Rattle.rv_explain.specs.Explanation.{CanBeWritten, HasOneExplanation, IsExplanation, cost_text, cycle_text, explanation, lead_text, path_text, run_text, untaken_lines, whole_text};
 ghost use Rattle.rv_hardware.specs.Guided.{guided};
 ghost use Rattle.rv_hardware.specs.Hardware.{Hardware};
 ghost use Rattle.rv_isa.specs.declared.lines.Arrival.{Arrival};
@@ -87,12 +87,7 @@ fn write_lead<W: Write>(
     progress: &Progress,
     tally: &Tally,
 )
-    requires places { progress.now.cycles * hardware.now.values.dispatch_width < 2 ^ 64 }
-    requires stays { all_stays tally.now.stays < 2 ^ 64 }
-    requires awaited { sum tally.now.awaited.words ≤ progress.now.cycles }
-    requires heads { sum tally.now.heads.words ≤ progress.now.cycles }
-    requires branches { sum tally.now.branches.words < 2 ^ 64 }
-    requires mispredicted { sum tally.now.mispredicted.words < 2 ^ 64 }
+    requires { CanBeWritten hardware.now progress.now tally.now }
     ensures { Says W.contents out.old out.new (lead_text listing.now hardware.now progress.now tally.now) }
 {
     let cycles = progress.cycles;
@@ -156,12 +151,7 @@ fn write_whole<W: Write>(
     fetched: u64,
     tally: &Tally,
 )
-    requires heads { sum tally.now.heads.words ≤ progress.now.cycles }
-    requires branches { sum tally.now.branches.words < 2 ^ 64 }
-    requires mispredicted { sum tally.now.mispredicted.words < 2 ^ 64 }
-    requires stays { all_stays tally.now.stays < 2 ^ 64 }
-    requires awaited { sum tally.now.awaited.words ≤ progress.now.cycles }
-    requires places { progress.now.cycles * hardware.now.values.dispatch_width < 2 ^ 64 }
+    requires { CanBeWritten hardware.now progress.now tally.now }
     ensures { Says W.contents out.old out.new (whole_text listing.now stop hardware.now progress.now fetched tally.now) }
 {
     write_ending(out, listing, stop, hardware, &tally.last_stores);
@@ -196,12 +186,7 @@ fn write_sentences<W: Write>(
     fetched: u64,
     tally: &Tally,
 )
-    requires heads { sum tally.now.heads.words ≤ progress.now.cycles }
-    requires branches { sum tally.now.branches.words < 2 ^ 64 }
-    requires mispredicted { sum tally.now.mispredicted.words < 2 ^ 64 }
-    requires stays { all_stays tally.now.stays < 2 ^ 64 }
-    requires awaited { sum tally.now.awaited.words ≤ progress.now.cycles }
-    requires places { progress.now.cycles * hardware.now.values.dispatch_width < 2 ^ 64 }
+    requires { CanBeWritten hardware.now progress.now tally.now }
     ensures { Says W.contents out.old out.new (path_text listing.now (option_copied path.entry) ++ run_text crash listing.now stop hardware.now progress.now fetched tally.now) }
 {
     write_path(out, path, listing);
@@ -224,12 +209,7 @@ fn write_run_text<W: Write>(
     fetched: u64,
     tally: &Tally,
 ) -> Result<(), ReportError>
-    requires heads { sum tally.now.heads.words ≤ progress.now.cycles }
-    requires branches { sum tally.now.branches.words < 2 ^ 64 }
-    requires mispredicted { sum tally.now.mispredicted.words < 2 ^ 64 }
-    requires stays { all_stays tally.now.stays < 2 ^ 64 }
-    requires awaited { sum tally.now.awaited.words ≤ progress.now.cycles }
-    requires places { progress.now.cycles * hardware.now.values.dispatch_width < 2 ^ 64 }
+    requires { CanBeWritten hardware.now progress.now tally.now }
     ensures { IsWritten result (W.contents writer.old) (W.contents writer.new) (explanation figures (option_copied path.entry) listing.now stop hardware.now progress.now fetched tally.now) }
 {
     let crash = lone_crash(figures, stop, tally.exceptions.all());
