@@ -220,19 +220,18 @@ fn write_run_text<W: Write>(
     out.outcome()
 }
 
-/// Runs a pipeline that a predictor guides, each cycle with the lines of its number, up to a breakpoint, a stale word,
-/// exhaustion or so many cycles, and then writes what the run came to, in plain sentences: where a path is shown, its greatest
-/// causes with their lines; how it ended, where and why,
-/// and for a stale word the last store to it; its exceptions and interrupts, and the interrupt lines that are high and were
-/// never taken; what instructions in flight waited for most, and what became of most places for dispatch; the line that was
-/// awaited most, and the one that stood longest at the head of the reorder buffer; what became of all places; where the cycles went;
-/// how many dispatched only what did not retire; how many words were fetched and how many of them squashed; how many
-/// branches and jumps retired, and how many of them were mispredicted, with the three lines that most of those come from;
-/// why instructions stayed in flight; what its loads and the drains of its stores cost; and the five lines that most cycles left at the head of the reorder buffer, or that had flushed it, with their
-/// loads and stores. Where the program crashed, its first exception and the interrupts alone are explained, unless the figures are asked for.
-/// The description says where RAM lies, whose words are counted, and what loads and drains cost. The listing is that of the
-/// program, whose lines are shown.
-/// Answers why the run ended.
+/// Runs a pipeline that a predictor guides, each cycle with the lines of its number, up to a breakpoint, a stale word, exhaustion
+/// or so many cycles, and then writes what the run came to, in plain sentences: where a path is shown, its greatest causes with
+/// their lines; how it ended, where and why, and for a stale word the last store to it; its exceptions and interrupts, and the
+/// interrupt lines that are high and were never taken; what instructions in flight waited for most, and what became of most
+/// places for dispatch; the line that was awaited most, and the one that stood longest at the head of the reorder buffer; what
+/// became of all places; where the cycles went; how many dispatched only what did not retire; how many words were fetched and how
+/// many of them squashed; how many branches and jumps retired, and how many of them were mispredicted, with the three lines that
+/// most of those come from; why instructions stayed in flight; what its loads and the drains of its stores cost; and the five
+/// lines that most cycles left at the head of the reorder buffer, or that had flushed it, with their loads and stores. Where the
+/// program crashed, its first exception and the interrupts alone are explained, unless the figures are asked for. The description
+/// says where RAM lies, whose words are counted, and what loads and drains cost. The listing is that of the program, whose lines
+/// are shown. Answers why the run ended.
 ///
 /// # Errors
 ///
