@@ -1,11 +1,12 @@
 -- What is new of an event that waited, and an instruction of which nothing comes in a cycle.
-use Rattle.std.proofs.Common.{◌≡◌, ◌∙◌, ℕ, true, false, List, [], Option, None, Some, refl, ap, sym}
-use Rattle.std.specs.Prelude.{Bool, if◌then◌else◌, ◌||◌, is_some, slice_get}
+use Rattle.std.proofs.Common.{◌≡◌, ◌∙◌, ℕ, true, false, List, [], Option, None, Some, get_or, refl, ap, sym}
+use Rattle.std.specs.Prelude.{Bool, if◌then◌else◌, ◌||◌, is_some, option_map, slice_get}
+use Rattle.std.proofs.lemmas.Option.{get_or_from_slice_get, none-some}
 use Rattle.rv_passage.specs.Result.{issued_in}
 use Rattle.rv_passage.specs.declared.passage.Passage.{Passage}
 use Rattle.rv_causes.specs.Event.{Wait, event_by, event_from, event_if, new_by, new_from}
 use Rattle.rv_causes.specs.Issuing.{broadcast_wait, issue_wait}
-use Rattle.rv_causes.specs.Lookup.{journey_of}
+use Rattle.rv_causes.specs.Lookup.{Journey, journey_of, one_at}
 use Rattle.rv_causes.specs.Moving.{Move, advance_of, advanced, advances, advances_at, advances_by, dispatch_wait}
 use Rattle.rv_causes.specs.Moving.{moved_at, moved_by, new_advanced, new_at, new_at_one}
 use Rattle.rv_causes.specs.Setting.{Setting}
@@ -62,30 +63,30 @@ pub idle_new : (s : Setting) (leaving : Leaving) (place : ℕ) (ways : List Way)
 idle_new s leaving place ways idle = new-idle s leaving place ways (slice_get s.rows place) (slice_get ways place) idle
 
 -- where there is no instruction at a place, nothing is new
-pub none_at : (s : Setting) (leaving : Leaving) (place : ℕ) (ways : List Way) → slice_get s.rows place ≡ None
+pub none_at : (s : Setting) (leaving : Leaving) (place : ℕ) (ways : List Way) → None ≡ one_at place s.rows ways
     → new_at s leaving place ways ≡ []
-none_at s leaving place ways none = λ i. new_at_one s leaving place (journey_of (none i) (slice_get ways place)) ways
+none_at s leaving place ways none = λ i. new_at_one s leaving place (sym none i) ways
 
-no-way : (s : Setting) (leaving : Leaving) (place : ℕ) (ways : List Way) (row : Option Passage)
-    → new_at_one s leaving place (journey_of row None) ways ≡ []
-no-way s leaving place ways None = refl
-no-way s leaving place ways (Some p) = refl
+way-of : (row : Option Passage) (way : Option Way) (j : Journey) → Some j ≡ journey_of row way → way ≡ Some j.way
+way-of None way j is = absurd (none-some j (sym is))
+way-of (Some p) None j is = absurd (none-some j (sym is))
+way-of (Some p) (Some w) j is = sym (ap (option_map (λ (j : Journey). j.way)) is)
 
-pub no_way_at : (s : Setting) (leaving : Leaving) (place : ℕ) (ways : List Way) → slice_get ways place ≡ None
-    → new_at s leaving place ways ≡ []
-no_way_at s leaving place ways none =
-    (λ i. new_at_one s leaving place (journey_of (slice_get s.rows place) (none i)) ways)
-    ∙ no-way s leaving place ways (slice_get s.rows place)
+-- an instruction that stands at a place has its events there
+pub way_at : (place : ℕ) (rows : List Passage) (ways : List Way) (j : Journey) → Some j ≡ one_at place rows ways
+    → (w : Way) → get_or ways place w ≡ j.way
+way_at place rows ways j found w =
+    get_or_from_slice_get ways place j.way w (way-of (slice_get rows place) (slice_get ways place) j found)
 
-module _ (s : Setting) (leaving : Leaving) (place : ℕ) (ways : List Way) (p : Passage) (w : Way)
-    (row : slice_get s.rows place ≡ Some p) (way : slice_get ways place ≡ Some w) where
-  -- what comes of an instruction that stands at a place
-  pub moved_here : (o : Option Move) → o ≡ advance_of s leaving ways place p w
-      → moved_at s leaving place ways ≡ advanced s place (record { row = p; way = w }) o ways
+module _ (s : Setting) (leaving : Leaving) (place : ℕ) (ways : List Way) (j : Journey) (found : Some j ≡ one_at place s.rows ways)
+    (p : Passage) (w : Way) (row : p ≡ j.row) (way : w ≡ j.way) where
+  comes : (o : Option Move) → o ≡ advance_of s leaving ways place p w → o ≡ advance_of s leaving ways place j.row j.way
+  comes o is = is ∙ (λ i. advance_of s leaving ways place (row i) (way i))
+
+  -- what comes of it
+  pub moved_here : (o : Option Move) → o ≡ advance_of s leaving ways place p w → moved_at s leaving place ways ≡ advanced s place j o ways
   moved_here o is =
-      (λ i. moved_by s leaving place (journey_of (row i) (way i)) ways)
-      ∙ ap (λ (o : Option Move). advanced s place (record { row = p; way = w }) o ways) (sym is)
+      (λ i. moved_by s leaving place (sym found i) ways) ∙ ap (λ (o : Option Move). advanced s place j o ways) (sym (comes o is))
 
-  pub new_here : (o : Option Move) → o ≡ advance_of s leaving ways place p w → new_at s leaving place ways ≡ new_advanced s p o
-  new_here o is =
-      (λ i. new_at_one s leaving place (journey_of (row i) (way i)) ways) ∙ ap (new_advanced s p) (sym is)
+  pub new_here : (o : Option Move) → o ≡ advance_of s leaving ways place p w → new_at s leaving place ways ≡ new_advanced s j.row o
+  new_here o is = (λ i. new_at_one s leaving place (sym found i) ways) ∙ ap (new_advanced s j.row) (sym (comes o is))

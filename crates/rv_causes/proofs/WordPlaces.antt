@@ -3,9 +3,9 @@ use Rattle.std.proofs.Common.{◌≡◌, ◌∙◌, ℕ, zero, suc, ◌<◌, ◌
 use Rattle.std.proofs.Common.{ne_eqb, inl, inr}
 use Rattle.std.specs.Prelude.{insert}
 use Rattle.std.proofs.lemmas.List.{set-get_or}
+use Rattle.std.proofs.lemmas.List.Edits.{get_or-insert_at}
 use Rattle.std.proofs.lemmas.Bool.{cases_Bool, le-ltb, lt-ltb, ltb-true, ltb-false}
-use Rattle.rv_causes.specs.Account.{AreWithin, IsWithin, no_cycles, with_change}
-use Rattle.rv_causes.specs.Account.{cycles_at}
+use Rattle.rv_causes.specs.Account.{AreWithin, IsWithin, cycles_at, no_cycles, with_change}
 use Rattle.rv_causes.specs.Words.{AreAbove, IsInOrder, IsPlaceFor, IsPlaceOf}
 use Rattle.rv_causes.specs.declared.word_cycles.WordCycles.{WordCycles}
 
@@ -92,18 +92,12 @@ module _ (address : ℕ) where
   found-none [] others = refl
   found-none (w ∷ ws) others = rw (ne_eqb w.address address (others 0 w (omega arith))) (found-none ws (λ k v within. others (suc k) v (omega arith)))
 
--- what was put in at a place stands there, and may be changed there
+-- what was put in at a place may be changed there
 set-insert : {X : Type 0} (xs : List X) (i : ℕ) (x y : X) → i ≤ length xs → set (insert xs i x) i y ≡ insert xs i y
 set-insert [] zero x y within = refl
 set-insert [] (suc i) x y within = absurd (omega arith)
 set-insert (z ∷ xs) zero x y within = refl
 set-insert (z ∷ xs) (suc i) x y within = ap (λ l. z ∷ l) (set-insert xs i x y (omega arith))
-
-insert-at : {X : Type 0} (xs : List X) (i : ℕ) (x d : X) → i ≤ length xs → get_or (insert xs i x) i d ≡ x
-insert-at [] zero x d within = refl
-insert-at [] (suc i) x d within = absurd (omega arith)
-insert-at (z ∷ xs) zero x d within = refl
-insert-at (z ∷ xs) (suc i) x d within = insert-at xs i x d (omega arith)
 
 module _ (address : ℕ) (words : List WordCycles) (place : ℕ) where
   -- the cycles of an address are those of the word at its place
@@ -134,7 +128,7 @@ module _ (address : ℕ) (words : List WordCycles) (place : ℕ) where
   change-begun is change w =
       change-new address change words place is.within is.before is.after
       ∙ sym (set-insert words place (no_cycles address) (change (no_cycles address)) is.within)
-      ∙ ap (λ v. set (insert words place (no_cycles address)) place (change v)) (sym (insert-at words place (no_cycles address) w is.within))
+      ∙ ap (λ v. set (insert words place (no_cycles address)) place (change v)) (sym (get_or-insert_at words place (no_cycles address) w is.within))
 
   pub change-made : IsPlaceFor address place words → (made : List WordCycles) → made ≡ insert words place (no_cycles address)
       → (change : WordCycles → WordCycles) (w : WordCycles)

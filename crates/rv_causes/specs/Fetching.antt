@@ -106,10 +106,18 @@ abbrev pub fetch_wait : Setting → List Way → Bool → Leaving → HardwareRe
 fetch_wait s ways interrupted leaving after first =
     unwrap_or (after_redirection s ways interrupted leaving after first) (goes_on s ways (one_before (length ways) s.rows ways))
 
+-- the event of the first word of a cycle, by what it waited for
+abbrev pub fetch_of : Setting → Passage → Wait → Event
+fetch_of s first waited = made_of s stage.Fetch first waited
+
+-- the same where it is new
+abbrev pub new_fetch_of : Setting → Passage → Wait → List Event
+new_fetch_of s first waited = new_of s stage.Fetch first waited
+
 -- the event by which they are fetched, if some are: that of the first
 abbrev pub fetched_by : Setting → List Way → Bool → Leaving → HardwareRead → Option Passage → Option Event
 fetched_by s ways interrupted leaving after None = None
-fetched_by s ways interrupted leaving after (Some first) = Some (made_of s stage.Fetch first (fetch_wait s ways interrupted leaving after first))
+fetched_by s ways interrupted leaving after (Some first) = Some (fetch_of s first (fetch_wait s ways interrupted leaving after first))
 
 abbrev pub fetch_event : Setting → List Way → Bool → Leaving → HardwareRead → Option Event
 fetch_event s ways interrupted leaving after = fetched_by s ways interrupted leaving after (slice_get s.rows (length ways))
@@ -117,7 +125,7 @@ fetch_event s ways interrupted leaving after = fetched_by s ways interrupted lea
 -- it is new, or was known
 abbrev pub new_fetched : Setting → List Way → Bool → Leaving → HardwareRead → Option Passage → List Event
 new_fetched s ways interrupted leaving after None = []
-new_fetched s ways interrupted leaving after (Some first) = new_of s stage.Fetch first (fetch_wait s ways interrupted leaving after first)
+new_fetched s ways interrupted leaving after (Some first) = new_fetch_of s first (fetch_wait s ways interrupted leaving after first)
 
 abbrev pub new_fetch : Setting → List Way → Bool → Leaving → HardwareRead → List Event
 new_fetch s ways interrupted leaving after = new_fetched s ways interrupted leaving after (slice_get s.rows (length ways))

@@ -14,7 +14,7 @@ use Rattle.rv_causes.specs.Leaving.{is_interrupted, leaving_of}
 use Rattle.rv_causes.specs.Moving.{all_moved}
 use Rattle.rv_causes.specs.Path.{Known, before_next, known_in, made_in, still_in_flight, with_fetched}
 use Rattle.rv_causes.specs.Reading.{CycleRead, HardwareRead}
-use Rattle.rv_causes.specs.Setting.{Setting, is_refilled}
+use Rattle.rv_causes.specs.Setting.{Setting, is_refilled, last_left}
 use Rattle.rv_causes.specs.WaitingStores.{still_waiting}
 use Rattle.rv_causes.specs.declared.{before.Before.Before, before.UnitHold.UnitHold, event.Event.Event, path.Path.Path, point.Point.Point}
 use Rattle.rv_causes.specs.declared.{seeing.Seen.Seen, way.Way.Way, window.Window.Window}
@@ -49,6 +49,14 @@ AreSameButWindow old new =
 
 abbrev pub AreSameButLive : Path → Path → Type 0
 AreSameButLive old new = AreSameButWindow old new × (new.window ≡ old.window)
+
+-- what a path has beside the events of the instructions in flight is as it was
+abbrev pub AreSameBeside : Path → Path → Type 0
+AreSameBeside old new = (new.holds ≡ old.holds) × (new.before ≡ old.before) × (new.window ≡ old.window)
+
+-- the point of the last event of the cycles so far
+abbrev pub last_point : Path → Option Point
+last_point path = Some (last_left path.before.left).at
 
 -- the points of the events for which one of a later cycle may wait
 abbrev pub live_of : Path → List Point

@@ -26,11 +26,15 @@ last_of sought [] ways = None
 last_of sought (p ∷ ps) [] = None
 last_of sought (p ∷ ps) (w ∷ ws) = option_or (last_of sought ps ws) (sought_of sought p w)
 
--- the one before a place
+-- the one at a place
 abbrev pub journey_of : Option Passage → Option Way → Option Journey
 journey_of None way = None
 journey_of (Some p) None = None
 journey_of (Some p) (Some w) = Some (record { row = p; way = w })
 
+abbrev pub one_at : ℕ → List Passage → List Way → Option Journey
+one_at place rows ways = journey_of (slice_get rows place) (slice_get ways place)
+
+-- the one before a place
 abbrev pub one_before : ℕ → List Passage → List Way → Option Journey
-one_before place rows ways = if place == 0 then None else journey_of (slice_get rows (place - 1)) (slice_get ways (place - 1))
+one_before place rows ways = if place == 0 then None else one_at (place - 1) rows ways

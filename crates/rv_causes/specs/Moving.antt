@@ -9,7 +9,7 @@ use Rattle.rv_passage.specs.Result.{issued_in}
 use Rattle.rv_passage.specs.declared.passage.Passage.{Passage}
 use Rattle.rv_causes.specs.Event.{Wait, again, again_by, waits}
 use Rattle.rv_causes.specs.Issuing.{broadcast_wait, issue_wait}
-use Rattle.rv_causes.specs.Lookup.{Journey, first_of, journey_of, one_before}
+use Rattle.rv_causes.specs.Lookup.{Journey, first_of, one_at, one_before}
 use Rattle.rv_causes.specs.Setting.{Setting, after_drain_at, made_of, new_of}
 use Rattle.rv_causes.specs.Sought.{is_at, is_just_before, is_sought}
 use Rattle.rv_causes.specs.Way.{dispatched_by, issued_by, with_stage}
@@ -114,14 +114,14 @@ moved_by s leaving place None ways = ways
 moved_by s leaving place (Some j) ways = advanced s place j (advance_of s leaving ways place j.row j.way) ways
 
 abbrev pub moved_at : Setting → Leaving → ℕ → List Way → List Way
-moved_at s leaving place ways = moved_by s leaving place (journey_of (slice_get s.rows place) (slice_get ways place)) ways
+moved_at s leaving place ways = moved_by s leaving place (one_at place s.rows ways) ways
 
 abbrev pub new_at_one : Setting → Leaving → ℕ → Option Journey → List Way → List Event
 new_at_one s leaving place None ways = []
 new_at_one s leaving place (Some j) ways = new_advanced s j.row (advance_of s leaving ways place j.row j.way)
 
 abbrev pub new_at : Setting → Leaving → ℕ → List Way → List Event
-new_at s leaving place ways = new_at_one s leaving place (journey_of (slice_get s.rows place) (slice_get ways place)) ways
+new_at s leaving place ways = new_at_one s leaving place (one_at place s.rows ways) ways
 
 -- of the first so many, the oldest first
 abbrev pub moved_up_to : Setting → Leaving → ℕ → List Way → List Way

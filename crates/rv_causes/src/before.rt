@@ -21,6 +21,7 @@ pub(crate) enum Holder {
 /// The port of the cache is held until a cycle, from an event on.
 #[derive(Clone, Copy)]
 pub(crate) struct PortHold {
+    /// The first cycle in which it is free again.
     pub(crate) until: u64,
     pub(crate) event: Event,
     pub(crate) holder: Holder,
@@ -32,7 +33,9 @@ pub(crate) struct PortHold {
 #[derive(Clone, Copy)]
 pub(crate) struct UnitHold {
     pub(crate) kind: Kind,
+    /// The first cycle in which it is free again.
     pub(crate) until: u64,
+    /// The number of the instruction.
     pub(crate) number: u64,
     pub(crate) event: Event,
 }
@@ -40,6 +43,7 @@ pub(crate) struct UnitHold {
 /// The store that drained last, from an event until a cycle.
 #[derive(Clone, Copy)]
 pub(crate) struct DrainHold {
+    /// The first cycle in which the drain is over.
     pub(crate) until: u64,
     pub(crate) event: Event,
 }
@@ -61,7 +65,9 @@ pub struct Facts {
     pub(crate) stores: usize,
     /// Whether a retired one waits for the port.
     pub(crate) is_store_waiting: bool,
+    /// The first cycle in which the port is free.
     pub(crate) port_free: u64,
+    /// The first cycle in which the drain under way is over, if one is.
     pub(crate) drain_end: Option<u64>,
 }
 
@@ -101,7 +107,8 @@ fn waits_in(stores: &StoreQueue) -> bool
 }
 
 impl Facts {
-    /// That of a store queue between two cycles, and of a port that is free from a cycle on, by the cycle in which the drain ends.
+    /// What hardware between two cycles shows, by its store queue, the first cycle in which its port is free, and the first one in which
+    /// the drain under way is over, if one is.
     pub fn of(stores: &StoreQueue, port_free: u64, drain_end: Option<u64>) -> Facts
         ensures { result ≡ facts_by stores.now.stores port_free drain_end }
     {

@@ -11,7 +11,7 @@ use crate::leaving::Leaving;
 use crate::point::Stage;
 use crate::scene::Scene;
 use crate::sought::{
-    Sought, are_as_many, comes_after, first_of, is_at, is_just_before, one_before,
+    Sought, are_as_many, comes_after, first_of, is_at, is_just_before, one_at, one_before,
 };
 use crate::way::{Found, Way};
 use rv_isa::Kind;
@@ -245,12 +245,11 @@ fn move_on(
     ensures few { length events.new.items ≤ length events.old.items + 1 }
     ensures capacity { vec_capacity events.old ≤ vec_capacity events.new }
 {
-    let Some(row) = scene.rows.get(place) else {
+    let Some(found) = one_at(place, scene.rows, ways) else {
         return;
     };
-    let Some(way) = ways.get(place) else {
-        return;
-    };
+    let row = found.row();
+    let way = found.way();
     let Some(advance) = advance_of(scene, leaving, ways, place, row, way) else {
         return;
     };

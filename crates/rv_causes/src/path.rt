@@ -52,16 +52,17 @@ pub struct Path {
 }
 
 impl Path {
-    ghost use Rattle.rv_causes.specs.Keeping.{AreSameButBefore, AreSameButHolds, AreSameButLive, AreSameButWays, AreSameButWindow, HasRoom, HasRoomForWays, IsFollowed, ArePathsKept, live_of, before_with, forgotten_in, holds_shown, known_brought, known_of_path, known_shown, made_shown, ways_of};
+    ghost use Rattle.rv_causes.specs.Keeping.{AreSameBeside, AreSameButBefore, AreSameButHolds, AreSameButLive, AreSameButWays, AreSameButWindow};
+    ghost use Rattle.rv_causes.specs.Keeping.{ArePathsKept, HasRoom, HasRoomForWays, IsFollowed, before_with, forgotten_in, holds_shown};
+    ghost use Rattle.rv_causes.specs.Keeping.{known_brought, known_of_path, known_shown, last_point, live_of, made_shown, ways_of};
     ghost use Rattle.std.specs.Prelude.{List, ◌++◌};
     ghost use Rattle.std.specs.Prelude.{◌∷◌, OnOk, Some};
     ghost use Rattle.rv_causes.specs.Account.{account_of};
     ghost use Rattle.rv_causes.specs.Event.{with_events};
     ghost use Rattle.rv_causes.specs.Reading.{cycle_of};
-    ghost use Rattle.rv_causes.specs.Setting.{last_left};
     ghost use Rattle.rv_causes.specs.Walk.{path_to};
     ghost use Rattle.rv_causes.specs.Window.{HasRoomForEvents, IsWindow, Passes, accounted, kept_events};
-    ghost use Rattle.rv_causes.specs.Path.{before_at, with_fetched};
+    ghost use Rattle.rv_causes.specs.Path.{before_at, path_of, with_fetched};
     ghost use Rattle.rv_causes.specs.declared.event.Event.{Event};
 
     /// That of hardware which shows this and has this store queue, in which so many instructions are in flight, before the first cycle.
@@ -180,7 +181,9 @@ impl Path {
         requires room { HasRoom self.old }
         requires few { length cycle.now.rows.now ≤ 576 }
         requires cycles { cycle.now.number < 2 ^ 40 }
-        ensures known { (events : List Event) → known_of_path self.new (with_events (made_shown (cycle_of cycle.now) (known_of_path self.old events)) events) ≡ known_shown (cycle_of cycle.now) (known_of_path self.old events) }
+        ensures known { (events : List Event)
+            → known_of_path self.new (with_events (made_shown (cycle_of cycle.now) (known_of_path self.old events)) events)
+            ≡ known_shown (cycle_of cycle.now) (known_of_path self.old events) }
         ensures made { IsFollowed (made_shown (cycle_of cycle.now) (known_of_path self.old [])) self.old.window self.new.window }
     {
         let ended = count_in_order(cycle.rows);
@@ -203,7 +206,8 @@ impl Path {
         requires room { HasRoomForWays self.old }
         requires few { length cycle.now.rows.now ≤ 576 }
         requires cycles { cycle.now.number < 2 ^ 40 }
-        ensures known { (events : List Event) → known_of_path self.new events ≡ known_brought (cycle_of cycle.now) self.old.seen (known_of_path self.old events) }
+        ensures known { (events : List Event)
+            → known_of_path self.new events ≡ known_brought (cycle_of cycle.now) self.old.seen (known_of_path self.old events) }
         ensures window { self.new.window ≡ self.old.window }
     {
         self.take_holds(cycle);
@@ -274,7 +278,7 @@ impl Path {
         requires ended { ended ≡ forgotten_in rows.now }
         requires room { length rows.now ≤ vec_capacity self.old.next }
         ensures ways { ways_of self.new ≡ still_in_flight rows.now (ways_of self.old) }
-        ensures others { (self.new.holds ≡ self.old.holds) × (self.new.before ≡ self.old.before) × (self.new.window ≡ self.old.window) }
+        ensures others { AreSameBeside self.old self.new }
     {
         match self.forgotten(rows, ended) {
             Some(count) => self.dropped += count,
@@ -286,7 +290,7 @@ impl Path {
     fn move_to_next(&mut self, rows: &[Passage])
         requires room { length rows.now ≤ vec_capacity self.old.next }
         ensures ways { ways_of self.new ≡ still_in_flight rows.now (ways_of self.old) }
-        ensures others { (self.new.holds ≡ self.old.holds) × (self.new.before ≡ self.old.before) × (self.new.window ≡ self.old.window) }
+        ensures others { AreSameBeside self.old self.new }
     {
         self.next.clear();
         push_in_flight(rows, &self.ways.as_slice()[self.dropped..], &mut self.next);
@@ -297,7 +301,8 @@ impl Path {
 
     /// The account of the path to the end of a run of so many cycles. The only error is out of memory.
     pub fn into_account(self, cycles: u64) -> Result<Account, AllocError>
-        ensures { IfOk result (λ account. (all : List Event) → IsWindow self.window all → Passes self.window (Some (last_left self.before.left).at) → accounted account ≡ account_of (end_of cycles self.before ∷ path_to all (Some (last_left self.before.left).at))) }
+        ensures { IfOk result (λ account. (all : List Event) → IsWindow self.window all → Passes self.window (last_point self)
+            → accounted account ≡ account_of (path_of cycles (known_of_path self all))) }
     {
         let Path {
             ways: _,
@@ -315,7 +320,7 @@ impl Path {
     /// The path to the last event of the cycles so far, as far as it lies in the window, the newest event first. The only error is out of
     /// memory.
     pub fn into_path(self) -> Result<Vec<Event>, AllocError>
-        ensures { IfOk result (λ path. path.items ≡ path_to (kept_events self.window) (Some (last_left self.before.left).at)) }
+        ensures { IfOk result (λ path. path.items ≡ path_to (kept_events self.window) (last_point self)) }
     {
         let Path {
             ways: _,

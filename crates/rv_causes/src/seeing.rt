@@ -1,11 +1,11 @@
 ghost use Rattle.std.specs.Prelude.{◌≡◌, ◌+◌, ◌++◌, ◌≤◌, Some, None, drop, false, length, option_copied, slice_get, true, vec_capacity};
-ghost use Rattle.rv_causes.specs.Fetching.{fetch_event, fetch_wait, fetched_by, handled, new_fetched};
+ghost use Rattle.rv_causes.specs.Fetching.{fetch_event, fetch_of, fetched_by, handled, new_fetch_of, new_fetched};
 ghost use Rattle.rv_causes.specs.Holding.{port_event, port_taken, taken_by};
 ghost use Rattle.rv_causes.specs.Keeping.{IsSeen, before_with, setting_by};
 ghost use Rattle.rv_causes.specs.Leaving.{HasAllThatLeft, is_interrupted, left_events};
 ghost use Rattle.rv_causes.specs.Path.{before_next, interrupt_taken, made_in, new_beside};
 ghost use Rattle.rv_causes.specs.Reading.{after_of, cycle_of};
-ghost use Rattle.rv_causes.specs.Setting.{made_of, new_of, setting_of};
+ghost use Rattle.rv_causes.specs.Setting.{setting_of};
 
 use crate::before::{Before, Facts, Left, PortHold, UnitHold};
 use crate::cycle::{After, Cycle};
@@ -136,8 +136,8 @@ fn see_first(
     events: &mut Vec<Event>,
 )
     requires room { length events.old.items + 1 ≤ vec_capacity events.old }
-    ensures fetch { fetch.new ≡ Some (made_of (setting_of scene.now) Stage.Fetch first.now waited.now) }
-    ensures items { events.new.items ≡ events.old.items ++ new_of (setting_of scene.now) Stage.Fetch first.now waited.now }
+    ensures fetch { fetch.new ≡ Some (fetch_of (setting_of scene.now) first.now waited.now) }
+    ensures items { events.new.items ≡ events.old.items ++ new_fetch_of (setting_of scene.now) first.now waited.now }
     ensures capacity { vec_capacity events.old ≤ vec_capacity events.new }
 {
     let event = scene.made_of(Stage::Fetch, first, waited);
@@ -155,8 +155,8 @@ fn see_anew(
     events: &mut Vec<Event>,
 )
     requires room { length events.old.items + 1 ≤ vec_capacity events.old }
-    ensures fetch { fetch.new ≡ Some (made_of (setting_of scene.now) Stage.Fetch first.now waited.now) }
-    ensures items { events.new.items ≡ events.old.items ++ new_of (setting_of scene.now) Stage.Fetch first.now waited.now }
+    ensures fetch { fetch.new ≡ Some (fetch_of (setting_of scene.now) first.now waited.now) }
+    ensures items { events.new.items ≡ events.old.items ++ new_fetch_of (setting_of scene.now) first.now waited.now }
     ensures capacity { vec_capacity events.old ≤ vec_capacity events.new }
 {
     let event = scene.fetched_anew(first, waited);
@@ -173,8 +173,9 @@ fn see_handler(
     events: &mut Vec<Event>,
 )
     requires room { length events.old.items + 1 ≤ vec_capacity events.old }
-    ensures fetch { fetch.new ≡ Some (made_of (setting_of scene.now) Stage.Fetch first.now (handled (setting_of scene.now) first.now)) }
-    ensures items { events.new.items ≡ events.old.items ++ new_of (setting_of scene.now) Stage.Fetch first.now (handled (setting_of scene.now) first.now) }
+    ensures fetch { fetch.new ≡ Some (fetch_of (setting_of scene.now) first.now (handled (setting_of scene.now) first.now)) }
+    ensures items { events.new.items
+        ≡ events.old.items ++ new_fetch_of (setting_of scene.now) first.now (handled (setting_of scene.now) first.now) }
     ensures capacity { vec_capacity events.old ≤ vec_capacity events.new }
 {
     let interrupt = interrupt_event(scene);
@@ -198,8 +199,10 @@ fn see_words(
     events: &mut Vec<Event>,
 )
     requires room { length events.old.items + 1 ≤ vec_capacity events.old }
-    ensures fetch { fetch.new ≡ Some (made_of (setting_of scene.now) Stage.Fetch first.now (fetch_wait (setting_of scene.now) ways.now false leaving.now (after_of after.now) first.now)) }
-    ensures items { events.new.items ≡ events.old.items ++ new_of (setting_of scene.now) Stage.Fetch first.now (fetch_wait (setting_of scene.now) ways.now false leaving.now (after_of after.now) first.now) }
+    ensures fetch { fetch.new
+        ≡ fetched_by (setting_of scene.now) ways.now false leaving.now (after_of after.now) (Some first.now) }
+    ensures items { events.new.items ≡ events.old.items
+        ++ new_fetched (setting_of scene.now) ways.now false leaving.now (after_of after.now) (Some first.now) }
     ensures capacity { vec_capacity events.old ≤ vec_capacity events.new }
 {
     match after_redirection(scene, ways, leaving, after, first) {
@@ -223,8 +226,10 @@ fn see_fetched(
     events: &mut Vec<Event>,
 )
     requires room { length events.old.items + 1 ≤ vec_capacity events.old }
-    ensures fetch { fetch.new ≡ fetched_by (setting_of scene.now) ways.now interrupted leaving.now (after_of after.now) (option_copied first.entry) }
-    ensures items { events.new.items ≡ events.old.items ++ new_fetched (setting_of scene.now) ways.now interrupted leaving.now (after_of after.now) (option_copied first.entry) }
+    ensures fetch { fetch.new
+        ≡ fetched_by (setting_of scene.now) ways.now interrupted leaving.now (after_of after.now) (option_copied first.entry) }
+    ensures items { events.new.items ≡ events.old.items
+        ++ new_fetched (setting_of scene.now) ways.now interrupted leaving.now (after_of after.now) (option_copied first.entry) }
     ensures capacity { vec_capacity events.old ≤ vec_capacity events.new }
 {
     let Some(first) = first else {
@@ -260,9 +265,12 @@ fn notice(
 )
     requires left { HasAllThatLeft (setting_of scene.now).rows left.now }
     requires room { length events.old.items + 3 ≤ vec_capacity events.old }
-    ensures before { before_with scene.now.number steps.now seen.new scene.now.before.now ≡ before_next (setting_of scene.now) ways.now steps.now (after_of after.now) leaving.now }
-    ensures fetch { seen.new.fetch ≡ fetch_event (setting_of scene.now) ways.now (is_interrupted steps.now) leaving.now (after_of after.now) }
-    ensures items { events.new.items ≡ events.old.items ++ new_beside (setting_of scene.now) ways.now steps.now (after_of after.now) leaving.now }
+    ensures before { before_with scene.now.number steps.now seen.new scene.now.before.now
+        ≡ before_next (setting_of scene.now) ways.now steps.now (after_of after.now) leaving.now }
+    ensures fetch { seen.new.fetch
+        ≡ fetch_event (setting_of scene.now) ways.now (is_interrupted steps.now) leaving.now (after_of after.now) }
+    ensures items { events.new.items ≡ events.old.items
+        ++ new_beside (setting_of scene.now) ways.now steps.now (after_of after.now) leaving.now }
     ensures capacity { vec_capacity events.old ≤ vec_capacity events.new }
 {
     let interrupted = is_interrupted(steps);
@@ -337,8 +345,10 @@ pub(crate) fn see_shown(
     requires left { HasAllThatLeft cycle.now.rows.now left.now }
     requires few { dropped ≤ length ways.old }
     requires room { length events.old.items + length (drop dropped ways.old) + 6 ≤ vec_capacity events.old }
-    ensures seen { IsSeen (setting_by (cycle_of cycle.now) holds.now before.now) cycle.now.steps.now (after_of cycle.now.after) (drop dropped ways.old) (drop dropped ways.new) seen.new }
-    ensures items { events.new.items ≡ events.old.items ++ made_in (setting_by (cycle_of cycle.now) holds.now before.now) (drop dropped ways.old) cycle.now.steps.now (after_of cycle.now.after) }
+    ensures seen { IsSeen (setting_by (cycle_of cycle.now) holds.now before.now)
+        cycle.now.steps.now (after_of cycle.now.after) (drop dropped ways.old) (drop dropped ways.new) seen.new }
+    ensures items { events.new.items ≡ events.old.items ++ made_in (setting_by (cycle_of cycle.now) holds.now before.now)
+        (drop dropped ways.old) cycle.now.steps.now (after_of cycle.now.after) }
     ensures capacity { vec_capacity events.old ≤ vec_capacity events.new }
 {
     let scene = scene_of(cycle, holds, before);

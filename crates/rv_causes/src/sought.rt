@@ -1,7 +1,7 @@
 ghost use Rattle.std.specs.Prelude.{◌≡◌, ◌+◌, ◌==◌, count_by};
 ghost use Rattle.rv_isa.specs.Instruction.{is_fence_i};
 ghost use Rattle.rv_passage.specs.Result.{ready_in};
-ghost use Rattle.rv_causes.specs.Lookup.{first_of, last_of, one_before};
+ghost use Rattle.rv_causes.specs.Lookup.{first_of, last_of, one_at, one_before};
 ghost use Rattle.rv_causes.specs.Sought.{is_at, is_before, is_end, is_just_before, is_sought, uses};
 
 use crate::way::{Found, Way};
@@ -179,6 +179,17 @@ pub(crate) fn first_of<'a>(
     None
 }
 
+/// The one at a place.
+#[inline(always)]
+pub(crate) fn one_at<'a>(place: usize, rows: &'a [Passage], ways: &'a [Way]) -> Option<Found<'a>>
+    ensures { result ≡ one_at place rows.now ways.now }
+{
+    match (rows.get(place), ways.get(place)) {
+        (Some(row), Some(way)) => Some(Found::new(row, way)),
+        _ => None,
+    }
+}
+
 /// The one before a place.
 pub(crate) fn one_before<'a>(
     place: usize,
@@ -190,10 +201,7 @@ pub(crate) fn one_before<'a>(
     if place == 0 {
         return None;
     }
-    match (rows.get(place - 1), ways.get(place - 1)) {
-        (Some(row), Some(way)) => Some(Found::new(row, way)),
-        _ => None,
-    }
+    one_at(place - 1, rows, ways)
 }
 
 /// The last one that is looked for.

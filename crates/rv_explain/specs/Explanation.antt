@@ -1,5 +1,5 @@
 -- What a run came to, in sentences.
-use Rattle.std.specs.Prelude.{◌≡◌, ℕ, ◌+◌, ◌*◌, ◌^◌, ◌<◌, ◌≤◌, List, [], ◌++◌, codes, length, Option, Some, None}
+use Rattle.std.specs.Prelude.{◌≡◌, ℕ, ◌+◌, ◌*◌, ◌^◌, ◌<◌, ◌≤◌, List, [], ◌++◌, codes, length, sum, Option, Some, None}
 use Rattle.rv_isa.specs.declared.{lines.Arrival.Arrival, values.Values.Values}
 use Rattle.rv_isa.specs.declared.csrs.Csr.TheVariants.{Mie, Mstatus}
 use Rattle.rv_arch.specs.Csr.{value_of}
@@ -50,6 +50,16 @@ pub record IsTallied (arrivals : List Arrival) (limit : ℕ) (values : Values) (
   pub stays_add_up : StaysAddUp old.hardware moments
   pub few : progress.cycles * new.hardware.values.dispatch_width < 2 ^ 64
   pub few_stays : all_stays tally.stays < 2 ^ 64
+
+-- the sentences on a run can be written: the cycles on account of all words are no more than there were, nor are those in which a word was
+-- awaited, and no sum comes to 2^64
+pub record CanBeWritten (h : Hardware) (progress : Progress) (tally : Tally) : Type 0 where
+  pub heads : sum tally.heads.words ≤ progress.cycles
+  pub awaited : sum tally.awaited.words ≤ progress.cycles
+  pub branches : sum tally.branches.words < 2 ^ 64
+  pub mispredicted : sum tally.mispredicted.words < 2 ^ 64
+  pub stays : all_stays tally.stays < 2 ^ 64
+  pub places : progress.cycles * h.values.dispatch_width < 2 ^ 64
 
 -- the cycles, and those to each instruction
 unfoldable pub cycle_text : Progress → ℕ → List ℕ
@@ -108,8 +118,9 @@ abbrev pub explanation_of : Figures → Values → List Arrival → Option Accou
 explanation_of figures values arrivals path listing first moments after stop =
     explanation figures path listing stop after (progress_of (reports_of moments)) (length (passages_of_run first moments)) (tally_of_run values arrivals first moments)
 
--- a text explains a run that ended for a reason, with the sentences on a path, where one is shown; what it says of the places for dispatch adds up, and each is lost for what ended the
--- dispatch phase of its cycle; what it says of the instructions in flight adds up to all cycles of each
+-- a text explains a run that ended for a reason, with the sentences on a path, where one is shown; what it says of the places for dispatch
+-- adds up, and each is lost for what ended the dispatch phase of its cycle; what it says of the instructions in flight adds up to all
+-- cycles of each
 pub record IsExplanation (arrivals : List Arrival) (limit : ℕ) (figures : Figures) (values : Values) (path : Option Accounted) (listing : Listed) (old new : GuidedHardware) (stop : Stop) (text : List ℕ) : Type 0 where
   pub moments : List Moment
   pub run : IsEndedRun arrivals limit old moments new stop

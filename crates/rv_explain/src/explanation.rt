@@ -1,5 +1,5 @@
-ghost use Rattle.std.specs.Prelude.{◌≡◌, ◌*◌, ◌++◌, ◌≤◌, ◌<◌, ◌^◌, Err, List, [], sum, IfOk, option_copied};
-ghost use Rattle.rv_explain.specs.Explanation.{HasOneExplanation, IsExplanation, cost_text, cycle_text, explanation, lead_text, path_text, run_text, untaken_lines, whole_text};
+ghost use Rattle.std.specs.Prelude.{◌≡◌, ◌++◌, ◌≤◌, ◌<◌, ◌^◌, Err, List, [], sum, IfOk, option_copied};
+ghost use Rattle.rv_explain.specs.Explanation.{CanBeWritten, HasOneExplanation, IsExplanation, cost_text, cycle_text, explanation, lead_text, path_text, run_text, untaken_lines, whole_text};
 ghost use Rattle.rv_hardware.specs.Guided.{guided};
 ghost use Rattle.rv_hardware.specs.Hardware.{Hardware};
 ghost use Rattle.rv_isa.specs.declared.lines.Arrival.{Arrival};
@@ -87,12 +87,7 @@ fn write_lead<W: Write>(
     progress: &Progress,
     tally: &Tally,
 )
-    requires places { progress.now.cycles * hardware.now.values.dispatch_width < 2 ^ 64 }
-    requires stays { all_stays tally.now.stays < 2 ^ 64 }
-    requires awaited { sum tally.now.awaited.words ≤ progress.now.cycles }
-    requires heads { sum tally.now.heads.words ≤ progress.now.cycles }
-    requires branches { sum tally.now.branches.words < 2 ^ 64 }
-    requires mispredicted { sum tally.now.mispredicted.words < 2 ^ 64 }
+    requires { CanBeWritten hardware.now progress.now tally.now }
     ensures { Says W.contents out.old out.new (lead_text listing.now hardware.now progress.now tally.now) }
 {
     let cycles = progress.cycles;
@@ -120,18 +115,18 @@ fn write_costs<W: Write>(
     listing: &Listing,
     progress: &Progress,
     fetched: u64,
-    tally: &mut Tally,
+    tally: &Tally,
 )
-    requires heads { sum tally.old.heads.words ≤ progress.now.cycles }
-    requires branches { sum tally.old.branches.words < 2 ^ 64 }
-    requires mispredicted { sum tally.old.mispredicted.words < 2 ^ 64 }
-    requires stays { all_stays tally.old.stays < 2 ^ 64 }
-    ensures { Says W.contents out.old out.new (cost_text listing.now progress.now fetched tally.old) }
+    requires heads { sum tally.now.heads.words ≤ progress.now.cycles }
+    requires branches { sum tally.now.branches.words < 2 ^ 64 }
+    requires mispredicted { sum tally.now.mispredicted.words < 2 ^ 64 }
+    requires stays { all_stays tally.now.stays < 2 ^ 64 }
+    ensures { Says W.contents out.old out.new (cost_text listing.now progress.now fetched tally.now) }
 {
     write_cycles(out, progress, tally.retired);
     write_dispatches(out, progress.busy, &tally.dispatches);
     write_work(out, fetched, &tally.work);
-    write_worst(out, listing, &mut tally.branches, &mut tally.mispredicted);
+    write_worst(out, listing, &tally.branches, &tally.mispredicted);
     write_stays(out, &tally.stays);
     write_loads(out, &tally.loads);
     write_drains(out, &tally.drains);
@@ -142,7 +137,7 @@ fn write_costs<W: Write>(
         tally.idle,
         &tally.outcomes,
         &tally.stores,
-        &mut tally.heads,
+        &tally.heads,
     );
 }
 
@@ -154,15 +149,10 @@ fn write_whole<W: Write>(
     hardware: &ShownHardware<'_>,
     progress: &Progress,
     fetched: u64,
-    tally: &mut Tally,
+    tally: &Tally,
 )
-    requires heads { sum tally.old.heads.words ≤ progress.now.cycles }
-    requires branches { sum tally.old.branches.words < 2 ^ 64 }
-    requires mispredicted { sum tally.old.mispredicted.words < 2 ^ 64 }
-    requires stays { all_stays tally.old.stays < 2 ^ 64 }
-    requires awaited { sum tally.old.awaited.words ≤ progress.now.cycles }
-    requires places { progress.now.cycles * hardware.now.values.dispatch_width < 2 ^ 64 }
-    ensures { Says W.contents out.old out.new (whole_text listing.now stop hardware.now progress.now fetched tally.old) }
+    requires { CanBeWritten hardware.now progress.now tally.now }
+    ensures { Says W.contents out.old out.new (whole_text listing.now stop hardware.now progress.now fetched tally.now) }
 {
     write_ending(out, listing, stop, hardware, &tally.last_stores);
     write_first_passed(out, listing, tally.exceptions.all());
@@ -194,15 +184,10 @@ fn write_sentences<W: Write>(
     hardware: &ShownHardware<'_>,
     progress: &Progress,
     fetched: u64,
-    tally: &mut Tally,
+    tally: &Tally,
 )
-    requires heads { sum tally.old.heads.words ≤ progress.now.cycles }
-    requires branches { sum tally.old.branches.words < 2 ^ 64 }
-    requires mispredicted { sum tally.old.mispredicted.words < 2 ^ 64 }
-    requires stays { all_stays tally.old.stays < 2 ^ 64 }
-    requires awaited { sum tally.old.awaited.words ≤ progress.now.cycles }
-    requires places { progress.now.cycles * hardware.now.values.dispatch_width < 2 ^ 64 }
-    ensures { Says W.contents out.old out.new (path_text listing.now (option_copied path.entry) ++ run_text crash listing.now stop hardware.now progress.now fetched tally.old) }
+    requires { CanBeWritten hardware.now progress.now tally.now }
+    ensures { Says W.contents out.old out.new (path_text listing.now (option_copied path.entry) ++ run_text crash listing.now stop hardware.now progress.now fetched tally.now) }
 {
     write_path(out, path, listing);
     match crash {
@@ -222,15 +207,10 @@ fn write_run_text<W: Write>(
     hardware: &ShownHardware<'_>,
     progress: &Progress,
     fetched: u64,
-    tally: &mut Tally,
+    tally: &Tally,
 ) -> Result<(), ReportError>
-    requires heads { sum tally.old.heads.words ≤ progress.now.cycles }
-    requires branches { sum tally.old.branches.words < 2 ^ 64 }
-    requires mispredicted { sum tally.old.mispredicted.words < 2 ^ 64 }
-    requires stays { all_stays tally.old.stays < 2 ^ 64 }
-    requires awaited { sum tally.old.awaited.words ≤ progress.now.cycles }
-    requires places { progress.now.cycles * hardware.now.values.dispatch_width < 2 ^ 64 }
-    ensures { IsWritten result (W.contents writer.old) (W.contents writer.new) (explanation figures (option_copied path.entry) listing.now stop hardware.now progress.now fetched tally.old) }
+    requires { CanBeWritten hardware.now progress.now tally.now }
+    ensures { IsWritten result (W.contents writer.old) (W.contents writer.new) (explanation figures (option_copied path.entry) listing.now stop hardware.now progress.now fetched tally.now) }
 {
     let crash = lone_crash(figures, stop, tally.exceptions.all());
     let mut out = Sink::new(writer);
@@ -240,19 +220,18 @@ fn write_run_text<W: Write>(
     out.outcome()
 }
 
-/// Runs a pipeline that a predictor guides, each cycle with the lines of its number, up to a breakpoint, a stale word,
-/// exhaustion or so many cycles, and then writes what the run came to, in plain sentences: where a path is shown, its greatest
-/// causes with their lines; how it ended, where and why,
-/// and for a stale word the last store to it; its exceptions and interrupts, and the interrupt lines that are high and were
-/// never taken; what instructions in flight waited for most, and what became of most places for dispatch; the line that was
-/// awaited most, and the one that stood longest at the head of the reorder buffer; what became of all places; where the cycles went;
-/// how many dispatched only what did not retire; how many words were fetched and how many of them squashed; how many
-/// branches and jumps retired, and how many of them were mispredicted, with the three lines that most of those come from;
-/// why instructions stayed in flight; what its loads and the drains of its stores cost; and the five lines that most cycles left at the head of the reorder buffer, or that had flushed it, with their
-/// loads and stores. Where the program crashed, its first exception and the interrupts alone are explained, unless the figures are asked for.
-/// The description says where RAM lies, whose words are counted, and what loads and drains cost. The listing is that of the
-/// program, whose lines are shown.
-/// Answers why the run ended.
+/// Runs a pipeline that a predictor guides, each cycle with the lines of its number, up to a breakpoint, a stale word, exhaustion
+/// or so many cycles, and then writes what the run came to, in plain sentences: where a path is shown, its greatest causes with
+/// their lines; how it ended, where and why, and for a stale word the last store to it; its exceptions and interrupts, and the
+/// interrupt lines that are high and were never taken; what instructions in flight waited for most, and what became of most
+/// places for dispatch; the line that was awaited most, and the one that stood longest at the head of the reorder buffer; what
+/// became of all places; where the cycles went; how many dispatched only what did not retire; how many words were fetched and how
+/// many of them squashed; how many branches and jumps retired, and how many of them were mispredicted, with the three lines that
+/// most of those come from; why instructions stayed in flight; what its loads and the drains of its stores cost; and the five
+/// lines that most cycles left at the head of the reorder buffer, or that had flushed it, with their loads and stores. Where the
+/// program crashed, its first exception and the interrupts alone are explained, unless the figures are asked for. The description
+/// says where RAM lies, whose words are counted, and what loads and drains cost. The listing is that of the program, whose lines
+/// are shown. Answers why the run ended.
 ///
 /// # Errors
 ///
@@ -291,7 +270,7 @@ pub fn write_explanation<S: Simulated, W: Write>(
         beginning.following,
         beginning.tally,
     );
-    let mut tally = tallied.tally;
+    let tally = tallied.tally;
     let written = write_run_text(
         writer,
         figures,
@@ -301,7 +280,7 @@ pub fn write_explanation<S: Simulated, W: Write>(
         &pipeline.shown(),
         &tallied.progress,
         tallied.fetched,
-        &mut tally,
+        &tally,
     );
     // By one call: at each end of its scope a tally is dropped field by field.
     drop(tally);

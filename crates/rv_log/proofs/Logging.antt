@@ -58,9 +58,9 @@ module _ {seen : Watched} {cycle : ShownCycle} (next : IsNextCycle seen cycle)
       ++ cycle_text listing' first cycle.number (record { before = stall; reason = cycle.progress.now.stall }) cycle.rows.now
   logged_on =
       let number = seen.first.hardware.cycle in
-      let told = cycles_text listing number None (cycles_seen seen) in
+      let so_far = cycles_text listing number None (cycles_seen seen) in
       sym
-      ((λ i. told ++ cycle_text (logging.same i) (logging.began i) (next.shown.number i) (record { before = logging.stalled i; reason = stall_now i }) (next.rows_are i))
+      ((λ i. so_far ++ cycle_text (logging.same i) (logging.began i) (next.shown.number i) (record { before = logging.stalled i; reason = stall_now i }) (next.rows_are i))
       ∙ cycles-more listing number None (cycles_seen seen) (cycle_shown seen next.shown))
 
 -- the log of a run that ended: its begin, and then its cycles

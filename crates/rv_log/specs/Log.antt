@@ -29,8 +29,8 @@ head_text cycle = codes "Kanata\t0004\nC=\t" ++ (decimal cycle ++ codes "\n")
 unfoldable pub begin_text : Listed → ℕ → List Passage → List ℕ
 begin_text listing cycle rows = head_text cycle ++ flat_map (appearance_text listing) rows
 
--- a cycle of a log from some cycle on: what became of each instruction in it and whose results woke it, which room is waited for that was not before, that
--- the cycle passes, and then what left the hardware in it, whose last stage lasts to its end
+-- a cycle of a log from some cycle on: what became of each instruction in it and whose results woke it, which room is waited for that was
+-- not before, that the cycle passes, and then what left the hardware in it, whose last stage lasts to its end
 unfoldable pub cycle_text : Listed → ℕ → ℕ → Stalled → List Passage → List ℕ
 cycle_text listing first cycle stalled rows =
     flat_map (row_at listing cycle) rows ++ (room_at cycle stalled rows ++ (codes "C\t1\n" ++ flat_map (left_at first cycle) rows))

@@ -42,12 +42,13 @@ abbrev pub operand_wait : ℕ → ℕ → Option Producer → Wait
 operand_wait from left None = wait from from awaited.Unknown
 operand_wait from left (Some producer) = wait from (after_or_left left producer.broadcast) (awaited.Operand producer)
 
--- after that until its issue it waits for a unit, or where it uses none for the head; of one that was dispatched before a log began it is not known what for
+-- after that until its issue it waits for a unit, or where it uses none for the head; of one that was dispatched before a log began it is
+-- not known what for
 abbrev pub issue_awaited : ℕ → Passage → Awaited
 issue_awaited first p = if is_past first p.dispatched then awaited.Unknown else awaited.Unit (kind_of_word p.instruction)
 
--- the waits of an instruction that left in a cycle: between fetch and dispatch, from there for its operands, until its issue, from the cycle in which its result is
--- ready until the broadcast, and from there to its end
+-- the waits of an instruction that left in a cycle: between fetch and dispatch, from there for its operands, until its issue, from the
+-- cycle in which its result is ready until the broadcast, and from there to its end
 abbrev pub waits_of : ℕ → ℕ → Passage → List Wait
 waits_of first left p =
     let operand = operand_wait (after_or_left left p.dispatched) left (last_of p.producers.first p.producers.second) in

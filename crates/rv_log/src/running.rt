@@ -89,7 +89,10 @@ pub(crate) fn run_logged<S: Simulated, W: Write>(
     writer: &mut W,
 ) -> Logged
     requires { FollowsFrom (S.hardware pipeline.old) following }
-    ensures { WritesLog arrivals.now limit listing.now (guided (S.hardware pipeline.old) (known predictor.old)) (guided (S.hardware pipeline.new) (known predictor.new)) result.stop result.has_failed (W.contents writer.old) (W.contents writer.new) }
+    ensures { WritesLog arrivals.now limit listing.now
+        (guided (S.hardware pipeline.old) (known predictor.old))
+        (guided (S.hardware pipeline.new) (known predictor.new))
+        result.stop result.has_failed (W.contents writer.old) (W.contents writer.new) }
 {
     let first = pipeline.cycles_done();
     let has_failed = begin(writer, listing, first, following.rows());

@@ -36,10 +36,14 @@ pub fn write_log<S: Simulated, W: Write>(
     listing: &Listing,
     writer: &mut W,
 ) -> Result<Stop, TextError>
-    ensures written { IsText (IsLog arrivals.now limit listing.now (guided (S.hardware pipeline.old) (known predictor.old)) (guided (S.hardware pipeline.new) (known predictor.new))) result (W.contents writer.old) (W.contents writer.new) }
+    ensures written { IsText (IsLog arrivals.now limit listing.now
+        (guided (S.hardware pipeline.old) (known predictor.old))
+        (guided (S.hardware pipeline.new) (known predictor.new)))
+        result (W.contents writer.old) (W.contents writer.new) }
     // With a described predictor a log is a function of what it is a log of.
     ensures one_log { HasOneLog arrivals.now limit listing.now }
-    ensures not_run { result ≡ Err TextError.Memory → (S.hardware pipeline.new ≡ S.hardware pipeline.old) × (known predictor.new ≡ known predictor.old) }
+    ensures not_run { result ≡ Err TextError.Memory →
+        (S.hardware pipeline.new ≡ S.hardware pipeline.old) × (known predictor.new ≡ known predictor.old) }
 {
     let Ok(following) = Following::begin(alloc, pipeline) else {
         return Err(TextError::Memory);

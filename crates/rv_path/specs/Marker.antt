@@ -9,8 +9,8 @@ use Rattle.rv_causes.specs.WindowFrom.{HasAllMarked, IsNumbering}
 use Rattle.rv_path.specs.OnPath.{IsOnPath}
 use Rattle.rv_path.specs.declared.marking.Marker.{Marker}
 
--- A marker is on the path of the cycles so far, has all events that are marked in its window, and numbers instructions as they are in flight when the window
--- begins, or so far where it did not begin yet.
+-- A marker is on the path of the cycles so far, has all events that are marked in its window, and numbers instructions as they are in
+-- flight when the window begins, or so far where it did not begin yet.
 pub record IsMarking (marker : Marker) (seen : Watched) : Type 0 where
   pub path : IsOnPath marker.path seen
   pub cycles : marker.cycles ≡ length seen.moments

@@ -230,7 +230,8 @@ fn write_lines<W: Write>(
 }
 
 /// Writes the table of some counts: a line with the names of the columns, and a line for each address, with a tab between two
-/// cells. Where a path is shown, the last one has the cycles of the address on it. Asks for no memory. Fails by `WriteFailed` alone, and what was written is then a beginning of the table.
+/// cells. Where a path is shown, the last one has the cycles of the address on it. Asks for no memory. Fails by `WriteFailed`
+/// alone, and what was written is then a beginning of the table.
 #[tactic(auto, using(rv_text::proofs::Saying::says_written))]
 pub fn write_table<W: Write>(
     writer: &mut W,

@@ -16,16 +16,14 @@ use rv_watch::Simulated;
 use std::alloc::Global;
 use std::io::Write;
 
-/// Runs a pipeline that a predictor guides, each cycle with the lines of its number, up to a breakpoint, a stale word,
-/// exhaustion or so many cycles, and then writes the table of its instructions: a line with the names of the columns, and a
-/// line for each address that was fetched, in order of address, with a tab between two cells. It has the number and the
-/// statement of the line that fills the word, which are empty where none does; how often the instruction was fetched, retired
-/// and was squashed; of those that retired the mean and the greatest number of cycles from fetch to dispatch, to issue, to
-/// broadcast and to retirement, or hyphens where none came to both; their hits and misses, where they are loads; their wrong
-/// predictions; and the cycles
-/// that left the instruction at the head of the reorder buffer. Where a path is shown, the last cell has the cycles of the
-/// address on it. The description says what loads cost. Answers why the run
-/// ended.
+/// Runs a pipeline that a predictor guides, each cycle with the lines of its number, up to a breakpoint, a stale word, exhaustion
+/// or so many cycles, and then writes the table of its instructions: a line with the names of the columns, and a line for each
+/// address that was fetched, in order of address, with a tab between two cells. It has the number and the statement of the line
+/// that fills the word, which are empty where none does; how often the instruction was fetched, retired and was squashed; of
+/// those that retired the mean and the greatest number of cycles from fetch to dispatch, to issue, to broadcast and to
+/// retirement, or hyphens where none came to both; their hits and misses, where they are loads; their wrong predictions; and the
+/// cycles that left the instruction at the head of the reorder buffer. Where a path is shown, the last cell has the cycles of the
+/// address on it. The description says what loads cost. Answers why the run ended.
 ///
 /// # Errors
 ///

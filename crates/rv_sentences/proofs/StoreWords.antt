@@ -11,14 +11,14 @@ use Rattle.rv_decode.proofs.Rows.{instruction_of-by_rows}
 use Rattle.rv_sentences.specs.LastStore.{stored_at}
 
 -- a row has the opcode of stores, or makes no store of a word
-abbrev is_told : ℕ → Row → Bool
-is_told word row = (opcode row.fixed == 0b0100011) || not (is_store (Some (row.instruction word)))
+abbrev is_by_opcode : ℕ → Row → Bool
+is_by_opcode word row = (opcode row.fixed == 0b0100011) || not (is_store (Some (row.instruction word)))
 
 module _ (word code third seventh : ℕ) (other : (code == 0b0100011) ≡ false) where
-  no_store_by : (rows : List Row) → list_all (is_told word) rows ≡ true → is_store (by_rows rows word code third seventh) ≡ false
-  no_store_by [] told = refl
-  no_store_by (row ∷ rows) told =
-      let parts = and_parts (is_told word row) (list_all (is_told word) rows) told in
+  no_store_by : (rows : List Row) → list_all (is_by_opcode word) rows ≡ true → is_store (by_rows rows word code third seventh) ≡ false
+  no_store_by [] by_opcode = refl
+  no_store_by (row ∷ rows) by_opcode =
+      let parts = and_parts (is_by_opcode word row) (list_all (is_by_opcode word) rows) by_opcode in
       grind (arith, no_store_by rows parts.1, parts.0, other)
 
 no_store : (word : ℕ) → word < 2 ^ 32 → (opcode word == 0b0100011) ≡ false → is_store (instruction_of word) ≡ false

@@ -9,6 +9,7 @@ use std::io::Write;
 /// The cycles that dispatched something that retired.
 #[derive(Clone, Copy)]
 pub struct Dispatches {
+    /// How many there were.
     pub cycles: u64,
     /// The last of them.
     pub last: Option<u64>,

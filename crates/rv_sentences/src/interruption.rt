@@ -5,5 +5,6 @@ pub struct Interruption {
     pub pc: u32,
     /// What `mcause` got.
     pub cause: u32,
+    /// The cycle in which it was taken.
     pub cycle: u64,
 }

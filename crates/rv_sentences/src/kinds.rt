@@ -7,7 +7,7 @@ use crate::series::{Series, with_event};
 use std::alloc::{AllocError, Global};
 use std::marker::Model;
 
-// The most kinds that are told apart.
+// The most kinds that are kept apart.
 const MOST_KINDS: usize = 8;
 
 /// What is kept of a run's exceptions.

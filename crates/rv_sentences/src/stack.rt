@@ -20,7 +20,7 @@ pub fn parts_of(parts: u32, count: u64, all: u64) -> u128
     }
 }
 
-/// The name at a place of a table, none behind its end.
+/// The name at a place of a table; empty past its end.
 pub(crate) fn name_at(names: &[&'static [u8]], place: usize) -> &'static [u8]
     ensures { result.now ≡ get_or (map (λ name. name.now) names.now) place [] }
 {

@@ -15,6 +15,7 @@ use std::io::Write;
 pub struct Work {
     /// How many left it.
     pub left: u64,
+    /// Those of them that were squashed.
     pub squashed: u64,
     /// The branches and jumps that retired.
     pub branches: u64,

@@ -1,11 +1,11 @@
 -- What the texts are made of is JSON, or a part of it.
-use Rattle.std.proofs.Common.{◌≡◌, ◌∙◌, ℕ, suc, ◌+◌, ◌==◌, ◌||◌, ◌&&◌, nat_le, Bool, true, false, not, if◌then◌else◌, List, [], ◌∷◌, ◌++◌, map, codes, Option, Some, None, refl, sym, ap, subst, append_assoc, append-nil, add-one}
+use Rattle.std.proofs.Common.{◌≡◌, ◌∙◌, ℕ, suc, ◌+◌, ◌==◌, ◌||◌, ◌&&◌, nat_le, Bool, true, false, not, if◌then◌else◌, List, [], ◌∷◌, ◌++◌, codes, refl, sym, ap, subst, append_assoc, append-nil, add-one}
 use Rattle.std.specs.List.{flat_map, list_all}
 use Rattle.std.proofs.lemmas.Bool.{and_from, and_parts}
 use Rattle.rv_text.specs.Plain.{plain_byte}
 use Rattle.rv_states.specs.Grammar.{AreCharacters, AreLines, AreMembers, AreValues, IsJson, IsMember, IsString, empty_array, escaped, further_member, further_value, is_unescaped, line, named, no_characters, no_lines, no_members, no_values, unescaped}
 use Rattle.rv_states.specs.Grammar as grammar
-use Rattle.rv_states.specs.Json.{Json, also, also_some, array, begins, comma_at, json_byte, key, numeral, opens, quoted, string, truth, values_from}
+use Rattle.rv_states.specs.Json.{Json, also, array, begins, comma_at, json_byte, key, numeral, opens, quoted, string, truth, values_from}
 use Rattle.rv_states.proofs.Numerals.{numeral_is_number}
 
 -- a number, and a truth value
@@ -81,10 +81,6 @@ array_of [] all = empty_array
 array_of (value ∷ values) all =
     subst IsJson (ap (λ l. codes "[" ++ l) (sym (append_assoc value (values_from 1 values) (codes "]")))) (grammar.array value (values_from 1 values) all.0 (further_values 0 values all.1))
 
-pub each_json : {X : Type 0} (json : X → Json) → ((x : X) → IsJson (json x)) → (xs : List X) → AllJson (map json xs)
-each_json json is [] = tt
-each_json json is (x ∷ xs) = (is x, each_json json is xs)
-
 -- further members of an object
 pub both : {xs ys : List ℕ} → AreMembers xs → AreMembers ys → AreMembers (xs ++ ys)
 both no_members after = after
@@ -109,13 +105,6 @@ unfolding member_text key also
 member name {value} all is =
     let same : codes "," ++ (member_text name value ++ []) ≡ also name value = simp (append_assoc, append-nil) in
     subst AreMembers same (further_member (member_text name value) [] (a_member name all is) no_members)
-
-pub counted : (name : List ℕ) → list_all is_unescaped name ≡ true → (n : ℕ) → AreMembers (also name (numeral n))
-counted name all n = member name all (number n)
-
-pub counted_some : (name : List ℕ) → list_all is_unescaped name ≡ true → (n : Option ℕ) → AreMembers (also_some name n)
-counted_some name all None = no_members
-counted_some name all (Some n) = counted name all n
 
 -- the beginning of an object, which stays open
 pub record IsOpen (text : List ℕ) : Type 0 where

@@ -1,4 +1,4 @@
--- The text of each part is JSON, or members of an object, or lines of JSON.
+-- The text of each part is JSON, or members of an object, or lines of JSON, and has no markup.
 use Rattle.std.proofs.Common.{ℕ, List, Bool, true, false, if◌then◌else◌, [], Option, Some, None, refl}
 use Rattle.std.specs.Prelude.{codes, map, option_map}
 use Rattle.rv_isa.specs.Choice.{predictor_name}
@@ -27,7 +27,7 @@ use Rattle.rv_stores.specs.declared.store.StoreState.TheVariants.{Waiting, Fault
 use Rattle.rv_units.specs.Pool.{Pool}
 use Rattle.rv_states.specs.Entry.{cause_of, cost_of, entry_text, fault_value_of, finished_in, head_text, issued_in, kind_text, next_pc_of, stage_text, value_of}
 use Rattle.rv_states.specs.Fetched.{fetched_json, next_fetch_text}
-use Rattle.rv_states.specs.Grammar.{AreLines, AreMembers, IsJson, no_lines, no_members}
+use Rattle.rv_states.specs.Grammar.{AreLines, AreMembers, IsJson}
 use Rattle.rv_states.specs.Instruction.{details_text, ended_text, ending_text, instruction_json, passage_text, retired_text, squashed_text, trapped_text}
 use Rattle.rv_states.specs.Json.{array, numeral, quoted}
 use Rattle.rv_states.specs.Listing.{line_if, line_text, listing_lines, place_text, statement_text}
@@ -44,102 +44,103 @@ use Rattle.rv_states.specs.Stop.{stop_json, stop_line, stop_name}
 use Rattle.rv_states.specs.Units.{start_json, units_json}
 use Rattle.rv_states.specs.Word.{word_json, word_text}
 use Rattle.rv_isa.proofs.Names.{predictor_name-word}
-use Rattle.rv_states.proofs.Names.{word-unescaped}
-use Rattle.rv_states.proofs.Grammar.{IsOpen, array_of, beginning, begun, both, closes, counted, counted_some, each_json, in_quotes, last, lines_each, member, more, number, object, object_line, one_line, string_of, truth_of}
+use Rattle.rv_states.proofs.Names.{word-safe}
+use Rattle.rv_states.proofs.Grammar.{IsOpen}
+use Rattle.rv_states.proofs.Safe.{IsSafe, array_of, beginning, begun, both, closes, counted, counted_some, each_safe, in_quotes, last, lines_each, member, more, no_lines, no_members, number, object, object_line, one_line, string_of, truth_of}
 
 -- the machine
-sizes : (v : Values) → IsOpen (sizes_text v)
+sizes : (v : Values) → IsSafe IsOpen (sizes_text v)
 unfolding sizes_text
 sizes v = begun (beginning _ refl (number _)) (both (counted _ refl _) (counted _ refl _))
 
-widths : (v : Values) → AreMembers (widths_text v)
+widths : (v : Values) → IsSafe AreMembers (widths_text v)
 unfolding widths_text
 widths v = both (counted _ refl _) (both (counted _ refl _) (both (counted _ refl _) (counted _ refl _)))
 
-buffers : (v : Values) → AreMembers (buffers_text v)
+buffers : (v : Values) → IsSafe AreMembers (buffers_text v)
 unfolding buffers_text
 buffers v = both (counted _ refl _) (both (counted _ refl _) (both (counted _ refl _) (counted _ refl _)))
 
-recovery : (r : Recovery) → AreMembers (recovery_text r)
+recovery : (r : Recovery) → IsSafe AreMembers (recovery_text r)
 unfolding recovery_text
 recovery Commit = member _ refl (in_quotes _ refl)
 recovery Early = member _ refl (in_quotes _ refl)
 
-numbers : (v : Values) → IsOpen (numbers_text v)
+numbers : (v : Values) → IsSafe IsOpen (numbers_text v)
 unfolding numbers_text
 numbers v = begun (sizes v) (both (widths v) (both (buffers v) (recovery v.recovery)))
 
-kind_of : (k : KindValues) → IsJson (kind_json k)
+kind_of : (k : KindValues) → IsSafe IsJson (kind_json k)
 unfolding kind_json
 kind_of k = object (beginning _ refl (number _)) (more (both (counted _ refl _) (both (counted _ refl _) (member _ refl (truth_of _)))) closes)
 
-kinds : (v : Values) → AreMembers (kinds_text v)
+kinds : (v : Values) → IsSafe AreMembers (kinds_text v)
 unfolding kinds_text
 kinds v = both (member _ refl (kind_of _)) (both (member _ refl (kind_of _)) (both (member _ refl (kind_of _)) (member _ refl (kind_of _))))
 
-cache : (c : CacheValues) → IsJson (cache_json c)
+cache : (c : CacheValues) → IsSafe IsJson (cache_json c)
 unfolding cache_json
 cache c =
     object (beginning _ refl (number _))
     (more (both (counted _ refl _) (both (counted _ refl _) (both (counted _ refl _) (both (counted _ refl _) (counted _ refl _))))) closes)
 
-predictor_named : (p : PredictorKind) → IsJson (quoted (predictor_name p))
-predictor_named p = in_quotes _ (word-unescaped (predictor_name p) (predictor_name-word p))
+predictor_named : (p : PredictorKind) → IsSafe IsJson (quoted (predictor_name p))
+predictor_named p = in_quotes _ (word-safe (predictor_name p) (predictor_name-word p))
 
-predictor : (p : PredictorValues) → IsJson (predictor_json p)
+predictor : (p : PredictorValues) → IsSafe IsJson (predictor_json p)
 unfolding predictor_json
 predictor p = object (beginning _ refl (number _)) (more (member _ refl (predictor_named p.kind)) closes)
 
-machine : (v : Values) → IsJson (machine_json v)
+machine : (v : Values) → IsSafe IsJson (machine_json v)
 unfolding machine_json
 machine v = object (numbers v) (more (kinds v) (more (member _ refl (cache _)) (more (member _ refl (predictor _)) closes)))
 
-format : (first : ℕ) → IsOpen (format_text first)
+format : (first : ℕ) → IsSafe IsOpen (format_text first)
 unfolding format_text
 format first = begun (beginning _ refl (number _)) (member _ refl (in_quotes _ refl))
 
-pub header_is : (first : ℕ) (v : Values) → AreLines (header_line first v)
+pub header_is : (first : ℕ) (v : Values) → IsSafe AreLines (header_line first v)
 unfolding header_line
 header_is first v = object_line (format first) (last (codes "machine") refl (machine v))
 
 -- the program
-place : (address n : ℕ) → IsOpen (place_text address n)
+place : (address n : ℕ) → IsSafe IsOpen (place_text address n)
 unfolding place_text
 place address n = begun (beginning _ refl (number _)) (counted _ refl _)
 
-statement : (is_first : Bool) (text : List ℕ) → AreMembers (statement_text is_first text)
+statement : (is_first : Bool) (text : List ℕ) → IsSafe AreMembers (statement_text is_first text)
 unfolding statement_text
 statement true text = member _ refl (string_of text)
 statement false text = no_members
 
-line_is : (is_first : Bool) (address : ℕ) (line : Line) → AreLines (line_text is_first address line)
+line_is : (is_first : Bool) (address : ℕ) (line : Line) → IsSafe AreLines (line_text is_first address line)
 unfolding line_text
 line_is is_first address line = object_line (place address line.number) (more (statement is_first line.text) closes)
 
-line_if_is : (before : Option ℕ) (address : ℕ) (line : Option Line) → AreLines (line_if before address line)
+line_if_is : (before : Option ℕ) (address : ℕ) (line : Option Line) → IsSafe AreLines (line_if before address line)
 line_if_is before address None = no_lines
 line_if_is before address (Some line) = line_is _ address line
 
-pub listing_is : (listing : Listed) (v : Values) → AreLines (listing_lines listing v)
+pub listing_is : (listing : Listed) (v : Values) → IsSafe AreLines (listing_lines listing v)
 unfolding listing_lines
 listing_is listing v = lines_each _ (λ n. line_if_is _ (word_address v.ram_base n) (line_at listing (word_address v.ram_base n))) _
 
 -- memory and the cache
-pub word_is : (address word : ℕ) (stale : Bool) → AreLines (word_text address word stale)
+pub word_is : (address word : ℕ) (stale : Bool) → IsSafe AreLines (word_text address word stale)
 unfolding word_json word_text
 word_is address word stale =
     one_line (object (beginning _ refl (number _)) (more (both (counted _ refl _) (member _ refl (truth_of _))) closes))
 
-cache_line : (line : CacheLine) → IsJson (line_json line)
+cache_line : (line : CacheLine) → IsSafe IsJson (line_json line)
 unfolding line_json
 cache_line line = object (beginning _ refl (number _)) (more (member _ refl (truth_of _)) closes)
 
-pub set_is : (set : ℕ) (lines : List CacheLine) → AreLines (lines_text set lines)
+pub set_is : (set : ℕ) (lines : List CacheLine) → IsSafe AreLines (lines_text set lines)
 unfolding lines_text
-set_is set lines = object_line (beginning _ refl (number _)) (more (member _ refl (array_of _ (each_json line_json cache_line lines))) closes)
+set_is set lines = object_line (beginning _ refl (number _)) (more (member _ refl (array_of _ (each_safe line_json cache_line lines))) closes)
 
 -- the reorder buffer
-kind_is : (kind : Option Kind) → AreMembers (kind_text kind)
+kind_is : (kind : Option Kind) → IsSafe AreMembers (kind_text kind)
 unfolding kind_text
 kind_is None = no_members
 kind_is (Some kind.Alu) = member _ refl (in_quotes _ refl)
@@ -147,13 +148,13 @@ kind_is (Some kind.Mul) = member _ refl (in_quotes _ refl)
 kind_is (Some kind.Div) = member _ refl (in_quotes _ refl)
 kind_is (Some kind.Mem) = member _ refl (in_quotes _ refl)
 
-head_is : (n : ℕ) (e : Entry) → IsOpen (head_text n e)
+head_is : (n : ℕ) (e : Entry) → IsSafe IsOpen (head_text n e)
 unfolding head_text
 head_is n e =
     begun (beginning _ refl (number _))
     (both (counted _ refl _) (both (counted_some _ refl _) (both (counted _ refl _) (both (counted _ refl _) (both (counted _ refl _) (counted_some _ refl _))))))
 
-stage_is : (stage : Stage) → AreMembers (stage_text stage)
+stage_is : (stage : Stage) → IsSafe AreMembers (stage_text stage)
 unfolding stage_text
 stage_is stage =
     both (counted_some (codes "issued") refl (issued_in stage))
@@ -164,28 +165,28 @@ stage_is stage =
     (both (counted_some (codes "cause") refl (cause_of stage))
     (counted_some (codes "mtval") refl (fault_value_of stage)))))))
 
-pub entry_is : (n : ℕ) (e : Entry) → IsOpen (entry_text n e)
+pub entry_is : (n : ℕ) (e : Entry) → IsSafe IsOpen (entry_text n e)
 unfolding entry_text
 entry_is n e = begun (head_is n e) (both (kind_is _) (stage_is _))
 
-known_is : (operand : Operand) → AreMembers (known_text operand)
+known_is : (operand : Operand) → IsSafe AreMembers (known_text operand)
 unfolding known_text
 known_is (Value value) = counted _ refl _
 known_is (Tag number) = counted _ refl _
 
-pub operand_is : (register : ℕ) (operand : Operand) → IsJson (operand_json register operand)
+pub operand_is : (register : ℕ) (operand : Operand) → IsSafe IsJson (operand_json register operand)
 unfolding operand_json
 operand_is register operand = object (beginning _ refl (number _)) (more (known_is operand) closes)
 
 -- what happened in a cycle
-passage_is : (p : Passage) → AreMembers (passage_text p)
+passage_is : (p : Passage) → IsSafe AreMembers (passage_text p)
 unfolding passage_text
 passage_is p =
     both (counted _ refl p.pc) (both (counted_some _ refl p.word) (both (counted _ refl p.fetched) (both (counted_some _ refl p.dispatched)
     (both (counted_some (codes "issued") refl (option_map (λ (issue : Issue). issue.cycle) p.issue))
     (both (counted_some (codes "cost") refl (option_map (λ (issue : Issue). issue.cost) p.issue)) (counted_some _ refl p.broadcast))))))
 
-ending_is : (e : Ending) → AreMembers (ending_text e)
+ending_is : (e : Ending) → IsSafe AreMembers (ending_text e)
 unfolding retired_text trapped_text squashed_text
 ending_is ending.InFlight = no_members
 ending_is (ending.Retired order cycle None next) = member _ refl (in_quotes _ refl)
@@ -193,19 +194,19 @@ ending_is (ending.Retired order cycle (Some written) next) = both (member _ refl
 ending_is (ending.Trapped cycle cause) = both (member _ refl (in_quotes _ refl)) (counted _ refl _)
 ending_is (ending.Squashed cycle) = member _ refl (in_quotes _ refl)
 
-unless : (hidden : Bool) {text : List ℕ} → AreMembers text → AreMembers (if hidden then [] else text)
+unless : (hidden : Bool) {text : List ℕ} → IsSafe AreMembers text → IsSafe AreMembers (if hidden then [] else text)
 unless true are = no_members
 unless false are = are
 
-details_are : (p : Passage) → AreMembers (details_text p)
+details_are : (p : Passage) → IsSafe AreMembers (details_text p)
 unfolding ended_text
-details_are p = let all : AreMembers (ended_text p) = both (passage_is p) (ending_is p.ending) in unless (is_in_flight p) all
+details_are p = let all : IsSafe AreMembers (ended_text p) = both (passage_is p) (ending_is p.ending) in unless (is_in_flight p) all
 
-pub instruction_is : (p : Passage) → IsJson (instruction_json p)
+pub instruction_is : (p : Passage) → IsSafe IsJson (instruction_json p)
 unfolding instruction_json
 instruction_is p = object (beginning _ refl (number _)) (more (details_are p) closes)
 
-pub step_is : (s : Step) → IsJson (step_json s)
+pub step_is : (s : Step) → IsSafe IsJson (step_json s)
 unfolding retirement_json trap_json interrupt_json
 step_is (step.Retired row) = object (beginning _ refl (number _)) (more (member _ refl (in_quotes _ refl)) closes)
 step_is (step.Trap pc cause value cycle) =
@@ -214,85 +215,85 @@ step_is (step.Interrupt pc cause cycle) =
     object (beginning _ refl (number _)) (more (both (member _ refl (in_quotes _ refl)) (counted _ refl _)) closes)
 
 -- the fetch buffer
-pub fetched_is : (f : Fetched) → IsJson (fetched_json f)
+pub fetched_is : (f : Fetched) → IsSafe IsJson (fetched_json f)
 unfolding fetched_json
 fetched_is f = object (beginning _ refl (number _)) (more (both (counted_some _ refl _) (both (counted _ refl _) (counted _ refl _))) closes)
 
-pub next_fetch_is : (f : FetchBuffer) → AreMembers (next_fetch_text f)
+pub next_fetch_is : (f : FetchBuffer) → IsSafe AreMembers (next_fetch_text f)
 unfolding next_fetch_text
 next_fetch_is f = both (counted _ refl _) (member _ refl (truth_of _))
 
 -- the units
-start_is : (start : Issue) → IsJson (start_json start)
+start_is : (start : Issue) → IsSafe IsJson (start_json start)
 unfolding start_json
 start_is start = object (beginning _ refl (number _)) (more (counted _ refl _) closes)
 
-starts_are : (pool : Pool) → IsJson (array (map start_json pool.starts))
-starts_are pool = array_of _ (each_json start_json start_is pool.starts)
+starts_are : (pool : Pool) → IsSafe IsJson (array (map start_json pool.starts))
+starts_are pool = array_of _ (each_safe start_json start_is pool.starts)
 
-pub units_are : (units : PerKind Pool) → IsJson (units_json units)
+pub units_are : (units : PerKind Pool) → IsSafe IsJson (units_json units)
 unfolding units_json
 units_are units =
     object (beginning _ refl (starts_are units.alu))
     (more (member _ refl (starts_are units.mul)) (more (member _ refl (starts_are units.div)) (more (member _ refl (starts_are units.mem)) closes)))
 
 -- the store queue
-access_is : (access : StoreAccess) → AreMembers (access_text access)
+access_is : (access : StoreAccess) → IsSafe AreMembers (access_text access)
 unfolding access_text
-access_is access = both (counted _ refl _) (member _ refl (array_of _ (each_json numeral number _)))
+access_is access = both (counted _ refl _) (member _ refl (array_of _ (each_safe numeral number _)))
 
-phase_is : (phase : StorePhase) → IsJson (quoted (phase_name phase))
+phase_is : (phase : StorePhase) → IsSafe IsJson (quoted (phase_name phase))
 phase_is Speculative = in_quotes _ refl
 phase_is Committed = in_quotes _ refl
 phase_is Draining = in_quotes _ refl
 
-state_is : (state : StoreState) → IsJson (quoted (state_name state))
+state_is : (state : StoreState) → IsSafe IsJson (quoted (state_name state))
 state_is Waiting = in_quotes _ refl
 state_is Faulted = in_quotes _ refl
 state_is (Filled access phase) = phase_is phase
 
-filling_is : (state : StoreState) → AreMembers (filling_text state)
+filling_is : (state : StoreState) → IsSafe AreMembers (filling_text state)
 filling_is Waiting = no_members
 filling_is Faulted = no_members
 filling_is (Filled access phase) = access_is access
 
-pub store_is : (store : Store) → IsJson (store_json store)
+pub store_is : (store : Store) → IsSafe IsJson (store_json store)
 unfolding store_head store_json
 store_is store = object (begun (beginning _ refl (number _)) (member _ refl (state_is _))) (more (filling_is store.state) closes)
 
 -- what retired instructions left
-levels_are : (lines : Lines) → AreMembers (levels_text lines)
+levels_are : (lines : Lines) → IsSafe AreMembers (levels_text lines)
 unfolding levels_text
 levels_are lines = both (member _ refl (truth_of _)) (both (member _ refl (truth_of _)) (member _ refl (truth_of _)))
 
-csrs_are : (kept : Kept) (lines : Lines) → IsJson (csrs_json kept lines)
+csrs_are : (kept : Kept) (lines : Lines) → IsSafe IsJson (csrs_json kept lines)
 unfolding interrupts_text trap_text csrs_json
 csrs_are kept lines =
     object (begun (beginning _ refl (number _)) (both (counted _ refl _) (both (counted _ refl _) (counted _ refl _))))
     (more (both (counted _ refl _) (both (counted _ refl _) (both (counted _ refl _) (counted _ refl _)))) closes)
 
-pub observed_is : (pc : ℕ) (registers : List ℕ) (kept : Kept) (lines : Lines) → IsOpen (observed_text pc registers kept lines)
+pub observed_is : (pc : ℕ) (registers : List ℕ) (kept : Kept) (lines : Lines) → IsSafe IsOpen (observed_text pc registers kept lines)
 unfolding observed_text
 observed_is pc registers kept lines =
-    begun (beginning _ refl (number _)) (both (member _ refl (array_of _ (each_json numeral number registers))) (both (member _ refl (csrs_are kept lines)) (levels_are lines)))
+    begun (beginning _ refl (number _)) (both (member _ refl (array_of _ (each_safe numeral number registers))) (both (member _ refl (csrs_are kept lines)) (levels_are lines)))
 
 -- the end
-stop_named : (stop : Stop) → IsJson (quoted (stop_name stop))
+stop_named : (stop : Stop) → IsSafe IsJson (quoted (stop_name stop))
 stop_named Limit = in_quotes _ refl
 stop_named Breakpoint = in_quotes _ refl
 stop_named (Stale pc) = in_quotes _ refl
 stop_named Exhausted = in_quotes _ refl
 
-pub stop_is : (cycles : ℕ) (stop : Stop) → AreLines (stop_line cycles stop)
+pub stop_is : (cycles : ℕ) (stop : Stop) → IsSafe AreLines (stop_line cycles stop)
 unfolding stop_json stop_line
 stop_is cycles stop = one_line (object (beginning _ refl (number _)) (more (member _ refl (stop_named stop)) closes))
 
 -- a place of the predictor's tables
-pub place_is : (place counter : ℕ) (target : Option ℕ) → IsJson (place_json place counter target)
+pub place_is : (place counter : ℕ) (target : Option ℕ) → IsSafe IsJson (place_json place counter target)
 unfolding place_json
 place_is place counter target = object (beginning _ refl (number place)) (more (both (counted _ refl counter) (counted_some _ refl target)) closes)
 
 -- a word that it was asked of
-pub asked_is : (pc : ℕ) (place : Option ℕ) (answer : ℕ) → IsJson (asked_json pc place answer)
+pub asked_is : (pc : ℕ) (place : Option ℕ) (answer : ℕ) → IsSafe IsJson (asked_json pc place answer)
 unfolding asked_json
 asked_is pc place answer = object (beginning _ refl (number pc)) (more (both (counted_some _ refl place) (counted _ refl answer)) closes)

@@ -8,7 +8,6 @@ mod NoJson
 mod Numerals
 pub mod OneText
 mod Plain
-mod PlainParts
-mod PlainStates
+mod Safe
 mod Showing
 mod Status

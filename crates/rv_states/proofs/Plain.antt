@@ -1,5 +1,5 @@
 -- No text of JSON has a byte that HTML gives a meaning.
-use Rattle.std.proofs.Common.{◌≡◌, ◌∙◌, ℕ, zero, suc, ◌+◌, ◌<◌, ◌==◌, ◌||◌, ◌&&◌, nat_le, Bool, true, false, if◌then◌else◌, List, [], ◌∷◌, ◌++◌, Option, Some, None, refl, ap, arith}
+use Rattle.std.proofs.Common.{◌≡◌, ◌∙◌, ℕ, zero, suc, ◌+◌, ◌<◌, ◌==◌, ◌||◌, ◌&&◌, nat_le, Bool, true, false, if◌then◌else◌, List, [], ◌∷◌, ◌++◌, refl, ap, arith}
 use Rattle.std.specs.Prelude.{codes, map}
 use Rattle.std.specs.Int.Digits.{AllBelowBase, digits_of}
 use Rattle.std.specs.List.{flat_map, list_any}
@@ -7,7 +7,7 @@ use Rattle.std.proofs.lemmas.Bool.{or_from}
 use Rattle.std.proofs.lemmas.Int.Digits.{all_below_base_digits_of}
 use Rattle.std.proofs.lemmas.List.Folds.{list_any-append}
 use Rattle.rv_text.specs.Plain.{plain_byte}
-use Rattle.rv_states.specs.Json.{Json, also, also_some, array, begins, comma_at, json_byte, key, numeral, opens, quoted, string, truth, values_from}
+use Rattle.rv_states.specs.Json.{Json, also, array, begins, comma_at, json_byte, key, numeral, opens, quoted, string, truth, values_from}
 use Rattle.rv_states.specs.Markup.{HasNoMarkup, is_markup}
 
 -- a text that is computed
@@ -73,13 +73,6 @@ pub member : (name : List ℕ) {value : List ℕ} → list_any is_markup name �
 unfolding also
 member name none value = both (named name none) value
 
-pub counted : (name : List ℕ) → list_any is_markup name ≡ false → (n : ℕ) → HasNoMarkup (also name (numeral n))
-counted name none n = member name none (number n)
-
-pub counted_some : (name : List ℕ) → list_any is_markup name ≡ false → (n : Option ℕ) → HasNoMarkup (also_some name n)
-counted_some name none None = plain refl
-counted_some name none (Some n) = counted name none n
-
 pub beginning : (name : List ℕ) {value : List ℕ} → list_any is_markup name ≡ false → HasNoMarkup value → HasNoMarkup (begins name value)
 unfolding opens begins
 beginning name none value = both (both {xs = codes "{\""} (plain refl) (both {xs = name} {ys = codes "\":"} (plain none) (plain refl))) value
@@ -101,10 +94,6 @@ values_of place (value ∷ values) none = both (both (comma place) none.0) (valu
 pub array_of : (values : List Json) → AllPlain values → HasNoMarkup (array values)
 unfolding array
 array_of values none = both {xs = codes "["} (plain refl) (both (values_of 0 values none) (plain refl))
-
-pub each_plain : {X : Type 0} (json : X → Json) → ((x : X) → HasNoMarkup (json x)) → (xs : List X) → AllPlain (map json xs)
-each_plain json none [] = tt
-each_plain json none (x ∷ xs) = (none x, each_plain json none xs)
 
 shown : (byte : ℕ) → (byte == 38) ≡ false → (byte == 60) ≡ false → (byte == 62) ≡ false → HasNoMarkup (plain_byte byte)
 unfolding plain_byte

@@ -41,7 +41,6 @@ use Rattle.rv_states.specs.States.{WritesStates, begun_text, cycle_text, cycles_
 use Rattle.rv_states.specs.Step.{step_json}
 use Rattle.rv_states.specs.Stop.{stop_line}
 use Rattle.rv_states.specs.declared.form.Form.{Form}
-use Rattle.rv_states.proofs.PlainStates.{states_plain}
 use Rattle.rv_states.proofs.JsonStates.{states_are}
 use Rattle.rv_view.specs.Following.{BeginsAt, IsFollowedOn, IsNumberedOn}
 use Rattle.rv_view.specs.Viewing.{cycle_shown, cycles_seen}
@@ -59,9 +58,9 @@ shown-more from untaught (cycle ∷ cycles) last =
     ∙ sym (append_assoc (cycle_text from cycle after) (cycles_text from after cycles) added)
 
 -- the whole text, from its parts
-parts-whole : (around head told stopped after : List ℕ) →
-    (around ++ head) ++ (told ++ (stopped ++ after)) ≡ around ++ (((head ++ told) ++ stopped) ++ after)
-parts-whole around head told stopped after = simp append_assoc
+parts-whole : (around head cycles stopped after : List ℕ) →
+    (around ++ head) ++ (cycles ++ (stopped ++ after)) ≡ around ++ (((head ++ cycles) ++ stopped) ++ after)
+parts-whole around head cycles stopped after = simp append_assoc
 
 -- ---- what is shown of the rows
 
@@ -173,8 +172,8 @@ module _ {seen : Watched} {cycle : ℕ} {steps : List Step} {after : Hardware} {
   seen_now = with_shown seen shown
 
   -- what the cycles before it showed
-  abbrev told : List ℕ
-  told = cycles_text from untaught (cycles_seen seen)
+  abbrev so_far : List ℕ
+  so_far = cycles_text from untaught (cycles_seen seen)
 
   -- the passages at its end, where such were kept before it
   abbrev ended : Passages → Passages
@@ -258,9 +257,9 @@ module _ {seen : Watched} {cycle : ℕ} {steps : List Step} {after : Hardware} {
 
     -- its text
     text_on : (more : List ℕ) → more ≡ cycle_text from last taught →
-        told ++ more ≡ cycles_text from untaught (cycles_seen seen_now)
+        so_far ++ more ≡ cycles_text from untaught (cycles_seen seen_now)
     text_on more is =
-        ap (λ l. told ++ l) (is ∙ ap (cycle_text from last) knows)
+        ap (λ l. so_far ++ l) (is ∙ ap (cycle_text from last) knows)
         ∙ sym (shown-more from untaught (cycles_seen seen) last)
         ∙ ap (cycles_text from untaught) (sym (cycles_seen-push seen shown))
 
@@ -281,7 +280,7 @@ module _ {seen : Watched} {cycle : ℕ} {steps : List Step} {after : Hardware} {
           same = showing.same;
           known = known_on;
           followed = following_on table' on.followed never on.fetched on.retired on.few on.quiet on.rows on.interrupts;
-          said = extends_same (sym (append-nil told) ∙ text_on [] nothing) showing.said;
+          said = extends_same (sym (append-nil so_far) ∙ text_on [] nothing) showing.said;
         }
 
     -- what is shown of rows
@@ -340,18 +339,19 @@ shown_to_the_end {from = from} {listing = listing} {old = old} {moments = moment
     let text = states_text from listing old.hardware moments stop in
     let begun : before_lines form ++ head_text from listing rows old.hardware untaught ≡ before_lines form ++ head =
     λ i. before_lines form ++ head_text from listing (rows_are i) old.hardware (untaught_is i) in
-    let told = ap (λ (predictor : DescribedPredictor). cycles_text from predictor seen) untaught_is in
+    let same_cycles = ap (λ (predictor : DescribedPredictor). cycles_text from predictor seen) untaught_is in
     let stopped = ap (λ (n : ℕ). stop_line n stop ++ after_lines form) (cycles_are ∙ length-reports_of moments) in
-    let rest = extends_both (extends_same told goes_on) (extends_same stopped ends) in
+    let rest = extends_both (extends_same same_cycles goes_on) (extends_same stopped ends) in
     let written = extends_both (extends_same begun begin) rest in
     let last = stop_line (length moments) stop in
-    let whole = parts-whole (before_lines form) head (cycles_text from known seen) last (after_lines form) in (
+    let whole = parts-whole (before_lines form) head (cycles_text from known seen) last (after_lines form) in
+    let lines = states_are from listing old.hardware moments stop in (
       before_lines form ++ (text ++ after_lines form),
       record {
         moments = moments;
         run = run;
-        json = states_are from listing old.hardware moments stop;
-        no_markup = states_plain from listing old.hardware moments stop;
+        json = lines.is;
+        no_markup = lines.plain;
         text_is = refl;
       },
       extends_whole (extends_same whole written),

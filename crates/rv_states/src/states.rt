@@ -18,8 +18,9 @@ use std::io::Write;
 /// Runs a pipeline that a predictor guides, each cycle with the lines of its number, up to a breakpoint, a stale word,
 /// exhaustion or `limit` cycles, and writes its states line by line as JSON: the machine and the program; after the first `from`
 /// cycles memory, the cache, what the machine's predictor knows of the run, and the rest of the hardware; each further cycle as it
-/// comes, what happened in it, the hardware after it, and what the predictor learned and answered; and at last after how many cycles the run ended, and why. As a page it stands in a viewer for browsers. An
-/// instruction's number counts from 0 in order of fetch. Asks for no memory once it has written. Answers why the run ended.
+/// comes, what happened in it, the hardware after it, and what the predictor learned and answered; and at last after how many
+/// cycles the run ended, and why. As a page it stands in a viewer for browsers. An instruction's number counts from 0 in order of
+/// fetch. Asks for no memory once it has written. Answers why the run ended.
 ///
 /// # Errors
 ///

@@ -1,0 +1,146 @@
+use rv_job::{SimError, read_job};
+use rv_refusal::write_refusal;
+use std::alloc::Global;
+use std::process::Abort;
+use std::test::Fail;
+
+const JUMP: &str = "\nexpected: a target from -1048576 to 1048574 bytes away\n";
+
+const IMMEDIATE: &str = "\nexpected: a value from -2048 to 2047\n";
+
+const UPPER: &str = "\nexpected: a value from 0 to 1048575\n";
+
+// Statements with a value that is out of range, and the range.
+static RANGES: [(&str, &str); 16] = [
+    ("lui x1, 0x100000", UPPER),
+    ("auipc x1, 0x100000", UPPER),
+    (".equ far, 0\nj far", JUMP),
+    (".equ far, 0\njal far", JUMP),
+    (
+        ".equ far, 0\nbeq x1, x2, far",
+        "\nexpected: a target from -4096 to 4094 bytes away\n",
+    ),
+    ("jalr x1, 2048(x2)", IMMEDIATE),
+    ("jr x2\nlw x1, -2049(x2)", IMMEDIATE),
+    ("sw x1, 2048(x2)", IMMEDIATE),
+    ("addi x1, x2, 2048", IMMEDIATE),
+    ("slli x1, x1, 32", "\nexpected: a value from 0 to 31\n"),
+    ("csrrw x0, 4096, x1", "\nexpected: a CSR from 0 to 4095\n"),
+    (
+        "csrrwi x0, 4096, 1",
+        "\nexpected: a CSR from 0 to 4095, and a value from 0 to 31\n",
+    ),
+    (".byte 256", "\nexpected: values from -128 to 255\n"),
+    (".half 65536", "\nexpected: values from -32768 to 65535\n"),
+    (
+        ".word -2147483649",
+        "\nexpected: values from -2147483648 to 4294967295\n",
+    ),
+    (
+        "j here + 1\nhere:",
+        "\nexpected: an instruction or _start at a multiple of 4, and a target an even distance away\n",
+    ),
+];
+
+// Statements with operands that they do not have, and those that they may have.
+static SHAPES: [(&str, &str); 16] = [
+    (
+        "add x1",
+        "\nexpected: add rd, rs1, rs2, as in 'add x5, x6, x7'\n",
+    ),
+    (
+        "lw x1",
+        "\nexpected: lw rd, offset(rs1), as in 'lw x5, 8(x6)'\n",
+    ),
+    (
+        "slli x1",
+        "\nexpected: slli rd, rs1, value, as in 'slli x5, x6, 8'\n",
+    ),
+    (
+        "csrr x1",
+        "\nexpected: csrr rd, csr, as in 'csrr x5, mscratch'\n",
+    ),
+    (
+        "li x1, no",
+        "\nexpected: li rd, number or .equ symbol above, as in 'li x5, 8'\n",
+    ),
+    ("ret x1", "\nexpected: ret, as in 'ret'\n"),
+    (
+        "jal",
+        "\nexpected: jal symbol, as in 'jal loop'\nexpected: jal rd, symbol, as in 'jal x5, loop'\n",
+    ),
+    (
+        "jalr",
+        "\nexpected: jalr rs1, as in 'jalr x6'\nexpected: jalr rd, offset(rs1), as in 'jalr x5, 8(x6)'\nexpected: jalr rd, rs1, value, as in 'jalr x5, x6, 8'\n",
+    ),
+    (
+        ".zero",
+        "\nexpected: .zero number from 0 to 16777216, as in '.zero 8'\n",
+    ),
+    (
+        ".balign 3",
+        "\nexpected: .balign 1 or 2 or 4 or 8 or 16, as in '.balign 8'\n",
+    ),
+    (
+        ".ascii",
+        "\nexpected: .ascii \"text\", as in '.ascii \"text\"'\n",
+    ),
+    (".data 5", "\nexpected: .data, as in '.data'\n"),
+    (".globl", "\nexpected: .globl symbol, as in '.globl loop'\n"),
+    (
+        ".equ a",
+        "\nexpected: .equ symbol, value, as in '.equ loop, 8'\n",
+    ),
+    (
+        ".word",
+        "\nexpected: .word value, as in '.word 8'\nexpected: .word value, value, as in '.word 8, 8'\n",
+    ),
+    ("a: ecall 5", "\nexpected: ecall, as in 'ecall'\n"),
+];
+
+// Other faults, and what is said of each.
+static OTHERS: [(&str, &str); 6] = [
+    (
+        "nop ; nop",
+        "\nexpected: names, numbers up to 4294967295, strings that end on their line, and the marks , : ( ) + -\n",
+    ),
+    (
+        "5 nop",
+        "\nexpected: a statement that begins with an instruction or a directive\n",
+    ),
+    (
+        "mv x1, y1",
+        "\nexpected: a register, x0 to x31, or its name in the calling convention\nnearest: x1, t1, s1\n",
+    ),
+    (
+        "a: a: nop",
+        "\nexpected: a symbol that is not defined above\n",
+    ),
+    (
+        ".zero 16777201",
+        "\nexpected: at most 16777200 bytes of text and data\n",
+    ),
+    (
+        "j nowhere",
+        "\nexpected: a symbol that a label or .equ defines\n",
+    ),
+];
+
+// Checks that what is shown of each job ends so.
+fn check_ends(rt: &impl Abort, alloc: Global, cases: &[(&str, &str)]) -> Result<(), Fail> {
+    for (job, end) in cases {
+        let mut shown = Vec::new(alloc);
+        if let Err(error) = read_job(alloc, job.as_bytes()) {
+            write_refusal(alloc, job.as_bytes(), error, &mut shown)?;
+        }
+        assert!(rt; shown.as_slice().ends_with(end.as_bytes()), "{job}");
+    }
+    Ok(())
+}
+
+#[test]
+fn a_refusal_says_what_was_expected(rt: HostRuntime) -> Result<(), Fail> {
+    check_ends(&rt, rt.alloc(), &RANGES)?;
+    check_ends(&rt, rt.alloc(), &SHAPES)?;
+    check_ends(&rt, rt.alloc(), &OTHERS)
+}

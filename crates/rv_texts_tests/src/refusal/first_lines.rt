@@ -1,0 +1,81 @@
+use crate::refusal::{Refused, check_whole};
+use std::test::Fail;
+
+// Jobs with no description that are refused by their first line, which looks like one of a description or has a mark of one.
+static FIRST_LINES: [Refused; 7] = [
+    Refused {
+        job: b"lui a0, %hi(x)",
+        why: b"\
+line 1 of the job, line 1 of its assembly: BadToken
+    lui a0, %hi(x)
+            ^
+expected: names, numbers up to 4294967295, strings that end on their line, and the marks , : ( ) + -
+",
+    },
+    Refused {
+        job: b"lw a0, [sp]",
+        why: b"\
+line 1 of the job, line 1 of its assembly: BadToken
+    lw a0, [sp]
+           ^
+expected: names, numbers up to 4294967295, strings that end on their line, and the marks , : ( ) + -
+",
+    },
+    Refused {
+        job: b"li a0, 5 == 5",
+        why: b"\
+line 1 of the job, line 1 of its assembly: BadToken
+    li a0, 5 == 5
+             ^
+expected: names, numbers up to 4294967295, strings that end on their line, and the marks , : ( ) + -
+",
+    },
+    Refused {
+        job: b"  cache.line=16 # bytes\nebreak\n",
+        why: b"\
+line 1 of the job, line 1 of its assembly: BadToken
+      cache.line=16 # bytes
+                ^
+expected: names, numbers up to 4294967295, strings that end on their line, and the marks , : ( ) + -
+is a line %% missing?
+",
+    },
+    Refused {
+        job: b"# a machine\n\t[ cache ]\nsets = 4\nebreak\n",
+        why: b"\
+line 2 of the job, line 2 of its assembly: BadToken
+     [ cache ]
+     ^
+expected: names, numbers up to 4294967295, strings that end on their line, and the marks , : ( ) + -
+is a line %% missing?
+line 3 of the job, line 3 of its assembly: BadToken
+",
+    },
+    Refused {
+        job: b"[[arrival]]\n",
+        why: b"\
+line 1 of the job, line 1 of its assembly: BadToken
+    [[arrival]]
+    ^
+expected: names, numbers up to 4294967295, strings that end on their line, and the marks , : ( ) + -
+is a line %% missing?
+",
+    },
+    Refused {
+        job: b" %%\nebreak\n",
+        why: b"\
+line 1 of the job, line 1 of its assembly: BadToken
+     %%
+     ^
+expected: names, numbers up to 4294967295, strings that end on their line, and the marks , : ( ) + -
+is a line %% missing?
+",
+    },
+];
+
+#[test]
+fn a_separator_is_asked_for_where_a_line_looks_like_one_of_a_description(
+    rt: HostRuntime,
+) -> Result<(), Fail> {
+    check_whole(&rt, rt.alloc(), &FIRST_LINES)
+}
