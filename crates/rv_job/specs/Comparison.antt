@@ -5,7 +5,7 @@ use Rattle.rv_isa.specs.declared.{images.Image.Image, values.Values.Values}
 use Rattle.rv_describe.specs.Description.{description_of}
 use Rattle.rv_job.specs.Input.{most_bytes}
 use Rattle.rv_job.specs.JobText.{HasLegalLength, RefusesAssembly}
-use Rattle.rv_job.specs.Parts.{Halves, halves_of, is_line_feed, is_separator}
+use Rattle.rv_job.specs.Parts.{Halves, halves_of, is_line_feed, is_separator, without_mark, without_return}
 use Rattle.rv_job.specs.TextImage.{Fits, IsImageOf}
 use Rattle.rv_job.specs.declared.{comparison.Comparison.Comparison, errors.SimError.SimError, job.Job.Job}
 use Rattle.rv_job.specs.declared.errors.SimError.TheVariants.{TooLong, TooManyDescriptions, Described, DoesNotFit, Memory}
@@ -18,9 +18,9 @@ most_machines = 64
 abbrev pub separator_count : List ℕ → ℕ
 separator_count text = count_by is_separator (slice_split is_line_feed text)
 
--- the name of the machine that a description whose first line this is gives it: what stands behind `# name: ` there, if that stands there
+-- the name of the machine that a description whose first line this is gives it: what stands after `# name: ` there, if that stands there
 unfoldable pub machine_name : List ℕ → List ℕ
-machine_name line = if bytes_eq (take 8 line) (codes "# name: ") then drop 8 line else []
+machine_name line = if bytes_eq (take 8 line) (codes "# name: ") then without_return (drop 8 line) else []
 
 -- the first of some lines
 abbrev pub first_of : List (List ℕ) → List ℕ
@@ -36,7 +36,7 @@ names_from first (line ∷ lines) =
 
 -- the names of the machines that a text compares; a text without separator gives none
 abbrev pub names_of : List ℕ → List (List ℕ)
-names_of text = let lines = slice_split is_line_feed text in names_from (first_of lines) lines
+names_of text = let lines = slice_split is_line_feed text in names_from (without_mark (first_of lines)) lines
 
 -- the front of a text describes machines, with a separator after each description, and the rest stands after the last of them
 pub data IsAfter (text : List ℕ) : List Values → List ℕ → Type 0 where

@@ -1,5 +1,5 @@
 -- The parts of a job: description, arrivals and assembly, with a separator between two.
-use Rattle.std.specs.Prelude.{ℕ, List, [], ◌∷◌, ◌++◌, Bool, ◌==◌, ◌||◌, if◌then◌else◌, Option, Some, None, codes}
+use Rattle.std.specs.Prelude.{ℕ, ◌-◌, List, [], ◌∷◌, ◌++◌, Bool, ◌==◌, ◌||◌, if◌then◌else◌, Option, Some, None, codes, drop, length, take}
 use Rattle.std.specs.{List.before_first, List.after_first, Option.option_map, Option.option_map_or, Option.option_or, Str.bytes_eq}
 
 -- the byte at which a line ends
@@ -9,6 +9,16 @@ is_line_feed byte = byte == 10
 -- a line is `%%`, after which a carriage return may stand
 abbrev pub is_separator : List ℕ → Bool
 is_separator line = bytes_eq line (codes "%%") || bytes_eq line (codes "%%\r")
+
+-- a line without the carriage return that may end it
+unfoldable pub without_return : List ℕ → List ℕ
+without_return line =
+    let count = length line - 1 in
+    if bytes_eq (drop count line) (codes "\r") then take count line else line
+
+-- a text without the byte order mark that may stand before it
+unfoldable pub without_mark : List ℕ → List ℕ
+without_mark text = if bytes_eq (take 3 text) (239 ∷ 187 ∷ 191 ∷ []) then drop 3 text else text
 
 -- what stands after the first line of a text, where that line is a separator
 unfoldable pub after_separator : List ℕ → Option (List ℕ)

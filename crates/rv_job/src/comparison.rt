@@ -7,7 +7,7 @@ ghost use Rattle.rv_job.specs.Parts.{halves_of};
 use crate::errors::SimError;
 use crate::job::{Job, MOST_BYTES};
 use crate::job_text::read_image;
-use crate::parts::{cut_at_separator, is_separator};
+use crate::parts::{cut_at_separator, is_separator, without_mark, without_return};
 use rv_asm::first_line;
 use rv_describe::{DescriptionError, read_description};
 use rv_isa::{Arrivals, Description};
@@ -46,7 +46,7 @@ fn machine_name(line: &[u8]) -> &[u8]
     ensures { result.now ≡ machine_name line.entry.now }
 {
     match line.strip_prefix(b"# name: ".as_slice()) {
-        Some(name) => name,
+        Some(name) => without_return(name),
         None => b"",
     }
 }
@@ -66,7 +66,7 @@ fn read_names(alloc: Global, text: &[u8]) -> Result<Vec<Vec<u8>>, AllocError>
     ensures { IfOk result (λ names. map (λ name. name.items) names.items ≡ names_of text.now) }
 {
     let mut names = Vec::new(alloc);
-    let mut first = line_of(Some(text));
+    let mut first = without_mark(line_of(Some(text)));
     let mut rest = Some(text);
     while let Some(unread) = rest {
         let (line, behind) = first_line(unread);

@@ -22,4 +22,4 @@ pub use input::{InputError, read_input};
 pub use job::Job;
 pub use job_text::read_job;
 pub use listed_job::{ListedJob, read_listed_job};
-pub use parts::{Parts, cut_into_parts};
+pub use parts::{Parts, cut_into_parts, without_mark, without_return};

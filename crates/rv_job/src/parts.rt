@@ -1,6 +1,6 @@
 ghost use Rattle.std.specs.Prelude.{◌≡◌, ◌≤◌, length, option_map, option_copied};
 ghost use Rattle.std.specs.List.{position_or_len};
-ghost use Rattle.rv_job.specs.Parts.{after_separator, halves_of, later_halves, parts_of, is_line_feed, is_separator};
+ghost use Rattle.rv_job.specs.Parts.{after_separator, halves_of, later_halves, parts_of, is_line_feed, is_separator, without_mark, without_return};
 ghost use Rattle.rv_job.specs.ReadParts.{halves_in, parts_in};
 
 // The line between two parts, without and with a carriage return.
@@ -41,6 +41,28 @@ pub(crate) fn is_separator(line: &[u8]) -> bool
     ensures { result ≡ is_separator line.now }
 {
     line == SEPARATOR || line == SEPARATOR_RETURNED
+}
+
+/// A line without the carriage return that may end it.
+#[tactic(auto, unfolding(crate::specs::Parts::without_return))]
+pub fn without_return(line: &[u8]) -> &[u8]
+    ensures { result.now ≡ without_return line.entry.now }
+{
+    match line.strip_suffix(b"\r".as_slice()) {
+        Some(front) => front,
+        None => line,
+    }
+}
+
+/// A text without the byte order mark that may stand before it.
+#[tactic(auto, unfolding(crate::specs::Parts::without_mark))]
+pub fn without_mark(text: &[u8]) -> &[u8]
+    ensures { result.now ≡ without_mark text.entry.now }
+{
+    match text.strip_prefix(b"\xef\xbb\xbf".as_slice()) {
+        Some(rest) => rest,
+        None => text,
+    }
 }
 
 // What stands after the first line of a text, where that line is a separator.

@@ -2,7 +2,7 @@
 use Rattle.std.specs.Prelude.{ℕ, ◌+◌, ◌==◌, ◌&&◌, Bool, is_some, List, [], ◌∷◌, drop, if◌then◌else◌, Option, Some, None, option_map, option_and_then, codes}
 use Rattle.std.specs.{List.slice_split, Option.option_or, Str.bytes_eq}
 use Rattle.rv_refusal.specs.KeyLine.{is_none_of}
-use Rattle.rv_refusal.specs.Lines.{without_mark}
+use Rattle.rv_job.specs.Parts.{without_mark}
 use Rattle.rv_refusal.specs.NameOn.{NameOn, begins_with, blanks, key_on, name_after, table_on}
 use Rattle.rv_refusal.specs.declared.entry_line.{EntryLine.EntryLine as Found, Sought.Sought}
 use Rattle.rv_refusal.specs.declared.entry_line.Sought.TheVariants.{Entry, Field, Unknown}

@@ -2,7 +2,7 @@
 use Rattle.std.specs.Prelude.{ℕ, ◌+◌, ◌==◌, Bool, not, List, [], ◌∷◌, map, if◌then◌else◌, Option, Some, None, option_map, option_and_then, option_copied}
 use Rattle.std.specs.{List.list_any, List.slice_split, Option.option_map_or, Option.option_or, Str.bytes_eq}
 use Rattle.rv_isa.specs.Key.{joined}
-use Rattle.rv_refusal.specs.Lines.{without_mark}
+use Rattle.rv_job.specs.Parts.{without_mark}
 use Rattle.rv_refusal.specs.NameOn.{NameOn, key_on, table_on}
 use Rattle.rv_refusal.specs.declared.key_line.{KeyLine.KeyLine as Found, Wanted.Wanted}
 use Rattle.rv_refusal.specs.declared.key_line.Wanted.TheVariants.{Unknown, Named}

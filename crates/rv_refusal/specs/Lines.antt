@@ -1,6 +1,6 @@
 -- Where a line stands in a job.
-use Rattle.std.specs.Prelude.{ℕ, ◌-◌, ◌==◌, List, [], ◌∷◌, count_by, drop, get_or, length, take, if◌then◌else◌}
-use Rattle.std.specs.{List.slice_split, Str.bytes_eq}
+use Rattle.std.specs.Prelude.{ℕ, ◌-◌, ◌==◌, List, [], count_by, get_or, length, take}
+use Rattle.std.specs.List.{slice_split}
 
 -- the line with a number, from 1, without its line feed; nothing stands on a line that the text does not have
 abbrev pub line_at : ℕ → List ℕ → List ℕ
@@ -13,7 +13,3 @@ line_feeds text = count_by (λ byte. byte == 10) text
 -- how many lines of a text stand before its last part
 abbrev pub lines_before : List ℕ → List ℕ → ℕ
 lines_before text part = line_feeds (take (length text - length part) text)
-
--- a text without the byte order mark that may stand before it
-unfoldable pub without_mark : List ℕ → List ℕ
-without_mark text = if bytes_eq (take 3 text) (239 ∷ 187 ∷ 191 ∷ []) then drop 3 text else text

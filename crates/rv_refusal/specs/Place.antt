@@ -2,6 +2,7 @@
 use Rattle.std.specs.Prelude.{ℕ, ◌+◌, List, ◌++◌, codes, decimal}
 use Rattle.rv_asm.specs.declared.fault.AsmFault.{AsmFault}
 use Rattle.rv_asm.specs.FaultName.{fault_name}
+use Rattle.rv_job.specs.Parts.{without_return}
 use Rattle.rv_text.specs.Plain.{plain_text}
 
 -- where a line stands of a part of the job, which has this name, and that so many lines of the job stand before
@@ -14,6 +15,6 @@ unfoldable pub place_line : ℕ → ℕ → AsmFault → List ℕ
 place_line before number fault =
     line_place (codes "assembly") before number ++ (codes ": " ++ (fault_name fault ++ codes "\n"))
 
--- a line in printing characters
+-- a line in printing characters, without the carriage return that may end it
 unfoldable pub shown_line : List ℕ → List ℕ
-shown_line line = codes "    " ++ (plain_text line ++ codes "\n")
+shown_line line = codes "    " ++ (plain_text (without_return line) ++ codes "\n")

@@ -4,9 +4,9 @@ ghost use Rattle.rv_refusal.specs.EntryLine.{count_after, element_on, entry_line
 ghost use Rattle.rv_refusal.specs.HeldName.{name_in};
 
 use crate::key_line::is_among;
-use crate::lines::without_mark;
 use crate::name_on::{NameOn, begins_with, blanks, key_on, name_after, table_on};
 use rv_asm::first_line;
+use rv_job::without_mark;
 
 /// A line of a list of arrivals with its number, how many entries have begun up to it, a name on it, and how many bytes stand before
 /// the name.

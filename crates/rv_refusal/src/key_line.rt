@@ -2,10 +2,10 @@ ghost use Rattle.std.specs.Prelude.{◌≡◌, ◌+◌, ◌≤◌, ◌==◌, ◌
 ghost use Rattle.std.specs.{List.list_any, List.slice_split, Str.bytes_eq};
 ghost use Rattle.rv_refusal.specs.KeyLine.{first_from, first_named, is_wanted, key_line, named_line, table_after, wanted_line};
 
-use crate::lines::without_mark;
 use crate::name_on::{key_on, table_on};
 use crate::text::add_all;
 use rv_asm::first_line;
+use rv_job::without_mark;
 use std::alloc::{AllocError, Global};
 
 /// A line of a description with its number, a name on it, the table that the name stands in, and how many bytes stand before the name.

@@ -1,5 +1,5 @@
 ghost use Rattle.std.specs.Prelude.{◌≡◌, ◌-◌, length};
-ghost use Rattle.rv_refusal.specs.Lines.{line_at, lines_before, line_feeds, without_mark};
+ghost use Rattle.rv_refusal.specs.Lines.{line_at, lines_before, line_feeds};
 
 use rv_asm::first_line;
 
@@ -35,15 +35,4 @@ pub(crate) fn lines_before(text: &[u8], part: &[u8]) -> usize
 {
     let (front, _) = text.split_at(text.len().saturating_sub(part.len()));
     line_feeds(front)
-}
-
-/// A text without the byte order mark that may stand before it.
-#[tactic(auto, unfolding(crate::specs::Lines::without_mark))]
-pub(crate) fn without_mark(text: &[u8]) -> &[u8]
-    ensures { result.now ≡ without_mark text.entry.now }
-{
-    match text.strip_prefix(b"\xef\xbb\xbf".as_slice()) {
-        Some(rest) => rest,
-        None => text,
-    }
 }

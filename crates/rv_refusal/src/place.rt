@@ -4,6 +4,7 @@ ghost use Rattle.rv_refusal.specs.Place.{line_place, place_line, shown_line};
 use crate::text::{add_all, add_plain};
 use itoa::Buffer;
 use rv_asm::AsmFault;
+use rv_job::without_return;
 use std::alloc::AllocError;
 
 /// Appends where a line stands of a part of the job, which has this name, and that so many lines of the job stand before.
@@ -47,12 +48,12 @@ pub(crate) fn add_place(
     add_all(out, &[b": ", fault.name().as_bytes(), b"\n"])
 }
 
-/// Appends a line in printing characters.
+/// Appends a line in printing characters, without the carriage return that may end it.
 #[tactic(auto, unfolding(crate::specs::Place::shown_line))]
 pub(crate) fn add_line(out: &mut Vec<u8>, line: &[u8]) -> Result<(), AllocError>
     ensures { OnOk result (out.new.items ≡ out.old.items ++ shown_line line.now) }
 {
     out.extend_from_slice(b"    ")?;
-    add_plain(out, line)?;
+    add_plain(out, without_return(line))?;
     out.extend_from_slice(b"\n")
 }
