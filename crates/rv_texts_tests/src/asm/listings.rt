@@ -5,7 +5,7 @@ use std::test::Fail;
 
 #[test]
 fn a_word_has_the_line_whose_bytes_hold_its_first_byte(rt: HostRuntime) -> Result<(), Fail> {
-    const ROWS: [(u32, Option<usize>, Option<&[u8]>); 10] = [
+    static ROWS: [(u32, Option<usize>, Option<&[u8]>); 10] = [
         (BASE, Some(4), Some(b"la x8,d")),
         (BASE + 4, Some(4), Some(b"la x8,d")),
         (BASE + 8, Some(6), Some(b"nop")),
@@ -26,7 +26,7 @@ fn a_word_has_the_line_whose_bytes_hold_its_first_byte(rt: HostRuntime) -> Resul
 
 #[test]
 fn a_listed_image_is_refused_as_the_image_is(rt: HostRuntime) -> Result<(), Fail> {
-    const ROWS: [(&[u8], AsmFault, usize); 2] = [
+    static ROWS: [(&[u8], AsmFault, usize); 2] = [
         (b"nop\n\nfoo", AsmFault::UnknownMnemonic, 3),
         (b"nop\nj nowhere", AsmFault::UnknownSymbol, 2),
     ];

@@ -84,7 +84,7 @@ fn ram_begins_no_page_after_the_last_that_it_may_begin(rt: HostRuntime) -> Resul
 
 #[test]
 fn the_texts_of_keys(rt: HostRuntime) {
-    const KEYS: [(usize, &str); 9] = [
+    static KEYS: [(usize, &str); 9] = [
         (0, ""),
         (1, "ram_base"),
         (3, "rom_bytes"),

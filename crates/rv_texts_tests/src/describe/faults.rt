@@ -4,7 +4,7 @@ use rv_describe::DescriptionError::{NotPowerOfTwo, NotToml, OutOfRange, UnknownK
 
 #[test]
 fn the_first_fault_of_a_value_is_named(rt: HostRuntime) {
-    const CASES: [(&str, DescriptionError, &str); 31] = [
+    static CASES: [(&str, DescriptionError, &str); 31] = [
         ("rob = \"a\"", WrongKind { place: 9 }, "rob"),
         ("rob.x = 1", WrongKind { place: 9 }, "rob"),
         ("[rob]", WrongKind { place: 9 }, "rob"),
@@ -96,7 +96,7 @@ fn the_first_fault_of_a_value_is_named(rt: HostRuntime) {
 
 #[test]
 fn names_that_no_key_has(rt: HostRuntime) {
-    const TEXTS: [&str; 6] = [
+    static TEXTS: [&str; 6] = [
         "sets = 4",
         "\"cache.sets\" = 4",
         "\"\".rob = 4",
@@ -111,7 +111,7 @@ fn names_that_no_key_has(rt: HostRuntime) {
 
 #[test]
 fn bytes_that_are_no_toml(rt: HostRuntime) {
-    const TEXTS: [&[u8]; 5] = [
+    static TEXTS: [&[u8]; 5] = [
         b"rob = 16\nrob = 16",
         b"rob = 0x",
         b"rob = ",

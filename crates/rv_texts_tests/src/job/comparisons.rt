@@ -93,7 +93,7 @@ fn sixty_four_machines_are_compared_and_not_one_more(rt: HostRuntime) -> Result<
 fn a_fault_of_one_of_several_descriptions_is_told_with_its_number(
     rt: HostRuntime,
 ) -> Result<(), Fail> {
-    const CASES: [(&[u8], &str); 8] = [
+    static CASES: [(&[u8], &str); 8] = [
         (
             b"rob = 0\n%%\n%%\n",
             "error: description 1: OutOfRange rob\n",
