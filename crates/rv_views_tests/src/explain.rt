@@ -191,7 +191,7 @@ const WRONG_BRANCH: [u8; 12] = [
 // The load is issued in cycle 4, when it has its address, costs 11, and stands at the head from the end of cycle 4 to that
 // of 15. The store has its address in cycle 3 and stands there up to its retirement in 4, in which its drain begins; the
 // breakpoint traps in the same cycle. The branch retires in cycle 4, and leaves the reorder buffer empty in that one, too.
-const LONGEST: [(u32, &[u8], &[u8]); 3] = [
+static LONGEST: [(u32, &[u8], &[u8]); 3] = [
     (
         0x8000_0000,
         &LOAD_THAT_MISSES,

@@ -74,7 +74,7 @@ fn the_hardware_before_a_window_has_the_number_of_its_first_cycle(rt: HostRuntim
     assert_eq!(&rt; line.as_slice(), START);
 }
 
-const STALLS: [(Stall, &str); 5] = [
+static STALLS: [(Stall, &str); 5] = [
     (Stall::Fetch, "],\"stall\":\"fetch\",\"counts\":{"),
     (Stall::Serial, "],\"stall\":\"serial\",\"counts\":{"),
     (Stall::Rob, "],\"stall\":\"rob\",\"counts\":{"),

@@ -79,7 +79,7 @@ fn a_set_has_the_line_first_that_was_stored_to_last(rt: HostRuntime) {
 
 // The load is issued in cycle 4, after its address was broadcast in cycle 3; a hit costs 1 cycle, a miss 10 more. The
 // first store was dispatched in cycle 4.
-const MISSING: [&[u8]; 2] = [
+static MISSING: [&[u8]; 2] = [
     b"\"target\":3,\"kind\":\"mem\",\"issued\":4,\"cost\":11}",
     b"\"mem\":[{\"since\":4,\"cycles\":1}]},\
 \"store_queue\":[{\"sequence\":3,\"state\":\"waiting\"}],\"port_free\":15}}\n",

@@ -47,7 +47,7 @@ pub(crate) fn has_part(text: &[u8], part: &[u8]) -> bool {
 
 // The words at 80000000 and 80000004 are 00500093 and 00100073; the addition was fetched in cycle 0, dispatched in 1 and issued
 // in 2.
-const PARTS: [&[u8]; 4] = [
+static PARTS: [&[u8]; 4] = [
     b"{\"address\":2147483652,\"line\":2,\"text\":\"ebreak\"}\n{\"memory\":2147483648,\"word\":5243027,\"stale\":false}\n{\"memory\":2147483652,\"word\":1048691,\"stale\":false}\n{\"start\":1,\"instructions\":[{\"number\":0}],",
     b"}}\n{\"cycle\":1,\"instructions\":[{\"number\":0},{\"number\":1}],\"steps\":[],\"counts\":{\"cycles\":2,\"busy\":1,\"fetch\":1,",
     b"]}\n{\"cycle\":2,",

@@ -10,7 +10,7 @@ use rv_watch::Simulated;
 const JUMP: [u8; 4] = [0x6f, 0xf0, 0x9f, 0xff];
 
 // The jump is fetched in cycle 0; the words after it in cycle 1, of which the first is outside RAM.
-const FETCHED: [&[u8]; 2] = [
+static FETCHED: [&[u8]; 2] = [
     b",\"fetch_buffer\":[{\"pc\":2147483648,\"word\":4288671855,\"fetched\":0,\"predicted\":2147483640}],\
 \"next_fetch\":2147483640,\"halted\":false",
     b",\"fetch_buffer\":[{\"pc\":2147483640,\"fetched\":1,\"predicted\":2147483644}],\

@@ -85,7 +85,7 @@ fn the_first_line_has_each_value_of_the_machine(rt: HostRuntime) {
     expect_text(&rt, &text, HEADER);
 }
 
-const CHOICES: [(Recovery, &str, PredictorKind, &str); 3] = [
+static CHOICES: [(Recovery, &str, PredictorKind, &str); 3] = [
     (
         Recovery::Commit,
         ",\"recovery\":\"commit\",\"alu\":",

@@ -49,7 +49,7 @@ fn a_line_of_two_words_has_its_text_at_the_first_of_them(rt: HostRuntime) {
 }
 
 // What a line of the program is shown as.
-const SHOWN: [(&str, &str); 7] = [
+static SHOWN: [(&str, &str); 7] = [
     ("</script>", "\\u003c/script\\u003e"),
     ("a&b", "a\\u0026b"),
     ("'\"", "'\\u0022"),

@@ -39,7 +39,7 @@ fn csrs(rt: &impl Abort) -> Csrs {
 
 // The levels of the lines, and what comes after the registers: mip has a bit for each line, software bit 3, timer bit 7
 // and external bit 11. mstatus has MPP beside the bit that was written.
-const LEVELS: [(bool, bool, bool, &str); 3] = [
+static LEVELS: [(bool, bool, bool, &str); 3] = [
     (
         true,
         false,

@@ -3,7 +3,7 @@ use rv_arch::Stop;
 use rv_states::write_stop;
 use rv_text::Sink;
 
-const STOPS: [(Stop, &[u8]); 4] = [
+static STOPS: [(Stop, &[u8]); 4] = [
     (Stop::Limit, b"{\"cycles\":9,\"stop\":\"limit\"}\n"),
     (
         Stop::Breakpoint,

@@ -9,7 +9,7 @@ const PROGRAM: &[u8] = &[
     0x63, 0x04, 0x00, 0x00, 0x13, 0x01, 0x10, 0x00, 0x93, 0x00, 0x50, 0x00, 0x73, 0x00, 0x10, 0x00,
 ];
 
-const LINES: [&str; 4] = ["beq x0,x0,8", "addi x2,x0,1", "addi x1,x0,5", "ebreak"];
+static LINES: [&str; 4] = ["beq x0,x0,8", "addi x2,x0,1", "addi x1,x0,5", "ebreak"];
 
 // The cycles 4 to 8. The branch retires in 4, which squashes the three instructions that were fetched after it, and its target is
 // fetched then, as instruction 4; that is the second that retires, in 8.

@@ -12,7 +12,7 @@ const WINDOW: Window = Window {
 };
 
 // A line of a program, and what of it stands in the 33 columns of a picture.
-const CASES: [(&str, &str); 8] = [
+static CASES: [(&str, &str); 8] = [
     ("loop: addi x1,x0,5", "loop: addi x1,x0,5               "),
     (
         "a_label_of_twenty___: addi x1,x0",

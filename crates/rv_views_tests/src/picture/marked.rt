@@ -71,7 +71,7 @@ fn drawn(rt: &impl Abort, alloc: Global, marks: Option<&[Mark]>) -> String {
 }
 
 // A marked box of each letter, two that are not marked beside them, the style and the entry of the legend.
-const SHOWN: [&str; 13] = [
+static SHOWN: [&str; 13] = [
     "<g class='p f' transform='translate(456 0)'><title>fetch in cycle 10, on the critical path</title><rect width='14' height='18'/><path class='m' d='M1 1H13V17H1Z'/><path class='m' d='M2.5 2.5H11.5V15.5H2.5Z'/><text x='7' y='13'>F</text></g>\n",
     "<g class='p d' transform='translate(470 0)'><title>dispatch in cycle 11, on the critical path</title><rect width='14' height='18'/><path class='m' d='M1 1H13V17H1Z'/><path class='m' d='M2.5 2.5H11.5V15.5H2.5Z'/><text x='7' y='13'>D</text></g>\n",
     "<g class='p i' transform='translate(484 0)'><title>issue in cycle 12, on the critical path</title><rect width='14' height='18'/><path class='m' d='M1 1H13V17H1Z'/><path class='m' d='M2.5 2.5H11.5V15.5H2.5Z'/><text x='7' y='13'>I</text></g>\n",

@@ -13,7 +13,7 @@ const WINDOW: Window = Window {
 
 // The size of 60 columns and 42 rows, the rows from the fortieth on, the numbers above the second of these, and the address
 // before the fifty-first column.
-const PLACES: [&str; 5] = [
+static PLACES: [&str; 5] = [
     "<svg xmlns='http://www.w3.org/2000/svg' width='1448' height='912' viewBox='0 0 1448 912'>\n",
     "<g class='open' transform='translate(0 746)'><text x='8' y='13'>8000009c</text>",
     "<g class='open' transform='translate(0 782)'><text x='8' y='13'>800000a0</text><text x='84' y='13'>00000013</text>\

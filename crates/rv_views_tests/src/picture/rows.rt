@@ -17,7 +17,7 @@ pub(crate) const WINDOW: Window = Window {
 // The second, third and fourth are those in the window.
 pub(crate) const INTERRUPTS: [u64; 5] = [9, 10, 13, 19, 20];
 
-pub(crate) const LINES: [&str; 2] = [
+pub(crate) static LINES: [&str; 2] = [
     "addi\tx1,x0,5",
     "ebreak # stops & \"waits\" <here> for good",
 ];
@@ -130,7 +130,7 @@ fn each_ending_has_its_letter_and_each_phase_its_own(rt: HostRuntime) {
 }
 
 // A class, a column, a name, a cycle and a letter.
-const BOXES: [(&str, u32, &str, u32, &str); 10] = [
+static BOXES: [(&str, u32, &str, u32, &str); 10] = [
     ("f", 456, "fetch", 10, "F"),
     ("d", 470, "dispatch", 11, "D"),
     ("i", 484, "issue", 12, "I"),
@@ -144,7 +144,7 @@ const BOXES: [(&str, u32, &str, u32, &str); 10] = [
 ];
 
 // Where in the legend a class and a letter stand, and what it says of them.
-const MEANINGS: [(&str, &str, &str, &str); 10] = [
+static MEANINGS: [(&str, &str, &str, &str); 10] = [
     ("0 0", "f", "F", "fetch"),
     ("150 0", "d", "D", "dispatch"),
     ("300 0", "i", "I", "issue"),
@@ -158,7 +158,7 @@ const MEANINGS: [(&str, &str, &str, &str); 10] = [
 ];
 
 // What stands around ten columns and six rows: the last row ends at 44 + 6 * 18 = 152.
-const FRAME: [&str; 9] = [
+static FRAME: [&str; 9] = [
     "<svg xmlns='http://www.w3.org/2000/svg' width='748' height='246' viewBox='0 0 748 246'>\n",
     "<g class='n' transform='translate(456 0)'><title>cycle 10</title><path d='M0 20V152'/><text x='3' y='16'>10</text></g>\n",
     "<g class='v' transform='translate(456 0)'><title>cycle 10, interrupt</title><path d='M0 38V152'/><text x='7' y='34'>!</text></g>\n",
@@ -171,7 +171,7 @@ const FRAME: [&str; 9] = [
 ];
 
 // How the rows begin.
-const ROWS: [&str; 6] = [
+static ROWS: [&str; 6] = [
     "<g class='out' transform='translate(0 44)'><text x='8' y='13'>7ffffff8</text><text x='84' y='13'>00000013</text>",
     "<g class='done' transform='translate(0 62)'><text x='8' y='13'>80000000</text><text x='84' y='13'>addi x1,x0,5</text>",
     "<g class='trap' transform='translate(0 80)'><text x='8' y='13'>80000004</text><text x='84' y='13'>ebreak # stops &amp; &quot;waits&quot; &lt;here&gt; </text>",
@@ -181,7 +181,7 @@ const ROWS: [&str; 6] = [
 ];
 
 // What stands in the row of a stale word.
-const STALE: [&str; 3] = [
+static STALE: [&str; 3] = [
     "<g class='stale' transform='translate(0 116)'><text x='8' y='13'>8000000c</text><text x='84' y='13'>00000013</text><text x='328' y='13'>stale</text>\n",
     "<title>the run ended here: the word is stale</title>\n</g>\n<g class='open' transform='translate(0 134)'>",
     "\n.stale text{fill:#a00}\n",

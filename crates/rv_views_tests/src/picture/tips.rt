@@ -137,7 +137,7 @@ const STALLS: [Option<Stall>; 10] = [
 ];
 
 // What the tips of a word say that is fetched in cycle 10 and dispatched in cycle 16, while it is the oldest.
-const ROOMS: [(&str, u32); 7] = [
+static ROOMS: [(&str, u32); 7] = [
     ("fetch", 10),
     ("wait for room in the reorder buffer", 11),
     ("wait for a station of its kind", 12),
@@ -148,7 +148,7 @@ const ROOMS: [(&str, u32); 7] = [
 ];
 
 // What those of a younger one say besides.
-const TURNS: [(&str, u32); 6] = [
+static TURNS: [(&str, u32); 6] = [
     ("wait for older ones to dispatch", 12),
     ("wait for older ones to dispatch", 15),
     ("wait for room or its turn to dispatch", 16),
