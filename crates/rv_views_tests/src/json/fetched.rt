@@ -22,7 +22,7 @@ fn a_fetched_word_has_its_cycle_and_its_prediction(rt: HostRuntime) {
     let alloc = rt.alloc();
     let description = described(&rt, Values::standard());
     let mut pipeline = pipeline(&rt, alloc, &description, &JUMP);
-    for expected in FETCHED {
+    for expected in &FETCHED {
         let _report = pipeline.cycle(&mut NotTaken, Lines::default());
         let mut text = Vec::new(alloc);
         write_fetch_buffer(&mut Sink::new(&mut text), pipeline.shown().front());
