@@ -24,7 +24,7 @@ fn an_input_without_end_is_cut(rt: HostRuntime) -> Result<(), Fail> {
 }
 
 // What a command shows of a job that is too long.
-static SHOWN: [(Command, &str); 3] = [
+const SHOWN: [(Command, &str); 3] = [
     (WHOLE, ""),
     (Command::Check, ""),
     (

@@ -273,16 +273,21 @@ is a line %% missing?
     },
 ];
 
+// What is shown of a job, which has to be refused.
+fn shown(alloc: Global, job: &[u8]) -> Result<Vec<u8>, Fail> {
+    let mut shown = Vec::new(alloc);
+    match read_job(alloc, job) {
+        Ok(_) => return Err(Fail::from("a job was taken")),
+        Err(error) => write_refusal(alloc, job, error, &mut shown)?,
+    }
+    Ok(shown)
+}
+
 // Checks that this is shown of each job.
 pub(crate) fn check_whole(rt: &impl Abort, alloc: Global, cases: &[Refused]) -> Result<(), Fail> {
     for it in cases {
-        let mut shown = Vec::new(alloc);
-        let Err(error) = read_job(alloc, it.job) else {
-            assert!(rt; false, "a job that is refused");
-            return Ok(());
-        };
-        write_refusal(alloc, it.job, error, &mut shown)?;
-        check_bytes(rt, shown.as_slice(), it.why);
+        let found = shown(alloc, it.job)?;
+        check_bytes(rt, found.as_slice(), it.why);
     }
     Ok(())
 }
@@ -421,14 +426,17 @@ static OTHERS: [(&str, &str); 6] = [
     ),
 ];
 
+// Checks that what is shown of a job ends so.
+fn check_end(rt: &impl Abort, alloc: Global, job: &str, end: &str) -> Result<(), Fail> {
+    let found = shown(alloc, job.as_bytes())?;
+    assert!(rt; found.as_slice().ends_with(end.as_bytes()), "{job}");
+    Ok(())
+}
+
 // Checks that what is shown of each job ends so.
 fn check_ends(rt: &impl Abort, alloc: Global, cases: &[(&str, &str)]) -> Result<(), Fail> {
     for (job, end) in cases {
-        let mut shown = Vec::new(alloc);
-        if let Err(error) = read_job(alloc, job.as_bytes()) {
-            write_refusal(alloc, job.as_bytes(), error, &mut shown)?;
-        }
-        assert!(rt; shown.as_slice().ends_with(end.as_bytes()), "{job}");
+        check_end(rt, alloc, job, end)?;
     }
     Ok(())
 }

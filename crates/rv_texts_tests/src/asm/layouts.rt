@@ -1,6 +1,7 @@
 use super::{BASE, each_is_refused, each_means, is_refused, means};
 use rv_asm::{AsmFault, assemble};
 use std::alloc::Global;
+use std::process::Abort;
 use std::test::Fail;
 
 #[test]
@@ -96,6 +97,11 @@ fn places(alloc: Global, text: &str) -> Option<(u32, u32)> {
     }
 }
 
+// Checks where a text's image starts.
+fn starts_at(rt: &impl Abort, alloc: Global, text: &str, start: u32) {
+    assert_eq!(rt; places(alloc, text), Some((BASE, start)), "{text}");
+}
+
 #[test]
 fn execution_starts_at_the_symbol_start_or_at_the_base(rt: HostRuntime) {
     static CASES: [(&str, u32); 6] = [
@@ -109,7 +115,7 @@ fn execution_starts_at_the_symbol_start_or_at_the_base(rt: HostRuntime) {
         (".globl _start\n.global _start", 0x80000000),
     ];
     for (text, start) in &CASES {
-        assert_eq!(rt; places(rt.alloc(), text), Some((BASE, *start)), "{text}");
+        starts_at(&rt, rt.alloc(), text, *start);
     }
 }
 

@@ -35,6 +35,11 @@ fn tokens_stand_with_or_without_blanks_and_a_comment_is_left_out(
     Ok(())
 }
 
+// Checks that a line is refused for what is no token.
+fn is_bad(rt: &impl Abort, alloc: Global, line: &[u8]) {
+    assert_eq!(rt; fault(alloc, line), Some((AsmFault::BadToken, 1)));
+}
+
 #[test]
 fn what_is_no_token_is_refused(rt: HostRuntime) {
     static LINES: [&[u8]; 22] = [
@@ -62,6 +67,6 @@ fn what_is_no_token_is_refused(rt: HostRuntime) {
         b"nop\x0c",
     ];
     for line in &LINES {
-        assert_eq!(rt; fault(rt.alloc(), line), Some((AsmFault::BadToken, 1)));
+        is_bad(&rt, rt.alloc(), line);
     }
 }

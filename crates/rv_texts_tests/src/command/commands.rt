@@ -178,7 +178,7 @@ fn a_picture_shows_sixty_cycles_from_the_first_on_unless_others_are_asked_for(
 fn states_and_page_tell_of_two_hundred_cycles_unless_others_are_asked_for(
     rt: HostRuntime,
 ) -> Result<(), Fail> {
-    static CASES: [(&[&str], Command); 4] = [
+    const CASES: [(&[&str], Command); 4] = [
         (
             &["rv_sim", "states"],
             Command::States {
@@ -234,7 +234,7 @@ pub(super) fn has_a_limit_alone(rt: &impl Abort, alloc: Global, name: &str) -> R
 fn a_log_has_a_limit_and_a_profile_and_an_explanation_have_flags_too(
     rt: HostRuntime,
 ) -> Result<(), Fail> {
-    static CASES: [(&[&str], Command); 11] = [
+    const CASES: [(&[&str], Command); 11] = [
         (&["rv_sim", "log"], Command::Log { limit: 100_000 }),
         (
             &["rv_sim", "log", "--limit", "7"],

@@ -82,6 +82,10 @@ fn ram_begins_no_page_after_the_last_that_it_may_begin(rt: HostRuntime) -> Resul
     check_key(&rt, rt.alloc(), 1, 0xff00_1000, outside)
 }
 
+fn check_name(rt: &impl Abort, place: usize, key: &str) {
+    assert!(rt; key_name(place) == key, "{place}");
+}
+
 #[test]
 fn the_texts_of_keys(rt: HostRuntime) {
     static KEYS: [(usize, &str); 9] = [
@@ -96,6 +100,6 @@ fn the_texts_of_keys(rt: HostRuntime) {
         (39, ""),
     ];
     for (place, key) in &KEYS {
-        assert!(rt; key_name(*place) == *key, "{place}");
+        check_name(&rt, *place, key);
     }
 }

@@ -1,6 +1,8 @@
 use super::{fault, is_refused};
 use rv_describe::DescriptionError;
 use rv_describe::DescriptionError::{NotPowerOfTwo, NotToml, OutOfRange, UnknownKey, WrongKind};
+use std::alloc::Global;
+use std::process::Abort;
 
 #[test]
 fn the_first_fault_of_a_value_is_named(rt: HostRuntime) {
@@ -109,6 +111,11 @@ fn names_that_no_key_has(rt: HostRuntime) {
     }
 }
 
+// Checks that bytes are no TOML.
+fn is_no_toml(rt: &impl Abort, alloc: Global, bytes: &[u8]) {
+    assert!(rt; fault(alloc, bytes) == Some(NotToml));
+}
+
 #[test]
 fn bytes_that_are_no_toml(rt: HostRuntime) {
     static TEXTS: [&[u8]; 5] = [
@@ -119,6 +126,6 @@ fn bytes_that_are_no_toml(rt: HostRuntime) {
         b"rob = 16 # \xc3",
     ];
     for bytes in &TEXTS {
-        assert_eq!(rt; fault(rt.alloc(), bytes), Some(NotToml));
+        is_no_toml(&rt, rt.alloc(), bytes);
     }
 }
