@@ -61,7 +61,7 @@ const HEAD: &str = "{\"sequence\":19,\"pc\":20,\"word\":21,\"fetched\":25,\"disp
 \"predicted\":24,\"target\":5,\"kind\":\"mul\"";
 
 // What stands after the head at each stage.
-static STAGES: [(Stage, &str); 5] = [
+const STAGES: [(Stage, &str); 5] = [
     (Stage::Waiting, ""),
     (
         Stage::Running {
