@@ -8,6 +8,7 @@ use rv_isa::{
 use rv_states::write_header;
 use rv_text::Sink;
 use std::alloc::Global;
+use std::process::Abort;
 
 // No two numbers of it are equal.
 const VALUES: Values = Values {
@@ -116,11 +117,16 @@ fn header(alloc: Global, recovery: Recovery, predictor: PredictorKind) -> Vec<u8
     text
 }
 
+// Checks that a first line has a part and an end.
+fn check_header(rt: &impl Abort, header: &[u8], part: &str, end: &str) {
+    assert!(rt; has_part(header, part.as_bytes()));
+    check_end(rt, header, end.as_bytes());
+}
+
 #[test]
 fn the_first_line_names_the_recovery_and_the_predictor(rt: HostRuntime) {
     for (recovery, mends, predictor, end) in &CHOICES {
         let text = header(rt.alloc(), *recovery, *predictor);
-        assert!(&rt; has_part(text.as_slice(), mends.as_bytes()));
-        check_end(&rt, text.as_slice(), end.as_bytes());
+        check_header(&rt, text.as_slice(), mends, end);
     }
 }

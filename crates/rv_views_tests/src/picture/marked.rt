@@ -5,29 +5,34 @@ use rv_drawing::{Mark, write_picture_svg, write_picture_text};
 use std::alloc::Global;
 use std::process::Abort;
 
+macro_rules! mark {
+    ($number:expr, $column:expr) => {
+        Mark {
+            number: $number,
+            column: $column,
+        }
+    };
+}
+
 // Each phase of the instruction with number 2, a trap with a wait before it, a squash, and what has no cell: a column after the last
 // one of an instruction, an instruction that has no row, and one that there is not. Those of an instruction do not stand together,
-// and one of them stands twice. Numbers and columns.
-const MARKED: [(u64, u64); 14] = [
-    (0, 0),
-    (2, 7),
-    (3, 3),
-    (2, 0),
-    (2, 1),
-    (4, 4),
-    (2, 2),
-    (2, 3),
-    (2, 0),
-    (8, 5),
-    (2, 4),
-    (3, 8),
-    (2, 5),
-    (2, 9),
+// and one of them stands twice.
+static MARKS: [Mark; 14] = [
+    mark!(0, 0),
+    mark!(2, 7),
+    mark!(3, 3),
+    mark!(2, 0),
+    mark!(2, 1),
+    mark!(4, 4),
+    mark!(2, 2),
+    mark!(2, 3),
+    mark!(2, 0),
+    mark!(8, 5),
+    mark!(2, 4),
+    mark!(3, 8),
+    mark!(2, 5),
+    mark!(2, 9),
 ];
-
-fn marks() -> [Mark; 14] {
-    MARKED.map(|(number, column)| Mark { number, column })
-}
 
 const TEXT: &str = "                                                           10        \n\
 7ffffff8 00000013                         -                x         \n\
@@ -43,8 +48,7 @@ In lower case, or * in place of = ~ x . : on the critical path\n";
 #[test]
 fn the_letters_of_the_critical_path_are_in_lower_case(rt: HostRuntime) {
     let listing = listing(&rt, rt.alloc(), &LINES);
-    let marks = marks();
-    let marks = Some(marks.as_slice());
+    let marks = Some(MARKS.as_slice());
     let mut text = Vec::new(rt.alloc());
     write_picture_text(&passages(), &INTERRUPTS, marks, &listing, WINDOW, &mut text).expect(
         &rt, "room",
@@ -88,8 +92,7 @@ static SHOWN: [&str; 13] = [
 
 #[test]
 fn the_boxes_of_the_critical_path_have_rings_and_the_legend_says_so(rt: HostRuntime) {
-    let marks = marks();
-    let svg = drawn(&rt, rt.alloc(), Some(marks.as_slice()));
+    let svg = drawn(&rt, rt.alloc(), Some(MARKS.as_slice()));
     check_parts(&rt, svg.as_str(), &SHOWN);
     // Ten boxes, and the one in the legend, each with two rings.
     check_count(&rt, svg.as_str(), "class='m'", 22);
@@ -100,10 +103,10 @@ fn the_boxes_of_the_critical_path_have_rings_and_the_legend_says_so(rt: HostRunt
 fn a_picture_that_marks_nothing_has_a_legend_of_the_marks_and_one_with_no_path_none(
     rt: HostRuntime,
 ) {
-    static MARKS: [&str; 4] = ["class='m'", ".m{", ".m+text", "critical"];
+    static OF_MARKS: [&str; 4] = ["class='m'", ".m{", ".m+text", "critical"];
     let nothing = drawn(&rt, rt.alloc(), Some(&[]));
     check_count(&rt, nothing.as_str(), "class='m'", 2);
     check_count(&rt, nothing.as_str(), "on the critical path", 1);
     let plain = drawn(&rt, rt.alloc(), None);
-    check_none(&rt, plain.as_str(), &MARKS);
+    check_none(&rt, plain.as_str(), &OF_MARKS);
 }
