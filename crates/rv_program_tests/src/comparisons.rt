@@ -1,7 +1,8 @@
-use crate::helpers::{Narrow, missing, run_text};
+use crate::checks::{check_bytes, check_fine, check_full, check_lines};
+use crate::helpers::{Narrow, run_text};
 use rv_command::{Command, Shown, ShownColumns};
 use rv_isa::Reg;
-use rv_job::{SimError, read_comparison};
+use rv_job::read_comparison;
 use rv_program::compare::compare;
 use rv_report::{Columns, TableOptions};
 use std::test::Fail;
@@ -43,7 +44,7 @@ fn a_comparison_has_a_line_for_each_machine(rt: HostRuntime) -> Result<(), Fail>
     let comparison = read_comparison(rt.alloc(), TEXT)?;
     let mut table = Vec::new(rt.alloc());
     compare(rt.alloc(), &comparison, &OPTIONS, &mut table)?;
-    assert_eq!(rt; table.as_slice(), TABLE.as_bytes());
+    check_bytes(&rt, table.as_slice(), TABLE.as_bytes());
     Ok(())
 }
 
@@ -57,15 +58,17 @@ fn an_output_that_is_full_has_a_beginning_of_the_table(rt: HostRuntime) -> Resul
             taken: Vec::new(rt.alloc()),
         };
         let ended = compare(rt.alloc(), &comparison, &OPTIONS, &mut output);
-        assert_eq!(rt; ended.err(), Some(SimError::WriteFailed));
-        assert_eq!(rt; output.taken.len(), room);
-        assert!(rt; TABLE.as_bytes().starts_with(output.taken.as_slice()));
+        check_full(&rt, ended.err(), &output, room, TABLE.as_bytes());
     }
     Ok(())
 }
 
 #[test]
 fn a_comparison_shows_what_is_asked_for(rt: HostRuntime) {
+    static LINES: [&str; 2] = [
+        "1\t5\t1\t5.000\t1\t0\t3\t2\t0\t0\t0\t0\t0\t6\t0\tnot taken\tbreakpoint\t0.200\t4\t0\t0\t0\t0\t0\t00000005\t00100073",
+        "2\t5\t1\t5.000\t1\t0\t3\t2\t0\t0\t0\t0\t0\t6\t0\t-\tbreakpoint\t0.200\t4\t0\t0\t0\t0\t0\t00000005\t00100073",
+    ];
     let shown = ShownColumns {
         first: Some(Shown::Register(Reg::new(1).expect(&rt, "a register"))),
         second: Some(Shown::Word(0x8000_0004)),
@@ -77,10 +80,6 @@ fn a_comparison_shows_what_is_asked_for(rt: HostRuntime) {
         limit: 100_000,
     };
     let ended = run_text(rt.alloc(), command, TEXT);
-    assert_eq!(rt; ended.status, 0);
-    let lines = [
-        "1\t5\t1\t5.000\t1\t0\t3\t2\t0\t0\t0\t0\t0\t6\t0\tnot taken\tbreakpoint\t0.200\t4\t0\t0\t0\t0\t0\t00000005\t00100073",
-        "2\t5\t1\t5.000\t1\t0\t3\t2\t0\t0\t0\t0\t0\t6\t0\t-\tbreakpoint\t0.200\t4\t0\t0\t0\t0\t0\t00000005\t00100073",
-    ];
-    assert_eq!(rt; missing(ended.output.as_slice(), &lines), None);
+    check_fine(&rt, &ended);
+    check_lines(&rt, ended.output.as_slice(), &LINES);
 }

@@ -4,6 +4,7 @@ use rv_isa::{PredictorKind, PredictorValues};
 use rv_job::FaultLines;
 use rv_program::begin;
 use std::alloc::Global;
+use std::process::Abort;
 
 const COMMANDS: [Command; 5] = [
     WHOLE,
@@ -33,9 +34,17 @@ fn predictor(alloc: Global, command: &Command, input: &[u8]) -> Option<Predictor
     Some(predictor)
 }
 
+// Checks the predictor that the task of each command on a text has.
+fn check_predictor(rt: &impl Abort, alloc: Global, text: &str, described: PredictorValues) {
+    for command in &COMMANDS {
+        let found = predictor(alloc, command, text.as_bytes());
+        assert!(rt; found == Some(described), "{text}");
+    }
+}
+
 #[test]
 fn a_task_has_the_predictor_that_is_described(rt: HostRuntime) {
-    const CASES: [(&str, PredictorKind, u32); 4] = [
+    static CASES: [(&str, PredictorKind, u32); 4] = [
         ("ebreak\n", PredictorKind::Bimodal, 64),
         (
             "predictor.entries = 7\n%%\nebreak\n",
@@ -58,11 +67,6 @@ fn a_task_has_the_predictor_that_is_described(rt: HostRuntime) {
             kind: *kind,
             entries: *entries,
         };
-        for command in &COMMANDS {
-            assert!(rt;
-                predictor(rt.alloc(), command, text.as_bytes()) == Some(described),
-                "{text}"
-            );
-        }
+        check_predictor(&rt, rt.alloc(), text, described);
     }
 }

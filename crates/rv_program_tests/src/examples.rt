@@ -1,5 +1,7 @@
 use crate::checks::check_run;
 use crate::helpers::{CORE, WHOLE};
+use std::alloc::Global;
+use std::process::Abort;
 
 // The texts are those of the files in `examples/`, which a test cannot read.
 
@@ -141,9 +143,16 @@ handler:
         mret
 ";
 
+// Checks that a run by each of the two machines ends at a breakpoint with a line.
+fn check_example(rt: &impl Abort, alloc: Global, text: &str, line: &str) {
+    for command in [WHOLE, CORE] {
+        check_run(rt, alloc, command, text, 0, &["stop breakpoint", line]);
+    }
+}
+
 #[test]
 fn the_examples_end_with_what_their_comments_say(rt: HostRuntime) {
-    const CASES: [(&str, &str); 8] = [
+    static CASES: [(&str, &str); 8] = [
         (ADDITION, "x1 00000005"),
         (DIVISOR, "x10 00000015"),
         (FACTORIAL, "x10 00000078"),
@@ -154,15 +163,6 @@ fn the_examples_end_with_what_their_comments_say(rt: HostRuntime) {
         (TIMER, "x8 80000007"),
     ];
     for (text, line) in &CASES {
-        for command in [WHOLE, CORE] {
-            check_run(
-                &rt,
-                rt.alloc(),
-                command,
-                text,
-                0,
-                &["stop breakpoint", line],
-            );
-        }
+        check_example(&rt, rt.alloc(), text, line);
     }
 }

@@ -8,8 +8,11 @@ mod slowest;
 mod untaken;
 mod waits;
 
+use crate::checks::{check_ended, check_fine, check_run};
 use crate::helpers::{CORE, run_text};
 use rv_command::Command;
+use std::alloc::Global;
+use std::process::Abort;
 
 /// A run up to so many cycles that is explained in sentences, with its figures.
 pub(crate) const EXPLAIN: Command = Command::Explain {
@@ -23,6 +26,13 @@ pub(crate) const EXPLAIN: Command = Command::Explain {
 pub(crate) struct Explained {
     pub(crate) program: &'static str,
     pub(crate) line: &'static str,
+}
+
+/// Checks that the explanation of each program has the line beside it, with a status.
+pub(crate) fn check_explained(rt: &impl Abort, alloc: Global, rows: &[Explained], status: u8) {
+    for it in rows {
+        check_run(rt, alloc, EXPLAIN, it.program, status, &[it.line]);
+    }
 }
 
 const ADDITION: &[u8] = b"alu.units = 1
@@ -65,9 +75,7 @@ none: the reorder buffer was empty
 #[test]
 fn a_run_is_explained_with_the_lines_of_its_program(rt: HostRuntime) {
     let ended = run_text(rt.alloc(), EXPLAIN, ADDITION);
-    assert_eq!(rt; ended.status, 0);
-    assert!(rt; ended.output.as_slice() == SENTENCES);
-    assert!(rt; ended.errors.is_empty());
+    check_ended(&rt, &ended, 0, SENTENCES, b"");
 }
 
 // Each of the four waits of the addition has one of the five cycles.
@@ -79,18 +87,17 @@ On the critical path, 20.0 % of the cycles: execution: alu, most at 80000000, li
 
 #[test]
 fn the_critical_path_comes_first_where_that_is_asked_for(rt: HostRuntime) {
-    let explain = Command::Explain {
+    const WITH_PATH: Command = Command::Explain {
         figures: true,
         path: true,
         limit: 100,
     };
-    let ended = run_text(rt.alloc(), explain, ADDITION);
+    let ended = run_text(rt.alloc(), WITH_PATH, ADDITION);
     let output = ended.output.as_slice();
-    assert_eq!(rt; ended.status, 0);
-    assert!(rt; output.starts_with(ON_THE_PATH));
-    assert!(rt; output.ends_with(SENTENCES));
-    assert_eq!(rt; output.len(), ON_THE_PATH.len() + SENTENCES.len());
-    assert!(rt; ended.errors.is_empty());
+    check_fine(&rt, &ended);
+    assert!(&rt; output.starts_with(ON_THE_PATH));
+    assert!(&rt; output.ends_with(SENTENCES));
+    assert!(&rt; output.len() == ON_THE_PATH.len() + SENTENCES.len());
 }
 
 const REFUSED: &[u8] = b"\
@@ -105,9 +112,13 @@ expected: jal rd, symbol, as in 'jal x5, loop'
 fn a_job_that_is_refused_is_explained_by_its_line(rt: HostRuntime) {
     let job = b"alu.units = 1\n%%\nnop\njal x1, 4\n";
     let ended = run_text(rt.alloc(), EXPLAIN, job);
-    assert_eq!(rt; ended.status, 1);
-    assert!(rt; ended.errors.as_slice() == b"error: assembly line 2: BadOperands\n".as_slice());
-    assert!(rt; ended.output.as_slice() == REFUSED);
+    check_ended(
+        &rt,
+        &ended,
+        1,
+        REFUSED,
+        b"error: assembly line 2: BadOperands\n",
+    );
     let run = run_text(rt.alloc(), CORE, job);
-    assert!(rt; run.output.is_empty());
+    assert!(&rt; run.output.is_empty());
 }

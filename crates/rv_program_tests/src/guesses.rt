@@ -19,7 +19,7 @@ pub(crate) enum Guesses {
 }
 
 /// The two ways to mend a wrong prediction, as a description asks for them.
-pub(crate) const RECOVERIES: [&str; 2] = ["recovery = \"commit\"\n", "recovery = \"early\"\n"];
+pub(crate) static RECOVERIES: [&str; 2] = ["recovery = \"commit\"\n", "recovery = \"early\"\n"];
 
 /// A predictor of each sort.
 pub(crate) const GUESSES: [Guesses; 4] = [

@@ -1,3 +1,4 @@
+use crate::checks::check_fine;
 use crate::helpers::run_text;
 use crate::programs::ADDITION;
 use rv_command::Command;
@@ -14,7 +15,6 @@ C\t1
 #[test]
 fn the_cycles_of_a_run_are_logged_with_the_lines_of_its_program(rt: HostRuntime) {
     let ended = run_text(rt.alloc(), Command::Log { limit: 5 }, ADDITION);
-    assert_eq!(rt; ended.status, 0);
-    assert!(rt; ended.output.as_slice().starts_with(FIRST_CYCLE));
-    assert!(rt; ended.errors.is_empty());
+    check_fine(&rt, &ended);
+    assert!(&rt; ended.output.as_slice().starts_with(FIRST_CYCLE));
 }

@@ -1,3 +1,4 @@
+use crate::checks::{check_bytes, check_ended, check_status};
 use crate::explanations::EXPLAIN;
 use crate::helpers::{CORE, Closed, Ended, FailsOnce, HeldBack, Narrow, WHOLE, run_text};
 use crate::programs::STORE_INTO_CODE;
@@ -6,7 +7,7 @@ use rv_job::FaultLines;
 use rv_program::run;
 use rv_text::TextError;
 use std::alloc::Global;
-use std::test::Fail;
+use std::process::Abort;
 
 const TEXT: &[u8] = b"report.dump_words = 2\n%%\naddi x1,x0,5\nebreak\n";
 
@@ -72,19 +73,18 @@ fn is_shown(alloc: Global, command: &Command, text: &str, status: u8) -> bool {
 #[test]
 fn an_output_that_holds_back_is_flushed(rt: HostRuntime) {
     for command in &[CORE, WHOLE] {
-        assert!(rt; is_shown(rt.alloc(), command, "addi x1,x0,5\nebreak\n", 0));
-        assert!(rt; is_shown(rt.alloc(), command, STORE_INTO_CODE, 3));
+        assert!(&rt; is_shown(rt.alloc(), command, "addi x1,x0,5\nebreak\n", 0));
+        assert!(&rt; is_shown(rt.alloc(), command, STORE_INTO_CODE, 3));
     }
-    assert!(rt; is_shown(rt.alloc(), &Command::Check, "ebreak\n", 0));
+    assert!(&rt; is_shown(rt.alloc(), &Command::Check, "ebreak\n", 0));
 }
 
 #[test]
 fn an_output_that_cannot_be_flushed_gives_status_4(rt: HostRuntime) {
-    for text in ["ebreak\n", STORE_INTO_CODE] {
+    static TEXTS: [&str; 2] = ["ebreak\n", STORE_INTO_CODE];
+    for text in &TEXTS {
         let ended = run_held(rt.alloc(), CORE, text, false);
-        assert_eq!(rt; ended.status, 4);
-        assert!(rt; ended.output.is_empty());
-        assert!(rt; ended.errors.as_slice() == b"error: output\n".as_slice());
+        check_ended(&rt, &ended, 4, b"", b"error: output\n");
     }
 }
 
@@ -93,33 +93,33 @@ fn an_output_that_takes_few_bytes_gets_the_whole_report(rt: HostRuntime) {
     let whole = run_text(rt.alloc(), WHOLE, TEXT);
     for width in [1, 3, 64] {
         let ended = run_into(rt.alloc(), WHOLE, width, 10_000);
-        assert_eq!(rt; ended.status, 0, "at {width}");
-        assert!(rt;
-            ended.output.as_slice() == whole.output.as_slice(),
-            "at {width}"
-        );
+        check_status(&rt, &ended, 0);
+        check_bytes(&rt, ended.output.as_slice(), whole.output.as_slice());
     }
 }
 
 const REFUSED: &str = "frobnicate\n";
 
+// Checks that a job is refused, and whether that is written.
+fn check_refusal(rt: &impl Abort, ended: &Ended, refusal: Result<(), TextError>) {
+    check_status(rt, ended, 1);
+    assert!(rt; ended.refusal == refusal);
+}
+
 #[test]
 fn why_a_job_is_refused_is_flushed(rt: HostRuntime) {
     let whole = run_text(rt.alloc(), EXPLAIN, REFUSED.as_bytes());
-    assert!(rt; !whole.output.is_empty());
+    assert!(&rt; !whole.output.is_empty());
+    check_refusal(&rt, &whole, Ok(()));
     let ended = run_held(rt.alloc(), EXPLAIN, REFUSED, true);
-    assert!(rt; ended.output.as_slice() == whole.output.as_slice());
-    for refused in [whole, ended] {
-        assert_eq!(rt; refused.status, 1);
-        assert!(rt; refused.refusal == Ok(()));
-    }
+    check_bytes(&rt, ended.output.as_slice(), whole.output.as_slice());
+    check_refusal(&rt, &ended, Ok(()));
 }
 
 #[test]
 fn why_a_job_is_refused_may_fail_to_be_written(rt: HostRuntime) {
     let ended = run_held(rt.alloc(), EXPLAIN, REFUSED, false);
-    assert_eq!(rt; ended.status, 1);
-    assert!(rt; ended.refusal == Err(TextError::WriteFailed));
+    check_refusal(&rt, &ended, Err(TextError::WriteFailed));
 }
 
 const LOOP: &[u8] = b"again: addi x1,x1,1\nj again\n";
@@ -142,19 +142,20 @@ fn after_failure(
     Some((output.has_failed, output.is_asked_again))
 }
 
+// Checks that an output which fails after so many writes is not asked again.
+fn check_failure(rt: &impl Abort, alloc: Global, command: Command, input: &[u8], before: u64) {
+    let output = after_failure(alloc, command, input, before);
+    assert_eq!(rt; output, Some((true, false)), "after {before}");
+}
+
 #[test]
 fn nothing_is_written_after_a_write_that_failed(rt: HostRuntime) {
     const LOG: Command = Command::Log { limit: 1000 };
-    for (command, input, before) in [
-        (LOG, LOOP, 0),
-        (LOG, LOOP, 1),
-        (LOG, LOOP, 2),
-        (WHOLE, TEXT, 0),
-        (Command::Check, TEXT, 0),
-    ] {
-        let output = after_failure(rt.alloc(), command, input, before);
-        assert_eq!(rt; output, Some((true, false)), "after {before}");
+    for before in [0, 1, 2] {
+        check_failure(&rt, rt.alloc(), LOG, LOOP, before);
     }
+    check_failure(&rt, rt.alloc(), WHOLE, TEXT, 0);
+    check_failure(&rt, rt.alloc(), Command::Check, TEXT, 0);
 }
 
 // Whether a full output has a beginning of a report and the status says so.
@@ -167,12 +168,16 @@ fn is_cut(alloc: Global, command: &Command, room: usize) -> bool {
         && cut.errors.as_slice() == b"error: output\n".as_slice()
 }
 
+fn check_cut(rt: &impl Abort, alloc: Global, command: &Command, room: usize) {
+    assert!(rt; is_cut(alloc, command, room), "at {room}");
+}
+
 #[test]
 fn an_output_that_is_full_has_a_beginning_of_the_report(rt: HostRuntime) {
     for room in [0, 1, 15, 16, 100, 400] {
-        assert!(rt; is_cut(rt.alloc(), &WHOLE, room), "at {room}");
+        check_cut(&rt, rt.alloc(), &WHOLE, room);
     }
-    assert!(rt; is_cut(rt.alloc(), &Command::Check, 3));
+    check_cut(&rt, rt.alloc(), &Command::Check, 3);
 }
 
 // The status of a run whose faults cannot be reported, and whether there were none to report.
@@ -182,9 +187,13 @@ fn run_unreported(alloc: Global, mut input: &[u8]) -> (u8, bool) {
     (exit.status, errors.is_whole())
 }
 
+// Checks that status, and that there were faults to report.
+fn check_unreported(rt: &impl Abort, alloc: Global, input: &[u8], status: u8) {
+    assert_eq!(rt; run_unreported(alloc, input), (status, false));
+}
+
 #[test]
-fn a_fault_that_cannot_be_reported_has_its_status_too(rt: HostRuntime) -> Result<(), Fail> {
-    assert_eq!(rt; run_unreported(rt.alloc(), b"frobnicate\n"), (1, false));
-    assert_eq!(rt; run_unreported(rt.alloc(), b"ebreak\n"), (4, false));
-    Ok(())
+fn a_fault_that_cannot_be_reported_has_its_status_too(rt: HostRuntime) {
+    check_unreported(&rt, rt.alloc(), b"frobnicate\n", 1);
+    check_unreported(&rt, rt.alloc(), b"ebreak\n", 4);
 }

@@ -1,3 +1,4 @@
+use crate::checks::{check_ended, check_fine};
 use crate::helpers::run_text;
 use crate::programs::ADDITION;
 use rv_command::Command;
@@ -15,17 +16,15 @@ F fetch  D dispatch  I issue  = execution  ~ wait for the bus  B broadcast  C re
 
 #[test]
 fn the_cycles_in_view_are_shown_with_the_lines_of_the_program(rt: HostRuntime) {
-    let three = Command::Picture {
+    const THREE: Command = Command::Picture {
         text: true,
         retired: false,
         path: false,
         from: 2,
         cycles: 3,
     };
-    let ended = run_text(rt.alloc(), three, ADDITION);
-    assert_eq!(rt; ended.status, 0);
-    assert!(rt; ended.output.as_slice() == THREE_CYCLES);
-    assert!(rt; ended.errors.is_empty());
+    let ended = run_text(rt.alloc(), THREE, ADDITION);
+    check_ended(&rt, &ended, 0, THREE_CYCLES, b"");
 }
 
 // The same cycles: the events of the addition lead to its retirement, the last one up to the end of the picture.
@@ -42,17 +41,15 @@ In lower case, or * in place of = ~ x . : on the critical path
 
 #[test]
 fn the_critical_path_is_marked_where_that_is_asked_for(rt: HostRuntime) {
-    let three = Command::Picture {
+    const THREE: Command = Command::Picture {
         text: true,
         retired: false,
         path: true,
         from: 2,
         cycles: 3,
     };
-    let ended = run_text(rt.alloc(), three, ADDITION);
-    assert_eq!(rt; ended.status, 0);
-    assert!(rt; ended.output.as_slice() == THREE_MARKED);
-    assert!(rt; ended.errors.is_empty());
+    let ended = run_text(rt.alloc(), THREE, ADDITION);
+    check_ended(&rt, &ended, 0, THREE_MARKED, b"");
 }
 
 // The run ends in cycle 5.
@@ -66,22 +63,18 @@ const REPORTED: &[u8] = b"note: the run ended after 6 cycles, before those of th
 
 #[test]
 fn a_picture_is_an_svg_where_no_text_is_asked_for(rt: HostRuntime) {
-    let drawn = Command::Picture {
+    const DRAWN: Command = Command::Picture {
         text: false,
         retired: false,
         path: false,
         from: 0,
         cycles: 6,
     };
-    let ended = run_text(rt.alloc(), drawn, ADDITION);
-    assert_eq!(rt; ended.status, 0);
-    assert!(rt;
-        ended
-            .output
-            .as_slice()
-            .starts_with(b"<svg xmlns='http://www.w3.org/2000/svg' ")
-    );
-    assert!(rt; ended.output.as_slice().ends_with(b"</svg>\n"));
+    let ended = run_text(rt.alloc(), DRAWN, ADDITION);
+    check_fine(&rt, &ended);
+    let svg = ended.output.as_slice();
+    assert!(&rt; svg.starts_with(b"<svg xmlns='http://www.w3.org/2000/svg' "));
+    assert!(&rt; svg.ends_with(b"</svg>\n"));
 }
 
 // The whole run without the three words that the breakpoint squashes.
@@ -95,17 +88,15 @@ F fetch  D dispatch  I issue  = execution  ~ wait for the bus  B broadcast  C re
 
 #[test]
 fn squashed_rows_are_left_out_where_that_is_asked_for(rt: HostRuntime) {
-    let drawn = Command::Picture {
+    const DRAWN: Command = Command::Picture {
         text: true,
         retired: true,
         path: false,
         from: 0,
         cycles: 60,
     };
-    let ended = run_text(rt.alloc(), drawn, ADDITION);
-    assert_eq!(rt; ended.status, 0);
-    assert_eq!(rt; ended.output.as_slice(), WITHOUT_SQUASHED);
-    assert!(rt; ended.errors.is_empty());
+    let ended = run_text(rt.alloc(), DRAWN, ADDITION);
+    check_ended(&rt, &ended, 0, WITHOUT_SQUASHED, b"");
 }
 
 // The run ends in cycle 5, so after six cycles.
@@ -120,8 +111,6 @@ fn a_picture_after_the_end_of_a_run_says_so_and_is_reported(rt: HostRuntime) {
             cycles: 3,
         };
         let ended = run_text(rt.alloc(), after, ADDITION);
-        assert_eq!(rt; ended.status, 0);
-        assert_eq!(rt; ended.output.as_slice(), AFTER_THE_END);
-        assert_eq!(rt; ended.errors.as_slice(), REPORTED);
+        check_ended(&rt, &ended, 0, AFTER_THE_END, REPORTED);
     }
 }

@@ -7,6 +7,7 @@ use rv_program::reference::reference;
 use rv_program::simulate::simulate;
 use rv_report::Options;
 use std::alloc::Global;
+use std::process::Abort;
 use std::test::Fail;
 
 const OPTIONS: Options = Options {
@@ -133,7 +134,7 @@ const STALE_WORD: (&str, &[&str]) = (STORE_INTO_CODE, &["pc 80000014", "x7 00000
 const FRESH_WORD: (&str, &[&str]) = (STORE_AND_FENCE, &["mcause 00000003", "x7 00000001"]);
 
 // Programs, with what their ends show.
-const PROGRAMS: [(&str, &[&str]); 8] = [
+static PROGRAMS: [(&str, &[&str]); 8] = [
     DIVISIONS,
     BYTE_STORED,
     STORE_PASSED_OVER,
@@ -195,16 +196,25 @@ fn end_as_the_reference(alloc: Global, text: &str, lines: &[&str]) -> Result<boo
     Ok(missing(state, lines).is_none() && end_in(alloc, text, state)?)
 }
 
+// Checks that runs of a program end so, however they mend wrong predictions.
+fn check_program(
+    rt: &impl Abort,
+    alloc: Global,
+    program: &str,
+    lines: &[&str],
+) -> Result<(), Fail> {
+    for recovery in &RECOVERIES {
+        let text = format!(in alloc; "{recovery}{DUMP}%%\n{program}")?;
+        let ends_alike = end_as_the_reference(alloc, text.as_str(), lines)?;
+        assert!(rt; ends_alike, "{program}");
+    }
+    Ok(())
+}
+
 #[test]
 fn no_guess_and_no_recovery_changes_the_state_at_the_end(rt: HostRuntime) -> Result<(), Fail> {
-    for (program, lines) in PROGRAMS {
-        for recovery in RECOVERIES {
-            let text = format!(in rt.alloc(); "{recovery}{DUMP}%%\n{program}")?;
-            assert!(rt;
-                end_as_the_reference(rt.alloc(), text.as_str(), lines)?,
-                "{program}"
-            );
-        }
+    for (program, lines) in &PROGRAMS {
+        check_program(&rt, rt.alloc(), program, lines)?;
     }
     Ok(())
 }
@@ -222,7 +232,7 @@ fn alternating(alloc: Global) -> Result<String, Fail> {
     Ok(text)
 }
 
-const SUM: [&str; 5] = [
+static SUM: [&str; 5] = [
     "stop breakpoint",
     "interrupts 1",
     "x5 00000037",
@@ -241,17 +251,26 @@ fn are_interrupted_once(alloc: Global, text: &str) -> Result<bool, Fail> {
     Ok(true)
 }
 
+// Checks that runs with these arrivals do so, as they mend wrong predictions.
+fn check_interrupted(
+    rt: &impl Abort,
+    alloc: Global,
+    recovery: &str,
+    arrivals: &str,
+) -> Result<(), Fail> {
+    let text = format!(in alloc; "{recovery}%%\n{arrivals}%%\n{INTERRUPTED_SUM}")?;
+    let is_once = are_interrupted_once(alloc, text.as_str())?;
+    assert!(rt; is_once, "{recovery}");
+    Ok(())
+}
+
 #[test]
 fn a_timer_line_that_changes_in_each_cycle_interrupts_the_sum_once(
     rt: HostRuntime,
 ) -> Result<(), Fail> {
     let arrivals = alternating(rt.alloc())?;
-    for recovery in RECOVERIES {
-        let text = format!(in rt.alloc(); "{recovery}%%\n{arrivals}%%\n{INTERRUPTED_SUM}")?;
-        assert!(rt;
-            are_interrupted_once(rt.alloc(), text.as_str())?,
-            "{recovery}"
-        );
+    for recovery in &RECOVERIES {
+        check_interrupted(&rt, rt.alloc(), recovery, arrivals.as_str())?;
     }
     Ok(())
 }

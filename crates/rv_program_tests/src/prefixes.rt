@@ -1,6 +1,7 @@
 use crate::helpers::run_text;
 use rv_command::Command;
 use std::alloc::Global;
+use std::process::Abort;
 
 const TEXT: [u8; 20] = *b"addi x1,x0,5\nebreak\n";
 
@@ -37,9 +38,13 @@ fn is_reported(alloc: Global, beginning: &[u8]) -> bool {
         && other.is_empty()
 }
 
+fn check_beginning(rt: &impl Abort, alloc: Global, beginning: &[u8]) {
+    assert!(rt; is_reported(alloc, beginning), "at {}", beginning.len());
+}
+
 #[test]
 fn each_beginning_of_a_text_is_checked(rt: HostRuntime) {
     for length in 0..=20 {
-        assert!(rt; is_reported(rt.alloc(), &TEXT[..length]), "at {length}");
+        check_beginning(&rt, rt.alloc(), &TEXT[..length]);
     }
 }

@@ -1,4 +1,5 @@
-use crate::helpers::{has_line, missing, run_text};
+use crate::checks::{check_fine, check_lines};
+use crate::helpers::{has_line, run_text};
 use crate::programs::ADDITION;
 use rv_command::Command;
 
@@ -9,21 +10,17 @@ const ADDITION_LINE: &str =
 
 #[test]
 fn the_lines_of_a_run_are_counted(rt: HostRuntime) {
-    let ended = run_text(
-        rt.alloc(),
-        Command::Profile {
-            path: false,
-            limit: 100,
-        },
-        ADDITION,
-    );
-    assert_eq!(rt; ended.status, 0);
-    assert!(rt; has_line(ended.output.as_slice(), ADDITION_LINE));
-    assert!(rt; ended.errors.is_empty());
+    let profile = Command::Profile {
+        path: false,
+        limit: 100,
+    };
+    let ended = run_text(rt.alloc(), profile, ADDITION);
+    check_fine(&rt, &ended);
+    assert!(&rt; has_line(ended.output.as_slice(), ADDITION_LINE));
 }
 
 // Four of the six cycles lead to the retirement of the addition, and one to the trap of the breakpoint, which retires alone.
-const PATH_LINES: [&str; 2] = [
+static PATH_LINES: [&str; 2] = [
     "80000000\t1\taddi x1,x0,5\t1\t1\t0\t1.000\t1\t1.000\t1\t1.000\t1\t1.000\t1\t0\t0\t0\t3\t4",
     "80000004\t2\tebreak\t1\t0\t0\t-\t-\t-\t-\t-\t-\t-\t-\t0\t0\t0\t1\t1",
 ];
@@ -35,7 +32,6 @@ fn the_cycles_on_the_critical_path_are_counted_where_that_is_asked_for(rt: HostR
         limit: 100,
     };
     let ended = run_text(rt.alloc(), profile, ADDITION);
-    assert_eq!(rt; ended.status, 0);
-    assert_eq!(rt; missing(ended.output.as_slice(), &PATH_LINES), None);
-    assert!(rt; ended.errors.is_empty());
+    check_fine(&rt, &ended);
+    check_lines(&rt, ended.output.as_slice(), &PATH_LINES);
 }

@@ -1,3 +1,4 @@
+use crate::checks::check_ended;
 use crate::helpers::{WHOLE, run_read};
 use std::io;
 use std::io::Read;
@@ -22,7 +23,5 @@ impl Read for Broken {
 #[test]
 fn an_input_that_cannot_be_read_gives_status_4(rt: HostRuntime) {
     let ended = run_read(rt.alloc(), WHOLE, &mut Broken { zeros: 5 });
-    assert_eq!(rt; ended.status, 4);
-    assert!(rt; ended.output.is_empty());
-    assert!(rt; ended.errors.as_slice() == b"error: input\n".as_slice());
+    check_ended(&rt, &ended, 4, b"", b"error: input\n");
 }

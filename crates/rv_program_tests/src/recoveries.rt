@@ -1,7 +1,7 @@
 //! Early recovery, seen in the cycles of a trace, with predictors that miss what the described ones never do.
 
+use crate::checks::check_lines;
 use crate::guesses::Guesses;
-use crate::helpers::missing;
 use rv_job::read_job;
 use rv_program::BoxedPredictor;
 use rv_program::simulate::simulate;
@@ -32,12 +32,12 @@ fn mended_early(alloc: Global, program: &str, guesses: Guesses) -> Result<Vec<u8
 #[test]
 fn early_recovery_mends_each_jump_at_its_broadcast(rt: HostRuntime) -> Result<(), Fail> {
     const PROGRAM: &str = "j over\nnop\nover: ebreak\n";
-    const ROWS: [&str; 2] = [
+    static ROWS: [&str; 2] = [
         "R 80000000 0080006f F0 D1 I2 B3 C4 -",
         "T 80000008 00000003 00000000 C5",
     ];
     let report = mended_early(rt.alloc(), PROGRAM, Guesses::Ahead)?;
-    assert_eq!(rt; missing(report.as_slice(), &ROWS), None);
+    check_lines(&rt, report.as_slice(), &ROWS);
     Ok(())
 }
 
@@ -45,11 +45,11 @@ fn early_recovery_mends_each_jump_at_its_broadcast(rt: HostRuntime) -> Result<()
 #[test]
 fn early_recovery_leaves_what_is_no_jump_to_its_retirement(rt: HostRuntime) -> Result<(), Fail> {
     const PROGRAM: &str = "addi x1,x0,5\nebreak\n";
-    const ROWS: [&str; 2] = [
+    static ROWS: [&str; 2] = [
         "R 80000000 00500093 F0 D1 I2 B3 C4 x1=00000005",
         "T 80000004 00000003 00000000 C6",
     ];
     let report = mended_early(rt.alloc(), PROGRAM, Guesses::Itself)?;
-    assert_eq!(rt; missing(report.as_slice(), &ROWS), None);
+    check_lines(&rt, report.as_slice(), &ROWS);
     Ok(())
 }

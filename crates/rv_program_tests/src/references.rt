@@ -1,5 +1,5 @@
-use crate::helpers::{WHOLE, missing, run_text};
-use std::test::Fail;
+use crate::checks::check_lines;
+use crate::helpers::{WHOLE, run_text};
 
 // A store to the read-only front of RAM, and the handler that ends the run.
 const READ_ONLY: &[u8] = b"rom_bytes = 4096
@@ -19,16 +19,15 @@ w: .word 7
 ";
 
 #[test]
-fn the_reference_runs_the_machine_that_is_described(rt: HostRuntime) -> Result<(), Fail> {
-    let ended = run_text(rt.alloc(), WHOLE, READ_ONLY);
-    let lines = [
+fn the_reference_runs_the_machine_that_is_described(rt: HostRuntime) {
+    static LINES: [&str; 4] = [
         "stop breakpoint",
         "x6 00000007",
         "x10 00000007",
         "x12 80000018",
     ];
-    assert_eq!(rt; missing(ended.output.as_slice(), &lines), None);
-    Ok(())
+    let ended = run_text(rt.alloc(), WHOLE, READ_ONLY);
+    check_lines(&rt, ended.output.as_slice(), &LINES);
 }
 
 // Counts up until an interrupt of the timer; its handler keeps the count.
@@ -49,16 +48,15 @@ ebreak
 ";
 
 #[test]
-fn the_reference_takes_arrivals_by_the_numbers_of_steps(rt: HostRuntime) -> Result<(), Fail> {
-    let ended = run_text(rt.alloc(), WHOLE, INTERRUPTED);
+fn the_reference_takes_arrivals_by_the_numbers_of_steps(rt: HostRuntime) {
     // Twenty steps, six of them before the loop; the twenty-first is the interrupt.
-    let lines = [
+    static LINES: [&str; 5] = [
         "stop breakpoint",
         "steps 23",
         "interrupts 1",
         "x6 00000007",
         "x10 80000007",
     ];
-    assert_eq!(rt; missing(ended.output.as_slice(), &lines), None);
-    Ok(())
+    let ended = run_text(rt.alloc(), WHOLE, INTERRUPTED);
+    check_lines(&rt, ended.output.as_slice(), &LINES);
 }

@@ -1,7 +1,8 @@
-use crate::helpers::{Narrow, missing, run_text};
+use crate::checks::{check_full, check_lines, check_status};
+use crate::helpers::{Narrow, run_text};
 use rv_command::Command;
 use rv_isa::NumberKey;
-use rv_job::{SimError, read_job};
+use rv_job::read_job;
 use rv_program::sensitivity::sensitivity;
 use rv_report::{Columns, TableOptions};
 use rv_sensitivity::{Change, KeyValue, Setting, Settings};
@@ -30,29 +31,32 @@ const OPTIONS: TableOptions = TableOptions {
 };
 
 #[test]
-fn the_machine_as_it_is_stands_first(rt: HostRuntime) -> Result<(), Fail> {
+fn the_machine_as_it_is_stands_first(rt: HostRuntime) {
+    static LINES: [&str; 3] = [
+        "widths\t2,2,2,2\t4,4,4,4\t5\t0\tbreakpoint",
+        "predictor.kind\tbimodal\tnot_taken\t5\t0\tbreakpoint",
+        "predictor.kind\tbimodal\tbackward_taken\t5\t0\tbreakpoint",
+    ];
     let command = Command::Sensitivity {
         also: NOTHING_SET,
         limit: 100_000,
     };
     let ended = run_text(rt.alloc(), command, TEXT);
-    assert_eq!(rt; ended.status, 0);
+    check_status(&rt, &ended, 0);
     let table = ended.output.as_slice();
-    assert!(&rt;
-        table.starts_with(b"key\tfrom\tto\tcycles\tchange\tstop\n-\t-\t-\t5\t0\tbreakpoint\n")
-    );
-    let lines = [
-        "widths\t2,2,2,2\t4,4,4,4\t5\t0\tbreakpoint",
-        "predictor.kind\tbimodal\tnot_taken\t5\t0\tbreakpoint",
-        "predictor.kind\tbimodal\tbackward_taken\t5\t0\tbreakpoint",
-    ];
-    assert_eq!(rt; missing(table, &lines), None);
-    Ok(())
+    let beginning = b"key\tfrom\tto\tcycles\tchange\tstop\n-\t-\t-\t5\t0\tbreakpoint\n";
+    assert!(&rt; table.starts_with(beginning));
+    check_lines(&rt, table, &LINES);
 }
 
 // Three cycles are fewer than the program needs.
 #[test]
 fn a_run_that_the_limit_ends_says_so(rt: HostRuntime) {
+    static LINES: [&str; 3] = [
+        "-\t-\t-\t3\t0\tlimit",
+        "rob\t16\t32\t3\t0\tlimit",
+        "fetch_width\t2\t1\t3\t0\tlimit",
+    ];
     let also = Settings {
         second: Some(Setting {
             index: 3,
@@ -62,13 +66,8 @@ fn a_run_that_the_limit_ends_says_so(rt: HostRuntime) {
     };
     let command = Command::Sensitivity { also, limit: 3 };
     let ended = run_text(rt.alloc(), command, TEXT);
-    assert_eq!(rt; ended.status, 0);
-    let lines = [
-        "-\t-\t-\t3\t0\tlimit",
-        "rob\t16\t32\t3\t0\tlimit",
-        "fetch_width\t2\t1\t3\t0\tlimit",
-    ];
-    assert_eq!(rt; missing(ended.output.as_slice(), &lines), None);
+    check_status(&rt, &ended, 0);
+    check_lines(&rt, ended.output.as_slice(), &LINES);
 }
 
 #[test]
@@ -78,7 +77,7 @@ fn a_job_that_is_refused_has_no_table(rt: HostRuntime) {
         limit: 3,
     };
     let ended = run_text(rt.alloc(), command, b"rob = 0\n%%\nebreak\n");
-    assert_eq!(rt; ended.status, 1);
+    check_status(&rt, &ended, 1);
     assert!(&rt; ended.output.is_empty());
 }
 
@@ -95,9 +94,7 @@ fn an_output_that_is_full_has_a_beginning_of_the_table(rt: HostRuntime) -> Resul
             taken: Vec::new(rt.alloc()),
         };
         let ended = sensitivity(rt.alloc(), &job, &own, &OPTIONS, &mut output);
-        assert_eq!(rt; ended.err(), Some(SimError::WriteFailed));
-        assert_eq!(rt; output.taken.len(), room);
-        assert!(rt; whole.as_slice().starts_with(output.taken.as_slice()));
+        check_full(&rt, ended.err(), &output, room, whole.as_slice());
     }
     Ok(())
 }

@@ -1,6 +1,8 @@
+use crate::checks::check_ended;
 use crate::helpers::{CORE, missing, run_text};
 use crate::programs::INTERRUPTED_SUM;
 use std::alloc::Global;
+use std::process::Abort;
 use std::test::Fail;
 
 // A job whose timer rises in a cycle and stays.
@@ -12,11 +14,11 @@ fn interrupted_at(alloc: Global, cycle: u64, recovery: &str) -> Result<String, F
     Ok(job)
 }
 
-const SUM: [&str; 3] = ["stop breakpoint", "x5 00000037", "x6 00000000"];
+static SUM: [&str; 3] = ["stop breakpoint", "x5 00000037", "x6 00000000"];
 
-const ONCE: [&str; 2] = ["interrupts 1", "x30 00000001"];
+static ONCE: [&str; 2] = ["interrupts 1", "x30 00000001"];
 
-const NEVER: [&str; 2] = ["interrupts 0", "x30 00000000"];
+static NEVER: [&str; 2] = ["interrupts 0", "x30 00000000"];
 
 // Whether a report has the sum, and one interrupt or, where it may come too late, none.
 fn is_summed(report: &[u8], cycle: u64) -> bool {
@@ -24,30 +26,35 @@ fn is_summed(report: &[u8], cycle: u64) -> bool {
         && (missing(report, &ONCE).is_none() || cycle > 0 && missing(report, &NEVER).is_none())
 }
 
+// Checks that the sum is so after an interrupt in a cycle.
+fn check_sum(rt: &impl Abort, alloc: Global, cycle: u64, recovery: &str) -> Result<(), Fail> {
+    let job = interrupted_at(alloc, cycle, recovery)?;
+    let ended = run_text(alloc, CORE, job.as_bytes());
+    assert!(rt;
+        is_summed(ended.output.as_slice(), cycle),
+        "{recovery} {cycle}"
+    );
+    Ok(())
+}
+
 #[test]
 fn an_interrupt_in_any_cycle_leaves_the_sum_as_it_is(rt: HostRuntime) -> Result<(), Fail> {
-    for recovery in ["commit", "early"] {
-        for cycle in 0..=60 {
-            let job = interrupted_at(rt.alloc(), cycle, recovery)?;
-            let ended = run_text(rt.alloc(), CORE, job.as_bytes());
-            assert!(rt;
-                is_summed(ended.output.as_slice(), cycle),
-                "{recovery} {cycle}"
-            );
-        }
+    for cycle in 0..=60 {
+        check_sum(&rt, rt.alloc(), cycle, "commit")?;
+        check_sum(&rt, rt.alloc(), cycle, "early")?;
     }
     Ok(())
 }
 
-// Whether a job is refused with a line, and nothing else is written.
-fn is_refused(alloc: Global, text: &str, line: &str) -> bool {
+// Checks that a job is refused with a line, and nothing else is written.
+fn is_refused(rt: &impl Abort, alloc: Global, text: &str, line: &str) {
     let ended = run_text(alloc, CORE, text.as_bytes());
-    ended.status == 1 && ended.output.is_empty() && ended.errors.as_slice() == line.as_bytes()
+    check_ended(rt, &ended, 1, b"", line.as_bytes());
 }
 
 #[test]
 fn a_job_that_is_refused_is_not_run(rt: HostRuntime) {
-    const CASES: [(&str, &str); 4] = [
+    static CASES: [(&str, &str); 4] = [
         (
             "ram_size = 4096\nrom_bytes = 8192\n%%\nebreak\n",
             "error: description: OutOfRange rom_bytes\n",
@@ -60,6 +67,6 @@ fn a_job_that_is_refused_is_not_run(rt: HostRuntime) {
         (".zero 65537\n", "error: image does not fit\n"),
     ];
     for (text, line) in &CASES {
-        assert!(rt; is_refused(rt.alloc(), text, line), "{text}");
+        is_refused(&rt, rt.alloc(), text, line);
     }
 }

@@ -1,5 +1,8 @@
+use crate::checks::check_status;
 use crate::helpers::run_text;
 use rv_command::Command;
+use std::alloc::Global;
+use std::process::Abort;
 use std::str;
 
 const TABBED: &[u8] = b"alu.units = 1
@@ -31,13 +34,18 @@ const COMMANDS: [Command; 4] = [
     },
 ];
 
+// Checks that what a command shows has the statement with a blank, and no other mark in place of the tab.
+fn check_blank(rt: &impl Abort, alloc: Global, command: Command) {
+    let ended = run_text(alloc, command, TABBED);
+    check_status(rt, &ended, 0);
+    let text = str::from_utf8(ended.output.as_slice()).expect(rt, "ASCII");
+    assert!(rt; text.contains("addi x1,x0,5"));
+    assert!(rt; !text.contains("?"));
+}
+
 #[test]
 fn a_tab_in_a_statement_is_shown_as_a_blank(rt: HostRuntime) {
     for command in COMMANDS {
-        let ended = run_text(rt.alloc(), command, TABBED);
-        let text = str::from_utf8(ended.output.as_slice()).expect(&rt, "ASCII");
-        assert_eq!(rt; ended.status, 0);
-        assert!(rt; text.contains("addi x1,x0,5"));
-        assert!(rt; !text.contains("?"));
+        check_blank(&rt, rt.alloc(), command);
     }
 }

@@ -18,7 +18,7 @@ fn check_texts<E: Display>(rt: &impl Abort, alloc: Global, cases: &[(E, &str)]) 
 
 #[test]
 fn a_fault_of_the_assembly_prints_its_name(rt: HostRuntime) {
-    const CASES: [(AsmFault, &str); 10] = [
+    static CASES: [(AsmFault, &str); 10] = [
         (AsmFault::BadToken, "BadToken"),
         (AsmFault::UnknownMnemonic, "UnknownMnemonic"),
         (AsmFault::BadOperands, "BadOperands"),
@@ -35,7 +35,7 @@ fn a_fault_of_the_assembly_prints_its_name(rt: HostRuntime) {
 
 #[test]
 fn a_fault_of_a_description_prints_its_name(rt: HostRuntime) {
-    const CASES: [(DescriptionError, &str); 6] = [
+    static CASES: [(DescriptionError, &str); 6] = [
         (DescriptionError::NotToml, "NotToml"),
         (DescriptionError::UnknownKey, "UnknownKey"),
         (DescriptionError::WrongKind { place: 1 }, "WrongKind"),
@@ -51,7 +51,7 @@ fn a_fault_of_a_description_prints_its_name(rt: HostRuntime) {
 
 #[test]
 fn a_fault_of_arrivals_prints_its_name_and_entry(rt: HostRuntime) {
-    const CASES: [(ArrivalsError, &str); 6] = [
+    static CASES: [(ArrivalsError, &str); 6] = [
         (ArrivalsError::NotToml, "NotToml"),
         (ArrivalsError::UnknownKey, "UnknownKey"),
         (
@@ -81,7 +81,7 @@ fn an_error_of_a_job_prints_what_failed(rt: HostRuntime) {
         line: 1,
         fault: AsmFault::BadToken,
     };
-    const CASES: [(SimError, &str); 10] = [
+    static CASES: [(SimError, &str); 10] = [
         (SimError::TooLong, "job too long"),
         (SimError::TooManyDescriptions, "too many descriptions"),
         (SimError::Description(FAULT), "description"),
@@ -110,11 +110,11 @@ fn an_error_of_a_job_prints_what_failed(rt: HostRuntime) {
 
 #[test]
 fn an_error_of_a_stream_prints_what_failed(rt: HostRuntime) {
-    const INPUT: [(InputError, &str); 2] = [
+    static INPUT: [(InputError, &str); 2] = [
         (InputError::Failed, "input"),
         (InputError::Memory, "memory"),
     ];
-    const TEXT: [(TextError, &str); 2] = [
+    static TEXT: [(TextError, &str); 2] = [
         (TextError::Memory, "memory"),
         (TextError::WriteFailed, "output"),
     ];

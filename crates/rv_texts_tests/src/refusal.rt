@@ -6,7 +6,7 @@ mod lines;
 mod parts;
 
 use crate::checks::check_bytes;
-use rv_job::{SimError, read_job};
+use rv_job::read_job;
 use rv_refusal::write_refusal;
 use std::alloc::Global;
 use std::process::Abort;
@@ -19,16 +19,21 @@ pub(crate) struct Refused {
     pub(crate) why: &'static [u8],
 }
 
+// What is shown of a job, which has to be refused.
+pub(crate) fn shown(alloc: Global, job: &[u8]) -> Result<Vec<u8>, Fail> {
+    let mut shown = Vec::new(alloc);
+    match read_job(alloc, job) {
+        Ok(_) => return Err(Fail::from("a job was taken")),
+        Err(error) => write_refusal(alloc, job, error, &mut shown)?,
+    }
+    Ok(shown)
+}
+
 // Checks that this is shown of each job.
 pub(crate) fn check_whole(rt: &impl Abort, alloc: Global, cases: &[Refused]) -> Result<(), Fail> {
     for it in cases {
-        let mut shown = Vec::new(alloc);
-        let Err(error) = read_job(alloc, it.job) else {
-            assert!(rt; false, "a job that is refused");
-            return Ok(());
-        };
-        write_refusal(alloc, it.job, error, &mut shown)?;
-        check_bytes(rt, shown.as_slice(), it.why);
+        let found = shown(alloc, it.job)?;
+        check_bytes(rt, found.as_slice(), it.why);
     }
     Ok(())
 }

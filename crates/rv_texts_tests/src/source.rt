@@ -19,7 +19,7 @@ fn push(
 
 #[test]
 fn a_word_has_the_line_that_was_pushed_for_it(rt: HostRuntime) -> Result<(), Fail> {
-    const ROWS: [(u32, Option<usize>, Option<&[u8]>); 6] = [
+    static ROWS: [(u32, Option<usize>, Option<&[u8]>); 6] = [
         (0x7fff_ffff, None, None),
         (0x8000_0000, Some(2), Some(b"la")),
         (0x8000_0007, Some(2), Some(b"la")),

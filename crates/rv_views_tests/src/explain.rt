@@ -1,9 +1,10 @@
+use crate::checks::{check_bytes, check_end};
 use crate::machine::{described, listing, no_arrivals, pipeline};
 use crate::states::has_part;
 use rv_core::Pipeline;
 use rv_explain::{Figures, write_explanation};
 use rv_front::NotTaken;
-use rv_isa::{Image, Values};
+use rv_isa::{Description, Image, Values};
 use std::alloc::Global;
 use std::process::Abort;
 
@@ -77,7 +78,7 @@ fn explained(rt: &impl Abort, alloc: Global, program: &[u8], lines: &[&str]) -> 
 #[test]
 fn a_trap_without_a_handler_is_explained(rt: HostRuntime) {
     let output = explained(&rt, rt.alloc(), &BYTES, &["addi x1,x0,5", "ecall"]);
-    assert!(&rt; output.as_slice() == SENTENCES);
+    check_bytes(&rt, output.as_slice(), SENTENCES);
 }
 
 // addi x1,x0,5; addi x2,x1,1; addi x3,x2,1; ebreak
@@ -104,7 +105,19 @@ none: the reorder buffer was empty
 #[test]
 fn words_of_no_line_are_told_each_by_itself(rt: HostRuntime) {
     let output = explained(&rt, rt.alloc(), &CHAIN, &["addi x1,x0,5"]);
-    assert!(&rt; output.as_slice().ends_with(LINES_OF_CHAIN));
+    check_end(&rt, output.as_slice(), LINES_OF_CHAIN);
+}
+
+// A pipeline of a machine at reset with a program at an address, where its RAM begins.
+fn pipeline_at(
+    rt: &impl Abort,
+    alloc: Global,
+    description: &Description,
+    base: u32,
+    program: &[u8],
+) -> Pipeline {
+    let image = Image::from_bytes(alloc, base, program, base).expect(rt, "an image");
+    Pipeline::new(alloc, description, &image).expect(rt, "a pipeline")
 }
 
 // What is told of a hundred cycles of a program at an address, unless it crashed its crash alone.
@@ -115,8 +128,7 @@ fn told(rt: &impl Abort, alloc: Global, base: u32, program: &[u8]) -> Vec<u8> {
     let arrivals = no_arrivals(rt, alloc);
     let listing = listing(rt, alloc, &[]);
     let mut output = Vec::new(alloc);
-    let image = Image::from_bytes(alloc, base, program, base).expect(rt, "an image");
-    let mut pipeline = Pipeline::new(alloc, &description, &image).expect(rt, "a pipeline");
+    let mut pipeline = pipeline_at(rt, alloc, &description, base, program);
     let mut predictor = NotTaken;
     write_explanation(
         alloc,
@@ -191,7 +203,7 @@ const WRONG_BRANCH: [u8; 12] = [
 // The load is issued in cycle 4, when it has its address, costs 11, and stands at the head from the end of cycle 4 to that
 // of 15. The store has its address in cycle 3 and stands there up to its retirement in 4, in which its drain begins; the
 // breakpoint traps in the same cycle. The branch retires in cycle 4, and leaves the reorder buffer empty in that one, too.
-const LONGEST: [(u32, &[u8], &[u8]); 3] = [
+static LONGEST: [(u32, &[u8], &[u8]); 3] = [
     (
         0x8000_0000,
         &LOAD_THAT_MISSES,
@@ -211,8 +223,8 @@ const LONGEST: [(u32, &[u8], &[u8]); 3] = [
 
 #[test]
 fn the_line_that_stood_longest_at_the_head_is_named_with_what_it_did(rt: HostRuntime) {
-    for (base, program, line) in LONGEST {
-        let output = told(&rt, rt.alloc(), base, program);
+    for (base, program, line) in &LONGEST {
+        let output = told(&rt, rt.alloc(), *base, program);
         assert!(&rt; has_part(output.as_slice(), line));
     }
 }

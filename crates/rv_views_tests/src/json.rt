@@ -12,9 +12,10 @@ mod stores;
 mod units;
 mod words;
 
+use crate::checks::check_bytes;
 use std::process::Abort;
 
 // A text that was written is this one.
 fn expect_text(rt: &impl Abort, text: &Vec<u8>, expected: &[u8]) {
-    assert_eq!(rt; text.as_slice(), expected);
+    check_bytes(rt, text.as_slice(), expected);
 }

@@ -1,3 +1,4 @@
+use crate::checks::check_bytes;
 use crate::machine::{described, listing, narrow, no_arrivals, pipeline};
 use rv_front::NotTaken;
 use rv_isa::Values;
@@ -30,6 +31,19 @@ fn path_of(
     output
 }
 
+// Checks that path.
+fn check_path(
+    rt: &impl Abort,
+    alloc: Global,
+    values: Values,
+    program: &[u8],
+    lines: &[&str],
+    expected: &[u8],
+) {
+    let path = path_of(rt, alloc, values, program, lines);
+    check_bytes(rt, path.as_slice(), expected);
+}
+
 // addi x1,x0,1; addi x2,x1,1; ebreak: the first addition is broadcast in cycle 3, the second is issued in 4 and retires in 6, and
 // the breakpoint traps in 7.
 const CHAIN: [u8; 12] = [
@@ -56,9 +70,8 @@ The lines of the program with the most cycles on the path:\n\
 
 #[test]
 fn an_operand_is_waited_for(rt: HostRuntime) {
-    let lines = ["addi x1, x0, 1", "addi x2, x1, 1", "ebreak"];
-    let output = path_of(&rt, rt.alloc(), narrow(), &CHAIN, &lines);
-    assert_eq!(&rt; output.as_slice(), CHAIN_PATH);
+    static LINES: [&str; 3] = ["addi x1, x0, 1", "addi x2, x1, 1", "ebreak"];
+    check_path(&rt, rt.alloc(), narrow(), &CHAIN, &LINES, CHAIN_PATH);
 }
 
 // beq x0,x0,8; addi x4,x0,1; ebreak: the branch retires in cycle 4, and the breakpoint is fetched in that cycle, dispatched in 5
@@ -82,9 +95,8 @@ The lines of the program with the most cycles on the path:\n\
 
 #[test]
 fn what_follows_a_wrong_prediction_is_a_refill(rt: HostRuntime) {
-    let lines = ["beq x0, x0, 8", "addi x4, x0, 1", "ebreak"];
-    let output = path_of(&rt, rt.alloc(), narrow(), &BRANCH, &lines);
-    assert_eq!(&rt; output.as_slice(), BRANCH_PATH);
+    static LINES: [&str; 3] = ["beq x0, x0, 8", "addi x4, x0, 1", "ebreak"];
+    check_path(&rt, rt.alloc(), narrow(), &BRANCH, &LINES, BRANCH_PATH);
 }
 
 // addi x1,x0,1; addi x2,x0,2; ebreak: both additions are issued in cycle 2, the first is broadcast in 3 and the second in 4, and the
@@ -110,10 +122,10 @@ The lines of the program with the most cycles on the path:\n\
 
 #[test]
 fn a_result_waits_for_a_full_bus(rt: HostRuntime) {
+    static LINES: [&str; 1] = ["addi x1, x0, 1"];
     let mut values = Values::standard();
     values.bus_width = 1;
-    let output = path_of(&rt, rt.alloc(), values, &PAIR, &["addi x1, x0, 1"]);
-    assert_eq!(&rt; output.as_slice(), PAIR_PATH);
+    check_path(&rt, rt.alloc(), values, &PAIR, &LINES, PAIR_PATH);
 }
 
 // lui x5,0x80001; sw x0,0(x5); sw x0,64(x5); fence.i; ebreak: both stores miss, so the second begins to drain when the first has drained,
@@ -148,13 +160,12 @@ The lines of the program with the most cycles on the path:\n\
 
 #[test]
 fn a_drain_is_on_account_of_its_store(rt: HostRuntime) {
-    let lines = [
+    static LINES: [&str; 5] = [
         "lui x5, 0x80001",
         "sw x0, 0(x5)",
         "sw x0, 64(x5)",
         "fence.i",
         "ebreak",
     ];
-    let output = path_of(&rt, rt.alloc(), narrow(), &DRAINS, &lines);
-    assert_eq!(&rt; output.as_slice(), DRAINS_PATH);
+    check_path(&rt, rt.alloc(), narrow(), &DRAINS, &LINES, DRAINS_PATH);
 }

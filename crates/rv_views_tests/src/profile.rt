@@ -53,20 +53,25 @@ fn profiled(rt: &impl Abort, alloc: Global, program: &[u8], lines: &[&str]) -> V
     output
 }
 
+// Checks that a profile is its head and these lines.
+fn check_lines(rt: &impl Abort, profile: &[u8], lines: &[u8]) {
+    assert!(rt; profile.starts_with(HEAD));
+    assert!(rt; profile.ends_with(lines));
+    assert!(rt; profile.len() == HEAD.len().wrapping_add(lines.len()));
+}
+
 // The first load misses and the second one hits; the branch, which is taken, was predicted not to be.
 #[test]
 fn each_address_has_a_line_of_its_counts(rt: HostRuntime) {
-    let lines = [
+    static SOURCE: [&str; 5] = [
         "auipc x1,0",
         "lw x2,0(x1)",
         "lw x3,4(x1)",
         "beq x0,x0,8",
         "addi x4,x0,1",
     ];
-    let output = profiled(&rt, rt.alloc(), &BYTES, &lines);
-    assert!(&rt; output.as_slice().starts_with(HEAD));
-    assert!(&rt; output.as_slice().ends_with(LINES));
-    assert_eq!(&rt; output.len(), HEAD.len() + LINES.len());
+    let profile = profiled(&rt, rt.alloc(), &BYTES, &SOURCE);
+    check_lines(&rt, profile.as_slice(), LINES);
 }
 
 // addi x1,x0,3; addi x1,x1,-1; bne x1,x0,-4; ebreak
@@ -90,8 +95,7 @@ const LINES_OF_LOOP: &[u8] = b"\
 // A loop of three turns, whose branch is predicted wrong in two.
 #[test]
 fn the_turns_of_a_loop_are_counted_together(rt: HostRuntime) {
-    let lines = ["addi x1,x0,3", "addi x1,x1,-1", "bne x1,x0,-4", "ebreak"];
-    let output = profiled(&rt, rt.alloc(), &LOOP, &lines);
-    assert!(&rt; output.as_slice().ends_with(LINES_OF_LOOP));
-    assert_eq!(&rt; output.len(), HEAD.len() + LINES_OF_LOOP.len());
+    static SOURCE: [&str; 4] = ["addi x1,x0,3", "addi x1,x1,-1", "bne x1,x0,-4", "ebreak"];
+    let profile = profiled(&rt, rt.alloc(), &LOOP, &SOURCE);
+    check_lines(&rt, profile.as_slice(), LINES_OF_LOOP);
 }

@@ -1,12 +1,17 @@
+use crate::checks::check_bytes;
 use crate::machine::{described, narrow, pipeline};
+use crate::state_start::counts;
+use rv_core::Pipeline;
 use rv_decode::Decoded;
 use rv_front::{DescribedPredictor, NotTaken};
-use rv_hardware::{Stall, StallCounts, Step};
+use rv_hardware::{Stall, Step};
 use rv_isa::{Cause, Issue, Lines, Reg};
 use rv_passage::{Ending, Passage, Producers};
 use rv_states::write_cycle;
 use rv_text::Sink;
-use rv_watch::{Progress, Simulated};
+use rv_watch::Simulated;
+use std::alloc::Global;
+use std::process::Abort;
 
 // An addition, and a breakpoint.
 const PROGRAM: &[u8] = &[0x93, 0x00, 0x50, 0x00, 0x73, 0x00, 0x10, 0x00];
@@ -50,9 +55,9 @@ fn passage(number: u64, pc: u32, fetched: u64, ending: Ending) -> Passage {
     }
 }
 
-#[test]
-fn a_cycle_shows_its_instructions_and_the_hardware(rt: HostRuntime) {
-    let retired = Passage {
+// One that retired.
+fn retired(rt: &impl Abort) -> Passage {
+    Passage {
         word: Some(19),
         dispatched: Some(2),
         issue: Some(Issue { cycle: 3, cost: 4 }),
@@ -64,56 +69,44 @@ fn a_cycle_shows_its_instructions_and_the_hardware(rt: HostRuntime) {
             Ending::Retired {
                 order: 0,
                 cycle: 8,
-                written: Some((Reg::new(6).expect(&rt, "a register"), 9)),
+                written: Some((Reg::new(6).expect(rt, "a register"), 9)),
                 next: 8,
             },
         )
-    };
-    // Its execution had begun.
-    let squashed = Passage {
+    }
+}
+
+// One that was squashed after its execution had begun.
+fn squashed() -> Passage {
+    Passage {
         dispatched: Some(7),
         issue: Some(Issue { cycle: 8, cost: 30 }),
         ..passage(9, 12, 6, Ending::Squashed { cycle: 8 })
-    };
-    let trapped = Ending::Trapped {
-        cycle: 8,
-        cause: Cause::InstructionAccessFault,
-    };
-    let rows = [
-        passage(0, 0, 0, Ending::InFlight),
-        retired,
-        passage(8, 8, 5, trapped),
-        squashed,
-    ];
-    let steps = [
-        Step::Trap {
-            pc: 16,
-            cause: Cause::IllegalInstruction,
-            value: 3,
-            cycle: 2,
-        },
-        Step::Interrupt {
-            pc: 20,
-            cause: 21,
-            cycle: 2,
-        },
-    ];
-    let progress = Progress {
-        stalls: StallCounts {
-            fetch: 1,
-            serial: 2,
-            rob: 3,
-            station: 4,
-            store: 5,
-        },
-        busy: 6,
-        cycles: 21,
-        stall: Some(Stall::Rob),
-        silent: 0,
-        longest_gap: 0,
-    };
-    let alloc = rt.alloc();
-    let mut pipeline = pipeline(&rt, alloc, &described(&rt, narrow()), PROGRAM);
+    }
+}
+
+const TRAPPED: Ending = Ending::Trapped {
+    cycle: 8,
+    cause: Cause::InstructionAccessFault,
+};
+
+const STEPS: [Step; 2] = [
+    Step::Trap {
+        pc: 16,
+        cause: Cause::IllegalInstruction,
+        value: 3,
+        cycle: 2,
+    },
+    Step::Interrupt {
+        pc: 20,
+        cause: 21,
+        cycle: 2,
+    },
+];
+
+// The pipeline after three cycles in which the timer's line is high.
+fn after_three(rt: &impl Abort, alloc: Global) -> Pipeline {
+    let mut pipeline = pipeline(rt, alloc, &described(rt, narrow()), PROGRAM);
     let timer = Lines {
         timer: true,
         ..Lines::default()
@@ -121,16 +114,28 @@ fn a_cycle_shows_its_instructions_and_the_hardware(rt: HostRuntime) {
     for _ in 0..3 {
         let _report = pipeline.cycle(&mut NotTaken, timer);
     }
+    pipeline
+}
+
+#[test]
+fn a_cycle_shows_its_instructions_and_the_hardware(rt: HostRuntime) {
+    let rows = [
+        passage(0, 0, 0, Ending::InFlight),
+        retired(&rt),
+        passage(8, 8, 5, TRAPPED),
+        squashed(),
+    ];
+    let pipeline = after_three(&rt, rt.alloc());
     let predictor = DescribedPredictor::NotTaken(NotTaken);
-    let mut line = Vec::new(alloc);
+    let mut line = Vec::new(rt.alloc());
     write_cycle(
         &mut Sink::new(&mut line),
         2,
         &rows,
-        &steps,
+        &STEPS,
         &pipeline.shown(),
-        &progress,
+        &counts(Some(Stall::Rob)),
         &predictor,
     );
-    assert_eq!(&rt; line.as_slice(), LINE);
+    check_bytes(&rt, line.as_slice(), LINE);
 }

@@ -1,5 +1,7 @@
+use crate::checks::check_bytes;
 use crate::machine::{described, narrow, pipeline};
 use crate::states::has_part;
+use rv_core::Pipeline;
 use rv_decode::Decoded;
 use rv_front::NotTaken;
 use rv_hardware::{Stall, StallCounts};
@@ -8,6 +10,7 @@ use rv_passage::{Ending, Passage, Producers};
 use rv_states::write_start;
 use rv_text::Sink;
 use rv_watch::{Progress, Simulated};
+use std::alloc::Global;
 
 // addi x1,x0,5
 const ADDITION: [u8; 4] = [0x93, 0x00, 0x50, 0x00];
@@ -25,21 +28,26 @@ const START: &[u8] = b"{\"start\":1,\"instructions\":[{\"number\":24}],\
 \"store_queue\":[],\"port_free\":0}}\n";
 
 // Counts of which no two are equal.
+const COUNTS: Progress = Progress {
+    stalls: StallCounts {
+        fetch: 1,
+        serial: 2,
+        rob: 3,
+        station: 4,
+        store: 5,
+    },
+    busy: 6,
+    cycles: 21,
+    stall: None,
+    silent: 22,
+    longest_gap: 23,
+};
+
+// Those, and why the last cycle dispatched nothing.
 pub(crate) fn counts(stall: Option<Stall>) -> Progress {
-    Progress {
-        stalls: StallCounts {
-            fetch: 1,
-            serial: 2,
-            rob: 3,
-            station: 4,
-            store: 5,
-        },
-        busy: 6,
-        cycles: 21,
-        stall,
-        silent: 22,
-        longest_gap: 23,
-    }
+    let mut counts = COUNTS;
+    counts.stall = stall;
+    counts
 }
 
 // An instruction in flight.
@@ -69,12 +77,12 @@ fn the_hardware_before_a_window_has_the_number_of_its_first_cycle(rt: HostRuntim
         &mut Sink::new(&mut line),
         &[row()],
         &pipeline.shown(),
-        &counts(None),
+        &COUNTS,
     );
-    assert_eq!(&rt; line.as_slice(), START);
+    check_bytes(&rt, line.as_slice(), START);
 }
 
-const STALLS: [(Stall, &str); 5] = [
+static STALLS: [(Stall, &str); 5] = [
     (Stall::Fetch, "],\"stall\":\"fetch\",\"counts\":{"),
     (Stall::Serial, "],\"stall\":\"serial\",\"counts\":{"),
     (Stall::Rob, "],\"stall\":\"rob\",\"counts\":{"),
@@ -82,18 +90,23 @@ const STALLS: [(Stall, &str); 5] = [
     (Stall::Store, "],\"stall\":\"store\",\"counts\":{"),
 ];
 
+// What the hardware of a pipeline is shown as where the last cycle dispatched nothing for a reason.
+fn started(alloc: Global, pipeline: &Pipeline, stall: Stall) -> Vec<u8> {
+    let mut line = Vec::new(alloc);
+    write_start(
+        &mut Sink::new(&mut line),
+        &[],
+        &pipeline.shown(),
+        &counts(Some(stall)),
+    );
+    line
+}
+
 #[test]
 fn the_reason_to_dispatch_nothing_has_its_name(rt: HostRuntime) {
-    let alloc = rt.alloc();
-    let pipeline = pipeline(&rt, alloc, &described(&rt, narrow()), &ADDITION);
-    for (stall, part) in STALLS {
-        let mut line = Vec::new(alloc);
-        write_start(
-            &mut Sink::new(&mut line),
-            &[],
-            &pipeline.shown(),
-            &counts(Some(stall)),
-        );
+    let pipeline = pipeline(&rt, rt.alloc(), &described(&rt, narrow()), &ADDITION);
+    for (stall, part) in &STALLS {
+        let line = started(rt.alloc(), &pipeline, *stall);
         assert!(&rt; has_part(line.as_slice(), part.as_bytes()));
     }
 }

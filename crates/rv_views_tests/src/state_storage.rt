@@ -1,3 +1,4 @@
+use crate::checks::{check_bytes, check_end};
 use crate::machine::{described, narrow, pipeline};
 use crate::state_predictor::told_from;
 use crate::state_start::counts;
@@ -41,9 +42,9 @@ fn memory_before_a_run_is_the_program(rt: HostRuntime) {
     let pipeline = after(&rt, alloc, 0);
     let mut lines = Vec::new(alloc);
     write_memory(&mut Sink::new(&mut lines), &pipeline.shown());
-    assert_eq!(&rt; lines.as_slice(), PROGRAM_LINES);
+    check_bytes(&rt, lines.as_slice(), PROGRAM_LINES);
     write_sets(&mut Sink::new(&mut lines), &pipeline.shown());
-    assert_eq!(&rt; lines.as_slice(), PROGRAM_LINES);
+    check_bytes(&rt, lines.as_slice(), PROGRAM_LINES);
 }
 
 // The stores are to 80001900 and 80001ffc, the last word. What they wrote is in the cache alone, and stale; the second
@@ -59,7 +60,7 @@ fn memory_has_what_programs_see(rt: HostRuntime) {
     let mut lines = Vec::new(alloc);
     write_memory(&mut Sink::new(&mut lines), &pipeline.shown());
     assert!(&rt; lines.as_slice().starts_with(PROGRAM_LINES));
-    assert!(&rt; lines.as_slice().ends_with(STORED));
+    check_end(&rt, lines.as_slice(), STORED);
 }
 
 // The load is from 80001800. Lines of 16 bytes: it and the first store are in lines 8000180 and 8000190, both of set 0 of
@@ -74,12 +75,12 @@ fn a_set_has_the_line_first_that_was_stored_to_last(rt: HostRuntime) {
     let pipeline = after(&rt, alloc, 80);
     let mut lines = Vec::new(alloc);
     write_sets(&mut Sink::new(&mut lines), &pipeline.shown());
-    assert_eq!(&rt; lines.as_slice(), SETS);
+    check_bytes(&rt, lines.as_slice(), SETS);
 }
 
 // The load is issued in cycle 4, after its address was broadcast in cycle 3; a hit costs 1 cycle, a miss 10 more. The
 // first store was dispatched in cycle 4.
-const MISSING: [&[u8]; 2] = [
+static MISSING: [&[u8]; 2] = [
     b"\"target\":3,\"kind\":\"mem\",\"issued\":4,\"cost\":11}",
     b"\"mem\":[{\"since\":4,\"cycles\":1}]},\
 \"store_queue\":[{\"sequence\":3,\"state\":\"waiting\"}],\"port_free\":15}}\n",
@@ -96,7 +97,7 @@ fn a_load_that_misses_keeps_the_port(rt: HostRuntime) {
         &pipeline.shown(),
         &counts(None),
     );
-    for part in MISSING {
+    for part in &MISSING {
         assert!(&rt; has_part(line.as_slice(), part));
     }
 }

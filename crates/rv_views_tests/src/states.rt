@@ -34,7 +34,8 @@ fn told_of(rt: &impl Abort, alloc: Global, form: Form, program: &[&str]) -> Vec<
 
 // Those of an addition and a breakpoint.
 fn told(rt: &impl Abort, alloc: Global, form: Form) -> Vec<u8> {
-    told_of(rt, alloc, form, &["addi x1,x0,5", "ebreak"])
+    static LINES: [&str; 2] = ["addi x1,x0,5", "ebreak"];
+    told_of(rt, alloc, form, &LINES)
 }
 
 // Whether a text has a part, which is not empty.
@@ -47,25 +48,29 @@ pub(crate) fn has_part(text: &[u8], part: &[u8]) -> bool {
 
 // The words at 80000000 and 80000004 are 00500093 and 00100073; the addition was fetched in cycle 0, dispatched in 1 and issued
 // in 2.
-const PARTS: [&[u8]; 4] = [
+static PARTS: [&[u8]; 4] = [
     b"{\"address\":2147483652,\"line\":2,\"text\":\"ebreak\"}\n{\"memory\":2147483648,\"word\":5243027,\"stale\":false}\n{\"memory\":2147483652,\"word\":1048691,\"stale\":false}\n{\"start\":1,\"instructions\":[{\"number\":0}],",
     b"}}\n{\"cycle\":1,\"instructions\":[{\"number\":0},{\"number\":1}],\"steps\":[],\"counts\":{\"cycles\":2,\"busy\":1,\"fetch\":1,",
     b"]}\n{\"cycle\":2,",
     b"]}\n{\"cycles\":3,\"stop\":\"limit\"}\n",
 ];
 
+const HEAD: &[u8] =
+    b"{\"first\":1,\"format\":\"rv_sim states 1\",\"machine\":{\"ram_base\":2147483648,";
+
 #[test]
 fn the_cycles_after_the_first_are_told_line_by_line(rt: HostRuntime) {
     let lines = told(&rt, rt.alloc(), Form::Lines);
-    assert!(rt;
-        lines.as_slice().starts_with(
-            b"{\"first\":1,\"format\":\"rv_sim states 1\",\"machine\":{\"ram_base\":2147483648,"
-        )
-    );
-    for part in &PARTS {
-        assert!(rt; has_part(lines.as_slice(), part));
+    assert!(&rt; lines.as_slice().starts_with(HEAD));
+    check_parts(&rt, lines.as_slice(), &PARTS);
+    assert!(&rt; !has_part(lines.as_slice(), b"{\"cycle\":0,"));
+}
+
+// Checks that a text has each of these parts.
+fn check_parts(rt: &impl Abort, text: &[u8], parts: &[&[u8]]) {
+    for part in parts {
+        assert!(rt; has_part(text, part));
     }
-    assert!(rt; !has_part(lines.as_slice(), b"{\"cycle\":0,"));
 }
 
 #[test]
@@ -77,19 +82,16 @@ fn a_page_has_the_same_lines_in_a_viewer(rt: HostRuntime) {
     assert!(rt; page.as_slice().ends_with(b"</html>\n"));
 }
 
+fn has_markup(text: &[u8]) -> bool {
+    text.iter()
+        .any(|byte| *byte == b'<' || *byte == b'>' || *byte == b'&')
+}
+
 #[test]
 fn a_statement_with_markup_leaves_none_in_the_lines(rt: HostRuntime) {
-    let program = ["</script><b>&amp;\"'", "<!-- ebreak"];
-    let lines = told_of(&rt, rt.alloc(), Form::Lines, &program);
-    assert!(&rt;
-        has_part(
-            lines.as_slice(),
-            b"\"text\":\"\\u003c/script\\u003e\\u003cb\\u003e\\u0026amp;\\u0022'\"}\n"
-        )
-    );
-    assert!(&rt;
-        !lines
-            .iter()
-            .any(|byte| *byte == b'<' || *byte == b'>' || *byte == b'&')
-    );
+    static PROGRAM: [&str; 2] = ["</script><b>&amp;\"'", "<!-- ebreak"];
+    let text = b"\"text\":\"\\u003c/script\\u003e\\u003cb\\u003e\\u0026amp;\\u0022'\"}\n";
+    let lines = told_of(&rt, rt.alloc(), Form::Lines, &PROGRAM);
+    assert!(&rt; has_part(lines.as_slice(), text));
+    assert!(&rt; !has_markup(lines.as_slice()));
 }

@@ -1,5 +1,5 @@
 use crate::checks::check_run;
-use crate::explanations::{EXPLAIN, Explained};
+use crate::explanations::{EXPLAIN, Explained, check_explained};
 
 // A load that misses, one that hits, and one whose bytes come from the store before it. The last one is squashed.
 const LOADS: &str = "forward = 3
@@ -39,7 +39,7 @@ ebreak
 
 #[test]
 fn drains_are_counted_when_they_begin(rt: HostRuntime) {
-    let rows = [
+    static ROWS: [Explained; 2] = [
         Explained {
             program: FIVE_DRAINS,
             line: "drains: 5, of them 3 at the cost of a hit, 2 at that of a miss",
@@ -49,16 +49,7 @@ fn drains_are_counted_when_they_begin(rt: HostRuntime) {
             line: "drains: 1, of them 0 at the cost of a hit, 1 at that of a miss",
         },
     ];
-    for explained in rows {
-        check_run(
-            &rt,
-            rt.alloc(),
-            EXPLAIN,
-            explained.program,
-            0,
-            &[explained.line],
-        );
-    }
+    check_explained(&rt, rt.alloc(), &ROWS, 0);
 }
 
 // A cache of one word. The first load drops the word that the store put there, which is written back; the second one drops what the
@@ -81,13 +72,13 @@ ebreak
 
 #[test]
 fn the_loads_of_the_slowest_lines_are_counted(rt: HostRuntime) {
-    let lines = [
+    static LINES: [&str; 4] = [
         "80000018, line 7: lw x8,4(x5)",
         "       its loads: hits 0, misses 1, write-backs 1",
         "8000001c, line 8: lw x9,0(x5)",
         "       its loads: hits 0, misses 1, write-backs 0",
     ];
-    check_run(&rt, rt.alloc(), EXPLAIN, DIRTY_VICTIM, 0, &lines);
+    check_run(&rt, rt.alloc(), EXPLAIN, DIRTY_VICTIM, 0, &LINES);
 }
 
 // A cache of one word. The first store brings its word in. The second one drops that, which is dirty, and the third one hits; while the first
@@ -107,7 +98,7 @@ ebreak
 
 #[test]
 fn the_stores_of_the_slowest_lines_are_counted(rt: HostRuntime) {
-    let lines = [
+    static LINES: [&str; 6] = [
         "00000000, line 1: sw x0,1024(x0)",
         "       its stores: hits 0, misses 1, write-backs 0",
         "00000004, line 2: sw x0,1028(x0)",
@@ -115,5 +106,5 @@ fn the_stores_of_the_slowest_lines_are_counted(rt: HostRuntime) {
         "00000008, line 3: sw x5,1028(x0)",
         "       its stores: hits 1, misses 0, write-backs 0",
     ];
-    check_run(&rt, rt.alloc(), EXPLAIN, THREE_STORES, 0, &lines);
+    check_run(&rt, rt.alloc(), EXPLAIN, THREE_STORES, 0, &LINES);
 }

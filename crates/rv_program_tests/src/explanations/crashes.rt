@@ -1,4 +1,4 @@
-use crate::checks::check_run;
+use crate::checks::{check_ended, check_run};
 use crate::explanations::EXPLAIN;
 use crate::helpers::run_text;
 use rv_command::Command;
@@ -14,9 +14,7 @@ const BARE: Command = Command::Explain {
 // That a program is explained by these lines and nothing else.
 fn is_explained_by(rt: &impl Abort, alloc: Global, text: &str, lines: &str) {
     let ended = run_text(alloc, BARE, text.as_bytes());
-    assert_eq!(rt; ended.status, 0);
-    assert!(rt; ended.output.as_slice() == lines.as_bytes());
-    assert!(rt; ended.errors.is_empty());
+    check_ended(rt, &ended, 0, lines.as_bytes(), b"");
 }
 
 #[test]
@@ -65,22 +63,21 @@ Timer interrupts: 1, the first in cycle 30, before 8000000c, line 4: l: j l
 // Each has its ending and its figures: one is asked for them; one has a handler, which goes round; one has none, and no exception.
 #[test]
 fn other_runs_have_their_figures(rt: HostRuntime) {
+    static ASKED: [&str; 3] = [
+        "The run was cut off at its limit of cycles, and the program stood at 00000000, which no line of the program fills",
+        "The program ran past its last line, at 80000000, line 1: addi x1,x0,5",
+        "cycles 100, retired instructions 1",
+    ];
+    static HANDLED: [&str; 2] = [
+        "The program went on at its handler, at 80000010",
+        "drains: 0, of them 0 at the cost of a hit, 0 at that of a miss",
+    ];
+    static GOES_ROUND: [&str; 1] = [
+        "drains: 0, of them 0 at the cost of a hit, 0 at that of a miss",
+    ];
     let alloc = rt.alloc();
-    let cycles = "cycles 100, retired instructions 1";
-    let past = "The program ran past its last line, at 80000000, line 1: addi x1,x0,5";
-    let ending =
-        "The run was cut off at its limit of cycles, and the program stood at 00000000, which no line of the program fills";
-    check_run(
-        &rt,
-        alloc,
-        EXPLAIN,
-        "addi x1,x0,5",
-        0,
-        &[ending, past, cycles],
-    );
     let handled = "la x5,h\ncsrw mtvec,x5\necall\nh: j h";
-    let handler = "The program went on at its handler, at 80000010";
-    let drains = "drains: 0, of them 0 at the cost of a hit, 0 at that of a miss";
-    check_run(&rt, alloc, BARE, handled, 0, &[handler, drains]);
-    check_run(&rt, alloc, BARE, "l: j l", 0, &[drains]);
+    check_run(&rt, alloc, EXPLAIN, "addi x1,x0,5", 0, &ASKED);
+    check_run(&rt, alloc, BARE, handled, 0, &HANDLED);
+    check_run(&rt, alloc, BARE, "l: j l", 0, &GOES_ROUND);
 }

@@ -1,44 +1,31 @@
 use crate::checks::check_run;
-use crate::explanations::{EXPLAIN, Explained};
+use crate::explanations::{EXPLAIN, Explained, check_explained};
 use crate::programs::STORE_INTO_CODE;
 use rv_command::Command;
 
 #[test]
 fn a_stale_word_that_is_explained_gives_status_3(rt: HostRuntime) {
-    let ending =
-        "The run ended at a word that was stored to and then fetched without a FENCE.I in between, at 80000014, line 4: t: addi x7,x0,2";
-    let store = "The last store to that word was the one at 80000010, line 3: sw x6,0(x5)";
-    check_run(
-        &rt,
-        rt.alloc(),
-        EXPLAIN,
-        STORE_INTO_CODE,
-        3,
-        &[ending, store],
-    );
+    static LINES: [&str; 2] = [
+        "The run ended at a word that was stored to and then fetched without a FENCE.I in between, at 80000014, line 4: t: addi x7,x0,2",
+        "The last store to that word was the one at 80000010, line 3: sw x6,0(x5)",
+    ];
+    check_run(&rt, rt.alloc(), EXPLAIN, STORE_INTO_CODE, 3, &LINES);
 }
-
-const CUT_OFF: &str =
-    "The run was cut off at its limit of cycles, and the program stood at 80000000, line 1: addi x1,x0,5";
 
 #[test]
 fn a_run_that_is_cut_off_stands_at_the_first_that_has_not_retired(rt: HostRuntime) {
+    static LINES: [&str; 3] = [
+        "The run was cut off at its limit of cycles, and the program stood at 80000000, line 1: addi x1,x0,5",
+        "cycles 4, retired instructions 0",
+        "cycles per instruction -",
+    ];
     let command = Command::Explain {
         figures: false,
         path: false,
         limit: 4,
     };
-    let counts = "cycles 4, retired instructions 0";
-    let ratio = "cycles per instruction -";
     let program = "addi x1,x0,5\nebreak";
-    check_run(
-        &rt,
-        rt.alloc(),
-        command,
-        program,
-        0,
-        &[CUT_OFF, counts, ratio],
-    );
+    check_run(&rt, rt.alloc(), command, program, 0, &LINES);
 }
 
 // Two stores to the word that is fetched then, and one to the word after it.
@@ -64,7 +51,7 @@ ebreak
 
 #[test]
 fn the_last_store_to_the_stale_word_is_named(rt: HostRuntime) {
-    let rows = [
+    static ROWS: [Explained; 2] = [
         Explained {
             program: STORES_INTO_CODE,
             line: "The last store to that word was the one at 80000014, line 4: sw x6,0(x5)",
@@ -74,14 +61,5 @@ fn the_last_store_to_the_stale_word_is_named(rt: HostRuntime) {
             line: "The last store to that word was the one at 80000018, line 6: sb x6,-1(x5)",
         },
     ];
-    for explained in rows {
-        check_run(
-            &rt,
-            rt.alloc(),
-            EXPLAIN,
-            explained.program,
-            3,
-            &[explained.line],
-        );
-    }
+    check_explained(&rt, rt.alloc(), &ROWS, 3);
 }

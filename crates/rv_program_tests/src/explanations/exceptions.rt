@@ -1,10 +1,10 @@
 use crate::checks::check_run;
-use crate::explanations::{EXPLAIN, Explained};
+use crate::explanations::{EXPLAIN, Explained, check_explained};
 use rv_command::Command;
 
 // Each instruction that faults retires in cycle 4 where it has to be executed, and in 2 where it has not; the target of the
 // jump that retires in 4 is fetched then.
-const CAUSES: [Explained; 8] = [
+static CAUSES: [Explained; 8] = [
     Explained {
         program: "jalr x0,2(x0)",
         line: "The first exception came in cycle 4: Instruction address misaligned, mtval 00000002, at 80000000, line 1: jalr x0,2(x0)",
@@ -41,16 +41,7 @@ const CAUSES: [Explained; 8] = [
 
 #[test]
 fn each_cause_has_its_name(rt: HostRuntime) {
-    for explained in CAUSES {
-        check_run(
-            &rt,
-            rt.alloc(),
-            EXPLAIN,
-            explained.program,
-            0,
-            &[explained.line],
-        );
-    }
+    check_explained(&rt, rt.alloc(), &CAUSES, 0);
 }
 
 const NO_HANDLER: &str =
@@ -81,7 +72,7 @@ mret
 
 #[test]
 fn each_of_two_exceptions_is_named(rt: HostRuntime) {
-    let lines = [
+    static LINES: [&str; 6] = [
         "The first exception came in cycle 10: Load address misaligned, mtval 00000001, at 8000000c, line 3: lw x1,1(x0)",
         "The program went on at its handler, at 80000018",
         "The last exception came in cycle 20: Environment call from M-mode, mtval 00000000, at 80000010, line 4: ecall",
@@ -89,7 +80,7 @@ fn each_of_two_exceptions_is_named(rt: HostRuntime) {
         "      1 in cycle 10: Load address misaligned, at 8000000c, line 3: lw x1,1(x0)",
         "      1 in cycle 20: Environment call from M-mode, at 80000010, line 4: ecall",
     ];
-    check_run(&rt, rt.alloc(), EXPLAIN, TWO_EXCEPTIONS, 0, &lines);
+    check_run(&rt, rt.alloc(), EXPLAIN, TWO_EXCEPTIONS, 0, &LINES);
 }
 
 // Nine calls, each twice, one every ten cycles but where the loop goes back.
@@ -167,11 +158,11 @@ h: mret
 
 #[test]
 fn the_interrupts_of_each_line_are_counted(rt: HostRuntime) {
-    let lines = [
+    static LINES: [&str; 4] = [
         "Software interrupts: 1, the first in cycle 30, before 8000001c, line 6: l: j l",
         "Timer interrupts: 2, the first in cycle 50, before 8000001c, line 6: l: j l",
         "The last came in cycle 70, before 8000001c, line 6: l: j l",
         "External interrupts: 1, the first in cycle 90, before 8000001c, line 6: l: j l",
     ];
-    check_run(&rt, rt.alloc(), EXPLAIN, INTERRUPTS, 0, &lines);
+    check_run(&rt, rt.alloc(), EXPLAIN, INTERRUPTS, 0, &LINES);
 }

@@ -1,5 +1,4 @@
-use crate::checks::check_run;
-use crate::explanations::{EXPLAIN, Explained};
+use crate::explanations::{EXPLAIN, Explained, check_explained};
 use crate::helpers::run_text;
 
 // In cycle 0 nothing is there to dispatch. In 1 the first addition takes the one station, and the second waits for it: one place is
@@ -36,7 +35,7 @@ fn each_place_is_used_or_lost(rt: HostRuntime) {
 // What places are lost for, and how many of them: in a buffer for one instruction, after a CSR instruction that waits for a division, by
 // divisions with one station, by a second store with a queue of one. And how many instructions after a branch are squashed that is
 // taken against its prediction, when it retires or, early, at its broadcast.
-const LINES: [Explained; 6] = [
+static LINES: [Explained; 6] = [
     Explained {
         program: "rob = 1\n%%\naddi x1,x0,1\nebreak",
         line: "lost: reorder buffer full             6   50.0%  #########################",
@@ -65,14 +64,5 @@ const LINES: [Explained; 6] = [
 
 #[test]
 fn each_reason_has_its_places(rt: HostRuntime) {
-    for explained in LINES {
-        check_run(
-            &rt,
-            rt.alloc(),
-            EXPLAIN,
-            explained.program,
-            0,
-            &[explained.line],
-        );
-    }
+    check_explained(&rt, rt.alloc(), &LINES, 0);
 }

@@ -1,12 +1,12 @@
-use crate::checks::check_run;
-use crate::explanations::{EXPLAIN, Explained};
+use crate::explanations::{EXPLAIN, Explained, check_explained};
 use crate::helpers::run_text;
 use std::alloc::Global;
+use std::process::Abort;
 use std::str;
 
 // A loop of five rounds, of which four go back, and a jump; a handler that returns by MRET, which is neither; and a call that comes
 // back. The predictor follows jumps by their offsets alone.
-const PREDICTIONS: [Explained; 3] = [
+static PREDICTIONS: [Explained; 3] = [
     Explained {
         program: "predictor.kind = \"not_taken\"\n%%\nli x1,5\nl: addi x1,x1,-1\nbnez x1,l\nj e\nnop\ne: ebreak",
         line: "branches and jumps: 6, of them 4 mispredicted (66.7%)",
@@ -23,16 +23,7 @@ const PREDICTIONS: [Explained; 3] = [
 
 #[test]
 fn branches_and_jumps_that_retired_are_counted(rt: HostRuntime) {
-    for explained in PREDICTIONS {
-        check_run(
-            &rt,
-            rt.alloc(),
-            EXPLAIN,
-            explained.program,
-            0,
-            &[explained.line],
-        );
-    }
+    check_explained(&rt, rt.alloc(), &PREDICTIONS, 0);
 }
 
 // Four lines have wrong predictions, the loop two, the others one each. The last branch is squashed after the one before it.
@@ -90,18 +81,16 @@ branches and jumps: 1, of them 0 mispredicted (0.0%)
 Where the ",
 };
 
-// Whether the explanation of a program has some lines, one after another.
-fn has_lines(alloc: Global, explained: Explained) -> bool {
+// Checks that the explanation of a program has some lines, one after another.
+fn check_together(rt: &impl Abort, alloc: Global, explained: Explained) {
     let ended = run_text(alloc, EXPLAIN, explained.program.as_bytes());
-    match str::from_utf8(ended.output.as_slice()) {
-        Ok(text) => text.contains(explained.line),
-        Err(_) => false,
-    }
+    let text = str::from_utf8(ended.output.as_slice()).expect(rt, "ASCII");
+    assert!(rt; text.contains(explained.line), "{text}");
 }
 
 #[test]
 fn the_lines_with_the_most_wrong_predictions_are_named(rt: HostRuntime) {
-    for explained in [FOUR_LINES, ONE_LINE, NO_LINE] {
-        assert!(rt; has_lines(rt.alloc(), explained), "{}", explained.program);
-    }
+    check_together(&rt, rt.alloc(), FOUR_LINES);
+    check_together(&rt, rt.alloc(), ONE_LINE);
+    check_together(&rt, rt.alloc(), NO_LINE);
 }

@@ -1,4 +1,4 @@
-use crate::checks::check_run;
+use crate::checks::{check_run, check_status};
 use crate::explanations::EXPLAIN;
 use crate::helpers::run_text;
 
@@ -13,9 +13,11 @@ e: ebreak
 
 #[test]
 fn the_last_word_of_memory_is_counted(rt: HostRuntime) {
-    let place = "80000ffc, line 3: e: ebreak";
-    let share = "                2   33.3%  #################";
-    check_run(&rt, rt.alloc(), EXPLAIN, LAST_WORD, 0, &[place, share]);
+    static LINES: [&str; 2] = [
+        "80000ffc, line 3: e: ebreak",
+        "                2   33.3%  #################",
+    ];
+    check_run(&rt, rt.alloc(), EXPLAIN, LAST_WORD, 0, &LINES);
 }
 
 // A loop of five rounds of 7 cycles, but for the first, which waits for the division. Each branch back is mispredicted.
@@ -50,8 +52,8 @@ none: the reorder buffer was empty
 #[test]
 fn the_words_of_a_line_are_counted_together(rt: HostRuntime) {
     let ended = run_text(rt.alloc(), EXPLAIN, LOOP);
-    assert_eq!(rt; ended.status, 0);
-    assert!(rt; ended.output.as_slice().ends_with(LINES_OF_LOOP));
+    check_status(&rt, &ended, 0);
+    assert!(&rt; ended.output.as_slice().ends_with(LINES_OF_LOOP));
 }
 
 // Each addition waits for the one before it.
@@ -84,6 +86,6 @@ none: the reorder buffer was empty
 #[test]
 fn of_equal_lines_the_first_are_named(rt: HostRuntime) {
     let ended = run_text(rt.alloc(), EXPLAIN, CHAIN);
-    assert_eq!(rt; ended.status, 0);
-    assert!(rt; ended.output.as_slice().ends_with(LINES_OF_CHAIN));
+    check_status(&rt, &ended, 0);
+    assert!(&rt; ended.output.as_slice().ends_with(LINES_OF_CHAIN));
 }

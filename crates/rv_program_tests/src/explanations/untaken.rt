@@ -1,9 +1,8 @@
-use crate::checks::check_run;
-use crate::explanations::{EXPLAIN, Explained};
+use crate::explanations::{Explained, check_explained};
 
 // Lines that are high at the end of the run, and what keeps each from being taken: the program enables interrupts all but for one bit, sets
 // neither bit, or waits while each external interrupt comes before that of the timer. A line that falls begins anew when it rises.
-const UNTAKEN: [Explained; 6] = [
+static UNTAKEN: [Explained; 6] = [
     Explained {
         program: "ram_base = 0\n%%\n[[arrival]]\ncycle = 50\nline = \"timer\"\n%%\nli t0, 128\ncsrw mie, t0\nl: j l",
         line: "The timer line is high from cycle 50 on, and was never taken: mstatus.MIE is 0",
@@ -68,14 +67,5 @@ h: mret
 
 #[test]
 fn a_line_that_is_never_taken_is_named_with_what_stands_in_its_way(rt: HostRuntime) {
-    for explained in UNTAKEN {
-        check_run(
-            &rt,
-            rt.alloc(),
-            EXPLAIN,
-            explained.program,
-            0,
-            &[explained.line],
-        );
-    }
+    check_explained(&rt, rt.alloc(), &UNTAKEN, 0);
 }

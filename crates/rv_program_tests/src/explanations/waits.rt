@@ -1,9 +1,9 @@
 use crate::checks::check_run;
-use crate::explanations::{EXPLAIN, Explained};
+use crate::explanations::{EXPLAIN, Explained, check_explained};
 
 // What each first waits for after the second cycle: the division, a place in the reorder buffer, the one station, in which an
 // instruction waits for the division, and the end of the first store's drain.
-const WAITS: [Explained; 4] = [
+static WAITS: [Explained; 4] = [
     Explained {
         program: "div x6,x0,x0\ncsrrs x5,mip,x0\nebreak",
         line: "serial         17   77.3%  #######################################",
@@ -24,16 +24,7 @@ const WAITS: [Explained; 4] = [
 
 #[test]
 fn each_reason_to_wait_has_its_cycles(rt: HostRuntime) {
-    for explained in WAITS {
-        check_run(
-            &rt,
-            rt.alloc(),
-            EXPLAIN,
-            explained.program,
-            0,
-            &[explained.line],
-        );
-    }
+    check_explained(&rt, rt.alloc(), &WAITS, 0);
 }
 
 // Four results that are ready in cycle 3, of which the bus takes one a cycle, the oldest first.
@@ -81,13 +72,13 @@ ebreak
 
 #[test]
 fn waits_of_instructions_for_a_unit_are_counted(rt: HostRuntime) {
-    let lines = [
+    static LINES: [&str; 4] = [
         "waiting for an alu unit               6    3.8%  ##",
         "waiting for a mul unit                1    0.6%  ",
         "waiting for a div unit                4    2.5%  #",
         "waiting for a mem unit                3    1.9%  #",
     ];
-    check_run(&rt, rt.alloc(), EXPLAIN, ONE_UNIT, 0, &lines);
+    check_run(&rt, rt.alloc(), EXPLAIN, ONE_UNIT, 0, &LINES);
 }
 
 // The division is issued in cycle 2 and broadcast in 18. The sum waits for it from cycle 2 to 18, and is executed and broadcast in 19 and
@@ -117,7 +108,7 @@ const MISSED: &str = "ram_base = 0\n%%\nlw x5,0(x0)\naddi x6,x5,0\nebreak";
 const FORWARDED: &str =
     "ram_base = 0\nforward = 5\n%%\nsw x0,1024(x0)\nlw x5,1024(x0)\naddi x6,x5,1\nebreak";
 
-const IN_FLIGHT: [Explained; 11] = [
+static IN_FLIGHT: [Explained; 11] = [
     Explained {
         program: OPERAND,
         line: "waiting for operands                 17   45.9%  #######################",
@@ -166,20 +157,11 @@ const IN_FLIGHT: [Explained; 11] = [
 
 #[test]
 fn each_wait_in_flight_has_its_cycles(rt: HostRuntime) {
-    for explained in IN_FLIGHT {
-        check_run(
-            &rt,
-            rt.alloc(),
-            EXPLAIN,
-            explained.program,
-            0,
-            &[explained.line],
-        );
-    }
+    check_explained(&rt, rt.alloc(), &IN_FLIGHT, 0);
 }
 
 // The greatest wait comes first, of equal ones the one that an instruction meets first; a wait that never was is not named.
-const GREATEST: [Explained; 3] = [
+static GREATEST: [Explained; 3] = [
     Explained {
         program: ADDRESS,
         line: "cycles of instructions in flight: 123, of them 46 waiting for retirement (37.4%), 18 waiting for an older store's address (14.6%)",
@@ -196,14 +178,5 @@ const GREATEST: [Explained; 3] = [
 
 #[test]
 fn the_greatest_waits_lead(rt: HostRuntime) {
-    for explained in GREATEST {
-        check_run(
-            &rt,
-            rt.alloc(),
-            EXPLAIN,
-            explained.program,
-            0,
-            &[explained.line],
-        );
-    }
+    check_explained(&rt, rt.alloc(), &GREATEST, 0);
 }

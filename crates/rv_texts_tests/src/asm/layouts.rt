@@ -1,11 +1,12 @@
 use super::{BASE, each_is_refused, each_means, is_refused, means};
 use rv_asm::{AsmFault, assemble};
 use std::alloc::Global;
+use std::process::Abort;
 use std::test::Fail;
 
 #[test]
 fn a_label_is_the_address_where_its_line_begins(rt: HostRuntime) -> Result<(), Fail> {
-    const CASES: [(&str, &[u32]); 6] = [
+    static CASES: [(&str, &[u32]); 6] = [
         // before the padding of its line
         (".byte 1\na: .balign 4\n.word a", &[1, 0x80000001]),
         // in the section before a directive of its line
@@ -27,7 +28,7 @@ fn a_label_is_the_address_where_its_line_begins(rt: HostRuntime) -> Result<(), F
 
 #[test]
 fn data_begin_at_the_next_multiple_of_16_after_the_text(rt: HostRuntime) -> Result<(), Fail> {
-    const CASES: [(&str, &[u32]); 5] = [
+    static CASES: [(&str, &[u32]); 5] = [
         ("nop\n.data\n", &[0x00000013]),
         ("nop\n.data\n.zero 0", &[0x00000013]),
         (
@@ -45,7 +46,7 @@ fn data_begin_at_the_next_multiple_of_16_after_the_text(rt: HostRuntime) -> Resu
 
 #[test]
 fn data_stand_lowest_byte_first_and_without_alignment(rt: HostRuntime) -> Result<(), Fail> {
-    const CASES: [(&str, &[u32]); 8] = [
+    static CASES: [(&str, &[u32]); 8] = [
         (
             ".word -1,4294967295,-2147483648",
             &[0xffffffff, 0xffffffff, 0x80000000],
@@ -67,7 +68,7 @@ fn data_stand_lowest_byte_first_and_without_alignment(rt: HostRuntime) -> Result
 
 #[test]
 fn strings_stand_with_their_escapes_resolved(rt: HostRuntime) -> Result<(), Fail> {
-    const CASES: [(&str, &[u32]); 5] = [
+    static CASES: [(&str, &[u32]); 5] = [
         (".asciz \"a#b\"", &[0x00622361]),
         (".string \"abc\"", &[0x00636261]),
         (".ascii \"\\n\\t\\\\\\\"\"", &[0x225c090a]),
@@ -96,9 +97,14 @@ fn places(alloc: Global, text: &str) -> Option<(u32, u32)> {
     }
 }
 
+// Checks where a text's image starts.
+fn starts_at(rt: &impl Abort, alloc: Global, text: &str, start: u32) {
+    assert_eq!(rt; places(alloc, text), Some((BASE, start)), "{text}");
+}
+
 #[test]
 fn execution_starts_at_the_symbol_start_or_at_the_base(rt: HostRuntime) {
-    const CASES: [(&str, u32); 6] = [
+    static CASES: [(&str, u32); 6] = [
         ("nop", 0x80000000),
         ("nop\n_start: nop", 0x80000004),
         ("nop\n.data\n_start:", 0x80000010),
@@ -109,7 +115,7 @@ fn execution_starts_at_the_symbol_start_or_at_the_base(rt: HostRuntime) {
         (".globl _start\n.global _start", 0x80000000),
     ];
     for (text, start) in &CASES {
-        assert_eq!(rt; places(rt.alloc(), text), Some((BASE, *start)), "{text}");
+        starts_at(&rt, rt.alloc(), text, *start);
     }
 }
 
@@ -117,7 +123,7 @@ fn execution_starts_at_the_symbol_start_or_at_the_base(rt: HostRuntime) {
 fn text_and_data_may_have_16777200_bytes_the_gap_between_them_not_counted(
     rt: HostRuntime,
 ) -> Result<(), Fail> {
-    const CASES: [(&str, AsmFault, usize); 6] = [
+    static CASES: [(&str, AsmFault, usize); 6] = [
         (".zero 16777200\n.byte 0", AsmFault::TooLarge, 2),
         (".zero 16777200\nnop", AsmFault::TooLarge, 2),
         (".zero 16777200\n.data\n.byte 0", AsmFault::TooLarge, 3),

@@ -1,11 +1,12 @@
 use super::BASE;
 use crate::checks::check_lines;
 use rv_asm::{AsmFault, assemble_listed};
+use std::alloc::Global;
 use std::test::Fail;
 
 #[test]
 fn a_word_has_the_line_whose_bytes_hold_its_first_byte(rt: HostRuntime) -> Result<(), Fail> {
-    const ROWS: [(u32, Option<usize>, Option<&[u8]>); 10] = [
+    static ROWS: [(u32, Option<usize>, Option<&[u8]>); 10] = [
         (BASE, Some(4), Some(b"la x8,d")),
         (BASE + 4, Some(4), Some(b"la x8,d")),
         (BASE + 8, Some(6), Some(b"nop")),
@@ -24,17 +25,23 @@ fn a_word_has_the_line_whose_bytes_hold_its_first_byte(rt: HostRuntime) -> Resul
     Ok(())
 }
 
+// Fails where a text's listed image has another fault, or in another line.
+fn is_refused(alloc: Global, text: &[u8], fault: AsmFault, line: usize) -> Result<(), Fail> {
+    let refused = assemble_listed(alloc, text, BASE).err().ok_or("a fault")?;
+    if refused.fault != fault || refused.line != line {
+        return Err(Fail::from("another fault"));
+    }
+    Ok(())
+}
+
 #[test]
 fn a_listed_image_is_refused_as_the_image_is(rt: HostRuntime) -> Result<(), Fail> {
-    const ROWS: [(&[u8], AsmFault, usize); 2] = [
+    static ROWS: [(&[u8], AsmFault, usize); 2] = [
         (b"nop\n\nfoo", AsmFault::UnknownMnemonic, 3),
         (b"nop\nj nowhere", AsmFault::UnknownSymbol, 2),
     ];
-    for (text, fault, line) in ROWS {
-        let refused = assemble_listed(rt.alloc(), text, BASE)
-            .err()
-            .ok_or("a fault")?;
-        assert!(rt; refused.fault == fault && refused.line == line);
+    for (text, fault, line) in &ROWS {
+        is_refused(rt.alloc(), text, *fault, *line)?;
     }
     Ok(())
 }

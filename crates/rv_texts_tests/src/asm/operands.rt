@@ -4,7 +4,7 @@ use std::test::Fail;
 
 #[test]
 fn a_minus_is_a_token_before_its_number(rt: HostRuntime) -> Result<(), Fail> {
-    const CASES: [(&str, &[u32]); 6] = [
+    static CASES: [(&str, &[u32]); 6] = [
         ("addi x1,x0,- 5", &[0xffb00093]),
         ("addi x1,x0,-0", &[0x00000093]),
         ("lw x1,-0(x2)", &[0x00012083]),
@@ -17,7 +17,7 @@ fn a_minus_is_a_token_before_its_number(rt: HostRuntime) -> Result<(), Fail> {
 
 #[test]
 fn the_offset_of_loads_and_stores_may_be_missing(rt: HostRuntime) -> Result<(), Fail> {
-    const CASES: [(&str, &[u32]); 4] = [
+    static CASES: [(&str, &[u32]); 4] = [
         ("lw x5,(x6)", &[0x00032283]),
         ("sw x5,(x6)", &[0x00532023]),
         (".equ a,8\nlw x5,a(x6)", &[0x00832283]),
@@ -28,7 +28,7 @@ fn the_offset_of_loads_and_stores_may_be_missing(rt: HostRuntime) -> Result<(), 
 
 #[test]
 fn a_name_is_a_register_a_csr_or_a_symbol_by_its_place(rt: HostRuntime) -> Result<(), Fail> {
-    const CASES: [(&str, &[u32]); 5] = [
+    static CASES: [(&str, &[u32]); 5] = [
         ("x5: j x5", &[0x0000006f]),
         ("addi: j addi", &[0x0000006f]),
         (".equ x6,7\naddi x5,x6,x6", &[0x00730293]),
@@ -40,7 +40,7 @@ fn a_name_is_a_register_a_csr_or_a_symbol_by_its_place(rt: HostRuntime) -> Resul
 
 #[test]
 fn each_register_has_two_names(rt: HostRuntime) -> Result<(), Fail> {
-    const CASES: [(&str, &[u32]); 7] = [
+    static CASES: [(&str, &[u32]); 7] = [
         ("add zero,ra,sp\nadd gp,tp,t0", &[0x00208033, 0x005201b3]),
         (
             "add t1,t2,s0\nadd fp,s1,a0\nadd a1,a2,a3",
@@ -72,7 +72,7 @@ fn each_register_has_two_names(rt: HostRuntime) -> Result<(), Fail> {
 
 #[test]
 fn operands_of_another_count_or_shape_are_refused(rt: HostRuntime) -> Result<(), Fail> {
-    const CASES: [&str; 37] = [
+    static CASES: [&str; 37] = [
         "jalr x1,(x2)",
         "jalr x1,x2",
         "addi x1,x0,+5",
@@ -119,7 +119,7 @@ fn operands_of_another_count_or_shape_are_refused(rt: HostRuntime) -> Result<(),
 
 #[test]
 fn a_statement_that_is_no_data_has_three_operands_at_most(rt: HostRuntime) -> Result<(), Fail> {
-    const CASES: [&str; 12] = [
+    static CASES: [&str; 12] = [
         "lui x1,1,2,3",
         "add x99,x2,x3,x4",
         "jal x99,a,b,c",
@@ -138,7 +138,7 @@ fn a_statement_that_is_no_data_has_three_operands_at_most(rt: HostRuntime) -> Re
 
 #[test]
 fn data_has_any_number_of_operands(rt: HostRuntime) -> Result<(), Fail> {
-    const MEANT: [(&str, &[u32]); 3] = [
+    static MEANT: [(&str, &[u32]); 3] = [
         (".byte 1,2,3,4,5,6,7,8", &[0x04030201, 0x08070605]),
         (".equ n,7\n.half n,n+1,n-8,-2", &[0x00080007, 0xfffeffff]),
         (
@@ -146,7 +146,7 @@ fn data_has_any_number_of_operands(rt: HostRuntime) -> Result<(), Fail> {
             &[0x80000000, 0x80000008, 1, 0x13],
         ),
     ];
-    const REFUSED: [(&str, AsmFault, usize); 6] = [
+    static REFUSED: [(&str, AsmFault, usize); 6] = [
         (".byte 1,2,3,4,", AsmFault::BadOperands, 1),
         (".byte 1,2,3,4 5", AsmFault::BadOperands, 1),
         (".byte 1,(x1),3,4,5", AsmFault::BadOperands, 1),
@@ -160,7 +160,7 @@ fn data_has_any_number_of_operands(rt: HostRuntime) -> Result<(), Fail> {
 
 #[test]
 fn a_name_in_a_registers_place_has_to_be_a_register(rt: HostRuntime) -> Result<(), Fail> {
-    const CASES: [&str; 5] = [
+    static CASES: [&str; 5] = [
         "addi x32,x0,0",
         "addi X1,x0,0",
         "lw x1,0(a8)",
@@ -172,7 +172,7 @@ fn a_name_in_a_registers_place_has_to_be_a_register(rt: HostRuntime) -> Result<(
 
 #[test]
 fn a_statement_begins_with_a_known_name(rt: HostRuntime) -> Result<(), Fail> {
-    const CASES: [&str; 7] = [
+    static CASES: [&str; 7] = [
         "a: 5",
         "5",
         "(",
@@ -188,7 +188,7 @@ fn a_statement_begins_with_a_known_name(rt: HostRuntime) -> Result<(), Fail> {
 fn what_is_no_token_is_refused_unless_a_comment_or_a_string_holds_it(
     rt: HostRuntime,
 ) -> Result<(), Fail> {
-    const CASES: [&str; 7] = [
+    static CASES: [&str; 7] = [
         ".ascii \"\\x\"",
         ".ascii \"a\\",
         ".ascii \"a\nnop\"",

@@ -4,7 +4,7 @@ use std::test::Fail;
 
 #[test]
 fn the_first_faults_of_a_line_are_looked_for_in_their_order(rt: HostRuntime) -> Result<(), Fail> {
-    const CASES: [(&str, AsmFault, usize); 10] = [
+    static CASES: [(&str, AsmFault, usize); 10] = [
         ("a: nop\na: frob ?", AsmFault::BadToken, 2),
         ("a: nop\na: frob", AsmFault::DuplicateSymbol, 2),
         ("frob x1 x2", AsmFault::UnknownMnemonic, 1),
@@ -22,7 +22,7 @@ fn the_first_faults_of_a_line_are_looked_for_in_their_order(rt: HostRuntime) -> 
 
 #[test]
 fn values_are_looked_at_once_the_whole_text_is_read(rt: HostRuntime) -> Result<(), Fail> {
-    const CASES: [(&str, AsmFault, usize); 14] = [
+    static CASES: [(&str, AsmFault, usize); 14] = [
         ("j nowhere\nfrob", AsmFault::UnknownMnemonic, 2),
         // on one line: symbols, ranges, multiples
         (".byte 256,nowhere", AsmFault::UnknownSymbol, 1),

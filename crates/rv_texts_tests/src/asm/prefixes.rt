@@ -1,6 +1,7 @@
 use super::BASE;
 use rv_asm::{AsmFault, assemble};
 use std::alloc::Global;
+use std::process::Abort;
 
 const TEXT: &[u8; 20] = b"addi x1,x0,5\nebreak\n";
 
@@ -24,10 +25,16 @@ fn expected(n: usize) -> Result<(usize, u32), (AsmFault, usize)> {
     }
 }
 
+/// Checks what a beginning of the text means.
+fn check_prefix(rt: &impl Abort, alloc: Global, prefix: &[u8]) {
+    let expected = expected(prefix.len());
+    assert_eq!(rt; found(alloc, prefix), expected, "{}", prefix.len());
+}
+
 #[test]
 fn each_prefix_of_a_text_is_assembled_or_has_its_own_fault(rt: HostRuntime) {
     for n in 0..21 {
         let (prefix, _) = TEXT.split_at(n);
-        assert_eq!(rt; found(rt.alloc(), prefix), expected(n), "{n}");
+        check_prefix(&rt, rt.alloc(), prefix);
     }
 }

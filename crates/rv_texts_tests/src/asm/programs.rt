@@ -251,7 +251,7 @@ const VECTORED_WORDS: [u32; 18] = [
 
 #[test]
 fn programs_of_arithmetic_and_stores_assemble(rt: HostRuntime) -> Result<(), Fail> {
-    const CASES: [(&str, &[u32]); 5] = [
+    static CASES: [(&str, &[u32]); 5] = [
         (DIVISIONS, &DIVISIONS_WORDS),
         (BYTE_STORE, &BYTE_STORE_WORDS),
         (PASSED_STORE, &PASSED_STORE_WORDS),
@@ -263,7 +263,7 @@ fn programs_of_arithmetic_and_stores_assemble(rt: HostRuntime) -> Result<(), Fai
 
 #[test]
 fn programs_with_a_trap_handler_assemble(rt: HostRuntime) -> Result<(), Fail> {
-    const CASES: [(&str, &[u32]); 6] = [
+    static CASES: [(&str, &[u32]); 6] = [
         (LOAD_PAST_RAM, &LOAD_PAST_RAM_WORDS),
         (ODD_HALF, &ODD_HALF_WORDS),
         (ILLEGAL, &ILLEGAL_WORDS),
@@ -276,7 +276,7 @@ fn programs_with_a_trap_handler_assemble(rt: HostRuntime) -> Result<(), Fail> {
 
 #[test]
 fn programs_that_are_interrupted_assemble(rt: HostRuntime) -> Result<(), Fail> {
-    const CASES: [(&str, &[u32]); 5] = [
+    static CASES: [(&str, &[u32]); 5] = [
         (TIMER, &TIMER_WORDS),
         (THREE_LINES, &THREE_LINES_WORDS),
         (READ_MIP, &READ_MIP_WORDS),

@@ -5,7 +5,7 @@ use std::test::Fail;
 
 #[test]
 fn a_value_outside_its_fields_range_is_refused(rt: HostRuntime) -> Result<(), Fail> {
-    const CASES: [&str; 28] = [
+    static CASES: [&str; 28] = [
         "addi x1,x0,2048",
         "addi x1,x0,-2049",
         "lw x1,2048(x0)",
@@ -48,7 +48,7 @@ fn is_taken(alloc: Global, text: &'static str) -> Result<(), Fail> {
 
 #[test]
 fn the_ends_of_each_range_are_taken(rt: HostRuntime) -> Result<(), Fail> {
-    const CASES: [&str; 15] = [
+    static CASES: [&str; 15] = [
         "addi x1,x0,2047\naddi x1,x0,-2048",
         "lw x1,2047(x0)\nsw x1,-2048(x0)",
         "slli x1,x0,31\nsrli x1,x0,0",

@@ -4,7 +4,7 @@ use std::test::Fail;
 
 #[test]
 fn a_symbol_is_defined_once(rt: HostRuntime) -> Result<(), Fail> {
-    const CASES: [(&str, usize); 7] = [
+    static CASES: [(&str, usize); 7] = [
         ("a: nop\na: nop", 2),
         ("a: a: nop", 1),
         ("a: .equ a,1", 1),
@@ -27,13 +27,13 @@ fn li_takes_the_number_of_an_earlier_line(rt: HostRuntime) -> Result<(), Fail> {
         ".equ a,0x12345678\nli x5,a",
         &[0x123452b7, 0x67828293],
     )?;
-    const CASES: [&str; 3] = ["a: li x5,a", "li x5,a\n.equ a,5", "li x5,a"];
+    static CASES: [&str; 3] = ["a: li x5,a", "li x5,a\n.equ a,5", "li x5,a"];
     each_has_fault(rt.alloc(), AsmFault::BadOperands, &CASES)
 }
 
 #[test]
 fn other_symbols_may_be_defined_later(rt: HostRuntime) -> Result<(), Fail> {
-    const CASES: [(&str, &[u32]); 4] = [
+    static CASES: [(&str, &[u32]); 4] = [
         ("addi x5,x0,a\n.equ a,5", &[0x00500293]),
         ("j a\nnop\na:", &[0x0080006f, 0x00000013]),
         ("la x5,a\n.data\na:", &[0x00000297, 0x01028293]),
@@ -44,7 +44,7 @@ fn other_symbols_may_be_defined_later(rt: HostRuntime) -> Result<(), Fail> {
 
 #[test]
 fn a_distance_is_exact_and_only_la_counts_modulo_2_to_the_32(rt: HostRuntime) -> Result<(), Fail> {
-    const CASES: [(&str, AsmFault, usize); 4] = [
+    static CASES: [(&str, AsmFault, usize); 4] = [
         ("a: j a+4294967292", AsmFault::OutOfRange, 1),
         ("a: beq x0,x0,a+4294967292", AsmFault::OutOfRange, 1),
         (".equ a,-2147483648\nj a", AsmFault::OutOfRange, 2),

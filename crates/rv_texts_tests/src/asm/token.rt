@@ -16,7 +16,7 @@ fn check_image(rt: &impl Abort, alloc: Global, line: &[u8], bytes: &[u8]) -> Res
 fn tokens_stand_with_or_without_blanks_and_a_comment_is_left_out(
     rt: HostRuntime,
 ) -> Result<(), Fail> {
-    const CASES: [(&[u8], &[u8]); 8] = [
+    static CASES: [(&[u8], &[u8]); 8] = [
         (b"l: lw x7, -4(x5) # load", b"\x83\xa3\xc2\xff"),
         (b"l:lw\tx7 ,- 4 ( x5 )\r", b"\x83\xa3\xc2\xff"),
         (b"_.$a1:.half 0010,0xFf,0b101", b"\x0a\x00\xff\x00\x05\x00"),
@@ -35,9 +35,14 @@ fn tokens_stand_with_or_without_blanks_and_a_comment_is_left_out(
     Ok(())
 }
 
+// Checks that a line is refused for what is no token.
+fn is_bad(rt: &impl Abort, alloc: Global, line: &[u8]) {
+    assert_eq!(rt; fault(alloc, line), Some((AsmFault::BadToken, 1)));
+}
+
 #[test]
 fn what_is_no_token_is_refused(rt: HostRuntime) {
-    const LINES: [&[u8]; 22] = [
+    static LINES: [&[u8]; 22] = [
         b"4294967296",
         b"0x100000000",
         b"0x",
@@ -62,6 +67,6 @@ fn what_is_no_token_is_refused(rt: HostRuntime) {
         b"nop\x0c",
     ];
     for line in &LINES {
-        assert_eq!(rt; fault(rt.alloc(), line), Some((AsmFault::BadToken, 1)));
+        is_bad(&rt, rt.alloc(), line);
     }
 }

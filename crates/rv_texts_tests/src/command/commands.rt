@@ -43,12 +43,12 @@ pub(super) fn is_taken(
 
 #[test]
 fn a_limit_is_one_to_a_million_and_else_a_usage_fault(rt: HostRuntime) -> Result<(), Fail> {
-    const CASES: [(&[&str], u64); 3] = [
+    static CASES: [(&[&str], u64); 3] = [
         (&["rv_sim", "reference"], 100_000),
         (&["rv_sim", "reference", "--limit", "1"], 1),
         (&["rv_sim", "reference", "--limit", "1000000"], 1_000_000),
     ];
-    const REFUSED: [&str; 4] = ["0", "1000001", "x", "-1"];
+    static REFUSED: [&str; 4] = ["0", "1000001", "x", "-1"];
     let alloc = rt.alloc();
     for (texts, limit) in &CASES {
         is_taken(&rt, alloc, texts, Command::Reference { limit: *limit })?;
@@ -61,13 +61,13 @@ fn a_limit_is_one_to_a_million_and_else_a_usage_fault(rt: HostRuntime) -> Result
 
 #[test]
 fn a_run_has_a_trace_where_the_flag_is_given_once(rt: HostRuntime) -> Result<(), Fail> {
-    const CASES: [(&[&str], bool, u64); 4] = [
+    static CASES: [(&[&str], bool, u64); 4] = [
         (&["rv_sim", "run"], false, 100_000),
         (&["rv_sim", "run", "--trace"], true, 100_000),
         (&["rv_sim", "run", "--limit", "7"], false, 7),
         (&["rv_sim", "run", "--limit=8", "--trace"], true, 8),
     ];
-    const REFUSED: [&[&str]; 4] = [
+    static REFUSED: [&[&str]; 4] = [
         &["rv_sim", "run", "--trace", "--trace"],
         &["rv_sim", "run", "--trace=true"],
         &["rv_sim", "run", "--limit", "1000001"],
@@ -86,7 +86,7 @@ fn a_picture_shows_sixty_cycles_from_the_first_on_unless_others_are_asked_for(
     rt: HostRuntime,
 ) -> Result<(), Fail> {
     // The words; whether --text, --retired and --path are given; the first cycle, and how many.
-    const CASES: [(&[&str], bool, bool, bool, u64, u64); 10] = [
+    static CASES: [(&[&str], bool, bool, bool, u64, u64); 10] = [
         (&["rv_sim", "picture"], false, false, false, 0, 60),
         (&["rv_sim", "picture", "--text"], true, false, false, 0, 60),
         (
@@ -147,7 +147,7 @@ fn a_picture_shows_sixty_cycles_from_the_first_on_unless_others_are_asked_for(
             1_000,
         ),
     ];
-    const REFUSED: [&[&str]; 11] = [
+    static REFUSED: [&[&str]; 11] = [
         &["rv_sim", "picture", "--from", "1000000"],
         &["rv_sim", "picture", "--from", "-1"],
         &["rv_sim", "picture", "--cycles", "0"],
@@ -205,7 +205,7 @@ fn states_and_page_tell_of_two_hundred_cycles_unless_others_are_asked_for(
             Command::Page { from: 0, limit: 1 },
         ),
     ];
-    const REFUSED: [&[&str]; 5] = [
+    static REFUSED: [&[&str]; 5] = [
         &["rv_sim", "states", "--from", "1000000"],
         &["rv_sim", "states", "--cycles", "0"],
         &["rv_sim", "page", "--cycles", "10001"],
@@ -299,7 +299,7 @@ fn a_log_has_a_limit_and_a_profile_and_an_explanation_have_flags_too(
             Command::Path { limit: 5 },
         ),
     ];
-    const NAMES: [&str; 5] = ["log", "explain", "profile", "path", "compare"];
+    static NAMES: [&str; 5] = ["log", "explain", "profile", "path", "compare"];
     let alloc = rt.alloc();
     for (texts, command) in &CASES {
         is_taken(&rt, alloc, texts, *command)?;
@@ -313,7 +313,7 @@ fn a_log_has_a_limit_and_a_profile_and_an_explanation_have_flags_too(
 #[test]
 fn check_and_help_are_known_and_other_words_are_not(rt: HostRuntime) -> Result<(), Fail> {
     let alloc = rt.alloc();
-    const CASES: [(&str, i32); 7] = [
+    static CASES: [(&str, i32); 7] = [
         ("--help", 0),
         ("help", 0),
         ("--version", 0),
@@ -331,12 +331,12 @@ fn check_and_help_are_known_and_other_words_are_not(rt: HostRuntime) -> Result<(
 
 #[test]
 fn a_limit_stands_after_an_equals_sign_or_a_space_and_once(rt: HostRuntime) -> Result<(), Fail> {
-    const TAKEN: [&[&str]; 3] = [
+    static TAKEN: [&[&str]; 3] = [
         &["rv_sim", "reference", "--limit=7"],
         &["rv_sim", "reference", "--limit", "7"],
         &["rv_sim", "reference", "--limit", "007"],
     ];
-    const REFUSED: [&[&str]; 5] = [
+    static REFUSED: [&[&str]; 5] = [
         &["rv_sim"],
         &["rv_sim", "check", "--limit", "7"],
         &["rv_sim", "reference", "--limit=7", "--limit=7"],

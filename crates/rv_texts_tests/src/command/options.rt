@@ -17,7 +17,7 @@ const NOTHING_SHOWN: ShownColumns = ShownColumns {
 fn a_comparison_shows_four_registers_words_and_the_places_at_most(
     rt: HostRuntime,
 ) -> Result<(), Fail> {
-    const REFUSED: [&[&str]; 8] = [
+    static REFUSED: [&[&str]; 8] = [
         &["rv_sim", "compare", "--show", "place"],
         &["rv_sim", "compare", "--show", "Places"],
         &["rv_sim", "compare", "--show", "a8"],
@@ -96,7 +96,7 @@ fn also_is_refused(rt: &impl Abort, alloc: Global, texts: &[&str]) -> Result<(),
 
 #[test]
 fn a_machine_is_tried_with_four_values_of_a_users_own_at_most(rt: HostRuntime) -> Result<(), Fail> {
-    const NO_VALUES: [&str; 20] = [
+    static NO_VALUES: [&str; 20] = [
         "rob",
         "rob=",
         "=64",
@@ -118,7 +118,7 @@ fn a_machine_is_tried_with_four_values_of_a_users_own_at_most(rt: HostRuntime) -
         "div.pipelined=yes",
         "predictor.kind=perceptron",
     ];
-    const REFUSED: [&[&str]; 4] = [
+    static REFUSED: [&[&str]; 4] = [
         &["rv_sim", "sensitivity", "--also"],
         &["rv_sim", "sensitivity", "--show", "a0"],
         &["rv_sim", "sensitivity", "--also=rob=1", "--also=rob=2"],

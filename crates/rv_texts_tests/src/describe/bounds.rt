@@ -82,9 +82,13 @@ fn ram_begins_no_page_after_the_last_that_it_may_begin(rt: HostRuntime) -> Resul
     check_key(&rt, rt.alloc(), 1, 0xff00_1000, outside)
 }
 
+fn check_name(rt: &impl Abort, place: usize, key: &str) {
+    assert!(rt; key_name(place) == key, "{place}");
+}
+
 #[test]
 fn the_texts_of_keys(rt: HostRuntime) {
-    const KEYS: [(usize, &str); 9] = [
+    static KEYS: [(usize, &str); 9] = [
         (0, ""),
         (1, "ram_base"),
         (3, "rom_bytes"),
@@ -96,6 +100,6 @@ fn the_texts_of_keys(rt: HostRuntime) {
         (39, ""),
     ];
     for (place, key) in &KEYS {
-        assert!(rt; key_name(*place) == *key, "{place}");
+        check_name(&rt, *place, key);
     }
 }

@@ -1,10 +1,12 @@
 use super::{fault, is_refused};
 use rv_describe::DescriptionError;
 use rv_describe::DescriptionError::{NotPowerOfTwo, NotToml, OutOfRange, UnknownKey, WrongKind};
+use std::alloc::Global;
+use std::process::Abort;
 
 #[test]
 fn the_first_fault_of_a_value_is_named(rt: HostRuntime) {
-    const CASES: [(&str, DescriptionError, &str); 31] = [
+    static CASES: [(&str, DescriptionError, &str); 31] = [
         ("rob = \"a\"", WrongKind { place: 9 }, "rob"),
         ("rob.x = 1", WrongKind { place: 9 }, "rob"),
         ("[rob]", WrongKind { place: 9 }, "rob"),
@@ -96,7 +98,7 @@ fn the_first_fault_of_a_value_is_named(rt: HostRuntime) {
 
 #[test]
 fn names_that_no_key_has(rt: HostRuntime) {
-    const TEXTS: [&str; 6] = [
+    static TEXTS: [&str; 6] = [
         "sets = 4",
         "\"cache.sets\" = 4",
         "\"\".rob = 4",
@@ -109,9 +111,14 @@ fn names_that_no_key_has(rt: HostRuntime) {
     }
 }
 
+// Checks that bytes are no TOML.
+fn is_no_toml(rt: &impl Abort, alloc: Global, bytes: &[u8]) {
+    assert!(rt; fault(alloc, bytes) == Some(NotToml));
+}
+
 #[test]
 fn bytes_that_are_no_toml(rt: HostRuntime) {
-    const TEXTS: [&[u8]; 5] = [
+    static TEXTS: [&[u8]; 5] = [
         b"rob = 16\nrob = 16",
         b"rob = 0x",
         b"rob = ",
@@ -119,6 +126,6 @@ fn bytes_that_are_no_toml(rt: HostRuntime) {
         b"rob = 16 # \xc3",
     ];
     for bytes in &TEXTS {
-        assert_eq!(rt; fault(rt.alloc(), bytes), Some(NotToml));
+        is_no_toml(&rt, rt.alloc(), bytes);
     }
 }

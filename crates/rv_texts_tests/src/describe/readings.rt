@@ -15,17 +15,7 @@ fn a_text_without_keys_is_the_standard_machine(rt: HostRuntime) {
 
 #[test]
 fn each_key_has_its_value(rt: HostRuntime) {
-    let text = "ram_base = 4096\nram_size = 12288\nrom_bytes = 8192\nfetch_width = 1\n\
-        dispatch_width = 3\ncommit_width = 4\nbus_width = 5\nfetch_buffer = 6\nrob = 7\n\
-        store_queue = 9\nforward = 10\nrecovery = \"early\"\n\
-        [alu]\nstations = 11\nunits = 3\nlatency = 12\npipelined = false\n\
-        [mul]\nstations = 13\nunits = 4\nlatency = 14\npipelined = false\n\
-        [div]\nstations = 15\nunits = 5\nlatency = 17\npipelined = true\n\
-        [mem]\nstations = 18\nunits = 6\nlatency = 19\npipelined = false\n\
-        [cache]\nsets = 32\nways = 3\nline = 64\nhit = 4\nmiss = 20\nwrite_back = 21\n\
-        [predictor]\nkind = \"backward_taken\"\nentries = 22\n\
-        [report]\ndump_address = 24\ndump_words = 23\n";
-    let expected = Values {
+    const EXPECTED: Values = Values {
         ram_base: 4096,
         ram_size: 12288,
         rom_bytes: 8192,
@@ -81,7 +71,17 @@ fn each_key_has_its_value(rt: HostRuntime) {
             dump_words: 23,
         },
     };
-    is_read(&rt, rt.alloc(), text, expected);
+    let text = "ram_base = 4096\nram_size = 12288\nrom_bytes = 8192\nfetch_width = 1\n\
+        dispatch_width = 3\ncommit_width = 4\nbus_width = 5\nfetch_buffer = 6\nrob = 7\n\
+        store_queue = 9\nforward = 10\nrecovery = \"early\"\n\
+        [alu]\nstations = 11\nunits = 3\nlatency = 12\npipelined = false\n\
+        [mul]\nstations = 13\nunits = 4\nlatency = 14\npipelined = false\n\
+        [div]\nstations = 15\nunits = 5\nlatency = 17\npipelined = true\n\
+        [mem]\nstations = 18\nunits = 6\nlatency = 19\npipelined = false\n\
+        [cache]\nsets = 32\nways = 3\nline = 64\nhit = 4\nmiss = 20\nwrite_back = 21\n\
+        [predictor]\nkind = \"backward_taken\"\nentries = 22\n\
+        [report]\ndump_address = 24\ndump_words = 23\n";
+    is_read(&rt, rt.alloc(), text, EXPECTED);
 }
 
 #[test]
@@ -119,24 +119,28 @@ fn with_predictor(kind: PredictorKind) -> Values {
 }
 
 #[test]
-fn names_that_a_key_knows(rt: HostRuntime) {
-    for (text, expected) in [
-        ("recovery = \"commit\"", with_recovery(Recovery::Commit)),
-        ("recovery = \"early\"", with_recovery(Recovery::Early)),
-        (
-            "predictor.kind = \"not_taken\"",
-            with_predictor(PredictorKind::NotTaken),
-        ),
+fn names_that_the_recovery_knows(rt: HostRuntime) {
+    static CASES: [(&str, Recovery); 2] = [
+        ("recovery = \"commit\"", Recovery::Commit),
+        ("recovery = \"early\"", Recovery::Early),
+    ];
+    for (text, recovery) in &CASES {
+        is_read(&rt, rt.alloc(), text, with_recovery(*recovery));
+    }
+}
+
+#[test]
+fn names_that_the_predictor_knows(rt: HostRuntime) {
+    static CASES: [(&str, PredictorKind); 3] = [
+        ("predictor.kind = \"not_taken\"", PredictorKind::NotTaken),
         (
             "predictor.kind = \"backward_taken\"",
-            with_predictor(PredictorKind::BackwardTaken),
+            PredictorKind::BackwardTaken,
         ),
-        (
-            "predictor.kind = \"bimodal\"",
-            with_predictor(PredictorKind::Bimodal),
-        ),
-    ] {
-        is_read(&rt, rt.alloc(), text, expected);
+        ("predictor.kind = \"bimodal\"", PredictorKind::Bimodal),
+    ];
+    for (text, kind) in &CASES {
+        is_read(&rt, rt.alloc(), text, with_predictor(*kind));
     }
 }
 
@@ -154,6 +158,6 @@ fn a_text_of_ten_million_bytes(rt: HostRuntime) -> Result<(), Fail> {
         rob: 7,
         ..Values::standard()
     };
-    assert!(rt; is_read_as(found, &expected));
+    assert!(&rt; is_read_as(found, &expected));
     Ok(())
 }

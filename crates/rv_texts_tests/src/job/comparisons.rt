@@ -11,11 +11,16 @@ fn sizes(comparison: &Comparison, place: usize) -> Option<(u32, u32)> {
     Some((job.description.values().ram_size, job.image.start))
 }
 
+// Checks those of a job.
+fn check_job(rt: &impl Abort, comparison: &Comparison, place: usize, expected: (u32, u32)) {
+    assert_eq!(rt; sizes(comparison, place), Some(expected), "{place}");
+}
+
 // Checks how many jobs a comparison has, and the sizes of each.
 fn check_sizes(rt: &impl Abort, comparison: &Comparison, expected: &[(u32, u32)]) {
     check_count(rt, comparison.jobs.len(), expected.len());
-    for (place, place_sizes) in expected.iter().enumerate() {
-        assert_eq!(rt; sizes(comparison, place), Some(*place_sizes), "{place}");
+    for (place, of_place) in expected.iter().enumerate() {
+        check_job(rt, comparison, place, *of_place);
     }
 }
 
@@ -27,16 +32,21 @@ fn a_program_is_assembled_for_each_description(rt: HostRuntime) -> Result<(), Fa
     Ok(())
 }
 
+// Checks the names of machines.
+fn check_names(rt: &impl Abort, found: &[Vec<u8>], names: &[&[u8]]) {
+    check_count(rt, found.len(), names.len());
+    for (each, name) in found.iter().zip(names) {
+        check_bytes(rt, each.as_slice(), name);
+    }
+}
+
 #[test]
 fn a_comment_on_the_first_line_names_a_machine(rt: HostRuntime) -> Result<(), Fail> {
+    static NAMES: [&[u8]; 4] = [b"one ", b"", b"", b"four"];
     let text =
-        b"# name: one \nrob = 4\n%%\nrob = 8\n# name: late\n%%\n%%\n# name: four\n%%\n# name: none\nnop\n";
+        b"\xef\xbb\xbf# name: one \nrob = 4\n%%\nrob = 8\n# name: late\n%%\n%%\n# name: four\r\n%%\n# name: none\nnop\n";
     let comparison = read_comparison(rt.alloc(), text)?;
-    let names: [&[u8]; 4] = [b"one ", b"", b"", b"four"];
-    assert_eq!(rt; comparison.names.len(), names.len());
-    for (found, name) in comparison.names.iter().zip(&names) {
-        check_bytes(&rt, found.as_slice(), *name);
-    }
+    check_names(&rt, comparison.names.as_slice(), &NAMES);
     Ok(())
 }
 
@@ -93,7 +103,7 @@ fn sixty_four_machines_are_compared_and_not_one_more(rt: HostRuntime) -> Result<
 fn a_fault_of_one_of_several_descriptions_is_told_with_its_number(
     rt: HostRuntime,
 ) -> Result<(), Fail> {
-    const CASES: [(&[u8], &str); 8] = [
+    static CASES: [(&[u8], &str); 8] = [
         (
             b"rob = 0\n%%\n%%\n",
             "error: description 1: OutOfRange rob\n",

@@ -4,7 +4,7 @@ use std::test::Fail;
 
 #[test]
 fn the_lines_of_a_job_are_those_of_its_program(rt: HostRuntime) -> Result<(), Fail> {
-    const ROWS: [(u32, Option<usize>, Option<&[u8]>); 6] = [
+    static ROWS: [(u32, Option<usize>, Option<&[u8]>); 6] = [
         (4092, None, None),
         (4096, Some(1), Some(b"nop")),
         (4104, Some(2), Some(b"la x8,d")),

@@ -5,7 +5,7 @@ use std::test::Fail;
 
 #[test]
 fn a_fault_of_the_description_is_told_with_its_key(rt: HostRuntime) -> Result<(), Fail> {
-    const CASES: [(&[u8], &str); 10] = [
+    static CASES: [(&[u8], &str); 10] = [
         (b"rob = \n%%\n", "error: description: NotToml\n"),
         (b"sets = 4\n%%\n", "error: description: UnknownKey\n"),
         (b"rob = \"a\"\n%%\n", "error: description: WrongKind rob\n"),
@@ -44,7 +44,7 @@ fn a_fault_of_the_description_is_told_with_its_key(rt: HostRuntime) -> Result<()
 
 #[test]
 fn a_fault_of_the_arrivals_is_told_with_its_entry(rt: HostRuntime) -> Result<(), Fail> {
-    const CASES: [(&[u8], &str); 6] = [
+    static CASES: [(&[u8], &str); 6] = [
         (b"%%\narrival\n%%\n", "error: arrivals: NotToml\n"),
         (b"%%\nrob = 16\n%%\n", "error: arrivals: UnknownKey\n"),
         (b"%%\narrival = 3\n%%\n", "error: arrivals: WrongKind 1\n"),
@@ -67,7 +67,7 @@ fn a_fault_of_the_arrivals_is_told_with_its_entry(rt: HostRuntime) -> Result<(),
 
 #[test]
 fn only_the_first_two_separators_separate(rt: HostRuntime) -> Result<(), Fail> {
-    const CASES: [(&[u8], &str); 8] = [
+    static CASES: [(&[u8], &str); 8] = [
         (b"%%\n%%\n%%\n", "error: assembly line 1: BadToken\n"),
         (b"%%\n%%\nnop\n%%\n", "error: assembly line 2: BadToken\n"),
         // Two carriage returns, a blank before or behind and a third sign make another line of it.
@@ -91,7 +91,7 @@ fn only_the_first_two_separators_separate(rt: HostRuntime) -> Result<(), Fail> {
 
 #[test]
 fn missing_parts_are_empty_and_lines_may_end_by_a_return(rt: HostRuntime) -> Result<(), Fail> {
-    const CASES: [(&[u8], &str); 9] = [
+    static CASES: [(&[u8], &str); 9] = [
         (b"", "ok 0 bytes start 80000000\n"),
         (b"%%\n", "ok 0 bytes start 80000000\n"),
         (b"%%", "ok 0 bytes start 80000000\n"),

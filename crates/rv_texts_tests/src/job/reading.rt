@@ -31,13 +31,17 @@ fn fails_after(alloc: Global, zeros: usize) -> bool {
     )
 }
 
+fn check_failing(rt: &impl Abort, alloc: Global, zeros: usize) {
+    assert!(rt; fails_after(alloc, zeros), "{zeros}");
+}
+
 #[test]
 fn input_is_read_to_its_end_and_a_failed_read_is_told(rt: HostRuntime) -> Result<(), Fail> {
     let mut text: &[u8] = b"ebreak\n";
     let input = read_input(rt.alloc(), &mut text)?;
     check_bytes(&rt, input.as_slice(), b"ebreak\n");
     for zeros in [0, 1, 16_384, 20_000] {
-        assert!(rt; fails_after(rt.alloc(), zeros), "{zeros}");
+        check_failing(&rt, rt.alloc(), zeros);
     }
     Ok(())
 }

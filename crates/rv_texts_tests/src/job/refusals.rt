@@ -3,7 +3,7 @@ use std::test::Fail;
 
 #[test]
 fn the_first_fault_of_a_text_is_told_with_its_line(rt: HostRuntime) -> Result<(), Fail> {
-    const CASES: [(&[u8], &str); 14] = [
+    static CASES: [(&[u8], &str); 14] = [
         (b"nop\n\xff\n", "error: assembly line 2: BadToken\n"),
         (b".ascii \"abc", "error: assembly line 1: BadToken\n"),
         (

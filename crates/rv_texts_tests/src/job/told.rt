@@ -15,7 +15,7 @@ fn is_told(rt: &impl Abort, alloc: Global, error: SimError, line: &str, status: 
 
 #[test]
 fn each_fault_is_told_in_its_own_words_with_its_status(rt: HostRuntime) {
-    const CASES: [(SimError, &str, u8); 12] = [
+    static CASES: [(SimError, &str, u8); 12] = [
         (SimError::TooLong, "error: job too long\n", 1),
         (
             SimError::TooManyDescriptions,

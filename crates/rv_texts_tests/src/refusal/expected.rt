@@ -1,5 +1,4 @@
-use rv_job::{SimError, read_job};
-use rv_refusal::write_refusal;
+use crate::refusal::shown;
 use std::alloc::Global;
 use std::process::Abort;
 use std::test::Fail;
@@ -126,14 +125,17 @@ static OTHERS: [(&str, &str); 6] = [
     ),
 ];
 
+// Checks that what is shown of a job ends so.
+fn check_end(rt: &impl Abort, alloc: Global, job: &str, end: &str) -> Result<(), Fail> {
+    let found = shown(alloc, job.as_bytes())?;
+    assert!(rt; found.as_slice().ends_with(end.as_bytes()), "{job}");
+    Ok(())
+}
+
 // Checks that what is shown of each job ends so.
 fn check_ends(rt: &impl Abort, alloc: Global, cases: &[(&str, &str)]) -> Result<(), Fail> {
     for (job, end) in cases {
-        let mut shown = Vec::new(alloc);
-        if let Err(error) = read_job(alloc, job.as_bytes()) {
-            write_refusal(alloc, job.as_bytes(), error, &mut shown)?;
-        }
-        assert!(rt; shown.as_slice().ends_with(end.as_bytes()), "{job}");
+        check_end(rt, alloc, job, end)?;
     }
     Ok(())
 }

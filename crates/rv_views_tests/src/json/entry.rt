@@ -1,9 +1,12 @@
+use crate::checks::check_end;
 use crate::json::expect_text;
 use rv_decode::{Decoded, encode};
 use rv_isa::{AluOp, Cause, Fault, Immediate, Instr, Issue, Message, Reg, Width};
 use rv_rob::{Entry, Stage};
 use rv_states::write_entry;
 use rv_text::Sink;
+use std::alloc::Global;
+use std::process::Abort;
 
 fn register(number: u8) -> Reg {
     Reg::new(number).unwrap_or(Reg::ZERO)
@@ -93,18 +96,24 @@ const STAGES: [(Stage, &str); 5] = [
     ),
 ];
 
+// What an entry is shown as.
+fn shown(alloc: Global, instruction: Instr, stage: Stage) -> Vec<u8> {
+    let mut text = Vec::new(alloc);
+    write_entry(&mut Sink::new(&mut text), 19, &entry(instruction, stage));
+    text
+}
+
+// Checks what stands after the head at a stage.
+fn check_stage(rt: &impl Abort, alloc: Global, stage: Stage, end: &str) {
+    let text = shown(alloc, operation(AluOp::Mul), stage);
+    let expected = format!(in alloc; "{HEAD}{end}").expect(rt, "a text");
+    expect_text(rt, &text, expected.as_bytes());
+}
+
 #[test]
 fn an_entry_shows_how_far_it_has_come(rt: HostRuntime) {
-    for (stage, end) in STAGES {
-        let alloc = rt.alloc();
-        let mut text = Vec::new(alloc);
-        write_entry(
-            &mut Sink::new(&mut text),
-            19,
-            &entry(operation(AluOp::Mul), stage),
-        );
-        let expected = format!(in alloc; "{HEAD}{end}").expect(&rt, "a text");
-        expect_text(&rt, &text, expected.as_bytes());
+    for (stage, end) in &STAGES {
+        check_stage(&rt, rt.alloc(), *stage, end);
     }
 }
 
@@ -121,31 +130,27 @@ fn an_entry_of_no_word_has_neither_target_nor_kind(rt: HostRuntime) {
     expect_text(&rt, &text, expected);
 }
 
+// Checks how an entry ends that waits.
+fn check_kind(rt: &impl Abort, alloc: Global, instruction: Instr, end: &[u8]) {
+    let text = shown(alloc, instruction, Stage::Waiting);
+    check_end(rt, text.as_slice(), end);
+}
+
 #[test]
 fn an_entry_has_its_target_and_its_kind_of_unit(rt: HostRuntime) {
+    let alloc = rt.alloc();
     let store = Instr::Store {
         width: Width::Byte,
         rs1: register(8),
         rs2: register(9),
         offset: Immediate::new(10).expect(&rt, "an offset"),
     };
-    let kinds = [
-        (
-            operation(AluOp::Sub),
-            ",\"predicted\":24,\"target\":5,\"kind\":\"alu\"",
-        ),
-        (operation(AluOp::Mulh), ",\"target\":5,\"kind\":\"mul\""),
-        (operation(AluOp::Remu), ",\"target\":5,\"kind\":\"div\""),
-        (store, ",\"predicted\":24,\"kind\":\"mem\""),
-        (Instr::Ecall, ",\"predicted\":24"),
-    ];
-    for (instruction, end) in kinds {
-        let mut text = Vec::new(rt.alloc());
-        write_entry(
-            &mut Sink::new(&mut text),
-            19,
-            &entry(instruction, Stage::Waiting),
-        );
-        assert!(&rt; text.as_slice().ends_with(end.as_bytes()));
-    }
+    let sum = b",\"predicted\":24,\"target\":5,\"kind\":\"alu\"";
+    check_kind(&rt, alloc, operation(AluOp::Sub), sum);
+    let product = b",\"target\":5,\"kind\":\"mul\"";
+    check_kind(&rt, alloc, operation(AluOp::Mulh), product);
+    let remainder = b",\"target\":5,\"kind\":\"div\"";
+    check_kind(&rt, alloc, operation(AluOp::Remu), remainder);
+    check_kind(&rt, alloc, store, b",\"predicted\":24,\"kind\":\"mem\"");
+    check_kind(&rt, alloc, Instr::Ecall, b",\"predicted\":24");
 }

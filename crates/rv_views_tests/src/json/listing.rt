@@ -4,6 +4,8 @@ use rv_isa::Values;
 use rv_source::{Listing, SourceLine};
 use rv_states::write_listing;
 use rv_text::Sink;
+use std::alloc::Global;
+use std::process::Abort;
 
 // The values of a RAM of three words.
 fn three_words() -> Values {
@@ -15,17 +17,28 @@ fn three_words() -> Values {
 const LINES: &[u8] = b"{\"address\":2147483648,\"line\":7,\"text\":\"lui x1,1\"}\n\
 {\"address\":2147483656,\"line\":5,\"text\":\"ecall\"}\n";
 
+// Adds a line of so many words.
+fn push(
+    rt: &impl Abort,
+    alloc: Global,
+    listing: &mut Listing,
+    number: usize,
+    text: &str,
+    words: usize,
+) {
+    let line = text.as_bytes().to_vec(alloc).expect(rt, "a line");
+    listing
+        .push_line(SourceLine::new(number, line), words)
+        .expect(rt, "room for a line");
+}
+
 #[test]
 fn a_word_of_the_program_has_its_address_and_its_line(rt: HostRuntime) {
     let alloc = rt.alloc();
     let mut listing = Listing::new(alloc, 0x8000_0000);
-    let first = b"lui x1,1".to_vec(alloc).expect(&rt, "a line");
-    let third = b"ecall".to_vec(alloc).expect(&rt, "a line");
-    let pushed = listing.push_line(SourceLine::new(7, first), 1);
-    assert!(&rt; pushed.is_ok());
-    assert!(&rt; listing.push_gap(1).is_ok());
-    let pushed = listing.push_line(SourceLine::new(5, third), 1);
-    assert!(&rt; pushed.is_ok());
+    push(&rt, alloc, &mut listing, 7, "lui x1,1", 1);
+    listing.push_gap(1).expect(&rt, "room for a gap");
+    push(&rt, alloc, &mut listing, 5, "ecall", 1);
     let mut text = Vec::new(alloc);
     write_listing(&mut Sink::new(&mut text), &listing, &three_words());
     expect_text(&rt, &text, LINES);
@@ -35,11 +48,8 @@ fn a_word_of_the_program_has_its_address_and_its_line(rt: HostRuntime) {
 fn a_line_of_two_words_has_its_text_at_the_first_of_them(rt: HostRuntime) {
     let alloc = rt.alloc();
     let mut listing = Listing::new(alloc, 0x8000_0000);
-    for (number, text) in [(3, "li x1,5000"), (4, "li x2,5000")] {
-        let line = text.as_bytes().to_vec(alloc).expect(&rt, "a line");
-        let pushed = listing.push_line(SourceLine::new(number, line), 2);
-        assert!(&rt; pushed.is_ok());
-    }
+    push(&rt, alloc, &mut listing, 3, "li x1,5000", 2);
+    push(&rt, alloc, &mut listing, 4, "li x2,5000", 2);
     let mut text = Vec::new(alloc);
     write_listing(&mut Sink::new(&mut text), &listing, &three_words());
     let expected = b"{\"address\":2147483648,\"line\":3,\"text\":\"li x1,5000\"}\n\
@@ -49,7 +59,7 @@ fn a_line_of_two_words_has_its_text_at_the_first_of_them(rt: HostRuntime) {
 }
 
 // What a line of the program is shown as.
-const SHOWN: [(&str, &str); 7] = [
+static SHOWN: [(&str, &str); 7] = [
     ("</script>", "\\u003c/script\\u003e"),
     ("a&b", "a\\u0026b"),
     ("'\"", "'\\u0022"),
@@ -60,16 +70,20 @@ const SHOWN: [(&str, &str); 7] = [
     ("\u{e9}", "??"),
 ];
 
+// Checks what a line is shown as.
+fn check_shown(rt: &impl Abort, alloc: Global, line: &str, shown: &str) {
+    let listing = listing(rt, alloc, &[line]);
+    let mut text = Vec::new(alloc);
+    write_listing(&mut Sink::new(&mut text), &listing, &three_words());
+    let expected = format!(in alloc;
+        "{{\"address\":2147483648,\"line\":1,\"text\":\"{shown}\"}}\n"
+    ).expect(rt, "a text");
+    expect_text(rt, &text, expected.as_bytes());
+}
+
 #[test]
 fn no_line_of_the_program_becomes_markup(rt: HostRuntime) {
-    for (line, shown) in SHOWN {
-        let alloc = rt.alloc();
-        let listing = listing(&rt, alloc, &[line]);
-        let mut text = Vec::new(alloc);
-        write_listing(&mut Sink::new(&mut text), &listing, &three_words());
-        let shown = format!(in alloc;
-            "{{\"address\":2147483648,\"line\":1,\"text\":\"{shown}\"}}\n"
-        ).expect(&rt, "a text");
-        assert_eq!(&rt; text.as_slice(), shown.as_bytes());
+    for (line, shown) in &SHOWN {
+        check_shown(&rt, rt.alloc(), line, shown);
     }
 }

@@ -3,6 +3,7 @@ use rv_arch::{CsrOperand, Csrs, Observed};
 use rv_isa::{CsrAddress, CsrOp, Lines};
 use rv_states::write_observed;
 use rv_text::Sink;
+use std::alloc::Global;
 use std::process::Abort;
 
 // x0 to x31.
@@ -39,7 +40,7 @@ fn csrs(rt: &impl Abort) -> Csrs {
 
 // The levels of the lines, and what comes after the registers: mip has a bit for each line, software bit 3, timer bit 7
 // and external bit 11. mstatus has MPP beside the bit that was written.
-const LEVELS: [(bool, bool, bool, &str); 3] = [
+static LEVELS: [(bool, bool, bool, &str); 3] = [
     (
         true,
         false,
@@ -68,23 +69,28 @@ const FRONT: &str =
 116,115,114,113,112,111,110,109,108,107,106,105,104,103,102,101],\
 \"csrs\":{\"mstatus\":6272,\"mie\":2056,";
 
+// Checks what stands after the registers at these levels of the lines.
+fn check_levels(rt: &impl Abort, alloc: Global, lines: Lines, end: &str) {
+    let seen = Observed {
+        pc: 200,
+        regs: REGISTERS,
+        csrs: csrs(rt),
+        lines,
+    };
+    let mut text = Vec::new(alloc);
+    write_observed(&mut Sink::new(&mut text), &seen);
+    let expected = format!(in alloc; "{FRONT}{end}").expect(rt, "a text");
+    expect_text(rt, &text, expected.as_bytes());
+}
+
 #[test]
 fn what_retired_instructions_left_has_each_register(rt: HostRuntime) {
-    for (software, timer, external, end) in LEVELS {
-        let alloc = rt.alloc();
-        let seen = Observed {
-            pc: 200,
-            regs: REGISTERS,
-            csrs: csrs(&rt),
-            lines: Lines {
-                software,
-                timer,
-                external,
-            },
+    for (software, timer, external, end) in &LEVELS {
+        let lines = Lines {
+            software: *software,
+            timer: *timer,
+            external: *external,
         };
-        let mut text = Vec::new(alloc);
-        write_observed(&mut Sink::new(&mut text), &seen);
-        let expected = format!(in alloc; "{FRONT}{end}").expect(&rt, "a text");
-        expect_text(&rt, &text, expected.as_bytes());
+        check_levels(&rt, rt.alloc(), lines, end);
     }
 }

@@ -3,7 +3,7 @@ use rv_arch::Stop;
 use rv_states::write_stop;
 use rv_text::Sink;
 
-const STOPS: [(Stop, &[u8]); 4] = [
+static STOPS: [(Stop, &[u8]); 4] = [
     (Stop::Limit, b"{\"cycles\":9,\"stop\":\"limit\"}\n"),
     (
         Stop::Breakpoint,
@@ -15,9 +15,9 @@ const STOPS: [(Stop, &[u8]); 4] = [
 
 #[test]
 fn the_last_line_says_why_the_run_ended(rt: HostRuntime) {
-    for (stop, line) in STOPS {
+    for (stop, line) in &STOPS {
         let mut text = Vec::new(rt.alloc());
-        write_stop(&mut Sink::new(&mut text), 9, stop);
+        write_stop(&mut Sink::new(&mut text), 9, *stop);
         expect_text(&rt, &text, line);
     }
 }

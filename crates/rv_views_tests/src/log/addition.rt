@@ -1,10 +1,15 @@
-use crate::machine::{described, listing, narrow, no_arrivals, pipeline};
+use crate::checks::check_bytes;
+use crate::log::logged;
+use crate::machine::narrow;
 use rv_arch::Stop;
-use rv_front::NotTaken;
-use rv_log::write_log;
 
 // One addition and a breakpoint.
 const PROGRAM: &[u8] = &[0x93, 0x00, 0x50, 0x00, 0x73, 0x00, 0x10, 0x00];
+
+static LINES: [&str; 2] = [
+    "addi\tx1",
+    "ebreak # a label has at most sixty-four bytes of a line of the source text",
+];
 
 // The addition is fetched in cycle 0, dispatched in 1, issued in 2, broadcast in 3 and retired in 4; the breakpoint traps in 5,
 // which flushes what was fetched after it, and fetches where mtvec points to, outside RAM. A viewer ends an instruction's last
@@ -56,25 +61,7 @@ R\t4\t4\t1
 
 #[test]
 fn an_addition_passes_through_each_stage(rt: HostRuntime) {
-    let alloc = rt.alloc();
-    let lines = [
-        "addi\tx1",
-        "ebreak # a label has at most sixty-four bytes of a line of the source text",
-    ];
-    let listing = listing(&rt, alloc, &lines);
-    let arrivals = no_arrivals(&rt, alloc);
-    let mut text = Vec::new(alloc);
-    let mut pipeline = pipeline(&rt, alloc, &described(&rt, narrow()), PROGRAM);
-    let mut predictor = NotTaken;
-    let stop = write_log(
-        alloc,
-        &mut pipeline,
-        &mut predictor,
-        &arrivals,
-        100,
-        &listing,
-        &mut text,
-    );
-    assert!(&rt; stop == Ok(Stop::Breakpoint));
-    assert_eq!(&rt; text.as_slice(), LOG);
+    let (stop, text) = logged(&rt, rt.alloc(), narrow(), PROGRAM, &LINES, 0, 100);
+    assert!(&rt; stop == Stop::Breakpoint);
+    check_bytes(&rt, text.as_slice(), LOG);
 }

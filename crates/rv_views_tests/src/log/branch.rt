@@ -1,15 +1,14 @@
-use crate::machine::{described, listing, narrow, no_arrivals, pipeline};
+use crate::checks::check_bytes;
+use crate::log::logged;
+use crate::machine::narrow;
 use rv_arch::Stop;
-use rv_core::run;
-use rv_front::NotTaken;
-use rv_log::write_log;
 
 // beq x0,x0,8; addi x2,x0,1; addi x1,x0,5; ebreak
 const PROGRAM: &[u8] = &[
     0x63, 0x04, 0x00, 0x00, 0x13, 0x01, 0x10, 0x00, 0x93, 0x00, 0x50, 0x00, 0x73, 0x00, 0x10, 0x00,
 ];
 
-const LINES: [&str; 4] = ["beq x0,x0,8", "addi x2,x0,1", "addi x1,x0,5", "ebreak"];
+static LINES: [&str; 4] = ["beq x0,x0,8", "addi x2,x0,1", "addi x1,x0,5", "ebreak"];
 
 // The cycles 4 to 8. The branch retires in 4, which squashes the three instructions that were fetched after it, and its target is
 // fetched then, as instruction 4; that is the second that retires, in 8.
@@ -65,22 +64,7 @@ R\t4\t1\t0
 
 #[test]
 fn a_log_that_begins_in_a_run_counts_what_retires(rt: HostRuntime) {
-    let alloc = rt.alloc();
-    let listing = listing(&rt, alloc, &LINES);
-    let arrivals = no_arrivals(&rt, alloc);
-    let mut text = Vec::new(alloc);
-    let mut pipeline = pipeline(&rt, alloc, &described(&rt, narrow()), PROGRAM);
-    let mut predictor = NotTaken;
-    assert!(&rt; run(alloc, &mut pipeline, &mut predictor, &arrivals, 4).is_ok());
-    let stop = write_log(
-        alloc,
-        &mut pipeline,
-        &mut predictor,
-        &arrivals,
-        5,
-        &listing,
-        &mut text,
-    );
-    assert!(&rt; stop == Ok(Stop::Limit));
-    assert_eq!(&rt; text.as_slice(), LOG);
+    let (stop, text) = logged(&rt, rt.alloc(), narrow(), PROGRAM, &LINES, 4, 5);
+    assert!(&rt; stop == Stop::Limit);
+    check_bytes(&rt, text.as_slice(), LOG);
 }

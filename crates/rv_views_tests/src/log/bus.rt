@@ -1,8 +1,7 @@
-use crate::machine::{described, listing, no_arrivals, pipeline};
+use crate::checks::check_end;
+use crate::log::logged;
 use rv_arch::Stop;
-use rv_front::NotTaken;
 use rv_isa::Values;
-use rv_log::write_log;
 
 // addi x1,x0,5; addi x2,x0,1
 const PROGRAM: &[u8] = &[0x93, 0x00, 0x50, 0x00, 0x13, 0x01, 0x10, 0x00];
@@ -17,27 +16,13 @@ C\t1
 
 #[test]
 fn a_result_that_waits_for_the_bus_is_in_a_stage_of_its_own(rt: HostRuntime) {
-    let alloc = rt.alloc();
     let mut values = Values::standard();
     values.bus_width = 1;
     values.fetch_buffer = 2;
     values.rob = 2;
-    let listing = listing(&rt, alloc, &[]);
-    let arrivals = no_arrivals(&rt, alloc);
-    let mut text = Vec::new(alloc);
-    let mut pipeline = pipeline(&rt, alloc, &described(&rt, values), PROGRAM);
-    let mut predictor = NotTaken;
-    let stop = write_log(
-        alloc,
-        &mut pipeline,
-        &mut predictor,
-        &arrivals,
-        4,
-        &listing,
-        &mut text,
-    );
-    assert!(&rt; stop == Ok(Stop::Limit));
-    assert!(&rt; text.as_slice().ends_with(LAST_CYCLE));
+    let (stop, text) = logged(&rt, rt.alloc(), values, PROGRAM, &[], 0, 4);
+    assert!(&rt; stop == Stop::Limit);
+    check_end(&rt, text.as_slice(), LAST_CYCLE);
 }
 
 // addi x1,x0,5; addi x2,x1,1
@@ -52,24 +37,10 @@ C\t1
 
 #[test]
 fn an_instruction_depends_on_the_one_whose_result_it_waits_for(rt: HostRuntime) {
-    let alloc = rt.alloc();
     let mut values = Values::standard();
     values.fetch_buffer = 2;
     values.rob = 2;
-    let listing = listing(&rt, alloc, &[]);
-    let arrivals = no_arrivals(&rt, alloc);
-    let mut text = Vec::new(alloc);
-    let mut pipeline = pipeline(&rt, alloc, &described(&rt, values), CHAIN);
-    let mut predictor = NotTaken;
-    let stop = write_log(
-        alloc,
-        &mut pipeline,
-        &mut predictor,
-        &arrivals,
-        4,
-        &listing,
-        &mut text,
-    );
-    assert!(&rt; stop == Ok(Stop::Limit));
-    assert!(&rt; text.as_slice().ends_with(WAKING));
+    let (stop, text) = logged(&rt, rt.alloc(), values, CHAIN, &[], 0, 4);
+    assert!(&rt; stop == Stop::Limit);
+    check_end(&rt, text.as_slice(), WAKING);
 }

@@ -36,35 +36,35 @@ fn check_rooms(rt: &impl Abort, log: &str, expected: &[&str]) {
 fn a_label_says_what_room_the_oldest_fetched_word_waits_for_and_from_which_cycle_on(
     rt: HostRuntime,
 ) {
-    let log = log_of(&rt, rt.alloc(), small(), DIVISIONS, 0, 9);
-    let expected = [
+    static EXPECTED: [&str; 2] = [
         "L\t3\t1\twait for room in the reorder buffer from cycle 4; ",
         "L\t3\t1\twait for a station of its kind from cycle 6; ",
     ];
-    check_rooms(&rt, log.as_str(), &expected);
+    let log = log_of(&rt, rt.alloc(), small(), DIVISIONS, 0, 9);
+    check_rooms(&rt, log.as_str(), &EXPECTED);
 }
 
 // Of the cycle before a log it is not known why it dispatched nothing.
 #[test]
 fn a_log_begins_with_a_reason_of_its_own(rt: HostRuntime) {
-    let log = log_of(&rt, rt.alloc(), small(), DIVISIONS, 5, 3);
-    let expected = [
+    static EXPECTED: [&str; 2] = [
         "L\t3\t1\twait for room in the reorder buffer from cycle 5; ",
         "L\t3\t1\twait for a station of its kind from cycle 6; ",
     ];
-    check_rooms(&rt, log.as_str(), &expected);
+    let log = log_of(&rt, rt.alloc(), small(), DIVISIONS, 5, 3);
+    check_rooms(&rt, log.as_str(), &EXPECTED);
 }
 
 #[test]
 fn a_store_waits_for_room_in_the_store_queue(rt: HostRuntime) {
+    static EXPECTED: [&str; 1] = ["L\t1\t1\twait for room in the store queue from cycle 2; "];
     let log = log_of(&rt, rt.alloc(), small(), STORES, 0, 4);
-    let expected = ["L\t1\t1\twait for room in the store queue from cycle 2; "];
-    check_rooms(&rt, log.as_str(), &expected);
+    check_rooms(&rt, log.as_str(), &EXPECTED);
 }
 
 #[test]
 fn words_after_a_serialising_instruction_wait_for_it(rt: HostRuntime) {
+    static EXPECTED: [&str; 1] = ["L\t2\t1\twait for a serialising instruction from cycle 3; "];
     let log = log_of(&rt, rt.alloc(), narrow(), SERIAL, 0, 8);
-    let expected = ["L\t2\t1\twait for a serialising instruction from cycle 3; "];
-    check_rooms(&rt, log.as_str(), &expected);
+    check_rooms(&rt, log.as_str(), &EXPECTED);
 }

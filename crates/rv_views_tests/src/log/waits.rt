@@ -1,8 +1,7 @@
-use crate::machine::{described, listing, narrow, no_arrivals, pipeline};
-use rv_core::run;
-use rv_front::NotTaken;
+use crate::checks::{check_part, check_text};
+use crate::log::logged;
+use crate::machine::narrow;
 use rv_isa::Values;
-use rv_log::write_log;
 use std::alloc::Global;
 use std::process::Abort;
 
@@ -15,22 +14,7 @@ pub(crate) fn log_of(
     first: u64,
     cycles: u64,
 ) -> String {
-    let listing = listing(rt, alloc, &[]);
-    let arrivals = no_arrivals(rt, alloc);
-    let mut text = Vec::new(alloc);
-    let mut pipeline = pipeline(rt, alloc, &described(rt, values), program);
-    let mut predictor = NotTaken;
-    assert!(rt; run(alloc, &mut pipeline, &mut predictor, &arrivals, first).is_ok());
-    let stop = write_log(
-        alloc,
-        &mut pipeline,
-        &mut predictor,
-        &arrivals,
-        cycles,
-        &listing,
-        &mut text,
-    );
-    assert!(rt; stop.is_ok());
+    let (_, text) = logged(rt, alloc, values, program, &[], first, cycles);
     String::from_utf8(text).expect(rt, "ASCII")
 }
 
@@ -155,13 +139,13 @@ R\t10\t10\t1
 #[test]
 fn the_details_say_what_an_instruction_waited_for(rt: HostRuntime) {
     let log = log_of(&rt, rt.alloc(), short(), DIVISION, 0, 100);
-    assert_eq!(&rt; log.as_str(), LOG);
+    check_text(&rt, log.as_str(), LOG);
 }
 
 // Of what was dispatched before the log began it is not known on whose results it waited. That is known from its first cycle on.
 #[test]
 fn of_an_instruction_from_before_the_log_the_operand_is_not_known(rt: HostRuntime) {
-    let cases = [
+    static CASES: [(u64, &str); 4] = [
         (
             4,
             "L\t1\t1\tretired, x8 (s0) = 00000000, cost 1, waited 3 for operands, a unit or the head\n",
@@ -179,9 +163,9 @@ fn of_an_instruction_from_before_the_log_the_operand_is_not_known(rt: HostRuntim
             "L\t4\t1\ttrapped, cause 3, waited 1 to dispatch, 4 for the head\n",
         ),
     ];
-    for (first, line) in cases {
-        let log = log_of(&rt, rt.alloc(), short(), DIVISION, first, 100);
-        assert!(&rt; log.contains(line), "{log}");
+    for (first, line) in &CASES {
+        let log = log_of(&rt, rt.alloc(), short(), DIVISION, *first, 100);
+        check_part(&rt, log.as_str(), line);
     }
 }
 
@@ -200,8 +184,8 @@ fn a_load_waits_for_a_unit_the_port_or_older_stores(rt: HostRuntime) {
     let store = "L\t2\t1\tretired, cost 1, waited 4 for x5/t0 of 80000004, 11 for the head\n";
     let load =
         "L\t3\t1\tretired, x8 (s0) = 00000000, cost 1, waited 3 for x5/t0 of 80000004, 2 for a unit, the port or older stores, 10 for the head\n";
-    assert!(&rt; log.contains(store), "{log}");
-    assert!(&rt; log.contains(load), "{log}");
+    check_part(&rt, log.as_str(), store);
+    check_part(&rt, log.as_str(), load);
 }
 
 // Of each of these programs the third instruction waits for the results of the first two, at 80000000 and 80000004: a division and
@@ -221,7 +205,7 @@ const TOGETHER: &[u8] = &[
 
 #[test]
 fn the_operand_that_came_last_is_named_and_of_two_the_first(rt: HostRuntime) {
-    let cases = [
+    static CASES: [(&[u8], &str); 3] = [
         (
             DIVISION_ADDED_SECOND,
             "L\t2\t1\tretired, x7 (t2) = 00000000, cost 1, waited 3 for x5/t0 of 80000000\n",
@@ -235,11 +219,11 @@ fn the_operand_that_came_last_is_named_and_of_two_the_first(rt: HostRuntime) {
             "L\t2\t1\tretired, x7 (t2) = 00000002, cost 1, waited 1 for x6/t1 of 80000004\n",
         ),
     ];
-    for (program, line) in cases {
-        let mut values = Values::standard();
-        values.kinds.div.latency = 3;
+    let mut values = Values::standard();
+    values.kinds.div.latency = 3;
+    for (program, line) in &CASES {
         let log = log_of(&rt, rt.alloc(), values, program, 0, 9);
-        assert!(&rt; log.contains(line), "{log}");
+        check_part(&rt, log.as_str(), line);
     }
 }
 
@@ -263,7 +247,7 @@ fn flushed(rt: &impl Abort, alloc: Global, fourth: u32, fifth: u32) -> Vec<u8> {
 #[test]
 fn a_squashed_instruction_waited_for_what_did_not_come(rt: HostRuntime) {
     // add x8,x5,x6; add x8,x6,x5; div x9,x6,x7; add x8,x9,x6; add x8,x6,x9
-    let cases = [
+    static CASES: [(u32, u32, &str); 4] = [
         (
             0x0062_8433,
             0,
@@ -285,12 +269,12 @@ fn a_squashed_instruction_waited_for_what_did_not_come(rt: HostRuntime) {
             "L\t4\t1\tsquashed, waited 1 for x6/t1 of 80000008\n",
         ),
     ];
-    for (fourth, fifth, line) in cases {
-        let program = flushed(&rt, rt.alloc(), fourth, fifth);
-        let mut values = short();
-        values.rob = 8;
+    let mut values = short();
+    values.rob = 8;
+    for (fourth, fifth, line) in &CASES {
+        let program = flushed(&rt, rt.alloc(), *fourth, *fifth);
         let log = log_of(&rt, rt.alloc(), values, program.as_slice(), 0, 100);
-        assert!(&rt; log.contains(line), "{log}");
+        check_part(&rt, log.as_str(), line);
     }
 }
 
@@ -302,6 +286,6 @@ fn an_instruction_without_a_unit_waits_for_the_head(rt: HostRuntime) {
     let log = log_of(&rt, rt.alloc(), short(), SERIAL, 0, 8);
     let csr = "L\t1\t1\tretired, waited 4 for the head\n";
     let next = "L\t2\t1\tsquashed, waited 4 to dispatch\n";
-    assert!(&rt; log.contains(csr), "{log}");
-    assert!(&rt; log.contains(next), "{log}");
+    check_part(&rt, log.as_str(), csr);
+    check_part(&rt, log.as_str(), next);
 }

@@ -1,3 +1,4 @@
+use crate::checks::check_part;
 use crate::machine::listing;
 use crate::picture::rows::fetched;
 use rv_drawing::{Window, write_picture_text};
@@ -12,7 +13,7 @@ const WINDOW: Window = Window {
 };
 
 // A line of a program, and what of it stands in the 33 columns of a picture.
-const CASES: [(&str, &str); 8] = [
+static CASES: [(&str, &str); 8] = [
     ("loop: addi x1,x0,5", "loop: addi x1,x0,5               "),
     (
         "a_label_of_twenty___: addi x1,x0",
@@ -49,18 +50,22 @@ fn drawn(rt: &impl Abort, alloc: Global, line: &str) -> String {
     let listing = listing(rt, alloc, &[line]);
     let rows = [fetched(0, 0x8000_0000, Some(0x13), 0)];
     let mut text = Vec::new(alloc);
-    let written = write_picture_text(&rows, &[], None, &listing, WINDOW, &mut text);
-    assert_eq!(rt; written, Ok(()));
+    write_picture_text(&rows, &[], None, &listing, WINDOW, &mut text).expect(rt, "room");
     String::from_utf8(text).expect(rt, "ASCII")
+}
+
+// Checks what of a line stands in those columns.
+fn check_label(rt: &impl Abort, alloc: Global, line: &str, field: &str) -> Result<(), Fail> {
+    let row = format!(in alloc; "\n80000000 {field}-                F\n")?;
+    let text = drawn(rt, alloc, line);
+    check_part(rt, text.as_str(), row.as_str());
+    Ok(())
 }
 
 #[test]
 fn a_long_label_leaves_room_for_its_statement(rt: HostRuntime) -> Result<(), Fail> {
-    let alloc = rt.alloc();
     for (line, field) in &CASES {
-        let row = format!(in alloc; "\n80000000 {field}-                F\n")?;
-        let text = drawn(&rt, alloc, line);
-        assert!(&rt; text.contains(row.as_str()), "{text}");
+        check_label(&rt, rt.alloc(), line, field)?;
     }
     Ok(())
 }

@@ -1,3 +1,4 @@
+use crate::checks::{check_count, check_end, check_parts};
 use crate::machine::listing;
 use crate::picture::rows::fetched;
 use rv_drawing::{Window, write_picture_svg};
@@ -13,7 +14,7 @@ const WINDOW: Window = Window {
 
 // The size of 60 columns and 42 rows, the rows from the fortieth on, the numbers above the second of these, and the address
 // before the fifty-first column.
-const PLACES: [&str; 5] = [
+static PLACES: [&str; 5] = [
     "<svg xmlns='http://www.w3.org/2000/svg' width='1448' height='912' viewBox='0 0 1448 912'>\n",
     "<g class='open' transform='translate(0 746)'><text x='8' y='13'>8000009c</text>",
     "<g class='open' transform='translate(0 782)'><text x='8' y='13'>800000a0</text><text x='84' y='13'>00000013</text>\
@@ -35,8 +36,7 @@ fn passages() -> [Passage; 42] {
 fn drawn(rt: &impl Abort, alloc: Global) -> String {
     let listing = listing(rt, alloc, &[]);
     let mut text = Vec::new(alloc);
-    let written = write_picture_svg(&passages(), &[], &[], None, &listing, WINDOW, &mut text);
-    assert_eq!(rt; written, Ok(()));
+    write_picture_svg(&passages(), &[], &[], None, &listing, WINDOW, &mut text).expect(rt, "room");
     String::from_utf8(text).expect(rt, "ASCII")
 }
 
@@ -45,12 +45,9 @@ fn the_cycle_numbers_stand_again_after_forty_rows_and_a_far_address_before_its_c
     rt: HostRuntime,
 ) {
     let svg = drawn(&rt, rt.alloc());
-    for part in PLACES {
-        assert!(&rt; svg.contains(part), "{part}");
-    }
-    let (_, after) = svg.split_once("translate(3 -4)").expect(&rt, "the numbers");
-    assert!(&rt; !after.contains("translate(3 -4)"));
-    assert!(&rt; !svg.contains("dx='-4' y='13' x='1142'"));
+    check_parts(&rt, svg.as_str(), &PLACES);
+    check_count(&rt, svg.as_str(), "translate(3 -4)", 1);
+    check_count(&rt, svg.as_str(), "dx='-4' y='13' x='1142'", 0);
 }
 
 // A window of a run that ended after five cycles, before it, and how its picture ends.
@@ -65,10 +62,8 @@ const SENTENCE: &str = "<g transform='translate(0 76)'>\n\
 
 #[test]
 fn a_sentence_stands_below_the_legend_where_the_run_ended_before_the_window(rt: HostRuntime) {
-    let alloc = rt.alloc();
-    let listing = listing(&rt, alloc, &[]);
-    let mut svg = Vec::new(alloc);
-    let written = write_picture_svg(&[], &[], &[], None, &listing, OVER, &mut svg);
-    assert_eq!(&rt; written, Ok(()));
-    assert!(&rt; svg.as_slice().ends_with(SENTENCE.as_bytes()));
+    let listing = listing(&rt, rt.alloc(), &[]);
+    let mut svg = Vec::new(rt.alloc());
+    write_picture_svg(&[], &[], &[], None, &listing, OVER, &mut svg).expect(&rt, "room");
+    check_end(&rt, svg.as_slice(), SENTENCE.as_bytes());
 }

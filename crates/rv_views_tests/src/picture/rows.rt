@@ -1,3 +1,4 @@
+use crate::checks::{check_none, check_part, check_parts, check_text};
 use crate::machine::listing;
 use rv_decode::Decoded;
 use rv_drawing::{Window, write_picture_svg, write_picture_text};
@@ -17,7 +18,7 @@ pub(crate) const WINDOW: Window = Window {
 // The second, third and fourth are those in the window.
 pub(crate) const INTERRUPTS: [u64; 5] = [9, 10, 13, 19, 20];
 
-pub(crate) const LINES: [&str; 2] = [
+pub(crate) static LINES: [&str; 2] = [
     "addi\tx1,x0,5",
     "ebreak # stops & \"waits\" <here> for good",
 ];
@@ -101,36 +102,51 @@ const STOPPED: Window = Window {
     ..WINDOW
 };
 
+// The picture of the passages in a window in characters.
+fn written(rt: &impl Abort, alloc: Global, interrupts: &[u64], window: Window) -> String {
+    let listing = listing(rt, alloc, &LINES);
+    let mut text = Vec::new(alloc);
+    write_picture_text(&passages(), interrupts, None, &listing, window, &mut text).expect(
+        rt, "room",
+    );
+    String::from_utf8(text).expect(rt, "ASCII")
+}
+
+// The SVG of the passages in a window.
+fn drawn(rt: &impl Abort, alloc: Global, interrupts: &[u64], window: Window) -> String {
+    let listing = listing(rt, alloc, &LINES);
+    let mut text = Vec::new(alloc);
+    write_picture_svg(
+        &passages(),
+        interrupts,
+        &[],
+        None,
+        &listing,
+        window,
+        &mut text,
+    )
+    .expect(rt, "room");
+    String::from_utf8(text).expect(rt, "ASCII")
+}
+
 #[test]
 fn an_instruction_whose_stale_word_ended_the_run_is_marked(rt: HostRuntime) {
-    let alloc = rt.alloc();
-    let listing = listing(&rt, alloc, &LINES);
-    let mut text = Vec::new(alloc);
-    let written = write_picture_text(&passages(), &[], None, &listing, STOPPED, &mut text);
-    assert_eq!(&rt; written, Ok(()));
-    let text = String::from_utf8(text).expect(&rt, "ASCII");
+    let text = written(&rt, rt.alloc(), &[], STOPPED);
     let row =
         "\n8000000c 00000013                         stale               FDI==~~\n00000000 -                                -  ";
-    assert!(&rt; text.contains(row));
-    let mut drawn = Vec::new(alloc);
-    let written = write_picture_svg(&passages(), &[], &[], None, &listing, STOPPED, &mut drawn);
-    assert_eq!(&rt; written, Ok(()));
-    let svg = String::from_utf8(drawn).expect(&rt, "ASCII");
-    check_all_shown(&rt, svg.as_str(), &STALE);
+    check_part(&rt, text.as_str(), row);
+    let svg = drawn(&rt, rt.alloc(), &[], STOPPED);
+    check_parts(&rt, svg.as_str(), &STALE);
 }
 
 #[test]
 fn each_ending_has_its_letter_and_each_phase_its_own(rt: HostRuntime) {
-    let alloc = rt.alloc();
-    let listing = listing(&rt, alloc, &LINES);
-    let mut text = Vec::new(alloc);
-    let written = write_picture_text(&passages(), &INTERRUPTS, None, &listing, WINDOW, &mut text);
-    assert_eq!(&rt; written, Ok(()));
-    assert_eq!(&rt; text.as_slice(), TEXT.as_bytes());
+    let text = written(&rt, rt.alloc(), &INTERRUPTS, WINDOW);
+    check_text(&rt, text.as_str(), TEXT);
 }
 
 // A class, a column, a name, a cycle and a letter.
-const BOXES: [(&str, u32, &str, u32, &str); 10] = [
+static BOXES: [(&str, u32, &str, u32, &str); 10] = [
     ("f", 456, "fetch", 10, "F"),
     ("d", 470, "dispatch", 11, "D"),
     ("i", 484, "issue", 12, "I"),
@@ -144,7 +160,7 @@ const BOXES: [(&str, u32, &str, u32, &str); 10] = [
 ];
 
 // Where in the legend a class and a letter stand, and what it says of them.
-const MEANINGS: [(&str, &str, &str, &str); 10] = [
+static MEANINGS: [(&str, &str, &str, &str); 10] = [
     ("0 0", "f", "F", "fetch"),
     ("150 0", "d", "D", "dispatch"),
     ("300 0", "i", "I", "issue"),
@@ -158,7 +174,7 @@ const MEANINGS: [(&str, &str, &str, &str); 10] = [
 ];
 
 // What stands around ten columns and six rows: the last row ends at 44 + 6 * 18 = 152.
-const FRAME: [&str; 9] = [
+static FRAME: [&str; 9] = [
     "<svg xmlns='http://www.w3.org/2000/svg' width='748' height='246' viewBox='0 0 748 246'>\n",
     "<g class='n' transform='translate(456 0)'><title>cycle 10</title><path d='M0 20V152'/><text x='3' y='16'>10</text></g>\n",
     "<g class='v' transform='translate(456 0)'><title>cycle 10, interrupt</title><path d='M0 38V152'/><text x='7' y='34'>!</text></g>\n",
@@ -171,7 +187,7 @@ const FRAME: [&str; 9] = [
 ];
 
 // How the rows begin.
-const ROWS: [&str; 6] = [
+static ROWS: [&str; 6] = [
     "<g class='out' transform='translate(0 44)'><text x='8' y='13'>7ffffff8</text><text x='84' y='13'>00000013</text>",
     "<g class='done' transform='translate(0 62)'><text x='8' y='13'>80000000</text><text x='84' y='13'>addi x1,x0,5</text>",
     "<g class='trap' transform='translate(0 80)'><text x='8' y='13'>80000004</text><text x='84' y='13'>ebreak # stops &amp; &quot;waits&quot; &lt;here&gt; </text>",
@@ -181,52 +197,19 @@ const ROWS: [&str; 6] = [
 ];
 
 // What stands in the row of a stale word.
-const STALE: [&str; 3] = [
+static STALE: [&str; 3] = [
     "<g class='stale' transform='translate(0 116)'><text x='8' y='13'>8000000c</text><text x='84' y='13'>00000013</text><text x='328' y='13'>stale</text>\n",
     "<title>the run ended here: the word is stale</title>\n</g>\n<g class='open' transform='translate(0 134)'>",
     "\n.stale text{fill:#a00}\n",
 ];
 
-// The SVG of the passages in the window.
-fn drawn(rt: &impl Abort, alloc: Global) -> String {
-    let listing = listing(rt, alloc, &LINES);
-    let mut text = Vec::new(alloc);
-    let written = write_picture_svg(
-        &passages(),
-        &INTERRUPTS,
-        &[],
-        None,
-        &listing,
-        WINDOW,
-        &mut text,
-    );
-    assert_eq!(rt; written, Ok(()));
-    String::from_utf8(text).expect(rt, "ASCII")
-}
-
-fn check_shown(rt: &impl Abort, svg: &str, part: &str) {
-    assert!(rt; svg.contains(part), "{part}");
-}
-
-fn check_all_shown(rt: &impl Abort, svg: &str, parts: &[&str]) {
-    for part in parts {
-        check_shown(rt, svg, part);
-    }
-}
-
-fn check_none_shown(rt: &impl Abort, svg: &str, parts: &[&str]) {
-    for part in parts {
-        assert!(rt; !svg.contains(part), "{part}");
-    }
-}
-
 #[test]
 fn each_row_in_the_window_and_each_interrupt_is_drawn(rt: HostRuntime) {
-    let svg = drawn(&rt, rt.alloc());
-    check_all_shown(&rt, svg.as_str(), &ROWS);
-    check_all_shown(&rt, svg.as_str(), &FRAME);
-    let outside = ["cycle 9,", "cycle 20", "7ffffffc", "00000004"];
-    check_none_shown(&rt, svg.as_str(), &outside);
+    static OUTSIDE: [&str; 4] = ["cycle 9,", "cycle 20", "7ffffffc", "00000004"];
+    let svg = drawn(&rt, rt.alloc(), &INTERRUPTS, WINDOW);
+    check_parts(&rt, svg.as_str(), &ROWS);
+    check_parts(&rt, svg.as_str(), &FRAME);
+    check_none(&rt, svg.as_str(), &OUTSIDE);
 }
 
 fn check_box(
@@ -238,7 +221,7 @@ fn check_box(
     let shown = format!(in alloc;
         "<g class='p {class}' transform='translate({column} 0)'><title>{name} in cycle {cycle}</title><rect width='14' height='18'/><text x='7' y='13'>{letter}</text></g>\n"
     )?;
-    check_shown(rt, svg, shown.as_str());
+    check_part(rt, svg, shown.as_str());
     Ok(())
 }
 
@@ -251,13 +234,13 @@ fn check_meaning(
     let meaning = format!(in alloc;
         "<g transform='translate({place})'><g class='p {class}'><rect width='14' height='18'/><text x='7' y='13'>{letter}</text></g><text x='20' y='13'>{name}</text></g>\n"
     )?;
-    check_shown(rt, svg, meaning.as_str());
+    check_part(rt, svg, meaning.as_str());
     Ok(())
 }
 
 #[test]
 fn each_kind_of_cell_has_a_box_and_a_meaning(rt: HostRuntime) -> Result<(), Fail> {
-    let svg = drawn(&rt, rt.alloc());
+    let svg = drawn(&rt, rt.alloc(), &INTERRUPTS, WINDOW);
     for kind in &BOXES {
         check_box(&rt, rt.alloc(), svg.as_str(), *kind)?;
     }
@@ -285,7 +268,7 @@ fn colour_of<'a>(
 #[test]
 fn each_kind_of_cell_has_a_colour_of_its_own(rt: HostRuntime) -> Result<(), Fail> {
     let alloc = rt.alloc();
-    let svg = drawn(&rt, alloc);
+    let svg = drawn(&rt, alloc, &INTERRUPTS, WINDOW);
     let mut colours = Vec::new(alloc);
     for (class, ..) in &BOXES {
         let colour = colour_of(&rt, alloc, svg.as_str(), class)?;

@@ -1,3 +1,4 @@
+use crate::checks::{check_none, check_part, check_text};
 use crate::machine::listing;
 use crate::picture::rows::fetched;
 use rv_decode::Decoded;
@@ -60,13 +61,24 @@ fn retired(word: u32, next: u32) -> Passage {
 fn drawn(rt: &impl Abort, alloc: Global, rows: &[Passage], stalls: &[Option<Stall>]) -> String {
     let listing = listing(rt, alloc, &[]);
     let mut text = Vec::new(alloc);
-    let written = write_picture_svg(rows, &[], stalls, None, &listing, WINDOW, &mut text);
-    assert_eq!(rt; written, Ok(()));
+    write_picture_svg(rows, &[], stalls, None, &listing, WINDOW, &mut text).expect(rt, "room");
     String::from_utf8(text).expect(rt, "ASCII")
+}
+
+// Checks that an instruction's row has one tip, and which.
+fn check_tip(rt: &impl Abort, alloc: Global, row: Passage, tip: &str) {
+    let svg = drawn(rt, alloc, &[row], &[]);
+    let (_, after) = svg
+        .split_once("</g>\n<title>")
+        .expect(rt, "a tip of the row");
+    let (shown, rest) = after.split_once("</title>\n</g>\n").expect(rt, "its end");
+    check_text(rt, shown, tip);
+    assert!(rt; !rest.contains("<title>"));
 }
 
 #[test]
 fn the_tip_of_a_row_says_what_was_predicted_or_the_cause_of_a_trap(rt: HostRuntime) {
+    let alloc = rt.alloc();
     let squashed = Passage {
         ending: Ending::Squashed { cycle: 14 },
         ..dispatched(BRANCH)
@@ -78,46 +90,48 @@ fn the_tip_of_a_row_says_what_was_predicted_or_the_cause_of_a_trap(rt: HostRunti
         },
         ..dispatched(LOAD)
     };
-    let cases = [
-        (retired(BRANCH, 0x8000_0014), "predicted 80000014"),
-        (
-            retired(BRANCH, 0x8000_0018),
-            "predicted 80000014, but went on at 80000018",
-        ),
-        (dispatched(BRANCH), "predicted 80000014"),
-        (squashed, "predicted 80000014"),
-        (trapped, "trapped, cause 5"),
-    ];
-    for (row, tip) in cases {
-        let svg = drawn(&rt, rt.alloc(), &[row], &[]);
-        let (_, after) = svg
-            .split_once("</g>\n<title>")
-            .expect(&rt, "a tip of the row");
-        let (shown, rest) = after.split_once("</title>\n</g>\n").expect(&rt, "its end");
-        assert_eq!(&rt; shown, tip);
-        assert!(&rt; !rest.contains("<title>"));
-    }
+    let went_on = retired(BRANCH, 0x8000_0018);
+    let elsewhere = "predicted 80000014, but went on at 80000018";
+    check_tip(&rt, alloc, went_on, elsewhere);
+    let predicted = "predicted 80000014";
+    check_tip(&rt, alloc, retired(BRANCH, 0x8000_0014), predicted);
+    check_tip(&rt, alloc, dispatched(BRANCH), predicted);
+    check_tip(&rt, alloc, squashed, predicted);
+    check_tip(&rt, alloc, trapped, "trapped, cause 5");
 }
 
 // Only branches and jumps have predictions of their own: all others go on at the next word, but for MRET.
 #[test]
 fn other_rows_have_no_tip(rt: HostRuntime) {
-    let cases = [
+    static TIPS: [&str; 2] = ["</g>\n<title>", "predicted"];
+    let rows = [
         retired(ADDITION, 0x8000_0014),
         retired(RETURN, 0x8000_0100),
         dispatched(LOAD),
     ];
-    for row in cases {
+    for row in rows {
         let svg = drawn(&rt, rt.alloc(), &[row], &[]);
-        assert!(&rt; !svg.contains("</g>\n<title>"));
-        assert!(&rt; !svg.contains("predicted"));
+        check_none(&rt, svg.as_str(), &TIPS);
     }
 }
 
+// Checks that a cell has a tip of a cycle.
+fn check_cell(
+    rt: &impl Abort,
+    alloc: Global,
+    svg: &str,
+    tip: &str,
+    cycle: u32,
+) -> Result<(), Fail> {
+    let shown = format!(in alloc; "<title>{tip} in cycle {cycle}</title>")?;
+    check_part(rt, svg, shown.as_str());
+    Ok(())
+}
+
+// Checks that cells have these tips of these cycles.
 fn check_tips(rt: &impl Abort, alloc: Global, svg: &str, tips: &[(&str, u32)]) -> Result<(), Fail> {
     for (tip, cycle) in tips {
-        let shown = format!(in alloc; "<title>{tip} in cycle {cycle}</title>")?;
-        assert!(rt; svg.contains(shown.as_str()), "{shown}");
+        check_cell(rt, alloc, svg, tip, *cycle)?;
     }
     Ok(())
 }
@@ -137,7 +151,7 @@ const STALLS: [Option<Stall>; 10] = [
 ];
 
 // What the tips of a word say that is fetched in cycle 10 and dispatched in cycle 16, while it is the oldest.
-const ROOMS: [(&str, u32); 7] = [
+static ROOMS: [(&str, u32); 7] = [
     ("fetch", 10),
     ("wait for room in the reorder buffer", 11),
     ("wait for a station of its kind", 12),
@@ -148,7 +162,7 @@ const ROOMS: [(&str, u32); 7] = [
 ];
 
 // What those of a younger one say besides.
-const TURNS: [(&str, u32); 6] = [
+static TURNS: [(&str, u32); 6] = [
     ("wait for older ones to dispatch", 12),
     ("wait for older ones to dispatch", 15),
     ("wait for room or its turn to dispatch", 16),
@@ -191,6 +205,14 @@ fn producer(register: u8, pc: u32, broadcast: u64) -> Option<Producer> {
 fn a_dispatched_one_waits_for_results_and_then_for_a_unit_the_bus_and_the_head(
     rt: HostRuntime,
 ) -> Result<(), Fail> {
+    static TIPS: [(&str, u32); 6] = [
+        ("wait for x5/t0 of 80000000 and x6/t1 of 80000004", 12),
+        ("wait for x5/t0 of 80000000 and x6/t1 of 80000004", 13),
+        ("wait for x6/t1 of 80000004", 14),
+        ("wait for a unit", 15),
+        ("wait for the bus", 17),
+        ("wait for the head", 19),
+    ];
     let sum = Passage {
         producers: Producers {
             first: producer(5, 0x8000_0000, 13),
@@ -202,19 +224,18 @@ fn a_dispatched_one_waits_for_results_and_then_for_a_unit_the_bus_and_the_head(
         ..dispatched(SUM)
     };
     let svg = drawn(&rt, rt.alloc(), &[sum], &[]);
-    let tips = [
-        ("wait for x5/t0 of 80000000 and x6/t1 of 80000004", 12),
-        ("wait for x5/t0 of 80000000 and x6/t1 of 80000004", 13),
-        ("wait for x6/t1 of 80000004", 14),
-        ("wait for a unit", 15),
-        ("wait for the bus", 17),
-        ("wait for the head", 19),
-    ];
-    check_tips(&rt, rt.alloc(), svg.as_str(), &tips)
+    check_tips(&rt, rt.alloc(), svg.as_str(), &TIPS)
+}
+
+// Checks what an instruction waits for in cycle 12.
+fn check_wait(rt: &impl Abort, alloc: Global, row: Passage, tip: &str) -> Result<(), Fail> {
+    let svg = drawn(rt, alloc, &[row], &[]);
+    check_cell(rt, alloc, svg.as_str(), tip, 12)
 }
 
 #[test]
 fn what_waits_for_no_result_waits_for_what_its_kind_needs(rt: HostRuntime) -> Result<(), Fail> {
+    let alloc = rt.alloc();
     let before = Passage {
         dispatched: Some(9),
         fetched: 8,
@@ -225,20 +246,12 @@ fn what_waits_for_no_result_waits_for_what_its_kind_needs(rt: HostRuntime) -> Re
         fetched: 9,
         ..dispatched(SUM)
     };
-    let cases = [
-        (
-            dispatched(LOAD),
-            "wait for a unit, the port or older stores",
-        ),
-        (dispatched(PRODUCT), "wait for a unit"),
-        (dispatched(QUOTIENT), "wait for a unit"),
-        (dispatched(CSR), "wait for the head"),
-        (before, "wait for operands, a unit or the head"),
-        (in_first, "wait for a unit"),
-    ];
-    for (row, tip) in cases {
-        let svg = drawn(&rt, rt.alloc(), &[row], &[]);
-        check_tips(&rt, rt.alloc(), svg.as_str(), &[(tip, 12)])?;
-    }
-    Ok(())
+    let of_load = "wait for a unit, the port or older stores";
+    check_wait(&rt, alloc, dispatched(LOAD), of_load)?;
+    check_wait(&rt, alloc, dispatched(PRODUCT), "wait for a unit")?;
+    check_wait(&rt, alloc, dispatched(QUOTIENT), "wait for a unit")?;
+    check_wait(&rt, alloc, dispatched(CSR), "wait for the head")?;
+    let unknown = "wait for operands, a unit or the head";
+    check_wait(&rt, alloc, before, unknown)?;
+    check_wait(&rt, alloc, in_first, "wait for a unit")
 }

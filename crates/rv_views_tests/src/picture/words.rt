@@ -1,3 +1,4 @@
+use crate::checks::{check_bytes, check_count};
 use crate::machine::{described, listing, no_arrivals, pipeline};
 use rv_arch::Stop;
 use rv_drawing::Mark;
@@ -100,49 +101,60 @@ fn at_breakpoint(over: Option<u64>) -> RunEnd {
     }
 }
 
-#[test]
-fn two_words_in_characters(rt: HostRuntime) {
-    for (rows, expected) in [(Rows::All, EXPECTED), (Rows::Unsquashed, UNSQUASHED)] {
-        let (end, text) = picture_of(&rt, rt.alloc(), &PROGRAM, 0, rows, None);
-        assert!(rt; end == at_breakpoint(None));
-        assert_eq!(rt; text.as_slice(), expected.as_bytes());
-    }
+// Checks a picture of the two words, and that a breakpoint ended their run.
+fn check_picture(
+    rt: &impl Abort,
+    alloc: Global,
+    from: u64,
+    rows: Rows,
+    marks: Option<&[Mark]>,
+    over: Option<u64>,
+    expected: &str,
+) {
+    let (end, text) = picture_of(rt, alloc, &PROGRAM, from, rows, marks);
+    assert!(rt; end == at_breakpoint(over), "from {from}");
+    check_bytes(rt, text.as_slice(), expected.as_bytes());
 }
 
 #[test]
+fn two_words_in_characters(rt: HostRuntime) {
+    let alloc = rt.alloc();
+    check_picture(&rt, alloc, 0, Rows::All, None, None, EXPECTED);
+    check_picture(&rt, alloc, 0, Rows::Unsquashed, None, None, UNSQUASHED);
+}
+
+const MARKS: [Mark; 3] = [
+    Mark {
+        number: 0,
+        column: 1,
+    },
+    Mark {
+        number: 0,
+        column: 4,
+    },
+    Mark {
+        number: 1,
+        column: 4,
+    },
+];
+
+#[test]
 fn two_words_with_marks(rt: HostRuntime) {
-    let marks = [
-        Mark {
-            number: 0,
-            column: 1,
-        },
-        Mark {
-            number: 0,
-            column: 4,
-        },
-        Mark {
-            number: 1,
-            column: 4,
-        },
-    ];
-    let marks = Some(marks.as_slice());
-    let (end, text) = picture_of(&rt, rt.alloc(), &PROGRAM, 0, Rows::All, marks);
-    assert!(rt; end == at_breakpoint(None));
-    assert_eq!(rt; text.as_slice(), MARKED.as_bytes());
+    let marks = Some(MARKS.as_slice());
+    check_picture(&rt, rt.alloc(), 0, Rows::All, marks, None, MARKED);
 }
 
 // The breakpoint is taken in cycle 4.
 #[test]
 fn the_cycles_from_one_on_are_shown_and_after_the_end_of_a_run_nothing(rt: HostRuntime) {
-    for (from, shown, over) in [
+    static CASES: [(u64, &str, Option<u64>); 4] = [
         (1, FROM_THE_SECOND, None),
         (4, LAST_CYCLE, None),
         (5, NOTHING, Some(5)),
         (6, NOTHING, Some(5)),
-    ] {
-        let (end, text) = picture_of(&rt, rt.alloc(), &PROGRAM, from, Rows::All, None);
-        assert!(rt; end == at_breakpoint(over), "from {from}");
-        assert_eq!(rt; text.as_slice(), shown.as_bytes());
+    ];
+    for (from, shown, over) in &CASES {
+        check_picture(&rt, rt.alloc(), *from, Rows::All, None, *over, shown);
     }
 }
 
@@ -154,10 +166,9 @@ const STALE: [u8; 12] = [
 #[test]
 fn the_row_whose_stale_word_ended_the_run_says_so(rt: HostRuntime) {
     let (end, text) = picture_of(&rt, rt.alloc(), &STALE, 0, Rows::Unsquashed, None);
-    assert!(rt; end.stop == Stop::Stale(0x8000_0008));
+    assert!(&rt; end.stop == Stop::Stale(0x8000_0008));
     let text = String::from_utf8(text).expect(&rt, "ASCII");
     let row = "\n80000008 00100113                         stale            ";
-    let (before, after) = text.split_once(row).expect(&rt, "the row");
-    assert!(rt; !before.contains("stale"));
-    assert!(rt; !after.contains("stale"));
+    check_count(&rt, text.as_str(), row, 1);
+    check_count(&rt, text.as_str(), "stale", 1);
 }

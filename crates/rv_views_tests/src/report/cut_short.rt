@@ -4,6 +4,7 @@ use rv_front::NotTaken;
 use rv_hardware::Step;
 use rv_isa::{Arrivals, Image, Values};
 use std::alloc::Global;
+use std::process::Abort;
 use std::test::Fail;
 
 const LIMIT: u64 = 100;
@@ -30,14 +31,19 @@ fn part(
     }
 }
 
+// A pipeline without a program.
+fn empty(rt: &impl Abort, alloc: Global) -> Result<Pipeline, Fail> {
+    let description = described(rt, Values::standard());
+    let image = Image::from_bytes(alloc, 0x8000_0000, &[], 0x8000_0000)?;
+    Ok(Pipeline::new(alloc, &description, &image)?)
+}
+
 // A run without a program traps in every second cycle, and its other cycles dispatch nothing. A second run does what is
 // left: nothing where the first one found its memory.
 #[test]
 fn a_run_that_memory_cut_short_and_a_second_one_are_the_whole(rt: HostRuntime) -> Result<(), Fail> {
     let alloc = rt.alloc();
-    let description = described(&rt, Values::standard());
-    let image = Image::from_bytes(alloc, 0x8000_0000, &[], 0x8000_0000)?;
-    let mut pipeline = Pipeline::new(alloc, &description, &image)?;
+    let mut pipeline = empty(&rt, alloc)?;
     let arrivals = no_arrivals(&rt, alloc);
     let (mut steps, mut cycles, mut busy, mut waits) = (0, 0, 0, 0);
     for _ in 0..2 {
@@ -53,6 +59,6 @@ fn a_run_that_memory_cut_short_and_a_second_one_are_the_whole(rt: HostRuntime) -
         busy = more_busy.wrapping_add(busy);
         waits = more_waits.wrapping_add(waits);
     }
-    assert_eq!(&rt; (steps, cycles, busy, waits), (49, LIMIT, 50, 50));
+    assert!(&rt; steps == 49 && cycles == LIMIT && busy == 50 && waits == 50);
     Ok(())
 }

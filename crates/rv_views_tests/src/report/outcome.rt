@@ -1,10 +1,13 @@
+use crate::checks::check_end;
 use crate::machine::{described, no_arrivals, pipeline};
 use rv_arch::Stop;
-use rv_core::run;
+use rv_core::{Outcome, Pipeline, run};
 use rv_front::NotTaken;
 use rv_isa::{Lines, Values};
 use rv_report::{Options, write_report};
 use rv_watch::Simulated;
+use std::alloc::Global;
+use std::process::Abort;
 use std::test::Fail;
 
 // addi x1,x0,5, and ebreak.
@@ -17,36 +20,52 @@ const OPTIONS: Options = Options {
     dump_words: 1,
 };
 
-#[test]
-fn the_outcome_of_a_run_is_reported_with_its_steps(rt: HostRuntime) -> Result<(), Fail> {
-    let alloc = rt.alloc();
-    let mut pipeline = pipeline(&rt, alloc, &described(&rt, Values::standard()), &ADDITION);
-    let arrivals = no_arrivals(&rt, alloc);
-    let Ok(outcome) = run(alloc, &mut pipeline, &mut NotTaken, &arrivals, 100) else {
-        return Err(Fail::from("no memory for the steps"));
-    };
-    let mut report = Vec::new(alloc);
-    write_report(&outcome, &pipeline.shown(), &OPTIONS, &mut report)?;
-    let lines = b"R 80000000 00500093 F0 D1 I2 B3 C4 x1=00000005
+// A pipeline that holds the two words.
+fn loaded(rt: &impl Abort, alloc: Global) -> Pipeline {
+    pipeline(rt, alloc, &described(rt, Values::standard()), &ADDITION)
+}
+
+// What comes of a run of up to a hundred cycles.
+fn outcome_of(rt: &impl Abort, alloc: Global, pipeline: &mut Pipeline) -> Result<Outcome, Fail> {
+    let arrivals = no_arrivals(rt, alloc);
+    match run(alloc, pipeline, &mut NotTaken, &arrivals, 100) {
+        Ok(outcome) => Ok(outcome),
+        Err(_) => Err(Fail::from("no memory for the steps")),
+    }
+}
+
+const FIRST_LINES: &[u8] = b"R 80000000 00500093 F0 D1 I2 B3 C4 x1=00000005
 T 80000004 00000003 00000000 C4
 stop breakpoint
 cycles 5
 retired 1
 traps 1
 ";
-    assert!(&rt; report.as_slice().starts_with(lines));
-    assert!(&rt; report.as_slice().ends_with(b"m 80000000 00500093\n"));
+
+#[test]
+fn the_outcome_of_a_run_is_reported_with_its_steps(rt: HostRuntime) -> Result<(), Fail> {
+    let alloc = rt.alloc();
+    let mut pipeline = loaded(&rt, alloc);
+    let outcome = outcome_of(&rt, alloc, &mut pipeline)?;
+    let mut report = Vec::new(alloc);
+    write_report(&outcome, &pipeline.shown(), &OPTIONS, &mut report)?;
+    assert!(&rt; report.as_slice().starts_with(FIRST_LINES));
+    check_end(&rt, report.as_slice(), b"m 80000000 00500093\n");
     Ok(())
+}
+
+// Checks how many steps the next cycle of a pipeline reports, and what stops it.
+fn check_cycle(rt: &impl Abort, pipeline: &mut Pipeline, steps: usize, stop: Option<Stop>) {
+    let report = pipeline.cycle(&mut NotTaken, Lines::default());
+    assert!(rt; report.steps.len() == steps);
+    assert!(rt; report.stop == stop);
 }
 
 #[test]
 fn a_cycle_reports_its_own_steps_and_its_stop(rt: HostRuntime) {
-    let alloc = rt.alloc();
-    let mut pipeline = pipeline(&rt, alloc, &described(&rt, Values::standard()), &ADDITION);
+    let mut pipeline = loaded(&rt, rt.alloc());
     for _ in 0..4 {
-        let report = pipeline.cycle(&mut NotTaken, Lines::default());
-        assert!(&rt; (report.steps.len(), report.stop) == (0, None));
+        check_cycle(&rt, &mut pipeline, 0, None);
     }
-    let report = pipeline.cycle(&mut NotTaken, Lines::default());
-    assert!(&rt; (report.steps.len(), report.stop) == (2, Some(Stop::Breakpoint)));
+    check_cycle(&rt, &mut pipeline, 2, Some(Stop::Breakpoint));
 }

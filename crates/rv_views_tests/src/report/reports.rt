@@ -1,3 +1,4 @@
+use crate::checks::{check_bytes, check_end};
 use crate::machine::{described, pipeline};
 use rv_arch::{RefOutcome, Reference, Stop, run_reference};
 use rv_front::NotTaken;
@@ -8,6 +9,7 @@ use rv_report::{
 };
 use rv_watch::Simulated;
 use std::alloc::Global;
+use std::process::Abort;
 use std::test::Fail;
 
 const BASE: u32 = 0x8000_0000;
@@ -92,20 +94,14 @@ fn timer(alloc: Global) -> Result<Arrivals, Fail> {
     }
 }
 
-#[test]
-fn each_line_of_a_run_s_state_has_its_own_value(rt: HostRuntime) -> Result<(), Fail> {
-    let alloc = rt.alloc();
+// How a run of that program ends, and its report.
+fn run_report(rt: &impl Abort, alloc: Global) -> Result<(Stop, Vec<u8>), Fail> {
     let bytes = program(alloc)?;
     let arrivals = timer(alloc)?;
-    let lines = state_lines(alloc)?;
     let steps = Vec::with_capacity(alloc, 8)?;
     let mut report = Vec::new(alloc);
-    let pipeline = pipeline(
-        &rt,
-        alloc,
-        &described(&rt, Values::standard()),
-        bytes.as_slice(),
-    );
+    let description = described(rt, Values::standard());
+    let pipeline = pipeline(rt, alloc, &description, bytes.as_slice());
     let mut predictor = NotTaken;
     let stop = write_run(
         pipeline,
@@ -115,15 +111,21 @@ fn each_line_of_a_run_s_state_has_its_own_value(rt: HostRuntime) -> Result<(), F
         steps,
         &mut report,
     )?;
-    assert!(&rt; stop == Stop::Limit);
-    assert!(&rt; report.as_slice().starts_with(b"stop limit\ncycles 1000\n"));
-    assert!(&rt; report.as_slice().ends_with(lines.as_slice()));
-    Ok(())
+    Ok((stop, report))
 }
 
 #[test]
-fn each_line_of_the_reference_s_report_has_its_own_value(rt: HostRuntime) -> Result<(), Fail> {
-    let alloc = rt.alloc();
+fn each_line_of_a_run_s_state_has_its_own_value(rt: HostRuntime) -> Result<(), Fail> {
+    let lines = state_lines(rt.alloc())?;
+    let (stop, report) = run_report(&rt, rt.alloc())?;
+    assert!(&rt; stop == Stop::Limit);
+    assert!(&rt; report.as_slice().starts_with(b"stop limit\ncycles 1000\n"));
+    check_end(&rt, report.as_slice(), lines.as_slice());
+    Ok(())
+}
+
+// The one-at-a-time machine after a hundred steps of that program.
+fn reference_after(alloc: Global) -> Result<Reference, Fail> {
     let bytes = program(alloc)?;
     let text = bytes.as_slice();
     if text.len() > 65536 {
@@ -131,46 +133,60 @@ fn each_line_of_the_reference_s_report_has_its_own_value(rt: HostRuntime) -> Res
     }
     let mut reference = Reference::new(alloc, BASE, 65536, 0, text, BASE)?;
     run_reference(&mut reference, &timer(alloc)?, 100);
-    let outcome = RefOutcome {
-        steps: 11,
-        retired: 7,
-        traps: 3,
-        interrupts: 1,
-        stop: Stop::Exhausted,
-    };
-    let mut report = Vec::new(alloc);
-    write_reference(&outcome, &reference, &OPTIONS, &mut report)?;
+    Ok(reference)
+}
+
+const OUTCOME: RefOutcome = RefOutcome {
+    steps: 11,
+    retired: 7,
+    traps: 3,
+    interrupts: 1,
+    stop: Stop::Exhausted,
+};
+
+// The lines of that outcome and of that state.
+fn reference_lines(alloc: Global) -> Result<Vec<u8>, Fail> {
     let mut lines = Vec::new(alloc);
     lines.extend_from_slice(b"stop exhausted\nsteps 11\nretired 7\ntraps 3\ninterrupts 1\n")?;
     lines.extend_from_slice(state_lines(alloc)?.as_slice())?;
-    assert_eq!(&rt; report.as_slice(), lines.as_slice());
+    Ok(lines)
+}
+
+#[test]
+fn each_line_of_the_reference_s_report_has_its_own_value(rt: HostRuntime) -> Result<(), Fail> {
+    let reference = reference_after(rt.alloc())?;
+    let lines = reference_lines(rt.alloc())?;
+    let mut report = Vec::new(rt.alloc());
+    write_reference(&OUTCOME, &reference, &OPTIONS, &mut report)?;
+    check_bytes(&rt, report.as_slice(), lines.as_slice());
     Ok(())
 }
+
+const TOTALS: Totals = Totals {
+    stop: Stop::Stale(0x8000_0014),
+    cycles: 1009,
+    steps: StepCounts {
+        retired: 300,
+        traps: 7,
+        interrupts: 11,
+    },
+    longest_gap: 13,
+    busy: 17,
+    stalls: StallCounts {
+        fetch: 19,
+        serial: 23,
+        rob: 29,
+        station: 31,
+        store: 37,
+    },
+};
 
 #[test]
 fn each_count_of_a_run_has_its_own_line(rt: HostRuntime) -> Result<(), Fail> {
     let alloc = rt.alloc();
-    let totals = Totals {
-        stop: Stop::Stale(0x8000_0014),
-        cycles: 1009,
-        steps: StepCounts {
-            retired: 300,
-            traps: 7,
-            interrupts: 11,
-        },
-        longest_gap: 13,
-        busy: 17,
-        stalls: StallCounts {
-            fetch: 19,
-            serial: 23,
-            rob: 29,
-            station: 31,
-            store: 37,
-        },
-    };
     let mut report = Vec::new(alloc);
     let pipeline = pipeline(&rt, alloc, &described(&rt, Values::standard()), &[]);
-    write_totals(&totals, &pipeline.shown(), &OPTIONS, &mut report)?;
+    write_totals(&TOTALS, &pipeline.shown(), &OPTIONS, &mut report)?;
     let lines = b"stop stale 80000014
 cycles 1009
 retired 300
@@ -191,30 +207,30 @@ x0 00000000
     Ok(())
 }
 
+const NOT_EXECUTED: Row = Row {
+    pc: 0x8000_0010,
+    word: 0x0050_0093,
+    written: None,
+    fetched: 1,
+    dispatched: 2,
+    execution: None,
+    retired: 8,
+};
+
+const EXECUTION: Execution = Execution {
+    issued: 4,
+    cost: 2,
+    broadcast: 6,
+};
+
 #[test]
 fn each_stamp_of_a_step_has_its_own_letter(rt: HostRuntime) -> Result<(), Fail> {
-    let execution = Execution {
-        issued: 4,
-        cost: 2,
-        broadcast: 6,
-    };
-    let row = Row {
-        pc: 0x8000_0010,
-        word: 0x0050_0093,
-        written: Reg::new(31).map(|register| (register, 0xdead_beef)),
-        fetched: 1,
-        dispatched: 2,
-        execution: Some(execution),
-        retired: 8,
-    };
-    let none = Row {
-        written: None,
-        execution: None,
-        ..row
-    };
+    let mut executed = NOT_EXECUTED;
+    executed.written = Some((Reg::new(31).expect(&rt, "a register"), 0xdead_beef));
+    executed.execution = Some(EXECUTION);
     let steps = [
-        Step::Retired(row),
-        Step::Retired(none),
+        Step::Retired(executed),
+        Step::Retired(NOT_EXECUTED),
         Step::Trap {
             pc: 0x8000_0020,
             cause: Cause::StoreAddressMisaligned,
@@ -234,6 +250,6 @@ R 80000010 00500093 F1 D2 I- B- C8 -
 T 80000020 00000006 80001002 C9
 N 80000024 80000007 C10
 ";
-    assert_eq!(&rt; trace.as_slice(), lines.as_bytes());
+    check_bytes(&rt, trace.as_slice(), lines.as_bytes());
     Ok(())
 }

@@ -1,10 +1,9 @@
+use crate::checks::{check_bytes, check_end};
 use crate::machine::{described, narrow};
+use crate::report::tables::NO_RUN;
 use rv_arch::Stop;
-use rv_hardware::StallCounts;
-use rv_isa::{Kind, NumberKey, PredictorKind, Recovery, Values};
-use rv_report::{
-    Columns, ComparedRun, Events, Losses, StepCounts, Totals, TriedRun, in_order, write_sensitivity,
-};
+use rv_isa::{Description, Kind, NumberKey, PredictorKind, Recovery, Values};
+use rv_report::{ComparedRun, TriedRun, in_order, write_sensitivity};
 use rv_sensitivity::{Change, KeyValue, Setting, Settings, all_trials, changes, neighbours};
 use std::alloc::Global;
 use std::process::Abort;
@@ -12,35 +11,29 @@ use std::test::Fail;
 
 // A run of so many cycles that ended by a breakpoint.
 fn run_of(cycles: u64) -> ComparedRun {
-    ComparedRun {
-        totals: Totals {
-            stop: Stop::Breakpoint,
-            cycles,
-            steps: StepCounts::default(),
-            longest_gap: 0,
-            busy: 0,
-            stalls: StallCounts::default(),
-        },
-        losses: Losses {
-            mispredicted: 0,
-            squashed: 0,
-        },
-        events: Events {
-            branches: 0,
-            loads: 0,
-            drains: 0,
-            hits: 0,
-            misses: 0,
-            write_backs: 0,
-        },
-        words: Columns {
-            first: None,
-            second: None,
-            third: None,
-            fourth: None,
-        },
-        places: None,
+    let mut run = NO_RUN;
+    run.totals.stop = Stop::Breakpoint;
+    run.totals.cycles = cycles;
+    run
+}
+
+// Runs of the neighbours of a machine, which take these cycles in turn, and then so many, up to the limit.
+fn runs_of(
+    alloc: Global,
+    machine: &Description,
+    own: &[Change],
+    cycles: u64,
+    tried: &[u64],
+) -> Result<Vec<TriedRun>, Fail> {
+    let mut runs = Vec::new(alloc);
+    for neighbour in neighbours(alloc, machine, own)?.as_slice() {
+        runs.push(TriedRun {
+            neighbour: *neighbour,
+            cycles: tried.get(runs.len()).copied().unwrap_or(cycles),
+            stop: Stop::Limit,
+        })?;
     }
+    Ok(runs)
 }
 
 // The table of a machine that takes so many cycles, and whose neighbours take these in turn, and then as many as it does
@@ -54,14 +47,7 @@ fn table_of(
     tried: &[u64],
 ) -> Result<Vec<u8>, Fail> {
     let machine = described(rt, values);
-    let mut runs = Vec::new(alloc);
-    for neighbour in neighbours(alloc, &machine, own)?.as_slice() {
-        runs.push(TriedRun {
-            neighbour: *neighbour,
-            cycles: tried.get(runs.len()).copied().unwrap_or(cycles),
-            stop: Stop::Limit,
-        })?;
-    }
+    let runs = runs_of(alloc, &machine, own, cycles, tried)?;
     let ordered = in_order(alloc, runs.as_slice())?;
     let mut table = Vec::new(alloc);
     write_sensitivity(&machine, &run_of(cycles), ordered.as_slice(), &mut table)?;
@@ -103,7 +89,7 @@ predictor.kind\tbimodal\tnot_taken\t7\t0\tlimit
 predictor.kind\tbimodal\tbackward_taken\t7\t0\tlimit
 predictor.entries\t64\t128\t7\t0\tlimit
 ";
-    assert_eq!(rt; table.as_slice(), lines.as_bytes());
+    check_bytes(&rt, table.as_slice(), lines.as_bytes());
     Ok(())
 }
 
@@ -144,7 +130,7 @@ recovery\tearly\tcommit\t7\t0\tlimit
 predictor.kind\tnot_taken\tbackward_taken\t7\t0\tlimit
 predictor.kind\tnot_taken\tbimodal\t7\t0\tlimit
 ";
-    assert_eq!(rt; table.as_slice(), lines.as_bytes());
+    check_bytes(&rt, table.as_slice(), lines.as_bytes());
     Ok(())
 }
 
@@ -172,7 +158,7 @@ cache.hit\t3\t2\t7\t0\tlimit
 predictor.kind\tnot_taken\tbackward_taken\t7\t0\tlimit
 predictor.kind\tnot_taken\tbimodal\t7\t0\tlimit
 ";
-    assert_eq!(rt; table.as_slice(), lines.as_bytes());
+    check_bytes(&rt, table.as_slice(), lines.as_bytes());
     Ok(())
 }
 
@@ -180,7 +166,7 @@ predictor.kind\tnot_taken\tbimodal\t7\t0\tlimit
 #[test]
 fn a_table_begins_with_what_gains_most(rt: HostRuntime) -> Result<(), Fail> {
     const NOT_TAKEN: Change = Change::Predictor(PredictorKind::NotTaken);
-    let own = [
+    const OWN: [Change; 6] = [
         Change::Number(NumberKey::Rob, 1),
         Change::Number(NumberKey::Rob, 2),
         Change::Number(NumberKey::Rob, 3),
@@ -189,8 +175,8 @@ fn a_table_begins_with_what_gains_most(rt: HostRuntime) -> Result<(), Fail> {
         NOT_TAKEN,
         Change::Number(NumberKey::Rob, 257),
     ];
-    let tried = [2000, 1999, 1444, 4000, 1444, 2001, 1];
-    let table = table_of(&rt, rt.alloc(), greatest(), &own, 2000, &tried)?;
+    const TRIED: [u64; 7] = [2000, 1999, 1444, 4000, 1444, 2001, 1];
+    let table = table_of(&rt, rt.alloc(), greatest(), &OWN, 2000, &TRIED)?;
     let lines = "\
 key\tfrom\tto\tcycles\tchange\tstop
 -\t-\t-\t2000\t0\tbreakpoint
@@ -202,26 +188,29 @@ recovery\tearly\tcommit\t2000\t0\tlimit
 rob\t256\t3\t2001\t+1\tlimit
 rob\t256\t1\t4000\t+1000\tlimit
 ";
-    assert_eq!(rt; table.as_slice(), lines.as_bytes());
+    check_bytes(&rt, table.as_slice(), lines.as_bytes());
+    Ok(())
+}
+
+#[test]
+fn less_than_half_of_a_thousandth_is_no_change(rt: HostRuntime) -> Result<(), Fail> {
     let odd = table_of(&rt, rt.alloc(), greatest(), &[], 2001, &[2000, 2002, 0])?;
-    assert!(&rt;
-        odd.as_slice().ends_with(
-            b"\t2000\t0\tlimit\npredictor.kind\tnot_taken\tbackward_taken\t2002\t0\tlimit\n"
-        )
-    );
+    let end = b"\t2000\t0\tlimit\npredictor.kind\tnot_taken\tbackward_taken\t2002\t0\tlimit\n";
+    check_end(&rt, odd.as_slice(), end);
+    Ok(())
+}
+
+#[test]
+fn a_run_of_no_cycles_has_no_change(rt: HostRuntime) -> Result<(), Fail> {
     let none = table_of(&rt, rt.alloc(), greatest(), &[], 0, &[])?;
-    assert!(&rt;
-        none.as_slice().starts_with(
-            b"key\tfrom\tto\tcycles\tchange\tstop\n-\t-\t-\t0\t-\tbreakpoint\n"
-        )
-    );
+    let beginning = b"key\tfrom\tto\tcycles\tchange\tstop\n-\t-\t-\t0\t-\tbreakpoint\n";
+    assert!(&rt; none.as_slice().starts_with(beginning));
     Ok(())
 }
 
 #[test]
 fn each_trial_stands_once_and_settings_make_changes(rt: HostRuntime) -> Result<(), Fail> {
-    assert_eq!(rt; all_trials().len(), 36);
-    let settings = Settings {
+    const SETTINGS: Settings = Settings {
         first: Some(Setting {
             index: 8,
             value: KeyValue::Number(64),
@@ -237,13 +226,11 @@ fn each_trial_stands_once_and_settings_make_changes(rt: HostRuntime) -> Result<(
             value: KeyValue::Number(4096),
         }),
     };
-    let own = changes(rt.alloc(), &settings)?;
+    assert!(&rt; all_trials().len() == 36);
+    let own = changes(rt.alloc(), &SETTINGS)?;
     let table = table_of(&rt, rt.alloc(), narrow(), own.as_slice(), 7, &[])?;
-    assert!(&rt;
-        table.as_slice().ends_with(
-            b"\nrob\t16\t64\t7\t0\tlimit\ndiv.pipelined\tfalse\ttrue\t7\t0\tlimit\n"
-        )
-    );
-    assert_eq!(rt; own.len(), 2);
+    let end = b"\nrob\t16\t64\t7\t0\tlimit\ndiv.pipelined\tfalse\ttrue\t7\t0\tlimit\n";
+    check_end(&rt, table.as_slice(), end);
+    assert!(&rt; own.len() == 2);
     Ok(())
 }

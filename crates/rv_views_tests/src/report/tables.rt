@@ -1,3 +1,4 @@
+use crate::checks::{check_bytes, check_end};
 use crate::machine::{described, no_arrivals, pipeline};
 use rv_arch::Stop;
 use rv_core::Pipeline;
@@ -9,6 +10,8 @@ use rv_report::{
     Columns, ComparedRun, Events, Losses, Shown, StepCounts, TableOptions, Totals, run_totals,
     write_table,
 };
+use std::alloc::Global;
+use std::process::Abort;
 use std::test::Fail;
 
 // A table without further columns, of runs up to a hundred cycles.
@@ -31,9 +34,47 @@ pub(crate) const A_HUNDRED_CYCLES: TableOptions = TableOptions {
     shown: NOTHING_SHOWN,
 };
 
-#[test]
-fn a_table_has_a_line_for_each_run(rt: HostRuntime) -> Result<(), Fail> {
-    let stale = Totals {
+const NO_STEPS: StepCounts = StepCounts {
+    retired: 0,
+    traps: 0,
+    interrupts: 0,
+};
+
+/// A run in which nothing happened.
+pub(crate) const NO_RUN: ComparedRun = ComparedRun {
+    totals: Totals {
+        stop: Stop::Limit,
+        cycles: 0,
+        steps: NO_STEPS,
+        longest_gap: 0,
+        busy: 0,
+        stalls: StallCounts {
+            fetch: 0,
+            serial: 0,
+            rob: 0,
+            station: 0,
+            store: 0,
+        },
+    },
+    losses: Losses {
+        mispredicted: 0,
+        squashed: 0,
+    },
+    events: Events {
+        branches: 0,
+        loads: 0,
+        drains: 0,
+        hits: 0,
+        misses: 0,
+        write_backs: 0,
+    },
+    words: NO_WORDS,
+    places: None,
+};
+
+// Each count is another one, but for those of waits.
+const STALE_RUN: ComparedRun = ComparedRun {
+    totals: Totals {
         stop: Stop::Stale(0x8000_0014),
         cycles: 17,
         steps: StepCounts {
@@ -50,42 +91,31 @@ fn a_table_has_a_line_for_each_run(rt: HostRuntime) -> Result<(), Fail> {
             station: 4,
             store: 5,
         },
-    };
-    let none = Totals {
-        stop: Stop::Limit,
-        steps: StepCounts::default(),
-        ..stale
-    };
-    let losses = Losses {
+    },
+    losses: Losses {
         mispredicted: 8,
         squashed: 9,
-    };
-    let events = Events {
+    },
+    events: Events {
         branches: 11,
         loads: 12,
         drains: 13,
         hits: 14,
         misses: 10,
         write_backs: 15,
-    };
-    let runs = [
-        ComparedRun {
-            totals: stale,
-            losses,
-            events,
-            words: NO_WORDS,
-            places: None,
-        },
-        ComparedRun {
-            totals: none,
-            losses,
-            events,
-            words: NO_WORDS,
-            places: None,
-        },
-    ];
+    },
+    words: NO_WORDS,
+    places: None,
+};
+
+#[test]
+fn a_table_has_a_line_for_each_run(rt: HostRuntime) -> Result<(), Fail> {
+    let mut without_steps = STALE_RUN;
+    without_steps.totals.stop = Stop::Limit;
+    without_steps.totals.steps = NO_STEPS;
     let mut table = Vec::new(rt.alloc());
     let names = [Vec::from_slice(rt.alloc(), b"a\tb")?];
+    let runs = [STALE_RUN, without_steps];
     write_table(&NOTHING_SHOWN, &names, &runs, &mut table)?;
     let lines = "\
 number\tcycles\tretired\tcpi\ttraps\tinterrupts\tbusy\tstall_fetch\tstall_serial\tstall_rob\tstall_station\tstall_store\t\
@@ -93,30 +123,48 @@ mispredicted\tsquashed\tmisses\tname\tstop\tipc\tlongest_gap\tbranches\tloads\td
 1\t17\t3\t5.666\t7\t6\t2\t1\t2\t3\t4\t5\t8\t9\t10\ta b\tstale 80000014\t0.176\t4\t11\t12\t13\t14\t15
 2\t17\t0\t-\t0\t0\t2\t1\t2\t3\t4\t5\t8\t9\t10\t-\tlimit\t0.000\t4\t11\t12\t13\t14\t15
 ";
-    assert_eq!(rt; table.as_slice(), lines.as_bytes());
+    check_bytes(&rt, table.as_slice(), lines.as_bytes());
     Ok(())
+}
+
+// A run of a program on the standard machine, which predicts no branch as taken.
+fn ran(
+    rt: &impl Abort,
+    alloc: Global,
+    program: &[u8],
+    options: &TableOptions,
+) -> Result<ComparedRun, Fail> {
+    let arrivals = no_arrivals(rt, alloc);
+    let pipeline = pipeline(rt, alloc, &described(rt, Values::standard()), program);
+    Ok(run_totals(alloc, pipeline, &mut NotTaken, &arrivals, options)?)
+}
+
+// The table of that run.
+fn table_of(
+    rt: &impl Abort,
+    alloc: Global,
+    program: &[u8],
+    options: &TableOptions,
+) -> Result<Vec<u8>, Fail> {
+    let run = ran(rt, alloc, program, options)?;
+    let mut table = Vec::new(alloc);
+    write_table(&options.shown, &[], &[run], &mut table)?;
+    Ok(table)
+}
+
+// Checks the head of a table and how it ends.
+fn check_table(rt: &impl Abort, table: &[u8], head: &str, end: &[u8]) {
+    assert!(rt; table.starts_with(head.as_bytes()));
+    check_end(rt, table, end);
 }
 
 // A run without a program traps in every second cycle, and its other cycles dispatch nothing.
 #[test]
 fn a_run_comes_to_its_totals(rt: HostRuntime) -> Result<(), Fail> {
-    let alloc = rt.alloc();
-    let arrivals = no_arrivals(&rt, alloc);
-    let pipeline = pipeline(&rt, alloc, &described(&rt, Values::standard()), &[]);
-    let mut predictor = NotTaken;
-    let totals = run_totals(
-        alloc,
-        pipeline,
-        &mut predictor,
-        &arrivals,
-        &A_HUNDRED_CYCLES,
-    )?
-    .totals;
-    assert_eq!(rt;
-        (totals.cycles, totals.busy, totals.stalls.fetch),
-        (100, 50, 50)
-    );
-    assert_eq!(rt; (totals.steps.traps, totals.steps.retired), (49, 0));
+    let run = ran(&rt, rt.alloc(), &[], &A_HUNDRED_CYCLES)?;
+    let totals = run.totals;
+    assert!(&rt; totals.cycles == 100 && totals.busy == 50 && totals.stalls.fetch == 50);
+    assert!(&rt; totals.steps.traps == 49 && totals.steps.retired == 0);
     Ok(())
 }
 
@@ -128,9 +176,6 @@ const STORE: [u8; 16] = [
 // A register, the word that was stored, whether or not the cache has it, and an address outside RAM.
 #[test]
 fn a_table_shows_registers_and_words_at_the_end(rt: HostRuntime) -> Result<(), Fail> {
-    let alloc = rt.alloc();
-    let arrivals = no_arrivals(&rt, alloc);
-    let pipeline = pipeline(&rt, alloc, &described(&rt, Values::standard()), &STORE);
     let options = TableOptions {
         limit: 100,
         shown: Columns {
@@ -140,18 +185,14 @@ fn a_table_shows_registers_and_words_at_the_end(rt: HostRuntime) -> Result<(), F
             fourth: Some(Shown::Word(4)),
         },
     };
-    let mut predictor = NotTaken;
-    let run = run_totals(alloc, pipeline, &mut predictor, &arrivals, &options)?;
-    let mut table = Vec::new(alloc);
-    write_table(&options.shown, &[], &[run], &mut table)?;
-    let text = table.as_slice();
-    assert!(&rt; text.ends_with(b"\t00000005\t00000005\t--------\n"));
+    let table = table_of(&rt, rt.alloc(), &STORE, &options)?;
     let head = "\
 number\tcycles\tretired\tcpi\ttraps\tinterrupts\tbusy\tstall_fetch\tstall_serial\tstall_rob\tstall_station\tstall_store\t\
 mispredicted\tsquashed\tmisses\tname\tstop\tipc\tlongest_gap\tbranches\tloads\tdrains\thits\twrite_backs\t\
 a0\t0x80000104\t0x00000004
 ";
-    assert!(&rt; text.starts_with(head.as_bytes()));
+    let end = b"\t00000005\t00000005\t--------\n";
+    check_table(&rt, table.as_slice(), head, end);
     Ok(())
 }
 
@@ -159,9 +200,6 @@ a0\t0x80000104\t0x00000004
 // computed, and the word of the last.
 #[test]
 fn four_columns_stand_in_their_order(rt: HostRuntime) -> Result<(), Fail> {
-    let alloc = rt.alloc();
-    let arrivals = no_arrivals(&rt, alloc);
-    let pipeline = pipeline(&rt, alloc, &described(&rt, Values::standard()), &STORE);
     let options = TableOptions {
         limit: 100,
         shown: Columns {
@@ -171,18 +209,14 @@ fn four_columns_stand_in_their_order(rt: HostRuntime) -> Result<(), Fail> {
             fourth: Some(Shown::Word(0x8000_000c)),
         },
     };
-    let mut predictor = NotTaken;
-    let run = run_totals(alloc, pipeline, &mut predictor, &arrivals, &options)?;
-    let mut table = Vec::new(alloc);
-    write_table(&options.shown, &[], &[run], &mut table)?;
-    let text = table.as_slice();
-    assert!(&rt; text.ends_with(b"\t00500513\t80000004\t00000005\t00100073\n"));
+    let table = table_of(&rt, rt.alloc(), &STORE, &options)?;
     let head = "\
 number\tcycles\tretired\tcpi\ttraps\tinterrupts\tbusy\tstall_fetch\tstall_serial\tstall_rob\tstall_station\tstall_store\t\
 mispredicted\tsquashed\tmisses\tname\tstop\tipc\tlongest_gap\tbranches\tloads\tdrains\thits\twrite_backs\t\
 0x80000000\tra\ta0\t0x8000000c
 ";
-    assert!(&rt; text.starts_with(head.as_bytes()));
+    let end = b"\t00500513\t80000004\t00000005\t00100073\n";
+    check_table(&rt, table.as_slice(), head, end);
     Ok(())
 }
 
@@ -198,6 +232,16 @@ const PLACES_SHOWN: Columns<Option<Shown>> = Columns {
     fourth: None,
 };
 
+// A pipeline with the two stores, whose reorder buffer and store queue have a place each.
+fn narrow_pipeline(rt: &impl Abort, alloc: Global) -> Result<Pipeline, Fail> {
+    let mut values = Values::standard();
+    values.ram_base = 0;
+    values.rob = 1;
+    values.store_queue = 1;
+    let image = Image::from_bytes(alloc, 0, &TWO_STORES, 0)?;
+    Ok(Pipeline::new(alloc, &described(rt, values), &image)?)
+}
+
 // One place is in the reorder buffer, and one in the store queue. The second store waits for both in the two cycles until the first
 // retires, and then for the eleven cycles of its drain; the breakpoint waits two cycles for the second store. The run has 20 cycles of two
 // places. In 0 and 19 there is no word: 4. A store in 1 and in 15 and the breakpoint in 18 each take one of two, and what is next finds the
@@ -206,26 +250,18 @@ const PLACES_SHOWN: Columns<Option<Shown>> = Columns {
 fn a_full_reorder_buffer_is_the_reason_before_a_full_store_queue(
     rt: HostRuntime,
 ) -> Result<(), Fail> {
-    let alloc = rt.alloc();
-    let options = TableOptions {
+    const OPTIONS: TableOptions = TableOptions {
         limit: 100,
         shown: PLACES_SHOWN,
     };
-    let mut values = Values::standard();
-    values.ram_base = 0;
-    values.rob = 1;
-    values.store_queue = 1;
-    let arrivals = no_arrivals(&rt, alloc);
-    let image = Image::from_bytes(alloc, 0, &TWO_STORES, 0)?;
-    let pipeline = Pipeline::new(alloc, &described(&rt, values), &image).expect(&rt, "a pipeline");
-    let mut predictor = NotTaken;
-    let run = run_totals(alloc, pipeline, &mut predictor, &arrivals, &options)?;
-    let stalls = run.totals.stalls;
-    assert_eq!(rt; (stalls.rob, stalls.store), (4, 11));
-    let mut table = Vec::new(alloc);
-    write_table(&options.shown, &[], &[run], &mut table)?;
-    let text = table.as_slice();
-    assert!(&rt; text.ends_with(b"\t2\t1\t0\t0\t0\t0\t0\t4\t0\t11\t0\t0\t0\t0\t22\n"));
+    let pipeline = narrow_pipeline(&rt, rt.alloc())?;
+    let arrivals = no_arrivals(&rt, rt.alloc());
+    let run = run_totals(rt.alloc(), pipeline, &mut NotTaken, &arrivals, &OPTIONS)?;
+    assert!(&rt; run.totals.stalls.rob == 4 && run.totals.stalls.store == 11);
+    let mut table = Vec::new(rt.alloc());
+    write_table(&PLACES_SHOWN, &[], &[run], &mut table)?;
+    let end = b"\t2\t1\t0\t0\t0\t0\t0\t4\t0\t11\t0\t0\t0\t0\t22\n";
+    check_end(&rt, table.as_slice(), end);
     Ok(())
 }
 
@@ -258,30 +294,8 @@ const SOME_PLACES: RunPlaces = RunPlaces {
 
 #[test]
 fn the_places_have_fifteen_columns(rt: HostRuntime) -> Result<(), Fail> {
-    let run = ComparedRun {
-        totals: Totals {
-            stop: Stop::Limit,
-            cycles: 0,
-            steps: StepCounts::default(),
-            longest_gap: 0,
-            busy: 0,
-            stalls: StallCounts::default(),
-        },
-        losses: Losses {
-            mispredicted: 0,
-            squashed: 0,
-        },
-        events: Events {
-            branches: 0,
-            loads: 0,
-            drains: 0,
-            hits: 0,
-            misses: 0,
-            write_backs: 0,
-        },
-        words: NO_WORDS,
-        places: Some(SOME_PLACES),
-    };
+    let mut run = NO_RUN;
+    run.places = Some(SOME_PLACES);
     let mut table = Vec::new(rt.alloc());
     write_table(&PLACES_SHOWN, &[], &[run], &mut table)?;
     let end = "\thits\twrite_backs\t\
@@ -291,6 +305,6 @@ places_lost_mul\tplaces_lost_div\tplaces_lost_mem\tplaces_lost_store
 1\t0\t0\t-\t0\t0\t0\t0\t0\t0\t0\t0\t0\t0\t0\t-\tlimit\t-\t0\t0\t0\t0\t0\t0\t\
 11\t12\t13\t14\t15\t16\t25\t17\t18\t19\t20\t21\t22\t23\t24
 ";
-    assert!(&rt; table.as_slice().ends_with(end.as_bytes()));
+    check_end(&rt, table.as_slice(), end.as_bytes());
     Ok(())
 }
