@@ -190,12 +190,12 @@ module _ (s : Setting) (P : Event → Type 0) where
       let until = facts.port_free in
       let what = sought.LoadUntil s.number until in
       let load = first_of what s.rows ws in
-      let head = first_of sought.Entry s.rows ws in
+      let head = first_of sought.FenceI s.rows ws in
       let T = IsTakenBy P N in
       if_with (λ (o : Option PortHold). IfSome o T) (is_taken s facts)
       (if_with (λ (o : Option PortHold). IfSome o T) (is_begun s facts.drain_end) drain
       (or_with T (load_hold until load) (lines_hold s leaving until head) (load_hold_has N until load (first_have P what s.rows ws are))
-      (lines_hold_has N leaving until head lines (first_have P sought.Entry s.rows ws are)))) tt
+      (lines_hold_has N leaving until head lines (first_have P sought.FenceI s.rows ws are)))) tt
 
 module _ (s : Setting) (P : List Event → Event → Type 0) (kept : IsKept s.elapsed P) where
   -- that of what left, and of the words that were fetched
@@ -251,7 +251,7 @@ module _ (s : Setting) (P : List Event → Event → Type 0) (kept : IsKept s.el
       let hold : PortHold = record { until = facts.port_free; event = drain_event s leaving; holder = holder.Drain; number = 0 } in
       let drain : DrainHold = record { until = facts.port_free; event = drain_event s leaving } in
       let load = load_hold facts.port_free (first_of (sought.LoadUntil s.number facts.port_free) s.rows now) in
-      let lines = lines_hold s leaving facts.port_free (first_of sought.Entry s.rows now) in
+      let lines = lines_hold s leaving facts.port_free (first_of sought.FenceI s.rows now) in
       record {
         ways = in_flight_have Q s.rows (now ++ ways_by event count)
             (append_have Q now (ways_by event count) known.ways (fetched_have Q event count fetch));

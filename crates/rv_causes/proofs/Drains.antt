@@ -27,7 +27,7 @@ pub drain_of_taken : (s : Setting) (ways : List Way) (leaving : Leaving) (facts 
     → drain_of (port_taken s ways leaving facts) ≡ drain_begun s leaving facts
 drain_of_taken s ways leaving facts =
     let load = first_of (sought.LoadUntil s.number facts.port_free) s.rows ways in
-    let head = first_of sought.Entry s.rows ways in
+    let head = first_of sought.FenceI s.rows ways in
     drain-taken facts.port_free (drain_event s leaving)
     (option_or (load_hold facts.port_free load) (lines_hold s leaving facts.port_free head))
     (is_taken s facts) (is_begun s facts.drain_end) (no-drain s leaving facts.port_free load head)

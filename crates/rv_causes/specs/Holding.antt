@@ -72,19 +72,20 @@ load_hold until None = None
 load_hold until (Some load) =
     Some (record { until = until; event = issued_by load.way; holder = holder.Load; number = load.row.number })
 
--- the oldest instruction writes lines back
+-- a FENCE.I writes lines back
 abbrev pub lines_hold : Setting → Leaving → ℕ → Option Journey → Option PortHold
 lines_hold s leaving until None = None
 lines_hold s leaving until (Some head) =
     Some (record { until = until; event = lines_event s leaving head.row head.way; holder = holder.Lines; number = head.row.number })
 
--- who takes the port in the cycle, if it is taken: a drain, a load, or the lines of the oldest instruction
+-- who takes the port in the cycle, if it is taken: a drain, a load, or the lines of a FENCE.I. It is on account of no event where a load takes
+-- it that early recovery squashes in the cycle of its issue, which no row shows.
 abbrev pub taken_by : Setting → List Way → Leaving → Facts → Option PortHold
 taken_by s ways leaving facts =
     if is_begun s facts.drain_end
     then Some (record { until = facts.port_free; event = drain_event s leaving; holder = holder.Drain; number = 0 })
     else option_or (load_hold facts.port_free (first_of (sought.LoadUntil s.number facts.port_free) s.rows ways))
-    (lines_hold s leaving facts.port_free (first_of sought.Entry s.rows ways))
+    (lines_hold s leaving facts.port_free (first_of sought.FenceI s.rows ways))
 
 abbrev pub port_taken : Setting → List Way → Leaving → Facts → Option PortHold
 port_taken s ways leaving facts = if is_taken s facts then taken_by s ways leaving facts else None

@@ -1,6 +1,6 @@
 -- What is looked for among the instructions of a cycle, by their stamps.
 use Rattle.std.specs.Prelude.{ℕ, ◌+◌, ◌==◌, ◌&&◌, not, nat_lt, Bool, true, false, Option, Some, None, is_some}
-use Rattle.rv_isa.specs.Instruction.{is_load, is_of_kind, is_store, kind_of_word}
+use Rattle.rv_isa.specs.Instruction.{is_fence_i, is_load, is_of_kind, is_store, kind_of_word}
 use Rattle.rv_isa.specs.declared.operations.Kind.{Kind}
 use Rattle.rv_passage.specs.Passage.{is_in_flight}
 use Rattle.rv_passage.specs.Result.{issued_in, ready_in}
@@ -40,6 +40,7 @@ abbrev pub is_sought : Sought → Passage → Bool
 is_sought sought.Any p = true
 is_sought sought.InFlight p = is_in_flight p
 is_sought sought.Entry p = is_in_flight p && is_some p.dispatched
+is_sought sought.FenceI p = is_fence_i p.instruction && (is_in_flight p && is_some p.dispatched)
 is_sought sought.Ended p = is_end p.ending
 is_sought (sought.Number number) p = p.number == number
 is_sought (sought.Stationed kind cycle) p = uses kind p && (is_before cycle p.dispatched && not (is_before cycle (issued_in p)))

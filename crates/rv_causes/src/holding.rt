@@ -137,7 +137,7 @@ pub(crate) fn taken_by(
             scene,
             leaving,
             until,
-            first_of(Sought::Entry, scene.rows, ways),
+            first_of(Sought::FenceI, scene.rows, ways),
         ),
     }
 }

@@ -16,6 +16,8 @@ pub(crate) enum Sought {
     InFlight,
     /// In the reorder buffer at the end of the cycle.
     Entry,
+    /// A FENCE.I in the reorder buffer at the end of the cycle.
+    FenceI,
     /// Retired or trapped in the cycle.
     Ended,
     /// The one of a number.
@@ -115,6 +117,11 @@ pub(crate) fn is_sought(sought: Sought, row: &Passage) -> bool
         Sought::Any => true,
         Sought::InFlight => row.is_in_flight(),
         Sought::Entry => row.is_in_flight() && row.dispatched.is_some(),
+        Sought::FenceI => {
+            row.is_in_flight()
+                && row.dispatched.is_some()
+                && is_fence_i(row.instruction.instruction())
+        }
         Sought::Ended => is_end(row.ending),
         Sought::Number(number) => row.number == number,
         Sought::Stationed(kind, cycle) => {
