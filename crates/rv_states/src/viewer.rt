@@ -5,7 +5,7 @@ pub(crate) const BEFORE: &[u8] = br#"<!DOCTYPE html>
 <html lang="en">
 <head>
 <meta charset="utf-8">
-<meta http-equiv="Content-Security-Policy" content="default-src 'none'; script-src 'sha256-T9uGUrVekvNG0iXBl47E/IVmAfA8c1pfDlgTqfFaZ+c='; style-src 'sha256-OE7LlOLY1KaAs9SzxI14XBYjQwxoJqU1AMeaS/ojdME='; img-src data:; frame-src 'self' file:; base-uri 'none'; form-action 'none'">
+<meta http-equiv="Content-Security-Policy" content="default-src 'none'; script-src 'sha256-APy8XTn8gl0gfgje9Z+OC6386nR5PYZ9CTFlD+wUaNQ='; style-src 'sha256-OE7LlOLY1KaAs9SzxI14XBYjQwxoJqU1AMeaS/ojdME='; img-src data:; frame-src 'self' file:; base-uri 'none'; form-action 'none'">
 <meta name="viewport" content="width=device-width, initial-scale=1">
 <title>rv_sim: a run, cycle by cycle</title>
 <style>
@@ -934,6 +934,7 @@ class CriticalPath {
   }
 
   isShown(event) { return event.at >= this.run.first; }
+  isFence(number) { return number !== undefined && isFenceI(this.run.table[number].word); }
 
   // A cycle of the page, and which instructions retired or trapped in it. Of the cycle before the page the room alone is known.
   here(cycle) { return this.run.places[cycle - this.run.first + 1]; }
@@ -953,12 +954,14 @@ class CriticalPath {
   }
 
   // The port is taken in a cycle after which it is held, until another one than before: by a drain, a load, or the lines that a fence.i writes back.
+  // A load that is squashed in the cycle of its issue, which no line shows, has no event.
   seePort() {
     const { places } = this.run;
     for (let place = 1; place < places.length; place += 1) {
       const { cycle, room, access, phases, oldest } = places[place], until = room.port, isDrain = access !== undefined && access.what === "drain";
       if (until <= cycle || until === places[place - 1].room.port) continue;
       const load = isDrain ? undefined : phases.issue.find((number) => this.isLoadUntil(number, until));
+      if (!isDrain && load === undefined && !this.isFence(oldest)) continue;
       const event = load !== undefined ? this.event("issue", load) : this.event(isDrain ? "drain" : "lines", isDrain ? access.number : oldest, cycle);
       this.port.set(until, event);
       if (isDrain) this.drains.set(until, event);

@@ -37,6 +37,7 @@ class CriticalPath {
   }
 
   isShown(event) { return event.at >= this.run.first; }
+  isFence(number) { return number !== undefined && isFenceI(this.run.table[number].word); }
 
   // A cycle of the page, and which instructions retired or trapped in it. Of the cycle before the page the room alone is known.
   here(cycle) { return this.run.places[cycle - this.run.first + 1]; }
@@ -56,12 +57,14 @@ class CriticalPath {
   }
 
   // The port is taken in a cycle after which it is held, until another one than before: by a drain, a load, or the lines that a fence.i writes back.
+  // A load that is squashed in the cycle of its issue, which no line shows, has no event.
   seePort() {
     const { places } = this.run;
     for (let place = 1; place < places.length; place += 1) {
       const { cycle, room, access, phases, oldest } = places[place], until = room.port, isDrain = access !== undefined && access.what === "drain";
       if (until <= cycle || until === places[place - 1].room.port) continue;
       const load = isDrain ? undefined : phases.issue.find((number) => this.isLoadUntil(number, until));
+      if (!isDrain && load === undefined && !this.isFence(oldest)) continue;
       const event = load !== undefined ? this.event("issue", load) : this.event(isDrain ? "drain" : "lines", isDrain ? access.number : oldest, cycle);
       this.port.set(until, event);
       if (isDrain) this.drains.set(until, event);
