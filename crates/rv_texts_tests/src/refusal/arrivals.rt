@@ -70,7 +70,7 @@ expected: level is 0 or 1, by default 1
         job: b"%%\r\n[[arrival]]\r\ncycle = 5\r\nline = \"timer\"\r\nlevel = true\r\n%%\r\nebreak\r\n",
         why: b"\
 line 5 of the job, line 4 of its arrivals, entry 1
-    level = true?
+    level = true
     ^
 expected: level is 0 or 1, by default 1
 ",

@@ -61,7 +61,7 @@ expected: ram_size is a multiple of 4096 from 4096 to 16777216, by default 65536
         job: b"rob = 8\nrom_bytes = 1\r\n%%\n",
         why: b"\
 line 2 of the job, line 2 of its description
-    rom_bytes = 1?
+    rom_bytes = 1
     ^
 expected: rom_bytes is a multiple of 4096 from 0 to ram_size, by default 0
 ",

@@ -96,14 +96,9 @@ pub(crate) fn passages() -> [Passage; 8] {
     ]
 }
 
-// Ten cycles whose last ended the run, at the stale word of the instruction with number 5.
-const STOPPED: Window = Window {
-    stopped: Some(5),
-    ..WINDOW
-};
-
-// The picture of the passages in a window in characters.
-fn written(rt: &impl Abort, alloc: Global, interrupts: &[u64], window: Window) -> String {
+// The picture in characters of the passages in the window, whose last cycle ended the run at the stale word of an instruction, if it did.
+fn written(rt: &impl Abort, alloc: Global, interrupts: &[u64], stopped: Option<u64>) -> String {
+    let window = Window { stopped, ..WINDOW };
     let listing = listing(rt, alloc, &LINES);
     let mut text = Vec::new(alloc);
     write_picture_text(&passages(), interrupts, None, &listing, window, &mut text).expect(
@@ -112,8 +107,9 @@ fn written(rt: &impl Abort, alloc: Global, interrupts: &[u64], window: Window) -
     String::from_utf8(text).expect(rt, "ASCII")
 }
 
-// The SVG of the passages in a window.
-fn drawn(rt: &impl Abort, alloc: Global, interrupts: &[u64], window: Window) -> String {
+// The SVG of them.
+fn drawn(rt: &impl Abort, alloc: Global, interrupts: &[u64], stopped: Option<u64>) -> String {
+    let window = Window { stopped, ..WINDOW };
     let listing = listing(rt, alloc, &LINES);
     let mut text = Vec::new(alloc);
     write_picture_svg(
@@ -131,17 +127,17 @@ fn drawn(rt: &impl Abort, alloc: Global, interrupts: &[u64], window: Window) -> 
 
 #[test]
 fn an_instruction_whose_stale_word_ended_the_run_is_marked(rt: HostRuntime) {
-    let text = written(&rt, rt.alloc(), &[], STOPPED);
+    let text = written(&rt, rt.alloc(), &[], Some(5));
     let row =
         "\n8000000c 00000013                         stale               FDI==~~\n00000000 -                                -  ";
     check_part(&rt, text.as_str(), row);
-    let svg = drawn(&rt, rt.alloc(), &[], STOPPED);
+    let svg = drawn(&rt, rt.alloc(), &[], Some(5));
     check_parts(&rt, svg.as_str(), &STALE);
 }
 
 #[test]
 fn each_ending_has_its_letter_and_each_phase_its_own(rt: HostRuntime) {
-    let text = written(&rt, rt.alloc(), &INTERRUPTS, WINDOW);
+    let text = written(&rt, rt.alloc(), &INTERRUPTS, None);
     check_text(&rt, text.as_str(), TEXT);
 }
 
@@ -206,7 +202,7 @@ static STALE: [&str; 3] = [
 #[test]
 fn each_row_in_the_window_and_each_interrupt_is_drawn(rt: HostRuntime) {
     static OUTSIDE: [&str; 4] = ["cycle 9,", "cycle 20", "7ffffffc", "00000004"];
-    let svg = drawn(&rt, rt.alloc(), &INTERRUPTS, WINDOW);
+    let svg = drawn(&rt, rt.alloc(), &INTERRUPTS, None);
     check_parts(&rt, svg.as_str(), &ROWS);
     check_parts(&rt, svg.as_str(), &FRAME);
     check_none(&rt, svg.as_str(), &OUTSIDE);
@@ -240,7 +236,7 @@ fn check_meaning(
 
 #[test]
 fn each_kind_of_cell_has_a_box_and_a_meaning(rt: HostRuntime) -> Result<(), Fail> {
-    let svg = drawn(&rt, rt.alloc(), &INTERRUPTS, WINDOW);
+    let svg = drawn(&rt, rt.alloc(), &INTERRUPTS, None);
     for kind in &BOXES {
         check_box(&rt, rt.alloc(), svg.as_str(), *kind)?;
     }
@@ -268,7 +264,7 @@ fn colour_of<'a>(
 #[test]
 fn each_kind_of_cell_has_a_colour_of_its_own(rt: HostRuntime) -> Result<(), Fail> {
     let alloc = rt.alloc();
-    let svg = drawn(&rt, alloc, &INTERRUPTS, WINDOW);
+    let svg = drawn(&rt, alloc, &INTERRUPTS, None);
     let mut colours = Vec::new(alloc);
     for (class, ..) in &BOXES {
         let colour = colour_of(&rt, alloc, svg.as_str(), class)?;
