@@ -2,7 +2,7 @@
 use Rattle.std.proofs.Common.{◌≡◌, ◌+◌, ◌≤◌, ℕ, List, [], ◌∷◌, Result, Ok, Err, true, ◌∙◌, refl, ap, arith}
 use Rattle.rv_asm.specs.Kept.{is_idle}
 use Rattle.rv_asm.proofs.Kept.{idle_says_nothing}
-use Rattle.rv_asm.specs.Layout.{Line, Unreadable, Readable, Layout, Meanings, behind, extended, grow_in, laid, labelled, label_at, offset, offset_in, size, statement_in}
+use Rattle.rv_asm.specs.Layout.{Line, Unreadable, Readable, Layout, Meanings, after_statement, extended, grow_in, laid, labelled, label_at, offset, offset_in, size, statement_in}
 use Rattle.rv_asm.specs.Placed.{place}
 use Rattle.rv_asm.specs.Statement.{Statement, Choice}
 use Rattle.rv_asm.specs.declared.{fault.AsmFault.AsmFault, operation.Section.Section, reach.Reach.Reach}
@@ -14,7 +14,7 @@ grow Text Data n reach = omega arith
 grow Data Text n reach = omega arith
 grow Data Data n reach = omega arith
 
-after_grows : (part : Section) (m : Meanings) (reach : Reach) (said : Result Statement AsmFault) → offset_in part reach ≤ offset_in part (behind m reach said).reach
+after_grows : (part : Section) (m : Meanings) (reach : Reach) (said : Result Statement AsmFault) → offset_in part reach ≤ offset_in part (after_statement m reach said).reach
 after_grows Text m reach (Ok (Choice section)) = omega arith
 after_grows Data m reach (Ok (Choice section)) = omega arith
 after_grows part m reach (Ok said) = grow part reach.section (size m (offset reach) said) reach
@@ -37,7 +37,7 @@ grow_nothing Data reach = let same : reach.data_size + 0 ≡ reach.data_size = o
 pub idle_stays : (before : Layout) (line : Line) → is_idle (place before.reach line) ≡ true → (extended before line).reach ≡ before.reach
 idle_stays before Unreadable idle = refl
 idle_stays before (Readable labels body) idle =
-    ap (λ said. (behind (labelled before.meanings (label_at before.reach) labels) before.reach said).reach) (idle_says_nothing (place before.reach (Readable labels body)) idle).nothing ∙ grow_nothing before.reach.section before.reach
+    ap (λ said. (after_statement (labelled before.meanings (label_at before.reach) labels) before.reach said).reach) (idle_says_nothing (place before.reach (Readable labels body)) idle).nothing ∙ grow_nothing before.reach.section before.reach
 
 pub place_reach : (reach : Reach) (line : Line) → (place reach line).reach ≡ reach
 place_reach reach Unreadable = refl

@@ -28,5 +28,5 @@ module _ {T : Type 0} (table : List (Bor (List ℕ) × T)) (i : ℕ) (row : Bor 
   pub named-here : bytes_eq row.0.now name ≡ true → named (map (λ row. (row.0.now, row.1)) (drop i table)) name ≡ Some row.1
   named-here same = next_row ∙ ap (λ b. cond b (Some row.1) (named (map (λ row. (row.0.now, row.1)) (drop (i + 1) table)) name)) same
 
-  pub named-behind : bytes_eq row.0.now name ≡ false → named (map (λ row. (row.0.now, row.1)) (drop i table)) name ≡ named (map (λ row. (row.0.now, row.1)) (drop (i + 1) table)) name
-  named-behind other = next_row ∙ ap (λ b. cond b (Some row.1) (named (map (λ row. (row.0.now, row.1)) (drop (i + 1) table)) name)) other
+  pub named-after : bytes_eq row.0.now name ≡ false → named (map (λ row. (row.0.now, row.1)) (drop i table)) name ≡ named (map (λ row. (row.0.now, row.1)) (drop (i + 1) table)) name
+  named-after other = next_row ∙ ap (λ b. cond b (Some row.1) (named (map (λ row. (row.0.now, row.1)) (drop (i + 1) table)) name)) other

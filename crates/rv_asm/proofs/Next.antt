@@ -24,6 +24,6 @@ module _ (items : List Record) (i : ℕ) (d : Record) (within : i < length items
   begins_next base whole part begin put = begins_more (rw (drop_more items i d within) at begin) put
 
 -- its words go before those of the others
-pub next_words : (part : Section) (end : Reach) (rest : List Record) (d : Record) (count : ℕ) (behind : Reach) → 0 < length rest → behind ≡ reach_before end (kept_in (drop 1 rest)) → count ≡ words_between part (get_or rest 0 d).reach behind → words_in part end (kept_in rest) ≡ replicate count (Some (shown (get_or rest 0 d).line.number (get_or rest 0 d).line.bytes.now)) ++ words_in part end (kept_in (drop 1 rest))
-next_words part end [] d count behind within behind_is count_is = absurd (omega arith)
-next_words part end (line ∷ others) d count behind within behind_is count_is = rw (count_is, behind_is) refl
+pub next_words : (part : Section) (end : Reach) (rest : List Record) (d : Record) (count : ℕ) (after : Reach) → 0 < length rest → after ≡ reach_before end (kept_in (drop 1 rest)) → count ≡ words_between part (get_or rest 0 d).reach after → words_in part end (kept_in rest) ≡ replicate count (Some (shown (get_or rest 0 d).line.number (get_or rest 0 d).line.bytes.now)) ++ words_in part end (kept_in (drop 1 rest))
+next_words part end [] d count after within after_is count_is = absurd (omega arith)
+next_words part end (line ∷ others) d count after within after_is count_is = rw (count_is, after_is) refl

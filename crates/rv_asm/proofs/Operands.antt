@@ -88,19 +88,19 @@ module _ (name : List ℕ) where
 
   operand-ended : (found : Option Operand) (offset : List Token) → (length offset ≡ 0 → found ≡ Some (Indirect None name)) → (0 < length offset → found ≡ based (expression (map token_of offset)) (Some name)) → found ≡ operand (ended offset)
   unfolding ended
-  operand-ended found [] alone behind = alone refl
-  operand-ended found (a ∷ []) alone behind = behind (omega arith) ∙ operand-four (token_of a) _ _ _
-  operand-ended found (a ∷ b ∷ []) alone behind = behind (omega arith) ∙ operand-five (token_of a) _ _ _ _
-  operand-ended found (a ∷ b ∷ c ∷ []) alone behind = behind (omega arith) ∙ operand-six (token_of a) _ _ _ _ _
-  operand-ended found (a ∷ b ∷ c ∷ d ∷ []) alone behind = behind (omega arith) ∙ long-offset (token_of a) _ _ _ _ _ _ _ _
-  operand-ended found (a ∷ b ∷ c ∷ d ∷ e ∷ []) alone behind = behind (omega arith) ∙ long-offset (token_of a) _ _ _ _ _ _ _ _
-  operand-ended found (a ∷ b ∷ c ∷ d ∷ e ∷ f ∷ []) alone behind = behind (omega arith) ∙ long-offset (token_of a) _ _ _ _ _ _ _ _
-  operand-ended found (a ∷ b ∷ c ∷ d ∷ e ∷ f ∷ g ∷ offset) alone behind = behind (omega arith) ∙ long-offset (token_of a) _ _ _ _ _ _ _ _
+  operand-ended found [] alone after = alone refl
+  operand-ended found (a ∷ []) alone after = after (omega arith) ∙ operand-four (token_of a) _ _ _
+  operand-ended found (a ∷ b ∷ []) alone after = after (omega arith) ∙ operand-five (token_of a) _ _ _ _
+  operand-ended found (a ∷ b ∷ c ∷ []) alone after = after (omega arith) ∙ operand-six (token_of a) _ _ _ _ _
+  operand-ended found (a ∷ b ∷ c ∷ d ∷ []) alone after = after (omega arith) ∙ long-offset (token_of a) _ _ _ _ _ _ _ _
+  operand-ended found (a ∷ b ∷ c ∷ d ∷ e ∷ []) alone after = after (omega arith) ∙ long-offset (token_of a) _ _ _ _ _ _ _ _
+  operand-ended found (a ∷ b ∷ c ∷ d ∷ e ∷ f ∷ []) alone after = after (omega arith) ∙ long-offset (token_of a) _ _ _ _ _ _ _ _
+  operand-ended found (a ∷ b ∷ c ∷ d ∷ e ∷ f ∷ g ∷ offset) alone after = after (omega arith) ∙ long-offset (token_of a) _ _ _ _ _ _ _ _
 
-  pub operand-indirect : (found : Option Operand) (tokens offset behind : List Token) → tokens ≡ offset ++ behind → map token_of behind ≡ LeftParenthesis ∷ Name name ∷ RightParenthesis ∷ [] → (length offset ≡ 0 → found ≡ Some (Indirect None name)) → (0 < length offset → found ≡ based (expression (map token_of offset)) (Some name)) → found ≡ operand (map token_of tokens)
+  pub operand-indirect : (found : Option Operand) (tokens offset after : List Token) → tokens ≡ offset ++ after → map token_of after ≡ LeftParenthesis ∷ Name name ∷ RightParenthesis ∷ [] → (length offset ≡ 0 → found ≡ Some (Indirect None name)) → (0 < length offset → found ≡ based (expression (map token_of offset)) (Some name)) → found ≡ operand (map token_of tokens)
   unfolding ended
-  operand-indirect found tokens offset behind split ends alone based_on =
-      operand-ended found offset alone based_on ∙ ap (λ l. operand (map token_of offset ++ l)) (sym ends) ∙ ap operand (sym (map-append token_of offset behind)) ∙ ap (λ l. operand (map token_of l)) (sym split)
+  operand-indirect found tokens offset after split ends alone based_on =
+      operand-ended found offset alone based_on ∙ ap (λ l. operand (map token_of offset ++ l)) (sym ends) ∙ ap operand (sym (map-append token_of offset after)) ∙ ap (λ l. operand (map token_of l)) (sym split)
 
 in_parentheses-none : (left name right : spec.Token) → ((text : List ℕ) → (left ∷ name ∷ right ∷ []) ≢ (LeftParenthesis ∷ Name text ∷ RightParenthesis ∷ [])) → in_parentheses left name right ≡ None
 in_parentheses-none LeftParenthesis (Name text) RightParenthesis other = absurd (other text refl)
@@ -121,10 +121,10 @@ operand-long (a ∷ b ∷ c ∷ d ∷ e ∷ f ∷ []) long other =
 operand-long (a ∷ b ∷ c ∷ d ∷ e ∷ f ∷ g ∷ tokens) long other = ap (option_map Value) (expression-long (token_of a) _ _ _ _) ∙ sym (operand-many (token_of a) _ _ _ _ _ _ _)
 operand-long _ long other = absurd (omega arith)
 
-pub operand-direct : (found : Option Operand) (tokens behind : List Token) → behind ≡ drop (length tokens - 3) tokens → ((name : List ℕ) → map token_of behind ≢ (LeftParenthesis ∷ Name name ∷ RightParenthesis ∷ [])) → (length tokens < 3 → found ≡ operand (map token_of tokens)) → (3 ≤ length tokens → found ≡ option_map Value (expression (map token_of tokens))) → found ≡ operand (map token_of tokens)
-operand-direct found [] behind ends other short long = short (omega arith)
-operand-direct found (a ∷ []) behind ends other short long = short (omega arith)
-operand-direct found (a ∷ b ∷ []) behind ends other short long = short (omega arith)
-operand-direct found (a ∷ b ∷ c ∷ tokens) behind ends other short long =
+pub operand-direct : (found : Option Operand) (tokens after : List Token) → after ≡ drop (length tokens - 3) tokens → ((name : List ℕ) → map token_of after ≢ (LeftParenthesis ∷ Name name ∷ RightParenthesis ∷ [])) → (length tokens < 3 → found ≡ operand (map token_of tokens)) → (3 ≤ length tokens → found ≡ option_map Value (expression (map token_of tokens))) → found ≡ operand (map token_of tokens)
+operand-direct found [] after ends other short long = short (omega arith)
+operand-direct found (a ∷ []) after ends other short long = short (omega arith)
+operand-direct found (a ∷ b ∷ []) after ends other short long = short (omega arith)
+operand-direct found (a ∷ b ∷ c ∷ tokens) after ends other short long =
     let enough : 3 ≤ length (a ∷ b ∷ c ∷ tokens) = omega arith in
     long enough ∙ operand-long (a ∷ b ∷ c ∷ tokens) enough (λ name is. other name (ap (map token_of) ends ∙ is))

@@ -52,18 +52,18 @@ module _ (part : Section) (end : Reach) where
       let none : n ≡ 0 = omega (arith, ap (λ reach. word_count (offset_in part reach)) end_is) in
       record { begins = sym end_is; words_are = rw none refl }
   kept_words number before (bytes ∷ others) n end_is size =
-      let behind = extended before (line_in bytes) in
-      let m = words_between part before.reach behind.reach in
+      let after = extended before (line_in bytes) in
+      let m = words_between part before.reach after.reach in
       let f : ℕ → Option source.Line = λ i. line_holding part number before (bytes ∷ others) (4 * i) in
-      let g : ℕ → Option source.Line = λ i. line_holding part (number + 1) behind others (4 * i) in
+      let g : ℕ → Option source.Line = λ i. line_holding part (number + 1) after others (4 * i) in
       let first_grows = grows _ _ (line_grows part before (line_in bytes)) in
-      let others_grow = grows _ _ (lines_grow part behind (map line_in others)) in
+      let others_grow = grows _ _ (lines_grow part after (map line_in others)) in
       let end_size = ap (λ reach. word_count (offset_in part reach)) end_is in
       let whole : n ≡ m + (n - m) = omega (arith, first_grows, others_grow, end_size) in
-      let begin : word_count (offset_in part before.reach) + m ≡ word_count (offset_in part behind.reach) = omega (arith, first_grows) in
-      let rest = kept_words (number + 1) behind others (n - m) end_is (omega (arith, first_grows, others_grow, end_size)) in
-      let lines = keep_gives number before bytes (kept (number + 1) behind others) (is_idle (place before.reach (line_in bytes))) refl rest.begins in
-      let words = split_range f g (Some (shown number bytes)) (word_count (offset_in part behind.reach)) (λ i above. ap (λ h. cond h (Some (shown number bytes)) (g i)) (held_not _ _ i above)) (word_count (offset_in part before.reach)) m (n - m) begin (λ i above below. ap (λ h. cond h (Some (shown number bytes)) (g i)) (held _ _ i above below)) in
+      let begin : word_count (offset_in part before.reach) + m ≡ word_count (offset_in part after.reach) = omega (arith, first_grows) in
+      let rest = kept_words (number + 1) after others (n - m) end_is (omega (arith, first_grows, others_grow, end_size)) in
+      let lines = keep_gives number before bytes (kept (number + 1) after others) (is_idle (place before.reach (line_in bytes))) refl rest.begins in
+      let words = split_range f g (Some (shown number bytes)) (word_count (offset_in part after.reach)) (λ i above. ap (λ h. cond h (Some (shown number bytes)) (g i)) (held_not _ _ i above)) (word_count (offset_in part before.reach)) m (n - m) begin (λ i above below. ap (λ h. cond h (Some (shown number bytes)) (g i)) (held _ _ i above below)) in
       record { begins = lines.begins; words_are = lines.words_are ∙ ap (λ l. replicate m (Some (shown number bytes)) ++ l) rest.words_are ∙ sym (ap (λ k. map f (range_with_len (word_count (offset_in part before.reach)) k)) whole ∙ words) }
 
 -- the listing of what the program keeps

@@ -147,14 +147,14 @@ with_constant meanings (Constant name number) = defined meanings name (symbol.Co
 with_constant meanings _ = meanings
 
 -- the layout after a statement, if it could be read
-abbrev pub behind : Meanings → Reach → Result Statement AsmFault → Layout
-behind meanings reach (Ok statement) = record { reach = advance meanings statement reach; meanings = with_constant meanings statement }
-behind meanings reach (Err fault) = record { reach = reach; meanings = meanings }
+abbrev pub after_statement : Meanings → Reach → Result Statement AsmFault → Layout
+after_statement meanings reach (Ok statement) = record { reach = advance meanings statement reach; meanings = with_constant meanings statement }
+after_statement meanings reach (Err fault) = record { reach = reach; meanings = meanings }
 
 -- the layout after a line
 abbrev pub extended : Layout → Line → Layout
 extended layout Unreadable = layout
-extended layout (Readable labels body) = behind (labelled layout.meanings (label_at layout.reach) labels) layout.reach (statement_in body)
+extended layout (Readable labels body) = after_statement (labelled layout.meanings (label_at layout.reach) labels) layout.reach (statement_in body)
 
 -- the layout of no lines: no section has bytes yet, and the text begins in .text
 abbrev pub unlaid : Layout

@@ -30,9 +30,9 @@ shown number bytes =
 abbrev pub line_holding : Section → ℕ → Layout → List (List ℕ) → ℕ → Option source.Line
 line_holding part number before [] offset = None
 line_holding part number before (bytes ∷ others) offset =
-    let behind = extended before (line_in bytes) in
-    if nat_le (offset_in part before.reach) offset && nat_lt offset (offset_in part behind.reach) then Some (shown number bytes)
-    else line_holding part (number + 1) behind others offset
+    let after = extended before (line_in bytes) in
+    if nat_le (offset_in part before.reach) offset && nat_lt offset (offset_in part after.reach) then Some (shown number bytes)
+    else line_holding part (number + 1) after others offset
 
 -- how many words hold so many bytes
 abbrev pub word_count : ℕ → ℕ
@@ -58,7 +58,7 @@ listing_of base text = record { base = base; words = image_lines (layout (lines_
 
 -- how many words of a section begin between two points of a text
 abbrev pub words_between : Section → Reach → Reach → ℕ
-words_between part before behind = word_count (offset_in part behind) - word_count (offset_in part before)
+words_between part before after = word_count (offset_in part after) - word_count (offset_in part before)
 
 -- how far the text has come before lines that the program keeps, where it comes as far as this after them
 abbrev pub reach_before : Reach → List Kept → Reach

@@ -105,11 +105,11 @@ fn are_known<'a>(program: &Program<'_, 'a>, tokens: &[Token<'a>]) -> bool
 {
     let mut rest = Some(tokens);
     while let Some(unread) = rest {
-        let (piece, behind) = first_piece(unread);
+        let (piece, after) = first_piece(unread);
         if program.evaluate(&value_of(piece)).is_none() {
             return false;
         }
-        rest = behind;
+        rest = after;
     }
     true
 }
@@ -140,11 +140,11 @@ fn emit_values<'a>(
 {
     let mut rest = Some(tokens);
     while let Some(unread) = rest {
-        let (piece, behind) = first_piece(unread);
+        let (piece, after) = first_piece(unread);
         if let Err(fault) = emit_value(program, width, piece, out) {
             return Err(fault);
         }
-        rest = behind;
+        rest = after;
     }
     Ok(())
 }

@@ -3,7 +3,7 @@ ghost use Rattle.std.specs.List.{position_or_len, slice_split};
 ghost use Rattle.std.specs.Option.{option_copied};
 ghost use Rattle.rv_asm.specs.Answer.{Follows, RefusedBy, RefusedAt};
 ghost use Rattle.rv_asm.specs.Faults.{body_fault, first_fault, first_fault_of, is_unmet, moved};
-ghost use Rattle.rv_asm.specs.Layout.{advance, behind, extended, layout, unlaid, unless_too_large, lines_of, statement_in, line_in};
+ghost use Rattle.rv_asm.specs.Layout.{advance, after_statement, extended, layout, unlaid, unless_too_large, lines_of, statement_in, line_in};
 ghost use Rattle.rv_asm.specs.Kept.{keep, kept, lines_left, says_nothing};
 ghost use Rattle.rv_asm.specs.Placed.{place};
 ghost use Rattle.rv_asm.specs.Read.{operands_in, statement_of, tokens_in};
@@ -86,7 +86,7 @@ impl<'a> Layout<'a> {
         ensures moved { Follows (λ _. self.new.reach) result (unless_too_large
             (advance (found self.old.symbols) (statement_of statement.now) self.old.reach)) }
         ensures layout { IfOk result (λ _. layout_of self.new
-            ≡ behind (found self.old.symbols) self.old.reach (Ok (statement_of statement.now))) }
+            ≡ after_statement (found self.old.symbols) self.old.reach (Ok (statement_of statement.now))) }
         ensures idle { IfOk result (λ idle. idle ≡ says_nothing (Ok (statement_of statement.now))) }
         ensures records { self.new.records ≡ self.old.records }
     {
@@ -106,7 +106,7 @@ impl<'a> Layout<'a> {
         ensures moved { is_data form ≡ false → Follows (λ _. self.new.reach) result
             (moved (found self.old.symbols) self.old.reach form (operands_in operands.now)) }
         ensures layout { is_data form ≡ false → IfOk result (λ _.
-            layout_of self.new ≡ behind (found self.old.symbols) self.old.reach (statement form (operands_in operands.now))) }
+            layout_of self.new ≡ after_statement (found self.old.symbols) self.old.reach (statement form (operands_in operands.now))) }
         ensures idle { is_data form ≡ false → IfOk result (λ idle. idle ≡ says_nothing (statement form (operands_in operands.now))) }
         ensures records { self.new.records ≡ self.old.records }
     {
@@ -129,7 +129,7 @@ impl<'a> Layout<'a> {
         ensures moved { Follows (λ _. self.new.reach) result
             (and_then (operands_read (tokens_in tokens.now)) (moved (found self.old.symbols) self.old.reach form)) }
         ensures layout { IfOk result (λ _. layout_of self.new
-            ≡ behind (found self.old.symbols) self.old.reach (and_then (operands_read (tokens_in tokens.now)) (statement form))) }
+            ≡ after_statement (found self.old.symbols) self.old.reach (and_then (operands_read (tokens_in tokens.now)) (statement form))) }
         ensures idle { IfOk result (λ idle. idle
             ≡ says_nothing (and_then (operands_read (tokens_in tokens.now)) (statement form))) }
         ensures records { self.new.records ≡ self.old.records }
@@ -150,7 +150,7 @@ impl<'a> Layout<'a> {
     fn add_body(&mut self, alloc: Global, body: &[Token<'a>]) -> Result<bool, AsmFault>
         ensures added { IfOk result (λ _. body_fault (found self.old.symbols) self.old.reach (tokens_in body.now) ≡ None) }
         ensures layout { IfOk result (λ _.
-            layout_of self.new ≡ behind (found self.old.symbols) self.old.reach (statement_in (tokens_in body.now))) }
+            layout_of self.new ≡ after_statement (found self.old.symbols) self.old.reach (statement_in (tokens_in body.now))) }
         ensures idle { IfOk result (λ idle. idle ≡ says_nothing (statement_in (tokens_in body.now))) }
         ensures records { self.new.records ≡ self.old.records }
         ensures refused { RefusedBy (body_fault (found self.old.symbols) self.old.reach (tokens_in body.now)) result }
@@ -194,12 +194,12 @@ impl<'a> Layout<'a> {
         let mut number = 1;
         let mut rest = Some(text);
         while let Some(unread) = rest {
-            let (bytes, behind) = first_line(unread);
+            let (bytes, after) = first_line(unread);
             if let Err(fault) = layout.add(alloc, TextLine { number, bytes }) {
                 return Err(AsmError::at(fault, number));
             }
             number += 1;
-            rest = behind;
+            rest = after;
         }
         Ok(layout)
     }

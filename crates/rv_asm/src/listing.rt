@@ -26,10 +26,10 @@ fn word_count(size: usize) -> usize
 }
 
 /// How many words of the section begin between two points of a text.
-fn words_between(section: Section, before: Reach, behind: Reach) -> usize
-    ensures { result ≡ words_between section before behind }
+fn words_between(section: Section, before: Reach, after: Reach) -> usize
+    ensures { result ≡ words_between section before after }
 {
-    word_count(behind.offset_in(section)).saturating_sub(word_count(before.offset_in(section)))
+    word_count(after.offset_in(section)).saturating_sub(word_count(before.offset_in(section)))
 }
 
 /// How many words of zero bytes begin between the text and the data.

@@ -72,7 +72,7 @@ fn in_parentheses<'a>(tokens: &[Token<'a>]) -> Option<&'a [u8]>
 /// A name in parentheses, after an offset or alone.
 fn indirect<'a>(offset: &[Token<'a>], name: &'a [u8]) -> Option<Operand<'a>>
     ensures alone { length offset.now ≡ 0 → option_map operand_of result ≡ Some (Indirect None name.entry.now) }
-    ensures behind { 0 < length offset.now → option_map operand_of result
+    ensures after { 0 < length offset.now → option_map operand_of result
         ≡ based (expression (tokens_in offset.now)) (Some name.entry.now) }
 {
     if offset.is_empty() {
@@ -97,8 +97,8 @@ fn direct<'a>(tokens: &[Token<'a>]) -> Option<Operand<'a>>
 pub fn read_operand<'a>(tokens: &[Token<'a>]) -> Option<Operand<'a>>
     ensures { option_map operand_of result ≡ operand (tokens_in tokens.now) }
 {
-    let (offset, behind) = tokens.split_at(tokens.len().saturating_sub(3));
-    match in_parentheses(behind) {
+    let (offset, after) = tokens.split_at(tokens.len().saturating_sub(3));
+    match in_parentheses(after) {
         Some(name) => indirect(offset, name),
         None => direct(tokens),
     }

@@ -48,9 +48,9 @@ pub fn piece_count(tokens: &[Token<'_>]) -> usize
     let mut count = 0;
     let mut rest = Some(tokens);
     while let Some(unread) = rest {
-        let (_, behind) = first_piece(unread);
+        let (_, after) = first_piece(unread);
         count += 1;
-        rest = behind;
+        rest = after;
     }
     count
 }

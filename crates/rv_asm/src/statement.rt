@@ -176,9 +176,9 @@ fn are_values(tokens: &[Token<'_>]) -> bool
 {
     let mut rest = Some(tokens);
     while let Some(unread) = rest {
-        let (piece, behind) = first_piece(unread);
+        let (piece, after) = first_piece(unread);
         match read_operand(piece) {
-            Some(operand) if Value.takes(operand) => rest = behind,
+            Some(operand) if Value.takes(operand) => rest = after,
             _ => return false,
         }
     }

@@ -102,8 +102,8 @@ impl<'a> Symbols<'a> {
         ensures added { IfOk result (λ _. label_fault (found self.old) here (labels_of (tokens_in tokens.entry.now)) ≡ None) }
         ensures labels { IfOk result (λ _.
             found self.new ≡ labelled (found self.old) here (labels_of (tokens_in tokens.entry.now))) }
-        ensures body { IfOk result (λ behind. body_of (tokens_in tokens.entry.now) ≡ tokens_in behind.0.now) }
-        ensures starts { IfOk result (λ behind. behind.1 ≡ list_any is_start (labels_of (tokens_in tokens.entry.now))) }
+        ensures body { IfOk result (λ after. body_of (tokens_in tokens.entry.now) ≡ tokens_in after.0.now) }
+        ensures starts { IfOk result (λ after. after.1 ≡ list_any is_start (labels_of (tokens_in tokens.entry.now))) }
         ensures refused { RefusedBy (label_fault (found self.old) here (labels_of (tokens_in tokens.entry.now))) result }
     {
         let mut rest = tokens;

@@ -4,7 +4,7 @@ use Rattle.rv_core.proofs.Words.{IsNextCycle, report_with, List, [], refl, ap, A
 use Rattle.rv_core.proofs.Words.{Report, steps_of, GuidedCycles, GuidedHardware, guided_ended as ended, Step}
 use Rattle.rv_core.proofs.Words.{progress_after, progress_of, IsRun, Progress}
 use Rattle.rv_core.specs.Taking.{TakesNextCycle}
-use Rattle.rv_core.specs.Told.{TakesCycle}
+use Rattle.rv_core.specs.Reported.{TakesCycle}
 use Rattle.rv_core.specs.declared.outcome.CycleEnd.{CycleEnd}
 use Rattle.rv_core.specs.declared.steps.Steps.{Steps}
 

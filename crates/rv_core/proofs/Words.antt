@@ -129,7 +129,7 @@ pub use Rattle.rv_core.specs.Ties.{producer_of, producers_of, producers_with, re
 pub use Rattle.rv_core.specs.Ties.{waiting_from, waiting_of}
 pub use Rattle.rv_watch.specs.Queue.{queue_of}
 pub use Rattle.rv_watch.specs.Registers.{RegisterStatus, operand_by, status_after, status_with, values_in}
-pub use Rattle.rv_core.specs.Told.{dispatch_told, dispatching, report_of_cycle, report_with}
+pub use Rattle.rv_core.specs.Reported.{dispatch_left, dispatching, report_of_cycle, report_with}
 pub use Rattle.rv_core.specs.Turns.{turn_of}
 pub use Rattle.rv_watch.specs.Watching.{HaveFewSteps, IsEnd, IsShown, IsWatchedRun, Sight, Watched, watched}
 pub use Rattle.rv_core.specs.declared.errors.OutOfMemory.{OutOfMemory}

@@ -29,9 +29,9 @@ abbrev pub stop_with : Step → Option Stop
 stop_with step = if is_breakpoint step then Some stop.Breakpoint else None
 
 -- the step of a turn, if it took one
-abbrev pub step_told : Option Step → List Step
-step_told None = []
-step_told (Some step) = step ∷ []
+abbrev pub step_taken : Option Step → List Step
+step_taken None = []
+step_taken (Some step) = step ∷ []
 
 -- the steps with one more, if there is one
 abbrev pub and_step : List Step → Option Step → List Step
@@ -40,8 +40,8 @@ and_step steps (Some step) = steps ++ step ∷ []
 
 -- a turn of the commit phase, by the step that it took, if it took one, and how it ended
 abbrev pub turn_left : Hardware → List Step → Option Step → HeadTurn → turn.Turn Committing
-turn_left h steps told GoesOn = turn.GoesOn (committing h (and_step steps told))
-turn_left h steps told (Ends why) = turn.Ends (record { hardware = h; steps = and_step steps told; stop = why })
+turn_left h steps step GoesOn = turn.GoesOn (committing h (and_step steps step))
+turn_left h steps step (Ends why) = turn.Ends (record { hardware = h; steps = and_step steps step; stop = why })
 
 -- a turn that ends the phase, by its step, if it took one
 abbrev pub turn_ended : Hardware → List Step → Option Step → turn.Turn Committing
@@ -65,10 +65,10 @@ IsHead h e = (younger : List Entry) × (h.rob.entries ≡ e ∷ younger)
 -- a turn of the commit phase: the step that it took, if it took one, is taken, and taught to the predictor
 pub record IsTurn (old new : Hardware) (before after : Steps) (taught learned : Guide)
     (turn : HeadTurn) : Type 0 where
-  pub told : Option Step
-  pub left : (steps : List Step) → commit_turn set.contains (committing old steps) ≡ turn_left new steps told turn
-  pub taken : Takes before after (step_told told)
-  pub learns : AreTaught taught (lessons_left told new.pc) learned
+  pub step : Option Step
+  pub left : (steps : List Step) → commit_turn set.contains (committing old steps) ≡ turn_left new steps step turn
+  pub taken : Takes before after (step_taken step)
+  pub learns : AreTaught taught (lessons_left step new.pc) learned
 
 -- what no turn changes, and how far the count of retired instructions comes
 pub record IsKept (old new : Hardware) : Type 0 where

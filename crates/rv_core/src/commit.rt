@@ -14,7 +14,7 @@ ghost use Rattle.rv_hardware.specs.Commit.{commit};
 ghost use Rattle.rv_hardware.specs.InFlight.{broadcast_of};
 ghost use Rattle.rv_hardware.specs.Retirement.{row_of, stale_after, with_result};
 ghost use Rattle.rv_hardware.specs.Squash.{with_trap};
-ghost use Rattle.rv_core.specs.HeadTurn.{IsHead, IsKept, IsTurn, lessons_left, step_told, stop_after, stop_with};
+ghost use Rattle.rv_core.specs.HeadTurn.{IsHead, IsKept, IsTurn, lessons_left, step_taken, stop_after, stop_with};
 ghost use Rattle.rv_hardware.specs.Lessons.{lesson_of, lessons_of};
 ghost use Rattle.rv_core.specs.Reached.{IsBegun};
 ghost use Rattle.rv_core.specs.Retiring.{registers_with, with_commit, without_target};
@@ -223,7 +223,7 @@ fn end_with(
 ) -> HeadTurn
     requires { HasRoom steps.old 1 }
     ensures end { result ≡ HeadTurn.Ends (stop_after step.now) }
-    ensures taken { Takes steps.old steps.new (step_told step.now) }
+    ensures taken { Takes steps.old steps.new (step_taken step.now) }
     ensures taught { AreTaught (known predictor.old) (lessons_left step.now next) (known predictor.new) }
 {
     let Some(step) = *step else {

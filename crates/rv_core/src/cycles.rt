@@ -7,7 +7,7 @@ ghost use Rattle.rv_watch.specs.Progress.{IsBounded, progress_after};
 ghost use Rattle.rv_core.specs.Taking.{TakesNextCycle};
 ghost use Rattle.rv_core.specs.RunDone.{IsDone, KeepsItsPromise};
 ghost use Rattle.rv_core.specs.Steps.{HasRoom};
-ghost use Rattle.rv_core.specs.Told.{report_with};
+ghost use Rattle.rv_core.specs.Reported.{report_with};
 ghost use Rattle.rv_hardware.specs.Run.{is_silent as has_no_step};
 ghost use Rattle.rv_hardware.specs.declared.step.Step.{Step as StepOf};
 

@@ -16,7 +16,7 @@ ghost use Rattle.rv_hardware.specs.InFlight.{broadcast_of};
 ghost use Rattle.rv_core.specs.Entering.{are_full_for, with_instruction, with_jump, with_store, with_target};
 ghost use Rattle.rv_watch.specs.Registers.{operand_by, status_after, values_in};
 ghost use Rattle.rv_core.specs.Ties.{operand_of, producers_of};
-ghost use Rattle.rv_core.specs.Told.{dispatch_told, dispatching};
+ghost use Rattle.rv_core.specs.Reported.{dispatch_left, dispatching};
 
 use crate::execute::result_at_dispatch;
 use crate::parts::Parts;
@@ -48,7 +48,7 @@ impl Parts {
 
     // Dispatches the oldest fetched instruction, or returns what it waits for.
     fn dispatch_one(&mut self) -> Option<Stall>
-        ensures { (dispatched : ℕ) → dispatch_turn (dispatching self.old dispatched) ≡ dispatch_told result self.new dispatched }
+        ensures { (dispatched : ℕ) → dispatch_turn (dispatching self.old dispatched) ≡ dispatch_left result self.new dispatched }
     {
         let Some(fetched) = self.front.peek() else {
             return Some(Stall::Fetch);

@@ -13,7 +13,7 @@ ghost use Rattle.rv_hardware.specs.Reset.{reset_hardware};
 ghost use Rattle.rv_hardware.specs.Squash.{flushed};
 ghost use Rattle.rv_watch.specs.Progress.{IsCommitStop};
 ghost use Rattle.rv_core.specs.Steps.{HasRoom};
-ghost use Rattle.rv_core.specs.Told.{TakesCycle};
+ghost use Rattle.rv_core.specs.Reported.{TakesCycle};
 
 use crate::outcome::CycleEnd;
 use crate::steps::Steps;

@@ -6,7 +6,7 @@ ghost use Rattle.rv_hardware.specs.Run.{Reachable};
 ghost use Rattle.rv_hardware.specs.Reset.{IsLoadable, reset_hardware};
 ghost use Rattle.rv_hardware.specs.Seen.{layout_of, seen};
 ghost use Rattle.rv_core.specs.Steps.{HasRoom};
-ghost use Rattle.rv_core.specs.Told.{TakesCycle, TakesDue, exhausted_report, report_of_cycle};
+ghost use Rattle.rv_core.specs.Reported.{TakesCycle, TakesDue, exhausted_report, report_of_cycle};
 ghost use Rattle.rv_watch.specs.Progress.{IsCommitStop};
 ghost use Rattle.rv_core.specs.declared.errors.NewError.TheVariants as refusal;
 

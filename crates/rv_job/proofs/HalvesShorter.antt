@@ -7,7 +7,7 @@ use Rattle.std.proofs.lemmas.List.{length-drop}
 use Rattle.rv_job.specs.Parts.{Halves, after_separator, halves_at_front, halves_of, is_line_feed, is_separator, later_halves, preceded}
 
 abbrev IsShorter : ℕ → Option Halves → Type 0
-IsShorter bound found = IfSome found (λ halves. length halves.behind < bound)
+IsShorter bound found = IfSome found (λ halves. length halves.after < bound)
 
 either : (bound : ℕ) (one other : Option Halves) → IsShorter bound one → IsShorter bound other → IsShorter bound (option_or one other)
 either bound None other first second = second
@@ -32,7 +32,7 @@ at_front (byte ∷ later) = go (is_separator (before_first is_line_feed (byte �
     place : ℕ
     place = position_or_len is_line_feed text
 
-    go : (test : Bool) → IsShorter (length text) (option_map (λ behind. record { before = []; behind = behind }) (if test then Some (after_first is_line_feed text) else None))
+    go : (test : Bool) → IsShorter (length text) (option_map (λ after. record { before = []; after = after }) (if test then Some (after_first is_line_feed text) else None))
     go true = omega (arith, length-drop (place + 1) text)
     go false = tt
 
@@ -47,5 +47,5 @@ shorter : (text : List ℕ) → IsShorter (length text) (halves_of text)
 unfolding halves_of
 shorter text = either (length text) _ _ (at_front text) (later_shorter text)
 
-pub after_shorter : (text : List ℕ) (halves : Halves) → halves_of text ≡ Some halves → length halves.behind < length text
+pub after_shorter : (text : List ℕ) (halves : Halves) → halves_of text ≡ Some halves → length halves.after < length text
 after_shorter text halves is = subst (IsShorter (length text)) is (shorter text)

@@ -9,7 +9,7 @@ preceded_twice : (before : List ℕ) (byte : ℕ) (found : Option Halves)
     → option_map (preceded before) (option_map (preceded (byte ∷ [])) found) ≡ option_map (preceded (before ++ byte ∷ [])) found
 preceded_twice before byte None = refl
 preceded_twice before byte (Some halves) =
-    ap (λ bytes. Some (record { before = bytes; behind = halves.behind })) (sym (append_assoc before (byte ∷ []) halves.before))
+    ap (λ bytes. Some (record { before = bytes; after = halves.after })) (sym (append_assoc before (byte ∷ []) halves.before))
 
 -- no separator stands right after a byte
 no_separator : (byte : ℕ) (later : List ℕ) → (if is_line_feed byte then halves_at_front later else None) ≡ None

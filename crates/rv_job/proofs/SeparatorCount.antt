@@ -15,7 +15,7 @@ use Rattle.rv_job.specs.declared.parts.Halves as read
 -- a separator, and those after it
 abbrev pub count_from : Option Halves → ℕ
 count_from None = 0
-count_from (Some halves) = 1 + separator_count halves.behind
+count_from (Some halves) = 1 + separator_count halves.after
 
 -- the lines after the first one
 abbrev later_lines : List ℕ → List (List ℕ)
@@ -60,13 +60,13 @@ of_preceded bytes (Some halves) = refl
 either_count : (text : List ℕ) → later_count text ≡ count_from (later_halves text)
     → separator_count text ≡ count_from (option_or (halves_at_front text) (later_halves text))
 unfolding after_separator
-either_count text behind = by_first_line text ∙ go (is_separator (before_first is_line_feed text)) refl
+either_count text after = by_first_line text ∙ go (is_separator (before_first is_line_feed text)) refl
   where
     go : (test : Bool) → is_separator (before_first is_line_feed text) ≡ test
         → (if is_separator (before_first is_line_feed text) then 1 else 0) + later_count text
         ≡ count_from (option_or (halves_at_front text) (later_halves text))
     go true is = rw (is, after_first_line text) refl
-    go false is = rw (is, behind) (omega arith)
+    go false is = rw (is, after) (omega arith)
 
 later_counted : (text : List ℕ) → later_count text ≡ count_from (later_halves text)
 unfolding later_halves
@@ -86,7 +86,7 @@ counted text = either_count text (later_counted text)
 pub none_more : (text : List ℕ) → halves_of text ≡ None → separator_count text ≡ 0
 none_more text none = counted text ∙ ap count_from none
 
-pub one_more : (text : List ℕ) (halves : Halves) → halves_of text ≡ Some halves → separator_count text ≡ 1 + separator_count halves.behind
+pub one_more : (text : List ℕ) (halves : Halves) → halves_of text ≡ Some halves → separator_count text ≡ 1 + separator_count halves.after
 one_more text halves is = counted text ∙ ap count_from is
 
 -- whether there is one more

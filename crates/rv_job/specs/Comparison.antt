@@ -42,7 +42,7 @@ names_of text = let lines = slice_split is_line_feed text in names_from (without
 pub data IsAfter (text : List ℕ) : List Values → List ℕ → Type 0 where
   nothing : IsAfter text [] text
   another : {machines : List Values} {rest : List ℕ} {machine : Values} {halves : Halves} → IsAfter text machines rest →
-      halves_of rest ≡ Some halves → description_of halves.before ≡ Ok machine → IsAfter text (machines ++ machine ∷ []) halves.behind
+      halves_of rest ≡ Some halves → description_of halves.before ≡ Ok machine → IsAfter text (machines ++ machine ∷ []) halves.after
 
 -- a text compares a program on some machines; where no separator stands, on the one that an empty description describes
 pub data Compares (text : List ℕ) : List Values → List ℕ → Type 0 where

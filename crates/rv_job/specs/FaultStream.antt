@@ -12,14 +12,14 @@ pub record FaultStream : Type 0 where
   pub has_failed : Bool
 
 -- a line was written whole, or a write failed and it was written up to there
-abbrev pub Tells : FaultStream → FaultStream → List ℕ → Type 0
-Tells old new line =
+abbrev pub Reports : FaultStream → FaultStream → List ℕ → Type 0
+Reports old new line =
     (Appends old.known new.known line × (new.has_failed ≡ old.has_failed)) ⊎ (AppendsBeginning old.known new.known line × (new.has_failed ≡ true))
 
 -- the line of an error is reported, with its exit status
-abbrev pub TellsError : SimError → FaultStream → FaultStream → ℕ → Type 0
-TellsError error old new status = Tells old new (fault_line error) × (status ≡ fault_status error)
+abbrev pub ReportsError : SimError → FaultStream → FaultStream → ℕ → Type 0
+ReportsError error old new status = Reports old new (fault_line error) × (status ≡ fault_status error)
 
 -- that memory ran out is reported, and else nothing
-abbrev pub TellsWantOfMemory : Option (List ℕ) → Option (List ℕ) → FaultStream → FaultStream → ℕ → Type 0
-TellsWantOfMemory old-output new-output old new status = (new-output ≡ old-output) × TellsError Memory old new status
+abbrev pub ReportsOutOfMemory : Option (List ℕ) → Option (List ℕ) → FaultStream → FaultStream → ℕ → Type 0
+ReportsOutOfMemory old-output new-output old new status = (new-output ≡ old-output) × ReportsError Memory old new status

@@ -28,15 +28,15 @@ after_separator text =
 -- what stands before a separator, and after it
 pub record Halves : Type 0 where
   pub before : List ℕ
-  pub behind : List ℕ
+  pub after : List ℕ
 
 -- the halves, with more bytes at the front
 abbrev pub preceded : List ℕ → Halves → Halves
-preceded bytes halves = record { before = bytes ++ halves.before; behind = halves.behind }
+preceded bytes halves = record { before = bytes ++ halves.before; after = halves.after }
 
 -- the halves of a text whose first line is a separator
 abbrev pub halves_at_front : List ℕ → Option Halves
-halves_at_front text = option_map (λ behind. record { before = []; behind = behind }) (after_separator text)
+halves_at_front text = option_map (λ after. record { before = []; after = after }) (after_separator text)
 
 -- the halves of a text at the first separator after one of its line feeds
 unfoldable pub later_halves : List ℕ → Option Halves
@@ -60,10 +60,10 @@ assembly_alone text = record { description = []; arrivals = []; assembly = text 
 
 -- what stands after the first separator: arrivals and assembly, or assembly where there is no other separator
 abbrev pub parts_after : List ℕ → List ℕ → Parts
-parts_after description behind =
-    option_map_or (λ halves. record { description = description; arrivals = halves.before; assembly = halves.behind })
-    (halves_of behind) (record { description = description; arrivals = []; assembly = behind })
+parts_after description after =
+    option_map_or (λ halves. record { description = description; arrivals = halves.before; assembly = halves.after })
+    (halves_of after) (record { description = description; arrivals = []; assembly = after })
 
 -- the parts of a text; a part that is missing is empty
 unfoldable pub parts_of : List ℕ → Parts
-parts_of text = option_map_or (λ halves. parts_after halves.before halves.behind) (halves_of text) (assembly_alone text)
+parts_of text = option_map_or (λ halves. parts_after halves.before halves.after) (halves_of text) (assembly_alone text)

@@ -4,7 +4,7 @@ use Rattle.rv_job.specs.declared.parts.{Halves.Halves, Parts.Parts}
 
 -- the bytes of the halves that it holds
 abbrev pub halves_in : Halves → text.Halves
-halves_in halves = record { before = halves.before.now; behind = halves.behind.now }
+halves_in halves = record { before = halves.before.now; after = halves.after.now }
 
 -- the bytes of the parts that it holds
 abbrev pub parts_in : Parts → text.Parts

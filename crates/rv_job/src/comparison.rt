@@ -33,7 +33,7 @@ fn has_too_many(text: &[u8]) -> bool
     let mut rest = text;
     for _ in 0..MOST_MACHINES {
         match cut_at_separator(rest) {
-            Some(halves) => rest = halves.behind,
+            Some(halves) => rest = halves.after,
             None => return false,
         }
     }
@@ -69,8 +69,8 @@ fn read_names(alloc: Global, text: &[u8]) -> Result<Vec<Vec<u8>>, AllocError>
     let mut first = without_mark(line_of(Some(text)));
     let mut rest = Some(text);
     while let Some(unread) = rest {
-        let (line, behind) = first_line(unread);
-        rest = behind;
+        let (line, after) = first_line(unread);
+        rest = after;
         if is_separator(line) {
             names.push(Vec::from_slice(alloc, machine_name(first))?)?;
             first = line_of(rest);
@@ -105,7 +105,7 @@ fn read_descriptions(alloc: Global, text: &[u8]) -> Result<(Vec<Description>, &[
         let Ok(()) = descriptions.push(description) else {
             return Err(SimError::Memory);
         };
-        rest = halves.behind;
+        rest = halves.after;
     }
     Ok((descriptions, rest))
 }

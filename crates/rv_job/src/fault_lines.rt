@@ -1,6 +1,6 @@
 ghost use Rattle.std.specs.Prelude.{◌≡◌, false, not};
 ghost use Rattle.rv_job.specs.Fault.{fault_line, fault_status, input_fault_line, input_fault_status};
-ghost use Rattle.rv_job.specs.FaultStream.{Tells};
+ghost use Rattle.rv_job.specs.FaultStream.{Reports};
 
 use crate::errors::SimError;
 use crate::faults::{fault_status, write_fault};
@@ -52,8 +52,8 @@ impl<E: Write> FaultLines<E> {
     }
 
     /// Writes the line of a fault, and answers its exit status.
-    pub fn tell(&mut self, error: SimError) -> u8
-        ensures line { Tells self.old self.new (fault_line error) }
+    pub fn report(&mut self, error: SimError) -> u8
+        ensures line { Reports self.old self.new (fault_line error) }
         ensures status { result ≡ fault_status error }
     {
         if write_fault(&mut self.writer, error).is_err() {
@@ -63,26 +63,26 @@ impl<E: Write> FaultLines<E> {
     }
 
     /// Writes a text that reports a fault.
-    pub fn tell_text(&mut self, text: &[u8])
-        ensures { Tells self.old self.new text.now }
+    pub fn report_text(&mut self, text: &[u8])
+        ensures { Reports self.old self.new text.now }
     {
-        let told = put(&mut self.writer, text);
-        self.has_failed = self.has_failed || told.is_err();
+        let written = put(&mut self.writer, text);
+        self.has_failed = self.has_failed || written.is_err();
     }
 
     /// Writes the line of an input that can't be read, and answers its exit status: 4 where a read failed, 5 when out of
     /// memory.
     #[tactic(auto, unfolding(crate::specs::Fault::input_fault_line, crate::specs::Fault::input_fault_status))]
-    pub fn tell_unread(&mut self, error: InputError) -> u8
-        ensures line { Tells self.old self.new (input_fault_line error) }
+    pub fn report_unread(&mut self, error: InputError) -> u8
+        ensures line { Reports self.old self.new (input_fault_line error) }
         ensures status { result ≡ input_fault_status error }
     {
         match error {
             InputError::Failed => {
-                self.tell_text(b"error: input\n");
+                self.report_text(b"error: input\n");
                 4
             }
-            InputError::Memory => self.tell(SimError::Memory),
+            InputError::Memory => self.report(SimError::Memory),
         }
     }
 }

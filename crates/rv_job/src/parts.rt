@@ -12,7 +12,7 @@ const SEPARATOR_RETURNED: &[u8] = b"%%\r";
 #[derive(Clone, Copy)]
 pub(crate) struct Halves<'a> {
     pub(crate) before: &'a [u8],
-    pub(crate) behind: &'a [u8],
+    pub(crate) after: &'a [u8],
 }
 
 /// The parts of a job's text. One that is missing is empty.
@@ -76,7 +76,7 @@ fn after_separator(text: &[u8]) -> Option<&[u8]>
         return None;
     }
     match rest.split_first() {
-        Some((_, behind)) => Some(behind),
+        Some((_, after)) => Some(after),
         None => Some(rest),
     }
 }
@@ -89,8 +89,8 @@ fn later_halves(text: &[u8]) -> Option<Halves<'_>>
     for place in 0..text.len() {
         if text[place] == b'\n' {
             let (before, later) = text.split_at(place + 1);
-            if let Some(behind) = after_separator(later) {
-                return Some(Halves { before, behind });
+            if let Some(after) = after_separator(later) {
+                return Some(Halves { before, after });
             }
         }
     }
@@ -103,10 +103,7 @@ pub(crate) fn cut_at_separator(text: &[u8]) -> Option<Halves<'_>>
     ensures { option_map halves_in result ≡ halves_of text.entry.now }
 {
     match after_separator(text) {
-        Some(behind) => Some(Halves {
-            before: b"",
-            behind,
-        }),
+        Some(after) => Some(Halves { before: b"", after }),
         None => later_halves(text),
     }
 }
@@ -124,16 +121,16 @@ pub fn cut_into_parts(text: &[u8]) -> Parts<'_>
             assembly: text,
         };
     };
-    match cut_at_separator(first.behind) {
+    match cut_at_separator(first.after) {
         Some(second) => Parts {
             description: first.before,
             arrivals: second.before,
-            assembly: second.behind,
+            assembly: second.after,
         },
         None => Parts {
             description: first.before,
             arrivals: b"",
-            assembly: first.behind,
+            assembly: first.after,
         },
     }
 }

@@ -3,7 +3,7 @@ use Rattle.std.specs.Prelude.{◌≡◌, ◌⊎◌, ℕ, List, [], Option, None,
 use Rattle.std.specs.Io.KnownBytes.{Appends, Consumes}
 use Rattle.rv_front.specs.Guide.{Guide}
 use Rattle.rv_job.specs.Fault.{fault_line, fault_status, input_fault_line, input_fault_status}
-use Rattle.rv_job.specs.FaultStream.{FaultStream, Tells, TellsError}
+use Rattle.rv_job.specs.FaultStream.{FaultStream, Reports, ReportsError}
 use Rattle.rv_job.specs.Input.{HasRead, IsInputOf}
 use Rattle.rv_program.specs.CoreReport.{untaught_of}
 use Rattle.rv_program.specs.Ended.{ReportsEnding, exit_status}
@@ -18,12 +18,12 @@ use Rattle.rv_program.specs.declared.{ended.Ended.Ended, task.Task.Task}
 
 -- the input could not be read, which is reported
 abbrev pub IsUnread : FaultStream → FaultStream → ℕ → Type 0
-IsUnread old new status = (error : InputError) × Tells old new (input_fault_line error) × (status ≡ input_fault_status error)
+IsUnread old new status = (error : InputError) × Reports old new (input_fault_line error) × (status ≡ input_fault_status error)
 
 -- the input was refused, which is reported, and the output, whose known bytes are its contents, was handed back, with whether it has got why
 abbrev pub IsRefused : {W : Type 0} → (W → Option (List ℕ)) → Command → List ℕ → W → Option W → Result Unit TextError → FaultStream → FaultStream → ℕ → Type 0
 IsRefused contents command input given handed refusal old new status =
-    (error : SimError) × Refuses command input error × Tells old new (fault_line error) × (status ≡ fault_status error)
+    (error : SimError) × Refuses command input error × Reports old new (fault_line error) × (status ≡ fault_status error)
     × HandsBack contents command input error given handed refusal
 
 -- A task ended so, with a predictor, and its output was handed back by the buffer before it. The output has got the text whole. Where a
@@ -36,7 +36,7 @@ EndsPassedOn task predictor old new (Err _) = ⊥
 
 -- memory for a box or a buffer was refused, which is reported: the output was handed back as it was given, or let go with the buffer
 abbrev pub IsUnbegun : {W : Type 0} → W → Option W → FaultStream → FaultStream → ℕ → Type 0
-IsUnbegun given handed old new status = ((handed ≡ Some given) ⊎ (handed ≡ None)) × TellsError Memory old new status
+IsUnbegun given handed old new status = ((handed ≡ Some given) ⊎ (handed ≡ None)) × ReportsError Memory old new status
 
 -- A task was done with the predictor of its machine, or failed. How it ended is reported, and its output was handed back, whose known bytes are its
 -- contents; or memory was refused before it.

@@ -36,7 +36,7 @@ fn report_over<E: Write>(over: Option<u64>, errors: &mut FaultLines<E>)
 {
     if let Some(cycles) = over {
         let mut room = ArrayVec::new();
-        errors.tell_text(over_line(&mut room, cycles));
+        errors.report_text(over_line(&mut room, cycles));
     }
 }
 
@@ -51,6 +51,6 @@ pub(crate) fn report<E: Write>(ended: Result<Ended, SimError>, errors: &mut Faul
             report_over(ended.over, errors);
             ended.status
         }
-        Err(error) => errors.tell(error),
+        Err(error) => errors.report(error),
     }
 }

@@ -1,7 +1,7 @@
 ghost use Rattle.std.specs.Prelude.{◌≡◌, Ok, IfOk, OnOk, IfErr, OnErr};
 ghost use Rattle.std.specs.Io.KnownBytes.{Consumes};
 ghost use Rattle.rv_job.specs.Fault.{input_fault_line, input_fault_status};
-ghost use Rattle.rv_job.specs.FaultStream.{Tells};
+ghost use Rattle.rv_job.specs.FaultStream.{Reports};
 ghost use Rattle.rv_job.specs.Input.{HasRead, IsInputOf};
 ghost use Rattle.rv_program.specs.CoreReport.{untaught_of};
 ghost use Rattle.rv_program.specs.Program.{EndsWithin, Runs};
@@ -41,12 +41,12 @@ fn take_input<R: Read, E: Write>(
     ensures lost { OnErr result (HasRead (R.remaining reader.old) (R.remaining reader.new)) }
     ensures nothing_reported { OnOk result (errors.new ≡ errors.old) }
     ensures unread { IfErr result (λ status. (error : OneError)
-        × Tells errors.old errors.new (input_fault_line error)
+        × Reports errors.old errors.new (input_fault_line error)
         × (status ≡ input_fault_status error)) }
 {
     match read_input(alloc, reader) {
         Ok(input) => Ok(input),
-        Err(error) => Err(errors.tell_unread(error)),
+        Err(error) => Err(errors.report_unread(error)),
     }
 }
 
@@ -65,7 +65,7 @@ fn finish_guided<W: Write + Drop, E: Write>(
     ensures refusal { result.refusal ≡ Ok tt }
 {
     let Ok(mut buffer) = BufWriter::new(alloc, output) else {
-        let status = errors.tell(SimError::Memory);
+        let status = errors.report(SimError::Memory);
         let output = None;
         let refusal = Ok(());
         return Exit {
@@ -103,7 +103,7 @@ fn finish_task<W: Write + Drop, E: Write>(
             finish_guided(alloc, task, values, predictor, output, errors)
         }
         Err(_) => {
-            let status = errors.tell(SimError::Memory);
+            let status = errors.report(SimError::Memory);
             let output = Some(output);
             let refusal = Ok(());
             Exit {

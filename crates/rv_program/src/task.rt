@@ -1,7 +1,7 @@
 ghost use Rattle.std.specs.Prelude.{◌≡◌, IfOk, IfErr, OnOk};
 ghost use Rattle.rv_isa.specs.Description.{IsLegalPredictor};
 ghost use Rattle.rv_job.specs.Fault.{fault_line, fault_status};
-ghost use Rattle.rv_job.specs.FaultStream.{Tells};
+ghost use Rattle.rv_job.specs.FaultStream.{Reports};
 ghost use Rattle.rv_job.specs.JobRefusal.{RefusesJob};
 ghost use Rattle.rv_program.specs.Task.{Asks, AsksForNeighbours, AsksForView, Refuses, Ends, asked, column_of, done, ended_after, ended_by, figures_of, form_of, plain_options, predictor_of, rows_of, shown_word, stop_status, table_options};
 
@@ -284,13 +284,13 @@ pub fn begin<E: Write>(
     ensures task { IfOk result (Asks command.now input.now) }
     ensures nothing_reported { OnOk result (errors.new ≡ errors.old) }
     ensures refused { IfErr result (λ refused. Refuses command.now input.now refused.error
-        × Tells errors.old errors.new (fault_line refused.error)
+        × Reports errors.old errors.new (fault_line refused.error)
         × (refused.status ≡ fault_status refused.error)) }
 {
     match read_task(alloc, command, input) {
         Ok(task) => Ok(task),
         Err(error) => {
-            let status = errors.tell(error);
+            let status = errors.report(error);
             Err(Refused { error, status })
         }
     }

@@ -3,7 +3,7 @@ use Rattle.std.specs.Prelude.{◌≡◌, ◌≢◌, ◌⊎◌, ◌<◌, ℕ, Lis
 use Rattle.std.specs.Io.KnownBytes.{Appends}
 use Rattle.clap.specs.declared.error.kind.ErrorKind.{ErrorKind}
 use Rattle.clap.specs.declared.error.kind.ErrorKind.TheVariants.{DisplayHelp, DisplayVersion, InvalidSubcommand, OutOfMemory, UnknownArgument}
-use Rattle.rv_job.specs.FaultStream.{FaultStream, Tells, TellsError, TellsWantOfMemory}
+use Rattle.rv_job.specs.FaultStream.{FaultStream, Reports, ReportsError, ReportsOutOfMemory}
 use Rattle.rv_job.specs.declared.errors.SimError.TheVariants.{WriteFailed}
 use Rattle.rv_text.specs.Written.{AppendsBeginning}
 
@@ -28,19 +28,19 @@ pub record HasHint (kind : ErrorKind) (text : List ℕ) : Type 0 where
   pub hinted : text ≡ said ++ hint_of kind
 
 -- a mistake: the text is reported, and the status is 2 even where it can't be written
-abbrev pub TellsMistake : List ℕ → Option (List ℕ) → Option (List ℕ) → FaultStream → FaultStream → ℕ → Type 0
-TellsMistake text old-output new-output old new status = (new-output ≡ old-output) × Tells old new text × (status ≡ 2)
+abbrev pub ReportsMistake : List ℕ → Option (List ℕ) → Option (List ℕ) → FaultStream → FaultStream → ℕ → Type 0
+ReportsMistake text old-output new-output old new status = (new-output ≡ old-output) × Reports old new text × (status ≡ 2)
 
 -- help or the version: the text is written whole, or a beginning of it, which is reported
 abbrev pub ShowsHelp : List ℕ → Option (List ℕ) → Option (List ℕ) → FaultStream → FaultStream → ℕ → Type 0
 ShowsHelp text old-output new-output old new status =
     (Appends old-output new-output text × (new ≡ old) × (status ≡ 0))
-    ⊎ (AppendsBeginning old-output new-output text × TellsError WriteFailed old new status)
+    ⊎ (AppendsBeginning old-output new-output text × ReportsError WriteFailed old new status)
 
 -- what is shown of clap's error of a kind, and the exit status: some text with its hint, unless memory ran out
 abbrev pub ShowsUsage : ErrorKind → Option (List ℕ) → Option (List ℕ) → FaultStream → FaultStream → ℕ → Type 0
 ShowsUsage kind old-output new-output old new status =
-    TellsWantOfMemory old-output new-output old new status
+    ReportsOutOfMemory old-output new-output old new status
     ⊎ ((kind ≢ OutOfMemory) × (text : List ℕ) × HasHint kind text
-    × ((IsMistake kind × TellsMistake text old-output new-output old new status)
+    × ((IsMistake kind × ReportsMistake text old-output new-output old new status)
     ⊎ ((IsMistake kind → ⊥) × ShowsHelp text old-output new-output old new status)))

@@ -54,14 +54,14 @@ pub fn show_usage<W: Write, E: Write>(
         errors.old errors.new result }
 {
     let Some(text) = text_of(alloc, error) else {
-        return errors.tell(SimError::Memory);
+        return errors.report(SimError::Memory);
     };
     if error.use_stderr() {
-        errors.tell_text(text.as_bytes());
+        errors.report_text(text.as_bytes());
         return 2;
     }
     match put(output, text.as_bytes()) {
         Ok(()) => 0,
-        Err(_) => errors.tell(SimError::WriteFailed),
+        Err(_) => errors.report(SimError::WriteFailed),
     }
 }

@@ -24,7 +24,7 @@ fn status(rt: &HostRuntime) -> u8 {
     let words = match words(rt) {
         Ok(words) => words,
         Err(error) if error.kind() == io::ErrorKind::OutOfMemory => {
-            return errors.tell(SimError::Memory);
+            return errors.report(SimError::Memory);
         }
         Err(_) => {
             let _ = rt.eprintln("error: a word is not UTF-8");

@@ -9,7 +9,7 @@ pub(crate) fn check_bytes(rt: &impl Abort, found: &[u8], expected: &[u8]) {
 }
 
 /// Checks an exit status and the text that was shown with it.
-pub(crate) fn check_told(
+pub(crate) fn check_reported(
     rt: &impl Abort,
     (found_status, found): (u8, &[u8]),
     status: u8,

@@ -1,5 +1,5 @@
 -- The parts with a dispatched instruction are sound and stand for the hardware with it, by the definition's turns.
-use Rattle.rv_core.proofs.Words.{◌≡◌, ℕ, ◌+◌, ◌<◌, ◌&&◌, sym, ap, ◌∙◌, Stall, dispatch_turn, GoesOn, dispatch_told}
+use Rattle.rv_core.proofs.Words.{◌≡◌, ℕ, ◌+◌, ◌<◌, ◌&&◌, sym, ap, ◌∙◌, Stall, dispatch_turn, GoesOn, dispatch_left}
 use Rattle.rv_core.proofs.Words.{dispatching, List, [], ◌∷◌, drop, IfSome, slice_get, Some, None, All, refl, All-head}
 use Rattle.rv_core.proofs.Words.{is_branch_or_jump, is_store, target_of_word, pushed, FetchBuffer, Fetched, mends_early}
 use Rattle.rv_core.proofs.Words.{entry_of_fetched, reason_of, Hardware, All-drop, next_number, with_instruction}
@@ -34,14 +34,14 @@ one_first fs a b first second =
 module _ (p : Inside) (h : Hardware) (view : hardware_of p ≡ h) where
   -- where no word was fetched, the phase ends
   pub turn_without : (dispatched : ℕ) → slice_get p.front.entries 0 ≡ None →
-      dispatch_turn (dispatching h dispatched) ≡ dispatch_told (Some Fetch) h dispatched
+      dispatch_turn (dispatching h dispatched) ≡ dispatch_left (Some Fetch) h dispatched
   turn_without dispatched none =
       ap (λ l. dispatch_turn_of l (dispatching h dispatched))
       (ap (λ (x : Hardware). x.front.entries) (sym view) ∙ none_first p.front.entries none)
 
   -- an instruction that waits ends it too
   pub turn_waits : (f : Fetched) (reason : Stall) (dispatched : ℕ) → slice_get p.front.entries 0 ≡ Some f →
-      reason_of h f ≡ Some reason → dispatch_turn (dispatching h dispatched) ≡ dispatch_told (Some reason) h dispatched
+      reason_of h f ≡ Some reason → dispatch_turn (dispatching h dispatched) ≡ dispatch_left (Some reason) h dispatched
   turn_waits f reason dispatched first is =
       ap (λ l. dispatch_turn_of l (dispatching h dispatched))
       (ap (λ (x : Hardware). x.front.entries) (sym view) ∙ first_and_rest p.front.entries f first)
@@ -62,7 +62,7 @@ module _ (p : Inside) (h : Hardware) (view : hardware_of p ≡ h) where
       next ≡ record (hardware_of (record p { front = front })) {
         rob = pushed (entry_of_fetched (hardware_of (record p { front = front })) f) p.rob;
       } →
-      dispatch_turn (dispatching h dispatched) ≡ dispatch_told None next dispatched
+      dispatch_turn (dispatching h dispatched) ≡ dispatch_left None next dispatched
   turn_enters f front next dispatched first waits_not rest is =
       ap (λ x. dispatch_turn (dispatching x dispatched)) (sym view)
       ∙ ap (λ l. dispatch_turn_of l (dispatching (hardware_of p) dispatched)) (first_and_rest p.front.entries f first)

@@ -5,7 +5,7 @@ use Rattle.rv_core.proofs.Words.{commit_turn, commit_unless, Hardware, Ends, rep
 use Rattle.rv_core.proofs.Words.{committing, turn_left, HeadTurn}
 use Rattle.std.proofs.Common.{Fits, rules, w32}
 use Rattle.std.specs.FinSet as set
-use Rattle.rv_core.specs.HeadTurn.{step_told}
+use Rattle.rv_core.specs.HeadTurn.{step_taken}
 use Rattle.rv_core.specs.Steps.{HasRoom, Takes}
 use Rattle.rv_core.specs.declared.steps.Steps.{Steps}
 use Rattle.rv_core.proofs.Taken.{room_left, takes_more, takes_none}
@@ -45,44 +45,44 @@ none_committed h old width is undisturbed = record {
 
 -- a turn that ends the phase
 pub committed_whole : (start h : Hardware) (old new : Steps) (done left : ℕ) (before : AreCommitted start h old new done left)
-    (told : Option Step) (turn : HeadTurn) (next : Hardware) (last : Committing) → 0 < left →
-    ((steps : List Step) → commit_turn set.contains (committing h steps) ≡ turn_left next steps told turn) →
-    turn_left next before.steps told turn ≡ Ends last →
+    (step : Option Step) (turn : HeadTurn) (next : Hardware) (last : Committing) → 0 < left →
+    ((steps : List Step) → commit_turn set.contains (committing h steps) ≡ turn_left next steps step turn) →
+    turn_left next before.steps step turn ≡ Ends last →
     last ≡ commit set.contains start
-committed_whole start h old new done left before told turn next last some is ends =
+committed_whole start h old new done left before step turn next last some is ends =
     turned-ends (commit_turn set.contains) (commit set.contains start) left (committing h before.steps) last some before.to_come
     (is before.steps ∙ ends)
 
 -- the step of a turn comes last
-told_last : (steps : List Step) (told : Option Step) → steps ++ step_told told ≡ and_step steps told
-told_last steps None = append-nil steps
-told_last steps (Some step) = refl
+taken_last : (steps : List Step) (step : Option Step) → steps ++ step_taken step ≡ and_step steps step
+taken_last steps None = append-nil steps
+taken_last steps (Some step) = refl
 
 -- the steps with those that were there before
-pub steps_with : (old before new : Steps) (so_far : List Step) (told : Option Step) → Takes old before so_far →
-    Takes before new (step_told told) →
-    Takes old new (and_step so_far told)
-steps_with old before new so_far told taken more =
-    subst (Takes old new) (told_last so_far told) (takes_more so_far (step_told told) taken more)
+pub steps_with : (old before new : Steps) (so_far : List Step) (step : Option Step) → Takes old before so_far →
+    Takes before new (step_taken step) →
+    Takes old new (and_step so_far step)
+steps_with old before new so_far step taken more =
+    subst (Takes old new) (taken_last so_far step) (takes_more so_far (step_taken step) taken more)
 
 -- a turn takes one step at most
-pub few_with : (steps : List Step) (told : Option Step) (done : ℕ) → length steps ≤ done → length (and_step steps told) ≤ done + 1
-few_with steps told done few = grind (arith, length-append)
+pub few_with : (steps : List Step) (step : Option Step) (done : ℕ) → length steps ≤ done → length (and_step steps step) ≤ done + 1
+few_with steps step done few = grind (arith, length-append)
 
 -- a turn after which the phase goes on
 unfoldable pub committed_more : (start h : Hardware) (old new more : Steps) (done left rest : ℕ)
     (before : AreCommitted start h old new done left)
-    (told : Option Step) (turn : HeadTurn) (next : Hardware) → left ≡ rest + 1 →
-    ((steps : List Step) → commit_turn set.contains (committing h steps) ≡ turn_left next steps told turn) → turn ≡ GoesOn →
-    IsKept h next → Takes new more (step_told told) → AreCommitted start next old more (done + 1) rest
-committed_more start h old new more done left rest before told turn next another is goes kept takes = record {
-  steps = and_step before.steps told;
-  taken = steps_with old new more before.steps told before.taken takes;
-  few = few_with before.steps told done before.few;
+    (step : Option Step) (turn : HeadTurn) (next : Hardware) → left ≡ rest + 1 →
+    ((steps : List Step) → commit_turn set.contains (committing h steps) ≡ turn_left next steps step turn) → turn ≡ GoesOn →
+    IsKept h next → Takes new more (step_taken step) → AreCommitted start next old more (done + 1) rest
+committed_more start h old new more done left rest before step turn next another is goes kept takes = record {
+  steps = and_step before.steps step;
+  taken = steps_with old new more before.steps step before.taken takes;
+  few = few_with before.steps step done before.few;
   to_come =
       turned-goes (commit_turn set.contains) (commit set.contains start) left rest (committing h before.steps)
-      (committing next (and_step before.steps told))
-      another before.to_come (is before.steps ∙ ap (turn_left next before.steps told) goes);
+      (committing next (and_step before.steps step))
+      another before.to_come (is before.steps ∙ ap (turn_left next before.steps step) goes);
   values = kept.values ∙ before.values;
   cycle = kept.cycle ∙ before.cycle;
   retired = omega (arith, kept.retired, before.retired);

@@ -28,7 +28,7 @@ none_of (e ∷ entries) none = absurd (cc)
 pub turn_ends : (h : Hardware) (steps : Steps) (known : Guide) (why : Option Stop) →
     ((before : List Step) → commit_turn set.contains (committing h before) ≡ Ends (record { hardware = h; steps = before; stop = why })) →
     IsTurn h h steps steps known known (head.Ends why)
-turn_ends h steps known why left = record { told = None; left = left; taken = takes_none steps; learns = refl }
+turn_ends h steps known why left = record { step = None; left = left; taken = takes_none steps; learns = refl }
 
 -- with nothing in flight the phase ends
 pub ends_with_none : (h : Hardware) (steps : List Step) → slice_get h.rob.entries 0 ≡ None →
@@ -133,9 +133,9 @@ retires_last e m h steps none elsewhere = ap (λ f. finish_head e m f (committin
     ∙ rw (ne_eqb m.next_pc e.predicted_next elsewhere) refl
 
 -- a turn that ends the phase, as any turn
-pub ended_as : (h : Hardware) (steps : List Step) (told : Option Step) →
-    turn_ended h steps told ≡ turn_left h steps told (head.Ends (stop_after told))
-ended_as h steps told = grind arith
+pub ended_as : (h : Hardware) (steps : List Step) (step : Option Step) →
+    turn_ended h steps step ≡ turn_left h steps step (head.Ends (stop_after step))
+ended_as h steps step = grind arith
 
 -- a serialising head waits for no result
 pub waits_not : (instruction : Option Instr) → role_of instruction ≡ WaitsForResult → is_serialising instruction ≡ true → ⊥

@@ -59,14 +59,14 @@ pub teaching_begins : (h : Hardware) (now : Guide) → IsBegun h → due h.csrs 
 teaching_begins h now begun calm = record { going = begins_going h (sound_begun h begun) calm; taught = none_taught now }
 
 -- a lesson with the pc that the program went on at
-pub learns_at : (old new : Guide) (told : Option Step) (pc next : ℕ) → pc ≡ next →
-    AreTaught old (lessons_left told pc) new → AreTaught old (lessons_left told next) new
-learns_at old new told pc next is learned = subst (λ n. AreTaught old (lessons_left told n) new) is learned
+pub learns_at : (old new : Guide) (step : Option Step) (pc next : ℕ) → pc ≡ next →
+    AreTaught old (lessons_left step pc) new → AreTaught old (lessons_left step next) new
+learns_at old new step pc next is learned = subst (λ n. AreTaught old (lessons_left step n) new) is learned
 
 -- the lesson of a turn after those before it
-taught_on : (old now new : Guide) (c d : Committing) (told : Option Step) → GoesFrom c d →
-    d.steps ≡ and_step c.steps told → AreTaught old (lessons_of c.steps c.hardware.pc) now →
-    AreTaught now (lessons_left told d.hardware.pc) new → AreTaught old (lessons_of (and_step c.steps told) d.hardware.pc) new
+taught_on : (old now new : Guide) (c d : Committing) (step : Option Step) → GoesFrom c d →
+    d.steps ≡ and_step c.steps step → AreTaught old (lessons_of c.steps c.hardware.pc) now →
+    AreTaught now (lessons_left step d.hardware.pc) new → AreTaught old (lessons_of (and_step c.steps step) d.hardware.pc) new
 taught_on old now new c d None goes same so_far more =
     subst (λ p. AreTaught old (lessons_of c.steps d.hardware.pc) p) (sym more)
     (subst (λ pc. AreTaught old (lessons_of c.steps pc) now) (sym (goes.stays same)) so_far)
@@ -75,37 +75,37 @@ taught_on old now new c d (Some s) goes same so_far more =
 
 module _ (start h : Hardware) (steps : List Step) (old now : Guide)
     (so_far : AreTeaching start h steps old now)
-    (told : Option Step) (turn : HeadTurn) (next : Hardware)
-    (is : commit_turn set.contains (committing h steps) ≡ turn_left next steps told turn) where
+    (step : Option Step) (turn : HeadTurn) (next : Hardware)
+    (is : commit_turn set.contains (committing h steps) ≡ turn_left next steps step turn) where
   abbrev Left : Turn Committing → Type 0
   Left = LeavesEither (GoesFrom (committing h steps)) (GoesFrom (committing h steps))
 
-  left : Left (turn_left next steps told turn)
+  left : Left (turn_left next steps step turn)
   left = subst Left is (turn_goes_from (committing h steps) so_far.going.sound)
 
   -- a turn after which the phase goes on
   pub teaching_goes : (new : Guide) → turn ≡ head.GoesOn →
-      AreTaught now (lessons_left told next.pc) new → AreTeaching start next (and_step steps told) old new
+      AreTaught now (lessons_left step next.pc) new → AreTeaching start next (and_step steps step) old new
   teaching_goes new goes more =
-      let goes_on : turn_left next steps told turn ≡ GoesOn (committing next (and_step steps told)) =
-      ap (turn_left next steps told) goes in
+      let goes_on : turn_left next steps step turn ≡ GoesOn (committing next (and_step steps step)) =
+      ap (turn_left next steps step) goes in
       let Going = IsGoing start.lines (seen start) start in
       let Done = IsDone start.lines (seen start) start in
       record {
         going = subst (LeavesEither Going Done) (is ∙ goes_on)
             (turn_done start.lines (seen start) start (committing h steps) h.rob.entries refl so_far.going);
-        taught = taught_on old now new (committing h steps) (committing next (and_step steps told)) told
+        taught = taught_on old now new (committing h steps) (committing next (and_step steps step)) step
             (subst Left goes_on left) refl so_far.taught more;
       }
 
   -- a turn that ends the phase
   pub taught_at_end : (why : Option Stop) (new : Guide) → turn ≡ head.Ends why →
-      AreTaught now (lessons_left told next.pc) new → (all : List Step) → and_step steps told ≡ all →
+      AreTaught now (lessons_left step next.pc) new → (all : List Step) → and_step steps step ≡ all →
       AreTaught old (lessons_of all next.pc) new
   taught_at_end why new ends more all is_all =
       subst (λ l. AreTaught old (lessons_of l next.pc) new) is_all
-      (taught_on old now new (committing h steps) (record { hardware = next; steps = and_step steps told; stop = why }) told
-      (subst Left (ap (turn_left next steps told) ends) left) refl so_far.taught more)
+      (taught_on old now new (committing h steps) (record { hardware = next; steps = and_step steps step; stop = why }) step
+      (subst Left (ap (turn_left next steps step) ends) left) refl so_far.taught more)
 
 -- ---- the whole cycle
 -- the phases after commit leave the committed pc

@@ -1,5 +1,5 @@
 use super::refused;
-use crate::checks::{check_bytes, check_told};
+use crate::checks::{check_bytes, check_reported};
 use rv_job::FaultLines;
 use rv_refusal::show_usage;
 use std::alloc::Global;
@@ -324,7 +324,7 @@ fn check_shown(
     } else {
         (told, output)
     };
-    check_told(rt, (found_status, found), status, text);
+    check_reported(rt, (found_status, found), status, text);
     check_bytes(rt, other, b"");
 }
 

@@ -7,7 +7,7 @@ use std::test::Fail;
 /// The line of a fault, where its exit status is 1.
 fn line_of(alloc: Global, error: SimError) -> Result<Vec<u8>, Fail> {
     let mut errors = FaultLines::new(Vec::new(alloc));
-    if errors.tell(error) == 1 {
+    if errors.report(error) == 1 {
         Ok(errors.into_writer())
     } else {
         Err(Fail::from("a fault has another status"))

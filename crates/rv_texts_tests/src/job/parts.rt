@@ -70,7 +70,7 @@ fn only_the_first_two_separators_separate(rt: HostRuntime) -> Result<(), Fail> {
     static CASES: [(&[u8], &str); 8] = [
         (b"%%\n%%\n%%\n", "error: assembly line 1: BadToken\n"),
         (b"%%\n%%\nnop\n%%\n", "error: assembly line 2: BadToken\n"),
-        // Two carriage returns, a blank before or behind and a third sign make another line of it.
+        // Two carriage returns, a blank before or after and a third sign make another line of it.
         (b"%%\r\r\n", "error: assembly line 1: BadToken\n"),
         (b"nop\n %%\n", "error: assembly line 2: BadToken\n"),
         (b"nop\n%% \n", "error: assembly line 2: BadToken\n"),

@@ -1,4 +1,4 @@
-use crate::checks::{check_bytes, check_told};
+use crate::checks::{check_bytes, check_reported};
 use rv_job::{FaultLines, InputError, read_input};
 use std::alloc::Global;
 use std::io;
@@ -47,15 +47,15 @@ fn input_is_read_to_its_end_and_a_failed_read_is_told(rt: HostRuntime) -> Result
 }
 
 // Checks how an input that cannot be read is told.
-fn is_told(rt: &impl Abort, alloc: Global, error: InputError, status: u8, line: &str) {
+fn is_reported(rt: &impl Abort, alloc: Global, error: InputError, status: u8, line: &str) {
     let mut errors = FaultLines::new(Vec::new(alloc));
-    let found = errors.tell_unread(error);
+    let found = errors.report_unread(error);
     let told = errors.into_writer();
-    check_told(rt, (found, told.as_slice()), status, line);
+    check_reported(rt, (found, told.as_slice()), status, line);
 }
 
 #[test]
 fn an_input_that_cannot_be_read_is_told_with_its_status(rt: HostRuntime) {
-    is_told(&rt, rt.alloc(), InputError::Failed, 4, "error: input\n");
-    is_told(&rt, rt.alloc(), InputError::Memory, 5, "error: memory\n");
+    is_reported(&rt, rt.alloc(), InputError::Failed, 4, "error: input\n");
+    is_reported(&rt, rt.alloc(), InputError::Memory, 5, "error: memory\n");
 }

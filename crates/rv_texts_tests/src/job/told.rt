@@ -1,4 +1,4 @@
-use crate::checks::check_told;
+use crate::checks::check_reported;
 use rv_asm::{AsmError, AsmFault};
 use rv_describe::{ArrivalsError, DescriptionError};
 use rv_job::{FaultLines, SimError};
@@ -6,11 +6,11 @@ use std::alloc::Global;
 use std::process::Abort;
 
 // Checks how a fault is told.
-fn is_told(rt: &impl Abort, alloc: Global, error: SimError, line: &str, status: u8) {
+fn is_reported(rt: &impl Abort, alloc: Global, error: SimError, line: &str, status: u8) {
     let mut errors = FaultLines::new(Vec::new(alloc));
-    let found = errors.tell(error);
+    let found = errors.report(error);
     let told = errors.into_writer();
-    check_told(rt, (found, told.as_slice()), status, line);
+    check_reported(rt, (found, told.as_slice()), status, line);
 }
 
 #[test]
@@ -75,6 +75,6 @@ fn each_fault_is_told_in_its_own_words_with_its_status(rt: HostRuntime) {
         (SimError::WriteFailed, "error: output\n", 4),
     ];
     for (error, line, status) in &CASES {
-        is_told(&rt, rt.alloc(), *error, line, *status);
+        is_reported(&rt, rt.alloc(), *error, line, *status);
     }
 }

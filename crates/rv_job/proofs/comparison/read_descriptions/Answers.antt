@@ -24,5 +24,5 @@ loop-halves-smaller c = after_shorter _ _ (sym c.in-Some.ensures)
 
 pub loop-halves-preserved : goal.loop-halves-preserved
 loop-halves-preserved c =
-    subst (λ machines. IsAfter c.args.text.now machines c.in-Some.halves.behind.now) (sym c.in-Ok.ensures.items)
+    subst (λ machines. IsAfter c.args.text.now machines c.in-Some.halves.after.now) (sym c.in-Ok.ensures.items)
     (IsAfter.another c.loop-halves.invariant (sym c.in-Some.ensures) c.in_ok-description.ensures.machine)

@@ -46,14 +46,14 @@ returns-in-Some-clause-taught g c =
 ends : (g : Over) (c : In-Ends g) →
     record {
       hardware = c.commit_head.new.self;
-      steps = and_step c.loop.invariant.0.steps c.commit_head.ensures.turn.told;
+      steps = and_step c.loop.invariant.0.steps c.commit_head.ensures.turn.step;
       stop = c.in-Ends.stop;
     } ≡ commit set.contains c.args.self.now
 ends g c =
     committed_whole c.args.self.now c.loop.self c.args.steps.now c.loop.steps c.loop.counter
-    (c.self.inside.values.commit_width - c.loop.counter) c.loop.invariant.0 c.commit_head.ensures.turn.told
+    (c.self.inside.values.commit_width - c.loop.counter) c.loop.invariant.0 c.commit_head.ensures.turn.step
     c.commit_head.result c.commit_head.new.self _ (omega (arith, c.loop-test.true)) c.commit_head.ensures.turn.left
-    (ap (turn_left c.commit_head.new.self c.loop.invariant.0.steps c.commit_head.ensures.turn.told) c.in-Ends.is)
+    (ap (turn_left c.commit_head.new.self c.loop.invariant.0.steps c.commit_head.ensures.turn.step) c.in-Ends.is)
 
 pub returns-in-Ends-clause-hardware : goal.returns-in-Ends-clause-hardware
 returns-in-Ends-clause-hardware g c =
@@ -64,7 +64,7 @@ returns-in-Ends-clause-steps g c =
     subst (Takes c.args.steps.now _)
     (ap (λ (x : Committing). x.steps) (ends g (goal.at.returns-in-Ends-clause-steps g c).In-Ends))
     (steps_with c.args.steps.now c.loop.steps c.commit_head.new.steps c.loop.invariant.0.steps
-    c.commit_head.ensures.turn.told c.loop.invariant.0.taken c.commit_head.ensures.turn.taken)
+    c.commit_head.ensures.turn.step c.loop.invariant.0.taken c.commit_head.ensures.turn.taken)
 
 pub returns-in-Ends-clause-stop : goal.returns-in-Ends-clause-stop
 returns-in-Ends-clause-stop g c =
@@ -73,7 +73,7 @@ returns-in-Ends-clause-stop g c =
 pub returns-in-Ends-clause-taught : goal.returns-in-Ends-clause-taught
 returns-in-Ends-clause-taught g c =
     taught_at_end c.args.self.now c.loop.self c.loop.invariant.0.steps _ _ c.loop.invariant.1
-    c.commit_head.ensures.turn.told c.commit_head.result
+    c.commit_head.ensures.turn.step c.commit_head.result
     c.commit_head.new.self (c.commit_head.ensures.turn.left c.loop.invariant.0.steps) c.in-Ends.stop _ c.in-Ends.is
     c.commit_head.ensures.turn.learns (commit set.contains c.args.self.now).steps
     (ap (λ (x : Committing). x.steps) (ends g (goal.at.returns-in-Ends-clause-taught g c).In-Ends))
@@ -108,12 +108,12 @@ loop-preserved g c = (
   committed_more c.args.self.now c.loop.self c.args.steps.now c.loop.steps c.commit_head.new.steps
       c.loop.counter
       (c.self.inside.values.commit_width - c.loop.counter)
-      (c.self.inside.values.commit_width - (c.loop.counter + 1)) c.loop.invariant.0 c.commit_head.ensures.turn.told
+      (c.self.inside.values.commit_width - (c.loop.counter + 1)) c.loop.invariant.0 c.commit_head.ensures.turn.step
       c.commit_head.result c.commit_head.new.self
       (omega (arith, c.loop-test.true)) c.commit_head.ensures.turn.left c.in-GoesOn.is
       c.commit_head.ensures.kept c.commit_head.ensures.turn.taken,
   teaching_goes c.args.self.now c.loop.self c.loop.invariant.0.steps _ _ c.loop.invariant.1
-      c.commit_head.ensures.turn.told c.commit_head.result
+      c.commit_head.ensures.turn.step c.commit_head.result
       c.commit_head.new.self (c.commit_head.ensures.turn.left c.loop.invariant.0.steps) _ c.in-GoesOn.is
       c.commit_head.ensures.turn.learns,
 )

@@ -60,15 +60,15 @@ returns-then-waits_for_result-clause-turn g c =
 
 pub returns-then-is_serialising-clause-turn : goal.returns-then-is_serialising-clause-turn
 returns-then-is_serialising-clause-turn g c =
-    let told = c.serial_head-step.result in
+    let step = c.serial_head-step.result in
     record {
-      told = told;
+      step = step;
       left = λ steps.
           c.serial_head-step.ensures.turn steps
-          ∙ ended_as c.serial_head-step.new.self steps told
-          ∙ ap (turn_left c.serial_head-step.new.self steps told) (sym c.end_with.ensures.end);
+          ∙ ended_as c.serial_head-step.new.self steps step
+          ∙ ap (turn_left c.serial_head-step.new.self steps step) (sym c.end_with.ensures.end);
       taken = c.end_with.ensures.taken;
-      learns = learns_at _ _ told _ _ (ap (λ (x : Hardware). x.pc) c.self-then-is_serialising.view_is) c.end_with.ensures.taught;
+      learns = learns_at _ _ step _ _ (ap (λ (x : Hardware). x.pc) c.self-then-is_serialising.view_is) c.end_with.ensures.taught;
     }
 
 pub returns-in_default-clause-turn : goal.returns-in_default-clause-turn

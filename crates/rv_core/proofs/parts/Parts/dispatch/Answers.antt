@@ -1,5 +1,5 @@
 use Rattle.rv_core.proofs.Words.{◌≡◌, ◌+◌, ◌-◌, Some, ap, ◌∙◌, arith, dispatch, dispatch_turn, Dispatching, stall_of}
-use Rattle.rv_core.proofs.Words.{dispatch_told, dispatching}
+use Rattle.rv_core.proofs.Words.{dispatch_left, dispatching}
 use Rattle.rv_core.proofs.Phases.Turned.{turned-ends, turned-goes}
 use Rattle.rv_core.proofs.parts.Parts.dispatch.Goals as goal
 use Rattle.rv_core.proofs.parts.Parts.dispatch.Goals.{After-reason_for}
@@ -13,7 +13,7 @@ ended c =
     (dispatching c.loop-dispatched.self c.loop-dispatched.dispatched) _
     (omega (arith, c.loop-dispatched-test.true)) c.loop-dispatched.invariant
     (c.dispatch_one.ensures c.loop-dispatched.dispatched
-    ∙ ap (λ r. dispatch_told r c.dispatch_one.new.self c.loop-dispatched.dispatched) c.in-Some.is)
+    ∙ ap (λ r. dispatch_left r c.dispatch_one.new.self c.loop-dispatched.dispatched) c.in-Some.is)
 
 pub returns-in-Some-clause-hardware : goal.returns-in-Some-clause-hardware
 returns-in-Some-clause-hardware c =
@@ -30,7 +30,7 @@ returns-in-Some-clause-stall c =
 pub loop-dispatched-preserved : goal.loop-dispatched-preserved
 loop-dispatched-preserved c =
     let goes = c.dispatch_one.ensures c.loop-dispatched.dispatched
-    ∙ ap (λ r. dispatch_told r c.dispatch_one.new.self c.loop-dispatched.dispatched) c.in_default.is in
+    ∙ ap (λ r. dispatch_left r c.dispatch_one.new.self c.loop-dispatched.dispatched) c.in_default.is in
     turned-goes dispatch_turn (dispatch c.args.self.now) (c.self.inside.values.dispatch_width - c.loop-dispatched.dispatched)
     (c.self.inside.values.dispatch_width - (c.loop-dispatched.dispatched + 1))
     (dispatching c.loop-dispatched.self c.loop-dispatched.dispatched) _

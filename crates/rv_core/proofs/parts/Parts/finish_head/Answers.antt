@@ -34,19 +34,19 @@ returns-in-Some-fault-clause-turn g c =
     let h = c.args.self.now in
     let e = c.in-Some.head.now in
     let m = c.in-Some-message_of.message in
-    let told = c.trap-step.result in
+    let step = c.trap-step.result in
     let at = head g (goal.at.returns-in-Some-fault-clause-turn g c).In-Some in
     record {
-      told = told;
+      step = step;
       left = λ steps.
           turn_finishes h e steps (Some m) at (c.requires.fresh e at) (c.requires.plain e at)
           (sym c.message_of.ensures ∙ c.in-Some-message_of.is)
           ∙ traps_by e m c.in-Some-fault.fault (committing h steps) c.in-Some-fault.is
           ∙ sym (λ i. turn_ended (c.trap-step.ensures.hardware i) steps (c.trap-step.ensures.step i))
-          ∙ ended_as c.trap-step.new.self steps told
-          ∙ ap (turn_left c.trap-step.new.self steps told) (sym c.end_with.ensures.end);
+          ∙ ended_as c.trap-step.new.self steps step
+          ∙ ap (turn_left c.trap-step.new.self steps step) (sym c.end_with.ensures.end);
       taken = c.end_with.ensures.taken;
-      learns = learns_at _ _ told _ _ (ap (λ (x : Hardware). x.pc) c.self-in-Some-fault.view_is) c.end_with.ensures.taught;
+      learns = learns_at _ _ step _ _ (ap (λ (x : Hardware). x.pc) c.self-in-Some-fault.view_is) c.end_with.ensures.taught;
     }
 
 -- the step that is appended
@@ -67,18 +67,18 @@ returns-then-message-entry-clause-turn g c =
     let h = c.args.self.now in
     let e = c.in-Some.head.now in
     let m = c.in-Some-message_of.message in
-    let told = Some (row_of e (written_of e m) h.cycle) in
+    let step = Some (row_of e (written_of e m) h.cycle) in
     let at = goal.at.returns-then-message-entry-clause-turn g c in
     let is_head = head g at.In-Some in
     record {
-      told = told;
+      step = step;
       left = λ steps.
           turn_finishes h e steps (Some m) is_head (c.requires.fresh e is_head) (c.requires.plain e is_head)
           (sym c.message_of.ensures ∙ c.in-Some-message_of.is)
           ∙ retires_on e m h steps c.in_default-fault.is c.if-message-entry.true
-          ∙ sym (ap (λ x. turn_left x steps told turn.GoesOn) c.retire.ensures);
+          ∙ sym (ap (λ x. turn_left x steps step turn.GoesOn) c.retire.ensures);
       taken = subst (λ s. Takes c.args.steps.now c.take_row.new.self (s ∷ [])) (row g at.After-take_row) c.take_row.ensures;
-      learns = learns_at ((goal.Predictor-dyn g c.args.predictor.now).known c.args.predictor.now.1) _ told _ _
+      learns = learns_at ((goal.Predictor-dyn g c.args.predictor.now).known c.args.predictor.now.1) _ step _ _
           (sym (ap (λ (x : Hardware). x.pc) c.retire.ensures))
           (rw (← c.unwrap_or.ensures) c.learn.ensures);
     }
@@ -88,19 +88,19 @@ returns-clause-turn g c =
     let h = c.args.self.now in
     let e = c.in-Some.head.now in
     let m = c.in-Some-message_of.message in
-    let told = Some (row_of e (written_of e m) h.cycle) in
+    let step = Some (row_of e (written_of e m) h.cycle) in
     let at = goal.at.returns-clause-turn g c in
     let is_head = head g at.In-Some in
     let flushed_is = c.flush.ensures ∙ ap flushed c.retire.ensures in
     record {
-      told = told;
+      step = step;
       left = λ steps.
           turn_finishes h e steps (Some m) is_head (c.requires.fresh e is_head) (c.requires.plain e is_head)
           (sym c.message_of.ensures ∙ c.in-Some-message_of.is)
           ∙ retires_last e m h steps c.in_default-fault.is c.if-message-entry.false
-          ∙ sym (ap (λ x. turn_left x steps told (turn.Ends None)) flushed_is);
+          ∙ sym (ap (λ x. turn_left x steps step (turn.Ends None)) flushed_is);
       taken = subst (λ s. Takes c.args.steps.now c.take_row.new.self (s ∷ [])) (row g at.After-take_row) c.take_row.ensures;
-      learns = learns_at ((goal.Predictor-dyn g c.args.predictor.now).known c.args.predictor.now.1) _ told _ _
+      learns = learns_at ((goal.Predictor-dyn g c.args.predictor.now).known c.args.predictor.now.1) _ step _ _
           (sym (ap (λ (x : Hardware). x.pc) flushed_is))
           (rw (← c.unwrap_or.ensures) c.learn.ensures);
     }

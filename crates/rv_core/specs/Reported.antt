@@ -21,9 +21,9 @@ abbrev pub dispatching : Hardware → ℕ → Dispatching
 dispatching h dispatched = record { hardware = h; dispatched = dispatched; waits_for = None }
 
 -- a turn of the dispatch phase, which says what the instruction waits for, if it waits
-abbrev pub dispatch_told : Option Stall → Hardware → ℕ → Turn Dispatching
-dispatch_told None h dispatched = GoesOn (dispatching h (dispatched + 1))
-dispatch_told (Some reason) h dispatched =
+abbrev pub dispatch_left : Option Stall → Hardware → ℕ → Turn Dispatching
+dispatch_left None h dispatched = GoesOn (dispatching h (dispatched + 1))
+dispatch_left (Some reason) h dispatched =
     Ends (record { hardware = h; dispatched = dispatched; waits_for = Some reason })
 
 -- what a cycle reports, of its steps and of what it did beside them
