@@ -22,7 +22,8 @@ pub data Effect : Type 0 where
 
 -- the instruction writes a register and goes on at an address
 abbrev pub writes : State → ℕ → ℕ → ℕ → Effect
-writes s rd value next = Retires (write_of rd value) (record s { pc = next; registers = with_register s.registers rd value })
+writes s rd value next =
+    Retires (write_of rd value) (record s { pc = next; registers = with_register s.registers rd value })
 
 -- the instruction goes on at an address
 abbrev pub goes_to : State → ℕ → Effect
@@ -45,7 +46,8 @@ abbrev pub extended : Bool → ℕ → ℕ → ℕ
 extended by_sign count number =
     if by_sign && nat_le (2 ^ (8 * count - 1)) number then number + 2 ^ 32 - 2 ^ (8 * count) else number
 
--- Unprivileged ISA 20191213, 2.6: a load; alignment is tested before the range (Privileged Architecture 20211203, 3.1.15, table 3.7)
+-- Unprivileged ISA 20191213, 2.6: a load; alignment is tested before the range (Privileged Architecture 20211203,
+-- 3.1.15, table 3.7)
 abbrev pub loads : Layout → State → LoadForm → ℕ → ℕ → Effect
 loads layout s form rd address =
     let count = bytes_of (width_of form) in
@@ -92,7 +94,8 @@ effect layout s lines word (Jal rd offset) = jumps s rd (pc_plus s.pc offset)
 effect layout s lines word (Jalr rd rs1 offset) = jumps s rd (2 * (sum (register_of s rs1) (modulo_word offset) / 2))
 effect layout s lines word (Branch condition rs1 rs2 offset) =
     branches s (holds condition (register_of s rs1) (register_of s rs2)) (pc_plus s.pc offset)
-effect layout s lines word (Load form rd rs1 offset) = loads layout s form rd (sum (register_of s rs1) (modulo_word offset))
+effect layout s lines word (Load form rd rs1 offset) =
+    loads layout s form rd (sum (register_of s rs1) (modulo_word offset))
 effect layout s lines word (Store width rs1 rs2 offset) =
     stores layout s width (sum (register_of s rs1) (modulo_word offset)) (register_of s rs2)
 effect layout s lines word (OpImmediate op rd rs1 immediate) =
@@ -103,7 +106,8 @@ effect layout s lines word (Op op rd rs1 rs2) =
     writes s rd (value_of op (register_of s rs1) (register_of s rs2)) (pc_plus_4 s.pc)
 effect layout s lines word Fence = goes_to s (pc_plus_4 s.pc)
 effect layout s lines word FenceI = refreshes s
-effect layout s lines word (Csr op rd csr source) = accesses s word rd (access s.csrs lines op csr (operand_of s.registers source))
+effect layout s lines word (Csr op rd csr source) =
+    accesses s word rd (access s.csrs lines op csr (operand_of s.registers source))
 effect layout s lines word Ecall = Faults EnvironmentCall 0
 effect layout s lines word Ebreak = Faults Breakpoint 0
 effect layout s lines word Mret = returns_from_trap s

@@ -10,7 +10,8 @@ pub record Machine : Type 0 where
   pub state : State
   pub lines : Lines
 
--- the machine went from old to new by an instruction's effect, and answers the register that changed, or the fault, which changes nothing
+-- the machine went from old to new by an instruction's effect, and answers the register that changed, or the fault,
+-- which changes nothing
 abbrev pub IsPerformed : Effect → Result (Option (ℕ × ℕ)) Fault → Machine → Machine → Type 0
 IsPerformed effect result old new = MatchResult result
     (λ written. (effect ≡ Retires written new.state) × (new ≡ record old { state = new.state }))

@@ -37,7 +37,8 @@ is_breakpoint _ = false
 pub data Run (layout : Layout) (arrivals : List Arrival) : State → List ℕ → List RefStep → State → Type 0 where
   ended : {s : State} → Run layout arrivals s [] [] s
   stepped : {s t u : State} {stamp : ℕ} {stamps : List ℕ} {outcome : RefStep} {outcomes : List RefStep} →
-      Step layout s (lines_at arrivals stamp) outcome t → is_stale outcome ≡ false → Run layout arrivals t stamps outcomes u →
+      Step layout s (lines_at arrivals stamp) outcome t → is_stale outcome ≡ false →
+      Run layout arrivals t stamps outcomes u →
       Run layout arrivals s (stamp ∷ stamps) (outcome ∷ outcomes) u
 
 -- how many of the outcomes pass a test

@@ -28,7 +28,8 @@ abbrev pub IsStop : Layout → List Arrival → ℕ → List RefStep → State �
 IsStop layout arrivals limit outcomes s stop.Limit = HasNoBreakpoint outcomes × (length outcomes ≡ limit)
 IsStop layout arrivals limit outcomes s stop.Breakpoint = EndsAtBreakpoint outcomes × (length outcomes ≤ limit)
 IsStop layout arrivals limit outcomes s (stop.Stale pc) =
-    HasNoBreakpoint outcomes × (length outcomes < limit) × Step layout s (lines_at arrivals (length outcomes)) (step.Stale pc) s
+    HasNoBreakpoint outcomes × (length outcomes < limit)
+    × Step layout s (lines_at arrivals (length outcomes)) (step.Stale pc) s
 IsStop layout arrivals limit outcomes s stop.Exhausted = ⊥
 
 -- how many steps were asked for: one more than were taken where the last was found stale

@@ -43,16 +43,19 @@ pub data Step (layout : Layout) (s : State) (lines : Lines) : RefStep → State 
       Step layout s lines (Stale s.pc) s
   -- else a word that is no instruction traps
   illegal : IsFetched layout s lines → IsIllegal (word_at_pc layout s) →
-      Step layout s lines (Trap s.pc IllegalInstruction (word_at_pc layout s)) (trap_taken s (code_of IllegalInstruction) (word_at_pc layout s))
+      Step layout s lines (Trap s.pc IllegalInstruction (word_at_pc layout s))
+      (trap_taken s (code_of IllegalInstruction) (word_at_pc layout s))
   -- else the instruction faults
   faulted : IsFetched layout s lines → (instruction : Instr) → Decodes (word_at_pc layout s) instruction →
       (cause : Cause) (value : ℕ) → effect layout s lines (word_at_pc layout s) instruction ≡ Faults cause value →
       Step layout s lines (Trap s.pc cause value) (trap_taken s (code_of cause) value)
   -- or retires
   retired : IsFetched layout s lines → (instruction : Instr) → Decodes (word_at_pc layout s) instruction →
-      (written : Option (ℕ × ℕ)) (next : State) → effect layout s lines (word_at_pc layout s) instruction ≡ Retires written next →
+      (written : Option (ℕ × ℕ)) (next : State) →
+      effect layout s lines (word_at_pc layout s) instruction ≡ Retires written next →
       Step layout s lines (Retired s.pc (word_at_pc layout s) written) next
 
 -- every step from this state with these lines has this outcome, and goes to this state
 abbrev pub IsOnlyStep : Layout → State → Lines → RefStep → State → Type 0
-IsOnlyStep layout s lines outcome next = (other : RefStep) (t : State) → Step layout s lines other t → (other ≡ outcome) × (t ≡ next)
+IsOnlyStep layout s lines outcome next =
+    (other : RefStep) (t : State) → Step layout s lines other t → (other ≡ outcome) × (t ≡ next)

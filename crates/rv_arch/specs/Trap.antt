@@ -5,7 +5,8 @@ use Rattle.rv_arch.specs.Csr.{Kept, legal_mepc}
 abbrev pub interrupt_cause : ℕ → ℕ
 interrupt_cause code = 2 ^ 31 + code
 
--- Privileged Architecture 20211203, 3.1.7: an interrupt in vectored mode goes to the base plus four times its code, all else to the base
+-- Privileged Architecture 20211203, 3.1.7: an interrupt in vectored mode goes to the base plus four times its code, all
+-- else to the base
 abbrev pub handler_of : Kept → ℕ → ℕ
 handler_of kept cause =
     let base = 4 * (kept.mtvec / 4) in

@@ -17,7 +17,8 @@ impl Reference {
         ensures run { (outcomes : List OneStep)
             × Run self.old.layout arrivals.now self.old.state (take result stamps.now) outcomes self.new.state }
         ensures ends_before_stale { result < length stamps.now
-            → Step self.old.layout self.new.state (lines_at arrivals.now (slice_index stamps.now result)) (RefStep.Stale self.new.state.pc) self.new.state }
+            → Step self.old.layout self.new.state (lines_at arrivals.now (slice_index stamps.now result))
+            (RefStep.Stale self.new.state.pc) self.new.state }
         ensures layout { self.new.layout ≡ self.old.layout }
         ensures lines { self.new.lines ≡ lines_through arrivals.now self.old.lines (take (result + 1) stamps.now) }
     {

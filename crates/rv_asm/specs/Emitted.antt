@@ -22,4 +22,5 @@ pub record Emits (meaning : Result (List Cell) AsmFault) (old new : List ℕ) : 
 
 -- the bytes of what this means were appended, or it is this fault
 abbrev pub EmitsOrRefuses : {T : Type 0} → Result (List Cell) AsmFault → List ℕ → List ℕ → Result T AsmFault → Type 0
-EmitsOrRefuses meaning old new result = MatchResult result (λ _. Emits meaning old new) (λ fault. fault ≢ Memory → meaning ≡ Err fault)
+EmitsOrRefuses meaning old new result =
+    MatchResult result (λ _. Emits meaning old new) (λ fault. fault ≢ Memory → meaning ≡ Err fault)

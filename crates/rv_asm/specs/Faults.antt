@@ -14,11 +14,13 @@ use Rattle.rv_asm.specs.declared.fault.AsmFault.TheVariants.{BadToken, BadOperan
 -- the fault of labels: one of them was defined before, or stands twice
 abbrev pub label_fault : Meanings → Definition → List (List ℕ) → Option AsmFault
 label_fault meanings here [] = None
-label_fault meanings here (name ∷ names) = if is_some (meanings name) then Some DuplicateSymbol else label_fault (defined meanings name here) here names
+label_fault meanings here (name ∷ names) =
+    if is_some (meanings name) then Some DuplicateSymbol else label_fault (defined meanings name here) here names
 
 -- the name right after .equ was defined before
 abbrev pub redefines : Meanings → List Token → Bool
-redefines meanings (token.Name directive ∷ token.Name name ∷ rest) = bytes_eq directive (codes ".equ") && is_some (meanings name)
+redefines meanings (token.Name directive ∷ token.Name name ∷ rest) =
+    bytes_eq directive (codes ".equ") && is_some (meanings name)
 redefines meanings _ = false
 
 -- the symbol that li takes is no .equ of an earlier line
@@ -47,7 +49,9 @@ first_fault layout (Readable labels body) =
 
 -- the fault that the second pass finds in a line: of its statement, or of the start where it defines _start
 abbrev pub second_fault : ℕ → Layout → Placed → Option AsmFault
-second_fault base whole line = option_or (result_err (line_cells base whole line)) (if line.starts then (if start_address base whole % 4 == 0 then None else Some Misaligned) else None)
+second_fault base whole line =
+    option_or (result_err (line_cells base whole line))
+    (if line.starts then (if start_address base whole % 4 == 0 then None else Some Misaligned) else None)
 
 -- what the first pass finds in lines after a layout, each in view of the lines before it
 abbrev pub first_faults : Layout → List Line → List (Option AsmFault)
@@ -57,7 +61,8 @@ first_faults layout (line ∷ others) = first_fault layout line ∷ first_faults
 -- the first fault of lines that are numbered from here on, with its number
 abbrev pub earliest : ℕ → List (Option AsmFault) → Option (AsmFault × ℕ)
 earliest number [] = None
-earliest number (fault ∷ others) = option_or (option_map (λ found. (found, number)) fault) (earliest (number + 1) others)
+earliest number (fault ∷ others) =
+    option_or (option_map (λ found. (found, number)) fault) (earliest (number + 1) others)
 
 -- the earliest fault of the first pass
 abbrev pub first_fault_of : List Line → Option (AsmFault × ℕ)

@@ -29,7 +29,8 @@ keep number bytes place = if is_idle place then [] else record { number = number
 -- what is kept of lines after a layout, numbered from here on
 abbrev pub kept : ℕ → Layout → List (List ℕ) → List Kept
 kept number layout [] = []
-kept number layout (bytes ∷ others) = keep number bytes (place layout.reach (line_in bytes)) ++ kept (number + 1) (extended layout (line_in bytes)) others
+kept number layout (bytes ∷ others) =
+    keep number bytes (place layout.reach (line_in bytes)) ++ kept (number + 1) (extended layout (line_in bytes)) others
 
 -- the lines that are left, if a line feed stood before them
 abbrev pub lines_left : Option (Bor (List ℕ)) → List (List ℕ)
@@ -43,4 +44,5 @@ places lines = map (λ line. line.place) lines
 -- the first line with a fault, by its number
 abbrev pub first_with_fault : (Placed → Option AsmFault) → List Kept → Option (AsmFault × ℕ)
 first_with_fault fault [] = None
-first_with_fault fault (line ∷ others) = option_or (option_map (λ found. (found, line.number)) (fault line.place)) (first_with_fault fault others)
+first_with_fault fault (line ∷ others) =
+    option_or (option_map (λ found. (found, line.number)) (fault line.place)) (first_with_fault fault others)

@@ -99,7 +99,8 @@ known definition (Sum name number) = pos 0
 
 -- the bytes of an instruction
 abbrev pub instruction_size : (List ℕ → Option Definition) → Operation → Fields → Expression → ℕ
-instruction_size definition operation.LoadNumber fields value = 4 * length (load_number fields.rd (signed_word (known definition value)))
+instruction_size definition operation.LoadNumber fields value =
+    4 * length (load_number fields.rd (signed_word (known definition value)))
 instruction_size definition operation.LoadAddress fields value = 8
 instruction_size definition _ fields value = 4
 
@@ -148,13 +149,15 @@ with_constant meanings _ = meanings
 
 -- the layout after a statement, if it could be read
 abbrev pub after_statement : Meanings → Reach → Result Statement AsmFault → Layout
-after_statement meanings reach (Ok statement) = record { reach = advance meanings statement reach; meanings = with_constant meanings statement }
+after_statement meanings reach (Ok statement) =
+    record { reach = advance meanings statement reach; meanings = with_constant meanings statement }
 after_statement meanings reach (Err fault) = record { reach = reach; meanings = meanings }
 
 -- the layout after a line
 abbrev pub extended : Layout → Line → Layout
 extended layout Unreadable = layout
-extended layout (Readable labels body) = after_statement (labelled layout.meanings (label_at layout.reach) labels) layout.reach (statement_in body)
+extended layout (Readable labels body) =
+    after_statement (labelled layout.meanings (label_at layout.reach) labels) layout.reach (statement_in body)
 
 -- the layout of no lines: no section has bytes yet, and the text begins in .text
 abbrev pub unlaid : Layout

@@ -15,11 +15,13 @@ trimmed bytes =
     let rest = drop (prefix_len is_ascii_whitespace bytes) bytes in
     take (length rest - suffix_len is_ascii_whitespace rest) rest
 
--- a comment for those who read a listing: one that begins with a number sign and a colon, after a blank and without white space at its end
+-- a comment for those who read a listing: one that begins with a number sign and a colon, after a blank and without
+-- white space at its end
 abbrev pub noted : List ℕ → List ℕ
 noted comment = if get_or comment 1 0 == 58 then 32 ∷ trimmed comment else []
 
--- a line that a listing shows: its number, and its statement, which a number sign ends, without white space at its ends, and such a comment
+-- a line that a listing shows: its number, and its statement, which a number sign ends, without white space at its
+-- ends, and such a comment
 abbrev pub shown : ℕ → List ℕ → source.Line
 shown number bytes =
     let size = length (before_first (λ byte. byte == 35) bytes) in
@@ -31,7 +33,8 @@ abbrev pub line_holding : Section → ℕ → Layout → List (List ℕ) → ℕ
 line_holding part number before [] offset = None
 line_holding part number before (bytes ∷ others) offset =
     let after = extended before (line_in bytes) in
-    if nat_le (offset_in part before.reach) offset && nat_lt offset (offset_in part after.reach) then Some (shown number bytes)
+    if nat_le (offset_in part before.reach) offset && nat_lt offset (offset_in part after.reach)
+    then Some (shown number bytes)
     else line_holding part (number + 1) after others offset
 
 -- how many words hold so many bytes
@@ -50,11 +53,13 @@ lines_after_text text_size data_size lines =
 -- the lines of the words of the image
 abbrev pub image_lines : Reach → List (List ℕ) → List (Option source.Line)
 image_lines end lines =
-    section_lines Text end.text_size lines ++ lines_after_text end.text_size end.data_size (section_lines Data end.data_size lines)
+    section_lines Text end.text_size lines
+    ++ lines_after_text end.text_size end.data_size (section_lines Data end.data_size lines)
 
 -- the listing of a text at a base; a line feed ends a line
 abbrev pub listing_of : ℕ → List ℕ → Listed
-listing_of base text = record { base = base; words = image_lines (layout (lines_of text)).reach (slice_split (λ byte. byte == 10) text) }
+listing_of base text =
+    record { base = base; words = image_lines (layout (lines_of text)).reach (slice_split (λ byte. byte == 10) text) }
 
 -- how many words of a section begin between two points of a text
 abbrev pub words_between : Section → Reach → Reach → ℕ
@@ -68,7 +73,9 @@ reach_before end (line ∷ others) = line.place.reach
 -- the words of a section, from the lines that the program keeps; no public clause names these
 abbrev pub words_in : Section → Reach → List Kept → List (Option source.Line)
 words_in part end [] = []
-words_in part end (line ∷ others) = replicate (words_between part line.place.reach (reach_before end others)) (Some (shown line.number line.bytes)) ++ words_in part end others
+words_in part end (line ∷ others) =
+    replicate (words_between part line.place.reach (reach_before end others)) (Some (shown line.number line.bytes))
+    ++ words_in part end others
 
 -- the words of the image, from the lines that the program keeps
 abbrev pub words_of_kept : Reach → List Kept → List (Option source.Line)

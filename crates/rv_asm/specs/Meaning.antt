@@ -60,7 +60,8 @@ natural limit number = and_then (ranged (pos 0) (pos limit -ℤ pos 1) number) (
 -- a distance in a range; a distance is even
 abbrev pub distance : ℤ → ℤ → ℤ → Result ℤ AsmFault
 distance least greatest number =
-    and_then (ranged least greatest number) (λ inside. if unsigned_abs inside % 2 == 0 then Ok inside else Err Misaligned)
+    and_then (ranged least greatest number)
+    (λ inside. if unsigned_abs inside % 2 == 0 then Ok inside else Err Misaligned)
 
 -- the twelve bits of an immediate
 abbrev pub immediate : ℤ → Result ℤ AsmFault
@@ -74,17 +75,23 @@ one instruction = Ok (instruction ∷ [])
 abbrev pub instructions : Operation → Fields → ℕ → ℤ → Result (List Instr) AsmFault
 instructions operation.Lui f address v = and_then (natural 1048576 v) (λ n. one (instr.Lui f.rd n))
 instructions operation.Auipc f address v = and_then (natural 1048576 v) (λ n. one (instr.Auipc f.rd n))
-instructions operation.Jal f address v = and_then (distance (negsuc 1048575) (pos 1048574) (v -ℤ pos address)) (λ away. one (instr.Jal f.rd away))
+instructions operation.Jal f address v =
+    and_then (distance (negsuc 1048575) (pos 1048574) (v -ℤ pos address)) (λ away. one (instr.Jal f.rd away))
 instructions operation.Jalr f address v = and_then (immediate v) (λ n. one (instr.Jalr f.rd f.rs1 n))
-instructions (operation.Branch condition) f address v = and_then (distance (negsuc 4095) (pos 4094) (v -ℤ pos address)) (λ away. one (instr.Branch condition f.rs1 f.rs2 away))
+instructions (operation.Branch condition) f address v =
+    and_then (distance (negsuc 4095) (pos 4094) (v -ℤ pos address))
+    (λ away. one (instr.Branch condition f.rs1 f.rs2 away))
 instructions (operation.Load form) f address v = and_then (immediate v) (λ n. one (instr.Load form f.rd f.rs1 n))
 instructions (operation.Store width) f address v = and_then (immediate v) (λ n. one (instr.Store width f.rs1 f.rs2 n))
-instructions (operation.OpImmediate op) f address v = and_then (immediate v) (λ n. one (instr.OpImmediate op f.rd f.rs1 n))
+instructions (operation.OpImmediate op) f address v =
+    and_then (immediate v) (λ n. one (instr.OpImmediate op f.rd f.rs1 n))
 instructions (operation.Shift op) f address v = and_then (natural 32 v) (λ n. one (instr.Shift op f.rd f.rs1 n))
 instructions (operation.Op op) f address v = one (instr.Op op f.rd f.rs1 f.rs2)
 instructions (operation.Bare bare) f address v = one (bare_instruction bare)
-instructions (operation.Csr op) f address v = and_then (natural 4096 f.csr) (λ csr. one (instr.Csr op f.rd csr (Register f.rs1)))
-instructions (operation.CsrImmediate op) f address v = and_then (natural 4096 f.csr) (λ csr. and_then (natural 32 v) (λ n. one (instr.Csr op f.rd csr (Immediate n))))
+instructions (operation.Csr op) f address v =
+    and_then (natural 4096 f.csr) (λ csr. one (instr.Csr op f.rd csr (Register f.rs1)))
+instructions (operation.CsrImmediate op) f address v =
+    and_then (natural 4096 f.csr) (λ csr. and_then (natural 32 v) (λ n. one (instr.Csr op f.rd csr (Immediate n))))
 instructions operation.LoadNumber f address v = Ok (load_number f.rd (signed_word v))
 instructions operation.LoadAddress f address v = Ok (load_address f.rd (signed_word (v -ℤ pos address)))
 
@@ -97,7 +104,8 @@ fits_width Word number = is_between (negsuc 2147483647) (pos 4294967295) number
 -- the bytes of a number modulo 2 ^ 32, the lowest first, if data of the width may hold it
 abbrev pub bytes_at : Width → ℤ → Result (List Cell) AsmFault
 bytes_at width number =
-    if fits_width width number then Ok (map Byte' (take (bytes_of width) (to_le_bytes w32 (modulo_word number)))) else Err OutOfRange
+    if fits_width width number then Ok (map Byte' (take (bytes_of width) (to_le_bytes w32 (modulo_word number))))
+    else Err OutOfRange
 
 -- the bytes of the values of operands of data; an operand without a value counts as 0
 abbrev pub data_of : (List ℕ → Option ℤ) → Width → List Operand → Result (List Cell) AsmFault
@@ -113,13 +121,16 @@ cells value start offset (Instruction operation fields expression) =
     (λ v. and_then (instructions operation fields (start + offset) v)
     (λ made. if (start + offset) % 4 == 0 then Ok (map Word' made) else Err Misaligned))
 cells value start offset (Values width operands) =
-    if list_all (λ operand. is_some (evaluate value (expression_in operand))) operands then data_of value width operands else Err UnknownSymbol
+    if list_all (λ operand. is_some (evaluate value (expression_in operand))) operands then data_of value width operands
+    else Err UnknownSymbol
 cells value start offset (Bytes directive operand) = Ok (map Byte' (laid_by directive offset operand))
 cells value start offset _ = Ok []
 
 -- what a statement means where the text has come so far
 abbrev pub cells_at : ℕ → Layout → Reach → Statement → Result (List Cell) AsmFault
-cells_at base whole reach statement = cells (value_of base whole.reach.text_size whole.meanings) (start_of base whole.reach.text_size reach.section) (offset reach) statement
+cells_at base whole reach statement =
+    cells (value_of base whole.reach.text_size whole.meanings) (start_of base whole.reach.text_size reach.section)
+    (offset reach) statement
 
 -- what a line means, in view of the whole text
 abbrev pub line_cells : ℕ → Layout → Placed → Result (List Cell) AsmFault
@@ -134,7 +145,8 @@ parts_in _ _ _ = []
 -- the parts of a section, from the lines that stand in it
 abbrev pub contents : ℕ → Layout → Section → List Placed → List Cell
 contents base whole section [] = []
-contents base whole section (line ∷ others) = parts_in section line.reach.section (line_cells base whole line) ++ contents base whole section others
+contents base whole section (line ∷ others) =
+    parts_in section line.reach.section (line_cells base whole line) ++ contents base whole section others
 
 -- the parts of a section of a text
 abbrev pub section_parts : ℕ → Section → List Line → List Cell
@@ -161,8 +173,10 @@ pub record IsWordOf (instruction : Instr) (word : ℕ) : Type 0 where
 pub data Spells : List Cell → List ℕ → Type 0 where
   nothing : Spells [] []
   byte : {b : ℕ} {parts : List Cell} {bytes : List ℕ} → Spells parts bytes → Spells (Byte' b ∷ parts) (b ∷ bytes)
-  word : {i : Instr} {w : ℕ} {parts : List Cell} {bytes : List ℕ} → IsWordOf i w → Spells parts bytes → Spells (Word' i ∷ parts) (to_le_bytes w32 w ++ bytes)
+  word : {i : Instr} {w : ℕ} {parts : List Cell} {bytes : List ℕ} → IsWordOf i w → Spells parts bytes →
+      Spells (Word' i ∷ parts) (to_le_bytes w32 w ++ bytes)
 
 -- where execution starts: at _start, if it is defined, else at the base
 abbrev pub start_address : ℕ → Layout → ℕ
-start_address base whole = unwrap_or (option_map modulo_word (value_of base whole.reach.text_size whole.meanings (codes "_start"))) base
+start_address base whole =
+    unwrap_or (option_map modulo_word (value_of base whole.reach.text_size whole.meanings (codes "_start"))) base

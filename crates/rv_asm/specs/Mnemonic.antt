@@ -163,4 +163,5 @@ shape_named name = option_or (named instructions name) (named pseudo_instruction
 
 -- what a name names
 abbrev pub form_named : List ℕ → Option Form
-form_named name = option_or (option_map (λ shape. Instruction shape.0 shape.1 shape.2 shape.3) (shape_named name)) (named others name)
+form_named name =
+    option_or (option_map (λ shape. Instruction shape.0 shape.1 shape.2 shape.3) (shape_named name)) (named others name)

@@ -43,16 +43,21 @@ based _ _ = None
 -- the operand that tokens spell: a string, an expression, a name in parentheses, or an expression before one
 abbrev pub operand : List Token → Option Operand
 operand (token.Text bytes ∷ []) = Some (Text bytes)
-operand (first ∷ second ∷ third ∷ []) = option_or (option_map Value (expression (first ∷ second ∷ third ∷ []))) (option_map (Indirect None) (in_parentheses first second third))
+operand (first ∷ second ∷ third ∷ []) =
+    option_or (option_map Value (expression (first ∷ second ∷ third ∷ [])))
+    (option_map (Indirect None) (in_parentheses first second third))
 operand (first ∷ left ∷ name ∷ right ∷ []) = based (expression (first ∷ [])) (in_parentheses left name right)
-operand (first ∷ second ∷ left ∷ name ∷ right ∷ []) = based (expression (first ∷ second ∷ [])) (in_parentheses left name right)
-operand (first ∷ second ∷ third ∷ left ∷ name ∷ right ∷ []) = based (expression (first ∷ second ∷ third ∷ [])) (in_parentheses left name right)
+operand (first ∷ second ∷ left ∷ name ∷ right ∷ []) =
+    based (expression (first ∷ second ∷ [])) (in_parentheses left name right)
+operand (first ∷ second ∷ third ∷ left ∷ name ∷ right ∷ []) =
+    based (expression (first ∷ second ∷ third ∷ [])) (in_parentheses left name right)
 operand tokens = option_map Value (expression tokens)
 
 -- the operands that pieces spell, if each spells one
 abbrev pub operands_in : List (List Token) → Option (List Operand)
 operands_in [] = Some []
-operands_in (piece ∷ pieces) = option_and_then (λ first. option_map (λ others. first ∷ others) (operands_in pieces)) (operand piece)
+operands_in (piece ∷ pieces) =
+    option_and_then (λ first. option_map (λ others. first ∷ others) (operands_in pieces)) (operand piece)
 
 -- the operands of a statement, separated by commas
 abbrev pub operands_of : List Token → Option (List Operand)

@@ -23,7 +23,8 @@ pub record Placed : Type 0 where
 
 -- what stands after labels, in its place
 abbrev pub place_body : Reach → Bool → Result Statement AsmFault → Placed
-place_body reach label_starts statement = record { reach = reach; starts = label_starts || constant_starts statement; statement = statement }
+place_body reach label_starts statement =
+    record { reach = reach; starts = label_starts || constant_starts statement; statement = statement }
 
 -- a label of a line is _start
 abbrev pub label_starts : Line → Bool

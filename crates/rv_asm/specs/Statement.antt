@@ -88,7 +88,8 @@ abbrev pub field_at : Place → Operand → Fields → Result Fields AsmFault
 field_at place.Rd operand fields = and_then (register_in operand) (λ register. Ok (record fields { rd = register }))
 field_at place.Rs1 operand fields = and_then (register_in operand) (λ register. Ok (record fields { rs1 = register }))
 field_at place.Rs2 operand fields = and_then (register_in operand) (λ register. Ok (record fields { rs2 = register }))
-field_at place.Address operand fields = and_then (register_in operand) (λ register. Ok (record fields { rs1 = register }))
+field_at place.Address operand fields =
+    and_then (register_in operand) (λ register. Ok (record fields { rs1 = register }))
 field_at place.Base operand fields = and_then (register_in operand) (λ register. Ok (record fields { rs1 = register }))
 field_at place.Csr operand fields = and_then (csr_in operand) (λ address. Ok (record fields { csr = address }))
 field_at _ operand fields = Ok fields
@@ -104,7 +105,8 @@ value_at _ operand = None
 
 -- fields and an expression with those of an operand at its place, if it has one there
 unfoldable pub put : Place → Operand → Fields × Expression → Result (Fields × Expression) AsmFault
-put place operand filled = and_then (field_at place operand filled.0) (λ fields. Ok (fields, unwrap_or (value_at place operand) filled.1))
+put place operand filled =
+    and_then (field_at place operand filled.0) (λ fields. Ok (fields, unwrap_or (value_at place operand) filled.1))
 
 -- fields and an expression with those of a place without an operand, if it means one; x1 holds return addresses
 unfoldable pub imply : Place → Fields × Expression → Fields × Expression
@@ -118,7 +120,8 @@ imply _ filled = filled
 unfoldable pub fill : List Place → List Operand → Fields → Result (Fields × Expression) AsmFault
 fill [] [] fields = Ok (fields, Number (pos 0))
 fill [] (operand ∷ operands) fields = Err BadOperands
-fill (place ∷ places) [] fields = if is_implied place then and_then (fill places [] fields) (λ filled. Ok (imply place filled)) else Err BadOperands
+fill (place ∷ places) [] fields =
+    if is_implied place then and_then (fill places [] fields) (λ filled. Ok (imply place filled)) else Err BadOperands
 fill (place ∷ places) (operand ∷ operands) fields =
     if is_implied place then and_then (fill places (operand ∷ operands) fields) (λ filled. Ok (imply place filled))
     else (if takes place operand then and_then (fill places operands fields) (put place operand)
@@ -126,7 +129,9 @@ fill (place ∷ places) (operand ∷ operands) fields =
 
 -- the instruction with its operands; a field that none fills is x0 or 0
 unfoldable pub instruction : Operation → List Place → List Operand → Result Statement AsmFault
-instruction operation places operands = and_then (fill places operands (record { rd = 0; rs1 = 0; rs2 = 0; csr = pos 0 })) (λ filled. Ok (Instruction operation filled.0 filled.1))
+instruction operation places operands =
+    and_then (fill places operands (record { rd = 0; rs1 = 0; rs2 = 0; csr = pos 0 }))
+    (λ filled. Ok (Instruction operation filled.0 filled.1))
 
 -- the places of so many operands of jal: with or without its register
 abbrev pub jal_places : ℕ → List Place
@@ -142,14 +147,17 @@ jalr_places count =
 -- the statement of a form with its operands
 unfoldable pub statement : Form → List Operand → Result Statement AsmFault
 statement form.Nothing [] = Ok Nothing
-statement (form.Instruction operation first second third) operands = instruction operation (first ∷ second ∷ third ∷ []) operands
+statement (form.Instruction operation first second third) operands =
+    instruction operation (first ∷ second ∷ third ∷ []) operands
 statement form.Jal operands = instruction operation.Jal (jal_places (length operands)) operands
 statement form.Jalr operands = instruction operation.Jalr (jalr_places (length operands)) operands
 statement (form.Choice section) [] = Ok (Choice section)
 statement form.Global (Value (Symbol name) ∷ []) = Ok Nothing
 statement form.Constant (Value (Symbol name) ∷ Value (Number number) ∷ []) = Ok (Constant name number)
-statement (form.Values width) (first ∷ others) = if list_all (takes place.Value) (first ∷ others) then Ok (Values width (first ∷ others)) else Err BadOperands
-statement (form.Bytes directive place) (operand ∷ []) = if takes place operand then Ok (Bytes directive operand) else Err BadOperands
+statement (form.Values width) (first ∷ others) =
+    if list_all (takes place.Value) (first ∷ others) then Ok (Values width (first ∷ others)) else Err BadOperands
+statement (form.Bytes directive place) (operand ∷ []) =
+    if takes place operand then Ok (Bytes directive operand) else Err BadOperands
 statement _ operands = Err BadOperands
 
 -- the form is that of data, which may have any number of operands
@@ -169,5 +177,7 @@ operands_read tokens = ok_or (operands_of tokens) BadOperands
 -- the form and the operands that tokens spell
 abbrev pub reading : List Token → Result (Form × List Operand) AsmFault
 reading [] = Ok (form.Nothing, [])
-reading (token.Name name ∷ rest) = and_then (ok_or (form_named name) UnknownMnemonic) (λ named. and_then (operands_read rest) (λ operands. Ok (named, operands)))
+reading (token.Name name ∷ rest) =
+    and_then (ok_or (form_named name) UnknownMnemonic)
+    (λ named. and_then (operands_read rest) (λ operands. Ok (named, operands)))
 reading _ = Err UnknownMnemonic

@@ -29,7 +29,8 @@ placed_of line = place line.reach (line_in line.line.bytes.now)
 
 -- what the program keeps of lines
 abbrev pub kept_in : List Record → List Kept
-kept_in records = map (λ line. record { number = line.line.number; bytes = line.line.bytes.now; place = placed_of line }) records
+kept_in records =
+    map (λ line. record { number = line.line.number; bytes = line.line.bytes.now; place = placed_of line }) records
 
 -- the lines that the program keeps, where they stand
 abbrev pub lines_in : List Record → List Placed
@@ -41,11 +42,14 @@ means program reach statement = cells_at program.base (layout_of program.layout.
 
 -- the first fault of the program in the second pass, with its line
 abbrev pub fault_in : Program → Option (AsmFault × ℕ)
-fault_in program = first_with_fault (second_fault program.base (layout_of program.layout.now)) (kept_in program.layout.now.records.items)
+fault_in program =
+    first_with_fault (second_fault program.base (layout_of program.layout.now))
+    (kept_in program.layout.now.records.items)
 
 -- the parts of the program's image: the text, and the data after it
 abbrev pub cells_in : Program → List Cell
 cells_in program =
     let whole = layout_of program.layout.now in
     let lines = lines_in program.layout.now.records.items in
-    contents program.base whole Text lines ++ after_text whole.reach.text_size whole.reach.data_size (contents program.base whole Data lines)
+    contents program.base whole Text lines
+    ++ after_text whole.reach.text_size whole.reach.data_size (contents program.base whole Data lines)

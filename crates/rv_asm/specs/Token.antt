@@ -40,7 +40,8 @@ mark_of byte =
 -- the number that digits of a base write; none where there is no digit, another byte, or a value past 4294967295
 unfoldable pub number_in : ℕ → List ℕ → Option ℕ
 number_in base digits =
-    if (nat_lt 0 (length digits) && list_all (λ c. is_digit c base) digits) && nat_lt (digits_value base digits) 4294967296
+    if (nat_lt 0 (length digits) && list_all (λ c. is_digit c base) digits)
+    && nat_lt (digits_value base digits) 4294967296
     then Some (digits_value base digits)
     else None
 
@@ -97,7 +98,8 @@ word_lexeme first line =
 
 -- a quote begins a string, and another ends it
 unfoldable pub string_lexeme : List ℕ → Option Lexeme
-string_lexeme others = option_map (λ n. record { token = Some (Text (unescaped (take n others))); size = n + 2 }) (quoted_length others)
+string_lexeme others =
+    option_map (λ n. record { token = Some (Text (unescaped (take n others))); size = n + 2 }) (quoted_length others)
 
 -- what a line begins with, whose first byte is given; none where that is no token
 unfoldable pub first_lexeme : ℕ → List ℕ → Option Lexeme
@@ -114,7 +116,9 @@ unfoldable pub tokens_after : List ℕ → ℕ → Option (List Token)
 tokens_after [] taken = Some []
 tokens_after (byte ∷ bytes) (suc taken) = tokens_after bytes taken
 tokens_after (byte ∷ bytes) zero =
-    option_and_then (λ found. option_map (λ tokens. option_to_list found.token ++ tokens) (tokens_after bytes (found.size - 1))) (first_lexeme byte (byte ∷ bytes))
+    option_and_then
+    (λ found. option_map (λ tokens. option_to_list found.token ++ tokens) (tokens_after bytes (found.size - 1)))
+    (first_lexeme byte (byte ∷ bytes))
 
 -- the tokens of a line; none where something on it is no token
 unfoldable pub tokens_of : List ℕ → Option (List Token)

@@ -91,7 +91,8 @@ impl Directive {
         operand: Operand<'_>,
         out: &mut Vec<u8>,
     ) -> Result<(), AsmFault>
-        ensures { AppendsIfRoom (map Byte' (laid_by self offset (operand_of operand.entry))) out.old.items out.new.items result }
+        ensures { AppendsIfRoom (map Byte' (laid_by self offset (operand_of operand.entry))) out.old.items
+            out.new.items result }
     {
         match self {
             Directive::Zeros => push_zeros(out, amount_in(operand)),

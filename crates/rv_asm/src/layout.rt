@@ -106,8 +106,10 @@ impl<'a> Layout<'a> {
         ensures moved { is_data form ≡ false → Follows (λ _. self.new.reach) result
             (moved (found self.old.symbols) self.old.reach form (operands_in operands.now)) }
         ensures layout { is_data form ≡ false → IfOk result (λ _.
-            layout_of self.new ≡ after_statement (found self.old.symbols) self.old.reach (statement form (operands_in operands.now))) }
-        ensures idle { is_data form ≡ false → IfOk result (λ idle. idle ≡ says_nothing (statement form (operands_in operands.now))) }
+            layout_of self.new
+            ≡ after_statement (found self.old.symbols) self.old.reach (statement form (operands_in operands.now))) }
+        ensures idle { is_data form ≡ false →
+            IfOk result (λ idle. idle ≡ says_nothing (statement form (operands_in operands.now))) }
         ensures records { self.new.records ≡ self.old.records }
     {
         if is_unmet(&self.symbols, needed(form, operands)) {
@@ -129,7 +131,8 @@ impl<'a> Layout<'a> {
         ensures moved { Follows (λ _. self.new.reach) result
             (and_then (operands_read (tokens_in tokens.now)) (moved (found self.old.symbols) self.old.reach form)) }
         ensures layout { IfOk result (λ _. layout_of self.new
-            ≡ after_statement (found self.old.symbols) self.old.reach (and_then (operands_read (tokens_in tokens.now)) (statement form))) }
+            ≡ after_statement (found self.old.symbols) self.old.reach
+            (and_then (operands_read (tokens_in tokens.now)) (statement form))) }
         ensures idle { IfOk result (λ idle. idle
             ≡ says_nothing (and_then (operands_read (tokens_in tokens.now)) (statement form))) }
         ensures records { self.new.records ≡ self.old.records }
@@ -148,9 +151,11 @@ impl<'a> Layout<'a> {
 
     /// Adds what stands after the labels of a line. The answer is whether its statement has no effect.
     fn add_body(&mut self, alloc: Global, body: &[Token<'a>]) -> Result<bool, AsmFault>
-        ensures added { IfOk result (λ _. body_fault (found self.old.symbols) self.old.reach (tokens_in body.now) ≡ None) }
+        ensures added { IfOk result (λ _. body_fault (found self.old.symbols) self.old.reach
+            (tokens_in body.now) ≡ None) }
         ensures layout { IfOk result (λ _.
-            layout_of self.new ≡ after_statement (found self.old.symbols) self.old.reach (statement_in (tokens_in body.now))) }
+            layout_of self.new
+            ≡ after_statement (found self.old.symbols) self.old.reach (statement_in (tokens_in body.now))) }
         ensures idle { IfOk result (λ idle. idle ≡ says_nothing (statement_in (tokens_in body.now))) }
         ensures records { self.new.records ≡ self.old.records }
         ensures refused { RefusedBy (body_fault (found self.old.symbols) self.old.reach (tokens_in body.now)) result }
@@ -165,9 +170,11 @@ impl<'a> Layout<'a> {
     /// Adds a line.
     fn add(&mut self, alloc: Global, line: TextLine<'a>) -> Result<(), AsmFault>
         ensures added { IfOk result (λ _. first_fault (layout_of self.old) (line_in line.entry.bytes.now) ≡ None) }
-        ensures layout { IfOk result (λ _. layout_of self.new ≡ extended (layout_of self.old) (line_in line.entry.bytes.now)) }
+        ensures layout { IfOk result (λ _. layout_of self.new
+            ≡ extended (layout_of self.old) (line_in line.entry.bytes.now)) }
         ensures records { IfOk result (λ _. kept_in self.new.records.items
-            ≡ kept_in self.old.records.items ++ keep line.entry.number line.entry.bytes.now (place self.old.reach (line_in line.entry.bytes.now))) }
+            ≡ kept_in self.old.records.items
+            ++ keep line.entry.number line.entry.bytes.now (place self.old.reach (line_in line.entry.bytes.now))) }
         ensures refused { RefusedBy (first_fault (layout_of self.old) (line_in line.entry.bytes.now)) result }
     {
         let tokens = tokenize(alloc, line.bytes)?;
@@ -186,7 +193,8 @@ impl<'a> Layout<'a> {
     pub fn of_text(alloc: Global, text: &'a [u8]) -> Result<Self, AsmError>
         ensures clean { IfOk result (λ _. first_fault_of (lines_of text.entry.now) ≡ None) }
         ensures tells { IfOk result (λ program. layout_of program ≡ layout (lines_of text.entry.now)) }
-        ensures kept { IfOk result (λ program. kept_in program.records.items ≡ kept 1 unlaid (slice_split (λ byte. byte == 10) text.entry.now)) }
+        ensures kept { IfOk result (λ program. kept_in program.records.items
+            ≡ kept 1 unlaid (slice_split (λ byte. byte == 10) text.entry.now)) }
         ensures refused { RefusedAt (first_fault_of (lines_of text.entry.now)) result }
         ensures memory { IfErr result (λ error. error.fault ≡ AsmFault.Memory → error.line ≡ 0) }
     {

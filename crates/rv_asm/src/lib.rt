@@ -1,5 +1,5 @@
-//! The assembler: the image of a text, with the lines of its words, or the text's first fault. The tokens of a line and the forms of
-//! statements are there too, with what reads them, for those that say why a text was refused.
+//! The assembler: the image of a text, with the lines of its words, or the text's first fault. The tokens of a line and
+//! the forms of statements are there too, with what reads them, for those that say why a text was refused.
 #![tactic(auto)]
 
 mod assembler;

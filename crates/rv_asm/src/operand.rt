@@ -56,8 +56,10 @@ fn read_expression<'a>(tokens: &[Token<'a>]) -> Option<Expression<'a>>
 
 /// The name between two parentheses.
 fn in_parentheses<'a>(tokens: &[Token<'a>]) -> Option<&'a [u8]>
-    ensures found { IfSome result (λ name. tokens_in tokens.now ≡ LeftParenthesis ∷ Name name.now ∷ RightParenthesis ∷ []) }
-    ensures other { result ≡ None → (name : List ℕ) → tokens_in tokens.now ≢ LeftParenthesis ∷ Name name ∷ RightParenthesis ∷ [] }
+    ensures found { IfSome result
+        (λ name. tokens_in tokens.now ≡ LeftParenthesis ∷ Name name.now ∷ RightParenthesis ∷ []) }
+    ensures other { result ≡ None → (name : List ℕ) →
+        tokens_in tokens.now ≢ LeftParenthesis ∷ Name name ∷ RightParenthesis ∷ [] }
 {
     match tokens {
         [

@@ -115,11 +115,13 @@ impl Sections {
 
     /// The sections of a program, or its first fault in the second pass.
     pub fn of_program(alloc: Global, program: &Program<'_, '_>) -> Result<Sections, AsmError>
-        ensures clean { IfOk result (λ _. first_with_fault (second_fault program.now.base (layout_of program.now.layout.now))
+        ensures clean { IfOk result (λ _. first_with_fault
+            (second_fault program.now.base (layout_of program.now.layout.now))
             (kept_in program.now.layout.now.records.items) ≡ None) }
         ensures text { IfOk result (λ sections. Spells (contents program.now.base (layout_of program.now.layout.now)
             Section.Text (lines_in program.now.layout.now.records.items)) sections.text.items) }
-        ensures data_bytes { IfOk result (λ sections. Spells (contents program.now.base (layout_of program.now.layout.now)
+        ensures data_bytes { IfOk result (λ sections. Spells
+            (contents program.now.base (layout_of program.now.layout.now)
             Section.Data (lines_in program.now.layout.now.records.items)) sections.data_bytes.items) }
         ensures refused { RefusedAt (first_with_fault (second_fault program.now.base (layout_of program.now.layout.now))
             (kept_in program.now.layout.now.records.items)) result }

@@ -99,12 +99,14 @@ impl<'a> Symbols<'a> {
         tokens: &'t [Token<'a>],
         here: Definition,
     ) -> Result<(&'t [Token<'a>], bool), AsmFault>
-        ensures added { IfOk result (λ _. label_fault (found self.old) here (labels_of (tokens_in tokens.entry.now)) ≡ None) }
+        ensures added { IfOk result (λ _. label_fault (found self.old) here
+            (labels_of (tokens_in tokens.entry.now)) ≡ None) }
         ensures labels { IfOk result (λ _.
             found self.new ≡ labelled (found self.old) here (labels_of (tokens_in tokens.entry.now))) }
         ensures body { IfOk result (λ after. body_of (tokens_in tokens.entry.now) ≡ tokens_in after.0.now) }
         ensures starts { IfOk result (λ after. after.1 ≡ list_any is_start (labels_of (tokens_in tokens.entry.now))) }
-        ensures refused { RefusedBy (label_fault (found self.old) here (labels_of (tokens_in tokens.entry.now))) result }
+        ensures refused { RefusedBy (label_fault (found self.old) here
+            (labels_of (tokens_in tokens.entry.now))) result }
     {
         let mut rest = tokens;
         let mut starts = false;

@@ -26,7 +26,8 @@ eviction_cost values (Some line) = if line.dirty then values.write_back else 0
 
 -- what an access costs, by whether its line is held and by the line that it drops
 abbrev pub cost_of_access : CacheValues → Bool → Option CacheLine → ℕ
-cost_of_access values is_hit dropped = if is_hit then values.hit else values.hit + values.miss + eviction_cost values dropped
+cost_of_access values is_hit dropped =
+    if is_hit then values.hit else values.hit + values.miss + eviction_cost values dropped
 
 -- 1, 2 or 4 bytes at a multiple of their number
 abbrev pub IsAligned : ℕ → ℕ → Type 0
@@ -54,11 +55,13 @@ module _ {M : Type 0} where
   -- what an access costs, in cycles
   abbrev pub access_cost : Contents M → ℕ → ℕ
   access_cost cache address =
-      cost_of_access cache.values (is_held (line_of cache address) (set_of cache (line_of cache address))) (evicted cache address)
+      cost_of_access cache.values (is_held (line_of cache address) (set_of cache (line_of cache address)))
+      (evicted cache address)
 
   -- the bytes of memory once the dirty line that an access drops was written there
   abbrev pub memory_after : Contents M → ℕ → List ℕ → List ℕ
-  memory_after cache address memory = victim_written cache.base cache.values.line cache.bytes (evicted cache address) memory
+  memory_after cache address memory =
+      victim_written cache.base cache.values.line cache.bytes (evicted cache address) memory
 
   -- the bytes of memory once every dirty line was written there
   abbrev pub memory_written_back : Contents M → List ℕ → List ℕ
@@ -71,7 +74,8 @@ module _ {M : Type 0} where
   -- each byte of memory is as before, or is the one that a program sees and lies in another line than the address
   abbrev pub IsUpdatedElsewhere : Contents M → ℕ → List ℕ → List ℕ → Type 0
   IsUpdatedElsewhere cache address old new =
-      (i : ℕ) → (slice_index new i ≡ slice_index old i) ⊎ ((slice_index new i ≡ slice_index cache.bytes i) × (line_of cache (cache.base + i) ≢ line_of cache address))
+      (i : ℕ) → (slice_index new i ≡ slice_index old i)
+      ⊎ ((slice_index new i ≡ slice_index cache.bytes i) × (line_of cache (cache.base + i) ≢ line_of cache address))
 
   -- the bytes from an address on lie in the cached memory
   abbrev pub IsInMemory : Contents M → ℕ → ℕ → Type 0

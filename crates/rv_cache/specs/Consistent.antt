@@ -23,10 +23,13 @@ pub record AreFilled (base : ℕ) (values : CacheValues) (size : ℕ) (sets : Li
 -- a byte whose line is not dirty is the same in memory
 abbrev pub IsInStep : ℕ → CacheValues → List ℕ → List (List CacheLine) → List ℕ → Type 0
 IsInStep base values bytes sets memory =
-    (i : ℕ) → i < length bytes → is_dirty ((base + i) / values.line) (slice_index_or sets ((base + i) / values.line % values.sets) []) ≡ false → slice_index memory i ≡ slice_index bytes i
+    (i : ℕ) → i < length bytes →
+    is_dirty ((base + i) / values.line) (slice_index_or sets ((base + i) / values.line % values.sets) []) ≡ false →
+    slice_index memory i ≡ slice_index bytes i
 
 -- the cache holds what a program sees, and memory lacks only what dirty lines hold
-pub record IsConsistent (base : ℕ) (values : CacheValues) (bytes : List ℕ) (sets : List (List CacheLine)) (memory : List ℕ) : Type 0 where
+pub record IsConsistent (base : ℕ) (values : CacheValues) (bytes : List ℕ) (sets : List (List CacheLine))
+    (memory : List ℕ) : Type 0 where
   pub divided : IsDivided base values (length bytes)
   pub filled : AreFilled base values (length bytes) sets
   pub size : length memory ≡ length bytes

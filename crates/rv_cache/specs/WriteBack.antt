@@ -24,7 +24,9 @@ module _ (base line_bytes : ℕ) where
   -- a dirty line's bytes, as a program sees them, replace those that memory has there
   abbrev pub line_written : List ℕ → CacheLine → List ℕ → List ℕ
   line_written bytes line memory =
-      if line.dirty then overwritten memory (offset_of line.number) (slice_range bytes (offset_of line.number) (offset_of line.number + line_bytes)) else memory
+      if line.dirty
+      then overwritten memory (offset_of line.number)
+      (slice_range bytes (offset_of line.number) (offset_of line.number + line_bytes)) else memory
 
   -- memory once the line that a set dropped was written, if it dropped one
   abbrev pub victim_written : List ℕ → Option CacheLine → List ℕ → List ℕ

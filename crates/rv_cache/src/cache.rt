@@ -30,7 +30,13 @@ impl<M: Backing> Model for Cache<M> {
 
     ghost Value = { Contents M };
 
-    ghost view = { λ c. record { base = c.base; values = c.values; bytes = c.bytes.items; sets = c.sets.items; backing = c.backing } };
+    ghost view = { λ c. record {
+      base = c.base;
+      values = c.values;
+      bytes = c.bytes.items;
+      sets = c.sets.items;
+      backing = c.backing;
+    } };
 
     ghost invariant = { λ c. IsConsistent c.base c.values c.bytes.items c.sets.items (M.bytes c.backing) };
 }
@@ -46,7 +52,14 @@ impl<M: Backing> Cache<M> {
         requires base { IsRamBase base }
         requires lines { length (M.bytes backing) % description.now.cache.line ≡ 0 }
         requires reach { base + length (M.bytes backing) ≤ 2 ^ 32 }
-        ensures { IfOk result (λ cache. cache ≡ record { base = base; values = description.now.cache; bytes = M.bytes backing; sets = replicate description.now.cache.sets []; backing = backing }) }
+        ensures { IfOk result (λ cache. cache
+            ≡ record {
+              base = base;
+              values = description.now.cache;
+              bytes = M.bytes backing;
+              sets = replicate description.now.cache.sets [];
+              backing = backing;
+            }) }
     {
         let values = description.values().cache;
         let mut bytes = vec![in alloc; 0; backing.size()]?;
@@ -67,7 +80,10 @@ impl<M: Backing> Cache<M> {
         requires access { IsAccess self.old address count }
         ensures bytes { result.0 ≡ seen self.old address count ++ replicate (4 - count) 0 }
         ensures cost { result.1 ≡ access_cost self.old address }
-        ensures accessed { self.new ≡ record self.old { sets = accessed_sets self.old address false; backing = self.new.backing } }
+        ensures accessed { self.new ≡ record self.old {
+          sets = accessed_sets self.old address false;
+          backing = self.new.backing;
+        } }
         ensures evicted { M.bytes self.new.backing ≡ memory_after self.old address (M.bytes self.old.backing) }
         ensures updated { IsUpdated self.new.bytes (M.bytes self.old.backing) (M.bytes self.new.backing) }
         ensures kept { M.keeps self.old.backing self.new.backing }
@@ -84,7 +100,11 @@ impl<M: Backing> Cache<M> {
     pub fn write(&mut self, address: u32, bytes: &[u8]) -> u32
         requires access { IsAccess self.old address (length bytes.now) }
         ensures cost { result ≡ access_cost self.old address }
-        ensures accessed { self.new ≡ record self.old { bytes = seen_after self.old address bytes.now; sets = accessed_sets self.old address true; backing = self.new.backing } }
+        ensures accessed { self.new ≡ record self.old {
+          bytes = seen_after self.old address bytes.now;
+          sets = accessed_sets self.old address true;
+          backing = self.new.backing;
+        } }
         ensures evicted { M.bytes self.new.backing ≡ memory_after self.old address (M.bytes self.old.backing) }
         ensures updated { IsUpdated self.new.bytes (M.bytes self.old.backing) (M.bytes self.new.backing) }
         ensures size { length self.new.bytes ≡ length self.old.bytes }
@@ -100,7 +120,10 @@ impl<M: Backing> Cache<M> {
     fn access(&mut self, address: u32, writes: bool) -> u32
         requires cached { IsCached self.old address }
         ensures cost { result ≡ access_cost self.old address }
-        ensures accessed { self.new ≡ record self.old { sets = accessed_sets self.old address writes; backing = self.new.backing } }
+        ensures accessed { self.new ≡ record self.old {
+          sets = accessed_sets self.old address writes;
+          backing = self.new.backing;
+        } }
         ensures evicted { M.bytes self.new.backing ≡ memory_after self.old address (M.bytes self.old.backing) }
         ensures elsewhere { IsUpdatedElsewhere self.old address (M.bytes self.old.backing) (M.bytes self.new.backing) }
         ensures kept { M.keeps self.old.backing self.new.backing }
@@ -121,7 +144,10 @@ impl<M: Backing> Cache<M> {
     /// Writes all dirty lines to the backing, and answers their number. They stay, clean.
     pub fn write_back_all(&mut self) -> u32
         ensures count { result ≡ dirty_total self.old.sets }
-        ensures cleaned { self.new ≡ record self.old { sets = map (map cleaned) self.old.sets; backing = self.new.backing } }
+        ensures cleaned { self.new ≡ record self.old {
+          sets = map (map cleaned) self.old.sets;
+          backing = self.new.backing;
+        } }
         ensures by_lines { M.bytes self.new.backing ≡ memory_written_back self.old (M.bytes self.old.backing) }
         ensures written { M.bytes self.new.backing ≡ self.old.bytes }
         ensures kept { M.keeps self.old.backing self.new.backing }

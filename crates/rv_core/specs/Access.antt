@@ -31,7 +31,8 @@ defined_path address (FromCache overlay) = DefinedFromCache address
 -- the path of an instruction after some stores, by the value of its first register
 abbrev pub load_path : Layout → List Store → ℕ → Instr → DefinedPath
 load_path layout stores first (Load form rd rs1 offset) =
-    defined_path (sum first (modulo_word offset)) (path_of layout stores (sum first (modulo_word offset)) (bytes_of (width_of form)))
+    defined_path (sum first (modulo_word offset))
+    (path_of layout stores (sum first (modulo_word offset)) (bytes_of (width_of form)))
 load_path layout stores first _ = DefinedWithout
 
 -- the address that a ready load reads from: the sum of its register's value and its offset
@@ -42,7 +43,8 @@ address_of ready offset = sum ready.first (modulo_word offset)
 abbrev pub path_of_load : Contents Memory → Queue → Ready → LoadForm → ℤ → DefinedPath
 path_of_load cache queue ready form offset =
     defined_path (address_of ready offset)
-    (path_of cache.backing.layout (older_than ready.seq queue.stores) (address_of ready offset) (bytes_of (width_of form)))
+    (path_of cache.backing.layout (older_than ready.seq queue.stores) (address_of ready offset)
+    (bytes_of (width_of form)))
 
 -- the path of a ready instruction, after the stores that are older
 abbrev pub path_of_ready : Contents Memory → Queue → Ready → DefinedPath
@@ -109,4 +111,5 @@ abbrev pub IsExecuted : Contents Memory → Queue → Ready → Message → Type
 IsExecuted cache queue ready message =
     is_some (kind_of ready.instruction) ≡ true →
     (s : State) (lines : Lines) (word : ℕ) → Reads s ready.pc ready.first ready.second ready.instruction →
-    IsAfter cache (older_than ready.seq queue.stores) s → message ≡ result_in cache.backing.layout s lines word ready.instruction
+    IsAfter cache (older_than ready.seq queue.stores) s →
+    message ≡ result_in cache.backing.layout s lines word ready.instruction

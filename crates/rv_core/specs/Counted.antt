@@ -10,7 +10,8 @@ use Rattle.rv_watch.specs.Progress.{progress_of}
 use Rattle.rv_watch.specs.declared.progress.Progress.{Progress}
 use Rattle.rv_core.specs.declared.{counting.Counted.Counted, steps.Steps.Steps}
 
--- what these counts come to of a run that ended for a reason: the steps that were neither traps nor interrupts are instructions that retired
+-- what these counts come to of a run that ended for a reason: the steps that were neither traps nor interrupts are
+-- instructions that retired
 pub record AreCounts (progress : Progress) (steps : Steps) (stop : Stop) (run : Counted) : Type 0 where
   pub progress_is : run.progress ≡ progress
   pub stop_is : run.stop ≡ stop

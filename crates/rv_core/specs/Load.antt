@@ -43,7 +43,8 @@ path_unless None overlay count = path_over overlay count
 
 -- the path of a load after some stores
 abbrev pub path_of : Layout → List Store → ℕ → ℕ → Path
-path_of layout stores address count = path_unless (load_fault layout address count) (forwarded stores address count) count
+path_of layout stores address count =
+    path_unless (load_fault layout address count) (forwarded stores address count) count
 
 -- the byte that the stores forward to a place of an access, else the one below
 abbrev pub byte_over : List (Option ℕ) → List ℕ → ℕ → ℕ

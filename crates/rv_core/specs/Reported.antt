@@ -33,7 +33,8 @@ report_with steps end = record { steps = steps; dispatched = end.dispatched; sta
 -- a cycle led from the one hardware to the other, and its steps, eight at most, were taken
 abbrev pub TakesCycle : Lines → GuidedHardware → GuidedHardware → Steps → Steps → CycleEnd → Type 0
 TakesCycle lines old new before after end =
-    (steps : List Step) × Takes before after steps × (length steps ≤ 8) × IsGuidedCycle lines old (report_with steps end) new
+    (steps : List Step) × Takes before after steps × (length steps ≤ 8)
+    × IsGuidedCycle lines old (report_with steps end) new
 
 -- what a cycle of a pipeline reports
 abbrev pub report_of_cycle : CycleReport → Report
@@ -46,4 +47,5 @@ exhausted_report = record { steps = []; dispatched = 0; stall = None; stop = Som
 
 -- an interrupt that is due in the state before a cycle, with the lines of the cycle, is the cycle's one step
 abbrev pub TakesDue : Lines → ℕ → State → List Step → Type 0
-TakesDue lines cycle before steps = IfSome (due before.csrs lines) (λ code. steps ≡ Interrupt before.pc (interrupt_cause code) cycle ∷ [])
+TakesDue lines cycle before steps =
+    IfSome (due before.csrs lines) (λ code. steps ≡ Interrupt before.pc (interrupt_cause code) cycle ∷ [])

@@ -11,7 +11,8 @@ use Rattle.rv_hardware.specs.declared.{report.StallCounts.StallCounts, step.Step
 use Rattle.rv_core.specs.declared.{errors.OutOfMemory.OutOfMemory, outcome.Outcome.Outcome}
 
 -- cycles one after another, with all their steps and counts
-pub record IsRun (arrivals : List Arrival) (old new : GuidedHardware) (reports : List Report) (steps : List Step) (stalls : StallCounts) (busy cycles longest_gap : ℕ) : Type 0 where
+pub record IsRun (arrivals : List Arrival) (old new : GuidedHardware) (reports : List Report) (steps : List Step)
+    (stalls : StallCounts) (busy cycles longest_gap : ℕ) : Type 0 where
   pub cycled : GuidedCycles arrivals old reports new
   pub steps_are : steps ≡ steps_of reports
   pub stalls_are : stalls ≡ stalls_of reports
@@ -22,16 +23,22 @@ pub record IsRun (arrivals : List Arrival) (old new : GuidedHardware) (reports :
 -- a run of at most `limit` cycles that ended
 abbrev pub IsOutcome : List Arrival → ℕ → GuidedHardware → GuidedHardware → Outcome → Type 0
 IsOutcome arrivals limit old new outcome =
-    (reports : List Report) × IsRun arrivals old new reports outcome.steps.items outcome.stalls outcome.busy outcome.cycles outcome.longest_gap × IsStop limit reports new.hardware outcome.stop
+    (reports : List Report)
+    × IsRun arrivals old new reports outcome.steps.items outcome.stalls outcome.busy outcome.cycles
+    outcome.longest_gap × IsStop limit reports new.hardware outcome.stop
 
 -- one that ended when out of memory: nothing stopped it, and it had cycles left
 abbrev pub IsCutShort : List Arrival → ℕ → GuidedHardware → GuidedHardware → OutOfMemory → Type 0
 IsCutShort arrivals limit old new done =
-    (reports : List Report) × IsRun arrivals old new reports done.steps.items done.stalls done.busy done.cycles done.longest_gap × NoneStops reports × (length reports < limit)
+    (reports : List Report)
+    × IsRun arrivals old new reports done.steps.items done.stalls done.busy done.cycles done.longest_gap
+    × NoneStops reports × (length reports < limit)
 
 -- a run that ended, or one that out of memory cut short
 abbrev pub IsDone : List Arrival → ℕ → GuidedHardware → GuidedHardware → Result Outcome OutOfMemory → Type 0
-IsDone arrivals limit old new done = MatchResult done (λ outcome. IsOutcome arrivals limit old new outcome) (λ short. IsCutShort arrivals limit old new short)
+IsDone arrivals limit old new done =
+    MatchResult done (λ outcome. IsOutcome arrivals limit old new outcome)
+    (λ short. IsCutShort arrivals limit old new short)
 
 -- what a run reports that ended
 abbrev pub reported : Outcome → Reported
@@ -60,4 +67,5 @@ KeepsPromise arrivals old new run = IsPromised old.values arrivals old.cycle new
 -- what is promised of a run that ended, or that out of memory cut short
 abbrev pub KeepsItsPromise : List Arrival → Hardware → Hardware → Result Outcome OutOfMemory → Type 0
 KeepsItsPromise arrivals old new done =
-    MatchResult done (λ outcome. KeepsPromise arrivals old new (reported outcome)) (λ short. KeepsPromise arrivals old new (reported_so_far short))
+    MatchResult done (λ outcome. KeepsPromise arrivals old new (reported outcome))
+    (λ short. KeepsPromise arrivals old new (reported_so_far short))

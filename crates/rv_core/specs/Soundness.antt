@@ -43,7 +43,8 @@ message_of (Finished issue cycle message) = Some message
 pub record IsSoundEntry (values : Values) (e : Entry) : Type 0 where
   pub decoded : e.instruction ≡ option_and_then instruction_of e.word
   pub target : IfSome (target_of_word e.instruction) (λ register. register < 32)
-  pub writes : IfSome (message_of e.stage) (λ message. IsLegalWrite values (is_store e.instruction) message.fault message.store)
+  pub writes : IfSome (message_of e.stage)
+      (λ message. IsLegalWrite values (is_store e.instruction) message.fault message.store)
 
 -- what holds of a store that has retired
 abbrev pub IsRetiredStore : Values → StoreState → Type 0

@@ -40,7 +40,8 @@ abbrev pub checkpoints_of : List Producer → ℕ → List Entry → List Checkp
 checkpoints_of older seq [] = []
 checkpoints_of older seq (e ∷ es) =
     if is_branch_or_jump e.instruction
-    then record { seq = seq; producers = producers_with older seq e } ∷ checkpoints_of (producers_with older seq e) (seq + 1) es
+    then record { seq = seq; producers = producers_with older seq e }
+    ∷ checkpoints_of (producers_with older seq e) (seq + 1) es
     else checkpoints_of (producers_with older seq e) (seq + 1) es
 
 -- the rename map; checkpoints are for early recovery alone
@@ -109,7 +110,8 @@ bus_of values rob = record {
 }
 
 -- what the parts hold beside the hardware follows from the instructions in flight
-pub record AreTied (h : Hardware) (rename : Renaming) (stations : PerKind Pool) (bus : Pending) (queue : Queue) : Type 0 where
+pub record AreTied (h : Hardware) (rename : Renaming) (stations : PerKind Pool) (bus : Pending)
+    (queue : Queue) : Type 0 where
   pub renamed : rename ≡ renaming_of h.values h.rob
   pub stationed : stations ≡ stations_of h.values h.registers h.rob
   pub pending : bus ≡ bus_of h.values h.rob

@@ -93,7 +93,10 @@ fn fill_store(
     access: &Option<StoreAccess>,
 )
     requires apart { is_store instruction.now ≡ false → AreOthers seq stores.old.stores }
-    ensures { stores.new ≡ record stores.old { stores = map (answered seq (store_of_message access.now)) stores.old.stores } }
+    ensures { stores.new ≡ record stores.old {
+      stores = map (answered seq (store_of_message access.now))
+          stores.old.stores;
+    } }
 {
     if !instruction.is_store() {
         return;
@@ -113,11 +116,15 @@ fn send(
     recovery: Recovery,
     seq: u64,
 ) -> Option<u32>
-    requires apart { (e : EntryOf) → entry_of seq rob.now.retired rob.now.entries ≡ Some e → is_store e.instruction ≡ false → AreOthers seq stores.old.stores }
+    requires apart { (e : EntryOf) → entry_of seq rob.now.retired rob.now.entries ≡ Some e →
+        is_store e.instruction ≡ false → AreOthers seq stores.old.stores }
     ensures carried { (e : EntryOf) (issue : IssueOf) (message : MessageOf) → IsRunning seq rob.now e issue message →
         stations.new ≡ for_each (woken_pool seq message.value) stations.old }
     ensures stored { (e : EntryOf) (issue : IssueOf) (message : MessageOf) → IsRunning seq rob.now e issue message →
-        stores.new ≡ record stores.old { stores = map (answered seq (store_of_message message.store)) stores.old.stores } }
+        stores.new ≡ record stores.old {
+          stores = map (answered seq (store_of_message message.store))
+              stores.old.stores;
+        } }
     ensures goes_on { (e : EntryOf) (issue : IssueOf) (message : MessageOf) → IsRunning seq rob.now e issue message →
         result ≡ (if mends_early recovery && is_mispredicted e message then Some message.next_pc else None) }
 {

@@ -36,7 +36,8 @@ const INTERRUPT: u32 = 0x8000_0000;
 
 // Writes a value to an instruction's target, if it has one.
 fn write_target(registers: &mut [u32; 32], target: &Option<Reg>, value: u32)
-    ensures { registers.new ≡ registers_with (option_map (λ (register : ℕ). (register, value)) target.now) registers.old }
+    ensures { registers.new
+        ≡ registers_with (option_map (λ (register : ℕ). (register, value)) target.now) registers.old }
 {
     if let Some(register) = *target {
         registers[register.index()] = value;
@@ -46,7 +47,8 @@ fn write_target(registers: &mut [u32; 32], target: &Option<Reg>, value: u32)
 // The oldest instruction leaves the reorder buffer and the rename map.
 fn retire_oldest(rob: &mut Rob, rename: &mut RenameMap, target: &Option<Reg>)
     ensures rob { rob.new ≡ head_retired rob.old }
-    ensures rename { rename.new ≡ without_checkpoint rob.old.retired (without_target rob.old.retired target.now rename.old) }
+    ensures rename { rename.new ≡ without_checkpoint rob.old.retired
+        (without_target rob.old.retired target.now rename.old) }
 {
     let seq = rob.retired();
     if let Some(register) = *target {
@@ -82,7 +84,8 @@ impl Parts {
         ensures hardware { self.new ≡ (commit set.contains self.old).hardware }
         ensures steps { Takes steps.old steps.new (commit set.contains self.old).steps }
         ensures stop { result ≡ (commit set.contains self.old).stop }
-        ensures taught { AreTaught (known predictor.old) (lessons_of (commit set.contains self.old).steps self.new.pc) (known predictor.new) }
+        ensures taught { AreTaught (known predictor.old) (lessons_of (commit set.contains self.old).steps self.new.pc)
+            (known predictor.new) }
     {
         if let Some(code) = self.due_interrupt() {
             let step = self.interrupt(INTERRUPT + code);

@@ -47,7 +47,8 @@ pub fn count_run(
     arrivals: &Arrivals,
     limit: u64,
 ) -> Counted
-    ensures { IsCountedRun arrivals.now limit (guided pipeline.old (known predictor.old)) (guided pipeline.new (known predictor.new)) result }
+    ensures { IsCountedRun arrivals.now limit (guided pipeline.old (known predictor.old))
+        (guided pipeline.new (known predictor.new)) result }
 {
     let mut steps = Steps::counting();
     let mut progress = Progress::new();

@@ -39,9 +39,11 @@ pub fn run(
     arrivals: &Arrivals,
     limit: u64,
 ) -> Result<Outcome, OutOfMemory>
-    ensures cycles { IsDone arrivals.now limit (guided pipeline.old (known predictor.old)) (guided pipeline.new (known predictor.new)) result }
+    ensures cycles { IsDone arrivals.now limit (guided pipeline.old (known predictor.old))
+        (guided pipeline.new (known predictor.new)) result }
     ensures promised { KeepsItsPromise arrivals.now pipeline.old pipeline.new result }
-    ensures stopped { IfOk result (λ outcome. IsTrueStop (layout_of pipeline.old.values) arrivals.now limit pipeline.old.cycle pipeline.new.cycle outcome.steps.items (seen pipeline.new) outcome.stop) }
+    ensures stopped { IfOk result (λ outcome. IsTrueStop (layout_of pipeline.old.values) arrivals.now limit
+        pipeline.old.cycle pipeline.new.cycle outcome.steps.items (seen pipeline.new) outcome.stop) }
 {
     // Of hardware that a reset and cycles lead to, the promise holds.
     let _ = pipeline.cycles_done();
@@ -55,7 +57,8 @@ fn run_cycles(
     arrivals: &Arrivals,
     limit: u64,
 ) -> Result<Outcome, OutOfMemory>
-    ensures { IsDone arrivals.now limit (guided pipeline.old (known predictor.old)) (guided pipeline.new (known predictor.new)) result }
+    ensures { IsDone arrivals.now limit (guided pipeline.old (known predictor.old))
+        (guided pipeline.new (known predictor.new)) result }
 {
     let Ok(list) = Vec::with_capacity(alloc, 8) else {
         return not_run(alloc, limit);
@@ -85,7 +88,8 @@ fn collect(
     list: Vec<Step>,
 ) -> Result<Outcome, OutOfMemory>
     requires room { 8 ≤ vec_capacity list }
-    ensures { IsDone arrivals.now limit (guided pipeline.old (known predictor.old)) (guided pipeline.new (known predictor.new)) result }
+    ensures { IsDone arrivals.now limit (guided pipeline.old (known predictor.old))
+        (guided pipeline.new (known predictor.new)) result }
 {
     let mut collector = Collector::new(alloc);
     let ended = watch(
@@ -146,7 +150,14 @@ fn count(progress: &mut Progress, is_silent: bool, end: &CycleEnd)
 }
 
 fn outcome(progress: Progress, steps: Vec<Step>, stop: Stop) -> Outcome
-    ensures { result ≡ record { steps = steps; stalls = progress.stalls; busy = progress.busy; cycles = progress.cycles; longest_gap = progress.longest_gap; stop = stop } }
+    ensures { result ≡ record {
+      steps = steps;
+      stalls = progress.stalls;
+      busy = progress.busy;
+      cycles = progress.cycles;
+      longest_gap = progress.longest_gap;
+      stop = stop;
+    } }
 {
     Outcome {
         steps,
@@ -159,7 +170,13 @@ fn outcome(progress: Progress, steps: Vec<Step>, stop: Stop) -> Outcome
 }
 
 fn out_of_memory(progress: Progress, steps: Vec<Step>) -> OutOfMemory
-    ensures { result ≡ record { steps = steps; stalls = progress.stalls; busy = progress.busy; cycles = progress.cycles; longest_gap = progress.longest_gap } }
+    ensures { result ≡ record {
+      steps = steps;
+      stalls = progress.stalls;
+      busy = progress.busy;
+      cycles = progress.cycles;
+      longest_gap = progress.longest_gap;
+    } }
 {
     OutOfMemory {
         steps,

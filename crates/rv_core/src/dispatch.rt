@@ -48,7 +48,8 @@ impl Parts {
 
     // Dispatches the oldest fetched instruction, or returns what it waits for.
     fn dispatch_one(&mut self) -> Option<Stall>
-        ensures { (dispatched : ℕ) → dispatch_turn (dispatching self.old dispatched) ≡ dispatch_left result self.new dispatched }
+        ensures { (dispatched : ℕ) →
+            dispatch_turn (dispatching self.old dispatched) ≡ dispatch_left result self.new dispatched }
     {
         let Some(fetched) = self.front.peek() else {
             return Some(Stall::Fetch);
@@ -113,7 +114,8 @@ impl Parts {
 
 // A cycle that dispatched something did not stall.
 fn reason_for(dispatched: u32, stall: Stall) -> Option<Stall>
-    ensures { (h : Hardware) → result ≡ stall_of (record { hardware = h; dispatched = dispatched; waits_for = Some stall }) }
+    ensures { (h : Hardware) →
+        result ≡ stall_of (record { hardware = h; dispatched = dispatched; waits_for = Some stall }) }
 {
     if dispatched == 0 { Some(stall) } else { None }
 }
@@ -177,7 +179,8 @@ fn push_finished(rob: &mut Rob, fetched: &Fetched, cycle: u64)
 }
 
 fn entering(fetched: &Fetched, cycle: u64, stage: Stage) -> Entry
-    ensures { (h : Hardware) → h.cycle ≡ cycle → first_stage h fetched.now ≡ stage → result ≡ entry_of_fetched h fetched.now }
+    ensures { (h : Hardware) → h.cycle ≡ cycle → first_stage h fetched.now ≡ stage →
+        result ≡ entry_of_fetched h fetched.now }
 {
     Entry {
         pc: fetched.pc,
@@ -205,7 +208,9 @@ fn station(
     requires numbers { next_number rob.now ≤ 2 ^ 44 }
     requires room { are_full_for (kind_of_word fetched.now.instruction) stations.old ≡ false }
     requires youngest { (kind : KindOf) → AreBelow seq_of seq (at_kind kind stations.old).waiting }
-    ensures { stations.new ≡ with_instruction (status_after (values_in registers.now) rob.now.retired rob.now.entries) seq fetched.now.pc fetched.now.instruction stations.old }
+    ensures { stations.new
+        ≡ with_instruction (status_after (values_in registers.now) rob.now.retired rob.now.entries) seq fetched.now.pc
+        fetched.now.instruction stations.old }
 {
     let Some(instruction) = *fetched.instruction.instruction() else {
         return;
@@ -228,7 +233,8 @@ fn station(
 fn operand_of(rename: &RenameMap, rob: &Rob, registers: &[u32; 32], source: Option<Reg>) -> Operand
     requires producers { rename.now.producers ≡ producers_of rob.now.retired rob.now.entries }
     requires numbers { next_number rob.now ≤ 2 ^ 44 }
-    ensures operand { result ≡ operand_of (status_after (values_in registers.now) rob.now.retired rob.now.entries) source }
+    ensures operand { result ≡ operand_of
+        (status_after (values_in registers.now) rob.now.retired rob.now.entries) source }
     ensures known { IsOperand result }
 {
     let Some(register) = source else {

@@ -96,7 +96,8 @@ pub(crate) fn address(base: u32, offset: Immediate) -> u32
 
 /// What an instruction without a memory access gives, of the values of its registers.
 pub(crate) fn operation_result(instruction: &Instr, pc: u32, first: u32, second: u32) -> Message
-    ensures { is_operation (kind_of instruction.now) ≡ true → (layout : Layout) → IsResult layout pc first second instruction.now result }
+    ensures { is_operation (kind_of instruction.now) ≡ true → (layout : Layout) →
+        IsResult layout pc first second instruction.now result }
 {
     match *instruction {
         Instr::Lui { rd, immediate } => computed(rd, immediate.value() * 4096, pc),
@@ -129,7 +130,9 @@ pub(crate) fn operation_result(instruction: &Instr, pc: u32, first: u32, second:
 
 /// What an instruction gives that is finished at its dispatch.
 pub(crate) fn result_at_dispatch(pc: u32, word: Option<u32>, instruction: &Option<Instr>) -> Message
-    ensures { kind_of_word instruction.now ≡ None → is_serialising instruction.now ≡ false → (layout : Layout) (s : State) (lines : Lines) → s.pc ≡ pc → result ≡ result_of_word layout s lines word instruction.now }
+    ensures { kind_of_word instruction.now ≡ None → is_serialising instruction.now ≡ false →
+        (layout : Layout) (s : State) (lines : Lines) → s.pc ≡ pc →
+        result ≡ result_of_word layout s lines word instruction.now }
 {
     let Some(word) = word else {
         return faulted(Cause::InstructionAccessFault, pc);
@@ -181,7 +184,8 @@ fn store_fault(ram: &Ram, address: u32, width: Width) -> Option<Cause>
 
 /// What an instruction gives that is no load, of the values of its registers.
 pub(crate) fn result_of(ram: &Ram, ready: &Ready) -> Message
-    ensures { is_load (Some ready.now.instruction) ≡ false → is_some (kind_of ready.now.instruction) ≡ true → IsResult ram.now.layout ready.now.pc ready.now.first ready.now.second ready.now.instruction result }
+    ensures { is_load (Some ready.now.instruction) ≡ false → is_some (kind_of ready.now.instruction) ≡ true →
+        IsResult ram.now.layout ready.now.pc ready.now.first ready.now.second ready.now.instruction result }
 {
     let Instr::Store { width, offset, .. } = ready.instruction else {
         return operation_result(&ready.instruction, ready.pc, ready.first, ready.second);

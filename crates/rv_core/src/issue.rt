@@ -141,9 +141,14 @@ fn take_ready(
     port_idle: bool,
 ) -> Option<Taken>
     requires { ArePassedBy (goes_over kind cache.now queue.now port_idle) passed (at_kind kind stations.old).waiting }
-    ensures oldest { ready_taken result ≡ next_ready (goes_over kind cache.now queue.now port_idle) (at_kind kind stations.old).waiting }
-    ensures others { stations.new ≡ with_kind kind (taken_from (goes_over kind cache.now queue.now port_idle) (at_kind kind stations.old)) stations.old }
-    ensures passed { IfSome result (λ taken. ArePassedBy (goes_over kind cache.now queue.now port_idle) taken.passed (at_kind kind stations.new).waiting) }
+    ensures oldest { ready_taken result
+        ≡ next_ready (goes_over kind cache.now queue.now port_idle) (at_kind kind stations.old).waiting }
+    ensures others { stations.new
+        ≡ with_kind kind
+        (taken_from (goes_over kind cache.now queue.now port_idle) (at_kind kind stations.old)) stations.old }
+    ensures passed { IfSome result
+        (λ taken. ArePassedBy (goes_over kind cache.now queue.now port_idle) taken.passed
+        (at_kind kind stations.new).waiting) }
 {
     if kind == Kind::Mem {
         let first_unknown = queue.first_unknown();

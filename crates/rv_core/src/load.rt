@@ -93,7 +93,8 @@ fn number_of(bytes: [u8; 4], width: Width) -> u32
 
 // The value of a load of these bytes, extended by its sign or by zeros.
 fn value_of(form: LoadForm, bytes: [u8; 4]) -> u32
-    ensures { result ≡ extended (is_sign_extended form) (bytes_of (width_of form)) (number_of (take (bytes_of (width_of form)) bytes)) }
+    ensures { result ≡ extended (is_sign_extended form) (bytes_of (width_of form))
+        (number_of (take (bytes_of (width_of form)) bytes)) }
 {
     extended(form, number_of(bytes, form.width()))
 }
@@ -139,7 +140,8 @@ pub(crate) fn verdict(
 // Whether a load accesses the cache. Most loads that wait are refused before this is asked, so it stands apart.
 #[inline(never)]
 fn needs_port(cache: &Cache<Ram>, queue: &StoreQueue, seq: u64, address: u32, width: Width) -> bool
-    ensures { result ≡ needs_port (path_of cache.now.backing.layout (older_than seq queue.now.stores) address (bytes_of width)) }
+    ensures { result ≡ needs_port
+        (path_of cache.now.backing.layout (older_than seq queue.now.stores) address (bytes_of width)) }
 {
     path_of(cache, queue, seq, address, width).needs_port()
 }
@@ -185,7 +187,8 @@ pub(crate) fn load(
     requires over_ram { IsOverRam cache.old }
     requires cycle { times.now.cycle ≤ 2 ^ 40 }
     ensures cost { result.cost ≡ cost_by times.now cache.old (path_of_load cache.old queue.now ready.now form offset) }
-    ensures port { result.port_free ≡ port_free_by times.now cache.old (path_of_load cache.old queue.now ready.now form offset) }
+    ensures port { result.port_free
+        ≡ port_free_by times.now cache.old (path_of_load cache.old queue.now ready.now form offset) }
     ensures cache { cache.new ≡ cache_after cache.old (path_of_load cache.old queue.now ready.now form offset) }
     ensures message { IsLoaded cache.old queue.now ready.now form rd offset result.message }
 {

@@ -128,7 +128,8 @@ impl Parts {
         requires numbers { self.old.rob.retired ≤ 8 * self.old.cycle }
         requires room { HasRoom steps.old 8 }
         requires reached { Reachable self.old }
-        ensures cycle { TakesCycle lines (guided self.old (known predictor.old)) (guided self.new (known predictor.new)) steps.old steps.new result }
+        ensures cycle { TakesCycle lines (guided self.old (known predictor.old))
+            (guided self.new (known predictor.new)) steps.old steps.new result }
         ensures stop { IsCommitStop result.stop }
         ensures numbers { self.new.rob.retired ≤ 8 * self.new.cycle }
     {
@@ -151,7 +152,8 @@ impl Parts {
 
     /// Fetch: words are read along the predicted pcs, from RAM past the cache. Returns why it stopped.
     fn fetch(&mut self, predictor: &dyn Predictor) -> FetchStop
-        ensures fetched { FetchesInto (answers_of (known predictor.now)) self.old.cache.backing self.old.cycle self.old.front self.new.front result }
+        ensures fetched { FetchesInto (answers_of (known predictor.now)) self.old.cache.backing self.old.cycle
+            self.old.front self.new.front result }
         ensures others { self.new ≡ record self.old { front = self.new.front } }
     {
         self.front

@@ -64,9 +64,12 @@ impl Pipeline {
         description: &Description,
         image: &Image,
     ) -> Result<Pipeline, NewError>
-        ensures made { IfOk result (λ pipeline. pipeline ≡ reset_hardware description.now image.now.bytes image.now.start) }
-        ensures fits { IfOk result (λ pipeline. IsLoadable description.now image.now.base image.now.bytes image.now.start) }
-        ensures refused { IfErr result (λ error. (error ≡ refusal.ImageDoesNotFit) ↔ (IsLoadable description.now image.now.base image.now.bytes image.now.start → ⊥)) }
+        ensures made { IfOk result (λ pipeline. pipeline
+            ≡ reset_hardware description.now image.now.bytes image.now.start) }
+        ensures fits { IfOk result (λ pipeline. IsLoadable description.now image.now.base image.now.bytes
+            image.now.start) }
+        ensures refused { IfErr result (λ error. (error ≡ refusal.ImageDoesNotFit)
+            ↔ (IsLoadable description.now image.now.base image.now.bytes image.now.start → ⊥)) }
     {
         if !fits(description, image) {
             return Err(NewError::ImageDoesNotFit);
@@ -82,10 +85,17 @@ impl Pipeline {
     /// Does one cycle with these levels of the interrupt lines, guided by this predictor, and takes no memory. A pipeline
     /// that has done 2^40 cycles does nothing, and stops as exhausted.
     pub fn cycle(&mut self, predictor: &mut dyn Predictor, lines: Lines) -> CycleReport
-        ensures cycled { self.old.cycle < 2 ^ 40 → IsGuidedCycle lines (guided self.old (known predictor.old)) (report_of_cycle result) (guided self.new (known predictor.new)) }
-        ensures exhausted { self.old.cycle ≡ 2 ^ 40 → (self.new ≡ self.old) × (report_of_cycle result ≡ exhausted_report) × (known predictor.new ≡ known predictor.old) }
-        ensures true_cycle { self.old.cycle < 2 ^ 40 → IsTrueCycle (layout_of self.old.values) lines self.old.cycle (seen self.old) result.steps.items result.stop (seen self.new) }
-        ensures due_interrupt { self.old.cycle < 2 ^ 40 → TakesDue lines self.old.cycle (seen self.old) result.steps.items }
+        ensures cycled { self.old.cycle < 2 ^ 40 →
+            IsGuidedCycle lines (guided self.old (known predictor.old)) (report_of_cycle result)
+            (guided self.new (known predictor.new)) }
+        ensures exhausted { self.old.cycle ≡ 2 ^ 40 →
+            (self.new ≡ self.old) × (report_of_cycle result ≡ exhausted_report)
+            × (known predictor.new ≡ known predictor.old) }
+        ensures true_cycle { self.old.cycle < 2 ^ 40 →
+            IsTrueCycle (layout_of self.old.values) lines self.old.cycle
+            (seen self.old) result.steps.items result.stop (seen self.new) }
+        ensures due_interrupt { self.old.cycle < 2 ^ 40 →
+            TakesDue lines self.old.cycle (seen self.old) result.steps.items }
         ensures stall { self.old.cycle < 2 ^ 40 → is_some result.stall ≡ (result.dispatched == 0) }
     {
         // Of hardware that a reset and cycles lead to, the headline and the laws hold.
@@ -94,8 +104,12 @@ impl Pipeline {
     }
 
     fn next_cycle(&mut self, predictor: &mut dyn Predictor, lines: Lines) -> CycleReport
-        ensures cycled { self.old.cycle < 2 ^ 40 → IsGuidedCycle lines (guided self.old (known predictor.old)) (report_of_cycle result) (guided self.new (known predictor.new)) }
-        ensures exhausted { self.old.cycle ≡ 2 ^ 40 → (self.new ≡ self.old) × (report_of_cycle result ≡ exhausted_report) × (known predictor.new ≡ known predictor.old) }
+        ensures cycled { self.old.cycle < 2 ^ 40 →
+            IsGuidedCycle lines (guided self.old (known predictor.old)) (report_of_cycle result)
+            (guided self.new (known predictor.new)) }
+        ensures exhausted { self.old.cycle ≡ 2 ^ 40 →
+            (self.new ≡ self.old) × (report_of_cycle result ≡ exhausted_report)
+            × (known predictor.new ≡ known predictor.old) }
     {
         self.steps.clear();
         if self.is_exhausted() {
@@ -125,7 +139,8 @@ impl Pipeline {
         requires cycles { self.old.cycle < 2 ^ 40 }
         requires room { HasRoom steps.old 8 }
         ensures stop { IsCommitStop result.stop }
-        ensures cycle { TakesCycle lines (guided self.old (known predictor.old)) (guided self.new (known predictor.new)) steps.old steps.new result }
+        ensures cycle { TakesCycle lines (guided self.old (known predictor.old))
+            (guided self.new (known predictor.new)) steps.old steps.new result }
     {
         self.parts.advance(lines, predictor, steps)
     }

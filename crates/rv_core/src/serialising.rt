@@ -46,7 +46,8 @@ impl Parts {
         requires room { self.old.rob.retired < 8 * self.old.cycle + 8 }
         requires fresh { (e : EntryOf) → IsHead self.old e → set.contains self.old.stale (word_of e.pc) ≡ false }
         requires serial { (e : EntryOf) → IsHead self.old e → is_serialising e.instruction ≡ true }
-        ensures turn { (steps : List Step) → commit_turn set.contains (committing self.old steps) ≡ turn_ended self.new steps result }
+        ensures turn { (steps : List Step) →
+            commit_turn set.contains (committing self.old steps) ≡ turn_ended self.new steps result }
         ensures kept { IsKept self.old self.new }
     {
         let Some(head) = self.rob.head() else {
@@ -65,7 +66,8 @@ impl Parts {
     fn access_csr(&mut self, entry: &Entry, access: CsrAccess) -> Option<Step>
         requires head { IsHead self.old entry.now }
         requires room { self.old.rob.retired < 8 * self.old.cycle + 8 }
-        ensures turn { (steps : List Step) → PhaseEnds (execute_head entry.now (instruction_of_access access) (committing self.old steps))
+        ensures turn { (steps : List Step) →
+            PhaseEnds (execute_head entry.now (instruction_of_access access) (committing self.old steps))
             ≡ turn_ended self.new steps result }
         ensures kept { IsKept self.old self.new }
     {

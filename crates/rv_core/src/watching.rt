@@ -52,8 +52,11 @@ pub(crate) fn watch<T: Watcher, W: Write>(
     output: &mut W,
 ) -> Ended<T::Refusal>
     requires room { 8 ≤ vec_capacity steps }
-    requires ready { HasSeenBegin T.has_seen watcher.old arrivals.now (guided pipeline.old (known predictor.old)) (W.contents output.old) }
-    ensures { IsWatchedRun T.has_seen arrivals.now limit (guided pipeline.old (known predictor.old)) (guided pipeline.new (known predictor.new)) result.progress result.stop watcher.old watcher.new (W.contents output.old) (W.contents output.new) }
+    requires ready { HasSeenBegin T.has_seen watcher.old arrivals.now (guided pipeline.old (known predictor.old))
+        (W.contents output.old) }
+    ensures { IsWatchedRun T.has_seen arrivals.now limit (guided pipeline.old (known predictor.old))
+        (guided pipeline.new (known predictor.new)) result.progress result.stop watcher.old watcher.new
+        (W.contents output.old) (W.contents output.new) }
 {
     let mut steps = Steps::listing(steps);
     let mut progress = Progress::new();

@@ -37,7 +37,8 @@ instruction_of word = first_fit table word
 -- the row has these values in the fields that it fixes: a row that fixes rd fixes the whole word
 abbrev pub has_fields : Row → ℕ → ℕ → ℕ → ℕ → Bool
 has_fields row word code third seventh =
-    (opcode row.fixed == code) && ((funct3 row.mask == 0) || (funct3 row.fixed == third)) && (if rd row.mask == 0 then (funct7 row.mask == 0) || (funct7 row.fixed == seventh) else row.fixed == word)
+    (opcode row.fixed == code) && ((funct3 row.mask == 0) || (funct3 row.fixed == third))
+    && (if rd row.mask == 0 then (funct7 row.mask == 0) || (funct7 row.fixed == seventh) else row.fixed == word)
 
 -- what the first of some rows with these fields makes of the word
 abbrev pub by_rows : List Row → ℕ → ℕ → ℕ → ℕ → Option Instr

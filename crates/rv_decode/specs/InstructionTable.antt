@@ -28,7 +28,8 @@ funct3_row funct3 opcode form = record { mask = 0x0000707f; fixed = funct3 * 2 ^
 
 -- a row that fixes funct7, funct3 and the opcode
 abbrev pub funct7_row : ℕ → ℕ → ℕ → (ℕ → Instr) → Row
-funct7_row funct7 funct3 opcode form = record { mask = 0xfe00707f; fixed = funct7 * 2 ^ 25 + funct3 * 2 ^ 12 + opcode; instruction = form }
+funct7_row funct7 funct3 opcode form =
+    record { mask = 0xfe00707f; fixed = funct7 * 2 ^ 25 + funct3 * 2 ^ 12 + opcode; instruction = form }
 
 -- a row that fixes the whole word
 abbrev pub word_row : ℕ → Instr → Row

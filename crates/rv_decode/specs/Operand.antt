@@ -1,4 +1,5 @@
--- The operands of an instruction, each the sum of its named bits of the word at their places (Unprivileged ISA 20191213, 2.2 and 2.3).
+-- The operands of an instruction, each the sum of its named bits of the word at their places (Unprivileged ISA
+-- 20191213, 2.2 and 2.3).
 use Rattle.std.specs.Prelude.{ℕ, ◌+◌, ◌-◌, ◌*◌, ◌/◌, ◌%◌, ◌^◌, ℤ, pos, ◌-ℤ◌}
 
 -- inst[high:low]: the bits of a word from high down to low, as a number
@@ -29,7 +30,8 @@ rs2 word = bits word 24 20
 abbrev pub funct7 : ℕ → ℕ
 funct7 word = bits word 31 25
 
--- Unprivileged ISA 20191213, 2.3, figure 2.4: the I-immediate; the sign of each immediate is bit 31 of the word, and counts below zero
+-- Unprivileged ISA 20191213, 2.3, figure 2.4: the I-immediate; the sign of each immediate is bit 31 of the word, and
+-- counts below zero
 abbrev pub i_immediate : ℕ → ℤ
 i_immediate word = pos (bits word 30 20) -ℤ pos (bits word 31 31 * 2 ^ 11)
 
@@ -39,7 +41,8 @@ s_immediate word = pos (bits word 30 25 * 2 ^ 5 + bits word 11 7) -ℤ pos (bits
 
 -- 2.3, figure 2.4: the B-immediate, a multiple of 2
 abbrev pub b_immediate : ℕ → ℤ
-b_immediate word = pos (bits word 7 7 * 2 ^ 11 + bits word 30 25 * 2 ^ 5 + bits word 11 8 * 2) -ℤ pos (bits word 31 31 * 2 ^ 12)
+b_immediate word =
+    pos (bits word 7 7 * 2 ^ 11 + bits word 30 25 * 2 ^ 5 + bits word 11 8 * 2) -ℤ pos (bits word 31 31 * 2 ^ 12)
 
 -- 2.3, figure 2.4: the U-immediate, without its twelve zeros
 abbrev pub u_immediate : ℕ → ℕ
@@ -47,7 +50,8 @@ u_immediate word = bits word 31 12
 
 -- 2.3, figure 2.4: the J-immediate, a multiple of 2
 abbrev pub j_immediate : ℕ → ℤ
-j_immediate word = pos (bits word 19 12 * 2 ^ 12 + bits word 20 20 * 2 ^ 11 + bits word 30 21 * 2) -ℤ pos (bits word 31 31 * 2 ^ 20)
+j_immediate word =
+    pos (bits word 19 12 * 2 ^ 12 + bits word 20 20 * 2 ^ 11 + bits word 30 21 * 2) -ℤ pos (bits word 31 31 * 2 ^ 20)
 
 -- Unprivileged ISA 20191213, 2.4.1: the amount of a shift by a constant
 abbrev pub shift_amount : ℕ → ℕ

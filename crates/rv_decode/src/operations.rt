@@ -11,7 +11,8 @@ use crate::opcodes::{BRANCH, LOAD, OP, OP_IMM, STORE, SYSTEM};
 use rv_isa::{AluOp, Condition, CsrOp, ImmediateOp, LoadForm, ShiftOp, Width};
 
 pub fn condition(funct3: u32) -> Option<Condition>
-    ensures { (word : ℕ) → by_rows table word BRANCH funct3 (funct7 word) ≡ option_map (λ condition. branch condition word) result }
+    ensures { (word : ℕ) →
+        by_rows table word BRANCH funct3 (funct7 word) ≡ option_map (λ condition. branch condition word) result }
 {
     match funct3 {
         0b000 => Some(Condition::Equal),
@@ -65,7 +66,8 @@ pub fn load_funct3(form: LoadForm) -> u32
 }
 
 pub fn width(funct3: u32) -> Option<Width>
-    ensures { (word : ℕ) → by_rows table word STORE funct3 (funct7 word) ≡ option_map (λ width. store width word) result }
+    ensures { (word : ℕ) →
+        by_rows table word STORE funct3 (funct7 word) ≡ option_map (λ width. store width word) result }
 {
     match funct3 {
         0b000 => Some(Width::Byte),
@@ -88,7 +90,8 @@ pub fn store_funct3(width: Width) -> u32
 
 pub fn immediate_op(funct3: u32) -> Option<ImmediateOp>
     requires { funct3 < 8 }
-    ensures found { IfSome result (λ op. (word : ℕ) → by_rows table word OP_IMM funct3 (funct7 word) ≡ Some (op_immediate op word)) }
+    ensures found { IfSome result
+        (λ op. (word : ℕ) → by_rows table word OP_IMM funct3 (funct7 word) ≡ Some (op_immediate op word)) }
     ensures shift { IsNone result → (funct3 ≡ 1) ⊎ (funct3 ≡ 5) }
 {
     match funct3 {
@@ -205,8 +208,10 @@ pub fn op_funct(operation: AluOp) -> (u32, u32)
 /// The operation on a CSR; 4 more is the same with an immediate.
 pub fn csr_op(funct3: u32) -> Option<CsrOp>
     requires { funct3 < 4 }
-    ensures register { (word : ℕ) → 0 < funct3 → by_rows table word SYSTEM funct3 (funct7 word) ≡ option_map (λ op. csr op word) result }
-    ensures immediate { (word : ℕ) → by_rows table word SYSTEM (funct3 + 4) (funct7 word) ≡ option_map (λ op. csr_with_immediate op word) result }
+    ensures register { (word : ℕ) → 0 < funct3 →
+        by_rows table word SYSTEM funct3 (funct7 word) ≡ option_map (λ op. csr op word) result }
+    ensures immediate { (word : ℕ) →
+        by_rows table word SYSTEM (funct3 + 4) (funct7 word) ≡ option_map (λ op. csr_with_immediate op word) result }
 {
     match funct3 {
         0b001 => Some(CsrOp::Write),
@@ -220,7 +225,8 @@ pub fn csr_op(funct3: u32) -> Option<CsrOp>
 pub fn csr_funct3(operation: CsrOp) -> u32
     ensures fits { result < 4 }
     ensures register { (word : ℕ) → by_rows table word SYSTEM result (funct7 word) ≡ Some (csr operation word) }
-    ensures immediate { (word : ℕ) → by_rows table word SYSTEM (result + 4) (funct7 word) ≡ Some (csr_with_immediate operation word) }
+    ensures immediate { (word : ℕ) →
+        by_rows table word SYSTEM (result + 4) (funct7 word) ≡ Some (csr_with_immediate operation word) }
 {
     match operation {
         CsrOp::Write => 0b001,

@@ -19,7 +19,8 @@ arrivals_of entries = filter_map arrival_of entries
 abbrev pub first_with : ValueFault → ℕ → List Data → Option (ℕ × Option Field)
 first_with fault number [] = None
 first_with fault number (entry ∷ later) =
-    if is_fault (choice_fault (reading_of entry)) fault then Some (number, field_with fault entry) else first_with fault (number + 1) later
+    if is_fault (choice_fault (reading_of entry)) fault then Some (number, field_with fault entry)
+    else first_with fault (number + 1) later
 
 -- The fault that an entry has by itself: an unknown field anywhere comes before the first entry that is no table or whose fields
 -- are missing or of another type, and that before the first of the 100,000 foremost with a value that is not allowed.

@@ -36,13 +36,15 @@ arrival_with _ _ _ = None
 
 -- what the fields say, where each is there and has the right type
 abbrev pub reading_with : Option ℤ → Option (List ℕ) → Option ℤ → Option (Option Arrival)
-reading_with (Some cycle) (Some line) (Some level) = Some (arrival_with (cycle_of cycle) (line_named line) (level_of level))
+reading_with (Some cycle) (Some line) (Some level) =
+    Some (arrival_with (cycle_of cycle) (line_named line) (level_of level))
 reading_with _ _ _ = None
 
 -- what an entry says: its three fields, where a missing `level` is 1
 abbrev pub reading_of : Data → Option (Option Arrival)
 reading_of entry =
-    reading_with (option_and_then as_integer (get (codes "cycle") entry)) (option_and_then as_str (get (codes "line") entry))
+    reading_with (option_and_then as_integer (get (codes "cycle") entry))
+    (option_and_then as_str (get (codes "line") entry))
     (option_map_or as_integer (get (codes "level") entry) (Some (pos 1)))
 
 -- the arrival of an entry, where it gives one

@@ -38,7 +38,8 @@ value_fault PredictorKind size value = choice_fault (option_map predictor_named 
 -- keys' fault, and so the first one's.
 unfoldable pub key_fault : Members → Key → Option ValueFault
 key_fault members key =
-    option_map_or (option_and_then (value_fault key (number members RamSize))) (held members (key_place key)) (Some WrongKind)
+    option_map_or (option_and_then (value_fault key (number members RamSize)))
+    (held members (key_place key)) (Some WrongKind)
 
 -- what is wrong is this fault
 abbrev pub is_fault : Option ValueFault → ValueFault → Bool

@@ -11,7 +11,8 @@ use Rattle.rv_describe.specs.declared.field.Field.TheVariants.{Cycle, Line, Leve
 unfoldable pub field_fault : Field → Data → Option ValueFault
 field_fault Cycle entry = choice_fault (option_map cycle_of (option_and_then as_integer (get (codes "cycle") entry)))
 field_fault Line entry = choice_fault (option_map line_named (option_and_then as_str (get (codes "line") entry)))
-field_fault Level entry = choice_fault (option_map level_of (option_map_or as_integer (get (codes "level") entry) (Some (pos 1))))
+field_fault Level entry =
+    choice_fault (option_map level_of (option_map_or as_integer (get (codes "level") entry) (Some (pos 1))))
 
 -- the first field of an entry with a fault
 abbrev pub field_with : ValueFault → Data → Option Field

@@ -30,7 +30,9 @@ recoveries = quoted (recovery_name Commit) ++ (codes " or " ++ quoted (recovery_
 
 -- the words of the predictors
 abbrev pub predictors : List ℕ
-predictors = quoted (predictor_name NotTaken) ++ (codes ", " ++ (quoted (predictor_name BackwardTaken) ++ (codes " or " ++ quoted (predictor_name Bimodal))))
+predictors =
+    quoted (predictor_name NotTaken)
+    ++ (codes ", " ++ (quoted (predictor_name BackwardTaken) ++ (codes " or " ++ quoted (predictor_name Bimodal))))
 
 -- the values that a key takes
 unfoldable pub key_range : Key → List ℕ

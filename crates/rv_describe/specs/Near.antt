@@ -12,7 +12,8 @@ edits name other = levenshtein_row nat_eq name other (length other)
 -- a known name is so many edits away, which are fewer than the unknown name has bytes; one of more than 64 bytes is not compared
 abbrev pub is_near : ℕ → List ℕ → List ℕ → Bool
 is_near distance name other =
-    nat_lt distance (length name) && (nat_le (length name) 64 && (nat_le (length other) (length name + distance) && edits name other == distance))
+    nat_lt distance (length name)
+    && (nat_le (length name) 64 && (nat_le (length other) (length name + distance) && edits name other == distance))
 
 -- those of some keys that are so many edits away
 abbrev pub near_keys : ℕ → List ℕ → List Key → List Key

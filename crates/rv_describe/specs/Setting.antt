@@ -17,19 +17,23 @@ word_of (negsuc number) = None
 -- the number at a key, or else the standard machine's
 unfoldable pub number : Members → NumberKey → ℕ
 number members key =
-    unwrap_or (option_and_then word_of (option_and_then as_integer (value_at members (Number key)))) (number_of standard_values key)
+    unwrap_or (option_and_then word_of (option_and_then as_integer (value_at members (Number key))))
+    (number_of standard_values key)
 
 -- whether the units of a kind are pipelined
 unfoldable pub is_pipelined : Members → Kind → Bool
 is_pipelined members kind =
-    unwrap_or (option_and_then as_bool (value_at members (Pipelined kind))) (at_kind kind standard_values.kinds).pipelined
+    unwrap_or (option_and_then as_bool (value_at members (Pipelined kind)))
+    (at_kind kind standard_values.kinds).pipelined
 
 -- the choice at a key that names it, or else the standard machine's
 unfoldable pub choice : {X : Type 0} → (List ℕ → Option X) → Key → X → Members → X
-choice named key default members = unwrap_or (option_and_then named (option_and_then as_str (value_at members key))) default
+choice named key default members =
+    unwrap_or (option_and_then named (option_and_then as_str (value_at members key))) default
 
 -- the values that a table gives, where the standard ones are the defaults
 abbrev pub values_of : Members → Values
 values_of members =
-    values_with (number members) (is_pipelined members) (choice recovery_named Recovery standard_values.recovery members)
+    values_with (number members) (is_pipelined members)
+    (choice recovery_named Recovery standard_values.recovery members)
     (choice predictor_named PredictorKind standard_values.predictor.kind members)

@@ -24,7 +24,8 @@ pub fn line_in(entry: &Value) -> Option<Option<Line>>
 
 /// The level that an entry has, if it is a number, and then if it is a legal one. A `level` that is missing is 1.
 pub fn level_in(entry: &Value) -> Option<Option<bool>>
-    ensures { result ≡ option_map level_of (option_map_or as_integer (get (codes "level") (view entry.now)) (Some (pos 1))) }
+    ensures { result ≡ option_map level_of
+        (option_map_or as_integer (get (codes "level") (view entry.now)) (Some (pos 1))) }
 {
     let level = match entry.get("level") {
         Some(value) => value.as_integer()?,

@@ -1,7 +1,7 @@
 //! Reads machine descriptions and lists of arrivals. Both are TOML documents: the model of a text is
 //! the table that `toml` gives for its bytes. What is read is a [`Description`](rv_isa::Description)
-//! or [`Arrivals`](rv_isa::Arrivals), legal by its type, or the text's first fault. Of a key it says in words what it takes, and of a name
-//! that is none which keys are near.
+//! or [`Arrivals`](rv_isa::Arrivals), legal by its type, or the text's first fault. Of a key it says in words what it
+//! takes, and of a name that is none which keys are near.
 #![tactic(auto)]
 
 mod arrival_list;

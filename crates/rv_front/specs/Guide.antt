@@ -3,8 +3,8 @@ use Rattle.std.specs.Prelude.{◌≡◌, ℕ, List, [], ◌∷◌, Option, Some,
 use Rattle.std.specs.List.{fold}
 use Rattle.rv_front.specs.Lesson.{Lesson}
 
--- What a predictor answers: by the lessons that it is taught before it is asked, the first one first, a pc and the word there; or `None`
--- where that is not known.
+-- What a predictor answers: by the lessons that it is taught before it is asked, the first one first, a pc and the word
+-- there; or `None` where that is not known.
 abbrev pub Guide : Type 0
 Guide = List Lesson → ℕ → ℕ → Option ℕ
 

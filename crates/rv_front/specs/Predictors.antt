@@ -54,7 +54,10 @@ abbrev pub learned : Tables → ℕ → ℕ → Flow → Tables
 learned tables pc next Sequential = tables
 learned tables pc next (Jump target) = tables
 learned tables pc next (Branch target backward) =
-    record tables { counters = slice_set tables.counters (place_of tables pc) (counted (not (next == pc_plus_4 pc)) (counter_at tables pc)) }
+    record tables {
+      counters = slice_set tables.counters (place_of tables pc)
+          (counted (not (next == pc_plus_4 pc)) (counter_at tables pc));
+    }
 learned tables pc next Indirect = record tables { targets = slice_set tables.targets (place_of tables pc) (Some next) }
 
 -- the tables after a lesson

@@ -31,7 +31,13 @@ impl Model for Front {
 
     ghost Value = { FetchBuffer };
 
-    ghost view = { λ f. record { entries = f.ring.items; capacity = f.ring.capacity; width = f.width; next_pc = f.next_pc; halted = f.halted } };
+    ghost view = { λ f. record {
+      entries = f.ring.items;
+      capacity = f.ring.capacity;
+      width = f.width;
+      next_pc = f.next_pc;
+      halted = f.halted;
+    } };
 
     ghost invariant = { λ f. IsLinked f.ring.items f.next_pc };
 }
@@ -39,7 +45,14 @@ impl Model for Front {
 impl Front {
     /// An empty front that fetches from `start` on, with the buffer and the width that the description says.
     pub fn new(alloc: Global, description: &Description, start: u32) -> Result<Front, AllocError>
-        ensures { IfOk result (λ front. front ≡ record { entries = []; capacity = description.now.fetch_buffer; width = description.now.fetch_width; next_pc = start; halted = false }) }
+        ensures { IfOk result (λ front. front
+            ≡ record {
+              entries = [];
+              capacity = description.now.fetch_buffer;
+              width = description.now.fetch_width;
+              next_pc = start;
+              halted = false;
+            }) }
     {
         let values = description.values();
         Ok(Front {

@@ -74,7 +74,8 @@ take_effect e (Faults cause value) c = with_fault e cause value c
 -- a head that is executed at commit takes its effect on the state that programs see
 abbrev pub execute_head : Entry → Instr → Committing → Committing
 execute_head e instruction c =
-    take_effect e (effect (layout_of c.hardware.values) (seen c.hardware) c.hardware.lines (unwrap_or e.word 0) instruction) c
+    take_effect e
+    (effect (layout_of c.hardware.values) (seen c.hardware) c.hardware.lines (unwrap_or e.word 0) instruction) c
 
 -- every dirty line of the cache is written to RAM, and stays, clean
 abbrev pub all_written_back : Contents Memory → Contents Memory

@@ -40,12 +40,14 @@ any_prediction pc word next = Unit {0}
 
 -- One cycle with the levels of the lines. All of it is a function of the hardware before, but for the predictions by which
 -- the fetch phase goes: any that the predictor may answer.
-pub record IsCycle (answers : Answers) (lines : Lines) (old : Hardware) (report : Report) (new : Hardware) : Type 0 where
+pub record IsCycle (answers : Answers) (lines : Lines) (old : Hardware) (report : Report)
+    (new : Hardware) : Type 0 where
   pub committing : Committing
   pub commits : committing ≡ commit_with set.contains lines old
   pub dispatching : Dispatching
   pub executes : dispatching ≡ execute committing.hardware
   pub fetch_stop : FetchStop
-  pub fetches : FetchesInto answers dispatching.hardware.cache.backing old.cycle dispatching.hardware.front new.front fetch_stop
+  pub fetches : FetchesInto answers dispatching.hardware.cache.backing old.cycle dispatching.hardware.front
+      new.front fetch_stop
   pub others_stay : new ≡ record dispatching.hardware { front = new.front; cycle = old.cycle + 1 }
   pub reports : report ≡ report_of committing dispatching

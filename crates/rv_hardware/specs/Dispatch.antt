@@ -38,7 +38,8 @@ reason_of h fetched =
     if list_any (λ e. is_serialising e.instruction) h.rob.entries then Some stall.Serial
     else (if nat_le h.rob.capacity (length h.rob.entries) then Some stall.Rob
     else (if has_full_stations h (kind_of_word fetched.instruction) then Some stall.Station
-    else (if is_store fetched.instruction && nat_le h.values.store_queue (length (stores_after h h.rob.entries)) then Some stall.Store
+    else (if is_store fetched.instruction && nat_le h.values.store_queue (length (stores_after h h.rob.entries))
+    then Some stall.Store
     else None)))
 
 -- serialising instructions wait to be the oldest, those with a unit wait in a station; all others are finished at once
@@ -51,7 +52,9 @@ stage_by None false finished = finished
 abbrev pub first_stage : Hardware → Fetched → Stage
 first_stage h fetched =
     stage_by (kind_of_word fetched.instruction) (is_serialising fetched.instruction)
-    (Finished None h.cycle (result_of_word (layout_of h.values) (state_after h h.rob.entries fetched.pc) h.lines fetched.word fetched.instruction))
+    (Finished None h.cycle
+    (result_of_word (layout_of h.values) (state_after h h.rob.entries fetched.pc) h.lines fetched.word
+    fetched.instruction))
 
 -- the entry of a fetched word
 abbrev pub entry_of_fetched : Hardware → Fetched → Entry

@@ -11,7 +11,8 @@ use Rattle.rv_hardware.specs.Hardware.{Hardware}
 abbrev pub drain_cost : Hardware → Option ℕ
 drain_cost h =
     if nat_le h.port_free h.cycle
-    then option_map (λ (access : StoreAccess). access_cost h.cache access.address) (oldest_to_drain (end_drain h).committed)
+    then option_map (λ (access : StoreAccess). access_cost h.cache access.address)
+    (oldest_to_drain (end_drain h).committed)
     else None
 
 -- the first cycle in which the access of the store that drains is over, if one drains

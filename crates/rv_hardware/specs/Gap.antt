@@ -22,9 +22,11 @@ pub record HasBoundedGaps (old : Hardware) (reports : List Report) : Type 0 wher
   -- its longest gap is below the bound
   pub longest : longest_gap_of reports < gap_bound_of old.values
   -- and as many consecutive cycles as the bound are never all without a step
-  pub consecutive : (before silent after : List Report) → reports ≡ before ++ silent ++ after → AreSilent silent → length silent < gap_bound_of old.values
+  pub consecutive : (before silent after : List Report) → reports ≡ before ++ silent ++ after → AreSilent silent →
+      length silent < gap_bound_of old.values
 
 -- such a run is never silent for as many cycles as the bound of its description, unless it has stopped
 abbrev pub NoSilence : Type 0
 NoSilence =
-    (arrivals : List Arrival) (old new : Hardware) (reports : List Report) → Reachable old → Cycles arrivals old reports new → OnlyLastStops reports → HasBoundedGaps old reports
+    (arrivals : List Arrival) (old new : Hardware) (reports : List Report) → Reachable old →
+    Cycles arrivals old reports new → OnlyLastStops reports → HasBoundedGaps old reports

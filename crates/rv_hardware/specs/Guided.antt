@@ -26,5 +26,6 @@ pub record IsGuidedCycle (lines : Lines) (old : GuidedHardware) (report : Report
 pub data GuidedCycles (arrivals : List Arrival) : GuidedHardware → List Report → GuidedHardware → Type 0 where
   ended : {h : GuidedHardware} → GuidedCycles arrivals h [] h
   cycled : {old middle new : GuidedHardware} {report : Report} {reports : List Report} →
-      IsGuidedCycle (lines_at arrivals old.hardware.cycle) old report middle → GuidedCycles arrivals middle reports new →
+      IsGuidedCycle (lines_at arrivals old.hardware.cycle) old report middle →
+      GuidedCycles arrivals middle reports new →
       GuidedCycles arrivals old (report ∷ reports) new

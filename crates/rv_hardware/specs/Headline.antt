@@ -25,7 +25,8 @@ reference_step (step.Interrupt pc cause cycle) = machine.Interrupt pc cause
 pub data Lead (layout : Layout) (lines : Lines) : State → List Step → State → Type 0 where
   nowhere : {s : State} → Lead layout lines s [] s
   onwards : {s t u : State} {first : Step} {steps : List Step} →
-      MachineStep layout s lines (reference_step first) t → Lead layout lines t steps u → Lead layout lines s (first ∷ steps) u
+      MachineStep layout s lines (reference_step first) t → Lead layout lines t steps u →
+      Lead layout lines s (first ∷ steps) u
 
 -- nothing follows a trap or an interrupt
 abbrev pub EndAtTraps : List Step → Type 0
@@ -33,7 +34,8 @@ EndAtTraps [] = Unit {0}
 EndAtTraps (first ∷ steps) = (is_retirement first ≡ false → steps ≡ []) × EndAtTraps steps
 
 -- What a cycle reports, with the lines' levels in it: the state before and after it is the one that programs see.
-pub record IsTrueCycle (layout : Layout) (lines : Lines) (cycle : ℕ) (before : State) (steps : List Step) (ending : Option Stop) (after : State) : Type 0 where
+pub record IsTrueCycle (layout : Layout) (lines : Lines) (cycle : ℕ) (before : State) (steps : List Step)
+    (ending : Option Stop) (after : State) : Type 0 where
   -- the machine takes the steps from the state before, and reaches the state after
   pub leads : Lead layout lines before steps after
   -- so at a trap or an interrupt all earlier instructions and no later one have taken effect
@@ -50,14 +52,16 @@ pub record ComesBefore (earlier later : Step) : Type 0 where
 
 -- What a run reports whose cycles are numbered from `first` to below `done`: the state before and after it is the one that
 -- programs see.
-pub record IsTrueRun (layout : Layout) (arrivals : List Arrival) (first done : ℕ) (before : State) (steps : List Step) (after : State) : Type 0 where
+pub record IsTrueRun (layout : Layout) (arrivals : List Arrival) (first done : ℕ) (before : State) (steps : List Step)
+    (after : State) : Type 0 where
   -- the machine takes the steps from the state before, each with the lines of its cycle, and reaches the state after
   pub runs : Run layout arrivals before (map stamp_of steps) (map reference_step steps) after
   pub within : All (λ s. (first ≤ stamp_of s) × (stamp_of s < done)) steps
   pub in_order : AllPairs ComesBefore steps
 
 -- the machine, with the lines of the last cycle, finds a stale word at a pc
-pub record FindsStale (layout : Layout) (arrivals : List Arrival) (first done : ℕ) (after : State) (pc : ℕ) : Type 0 where
+pub record FindsStale (layout : Layout) (arrivals : List Arrival) (first done : ℕ) (after : State)
+    (pc : ℕ) : Type 0 where
   pub last : ℕ
   pub last_is : done ≡ last + 1
   pub in_run : first ≤ last
@@ -70,7 +74,8 @@ EndAtBreakpoints done (first ∷ steps) =
     (is_breakpoint first ≡ true → (steps ≡ []) × (stamp_of first + 1 ≡ done)) × EndAtBreakpoints done steps
 
 -- why a run of at most `limit` cycles ended
-pub record IsTrueStop (layout : Layout) (arrivals : List Arrival) (limit first done : ℕ) (steps : List Step) (after : State) (reason : Stop) : Type 0 where
+pub record IsTrueStop (layout : Layout) (arrivals : List Arrival) (limit first done : ℕ) (steps : List Step)
+    (after : State) (reason : Stop) : Type 0 where
   pub breakpoint : (reason ≡ stop.Breakpoint) ↔ (list_any is_breakpoint steps ≡ true)
   pub no_earlier : EndAtBreakpoints done steps
   pub stale : (pc : ℕ) → reason ≡ stop.Stale pc → FindsStale layout arrivals first done after pc

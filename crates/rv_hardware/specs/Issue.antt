@@ -75,7 +75,8 @@ may_load h older e =
 -- an instruction of a kind that can leave its station
 abbrev pub is_ready : Hardware → Kind → List Entry → Entry → Bool
 is_ready h kind older e =
-    is_waiting e.stage && is_of_kind kind (kind_of_word e.instruction) && has_operands older (sources_of_word e.instruction) && may_load h older e
+    is_waiting e.stage && is_of_kind kind (kind_of_word e.instruction)
+    && has_operands older (sources_of_word e.instruction) && may_load h older e
 
 -- the oldest instruction that passes a test, with those that are older
 abbrev pub oldest_from : (List Entry → Entry → Bool) → List Entry → List Entry → Option (List Entry × Entry)
@@ -109,7 +110,8 @@ with_start kind seq cost message h = record h {
 abbrev pub issued : Kind → Hardware → List Entry → Entry → Hardware
 issued kind h older e =
     with_start kind (h.rob.retired + length older) (cost_of h kind (path h older e))
-    (result_of_word (layout_of h.values) (state_after h older e.pc) h.lines e.word e.instruction) (with_access (path h older e) h)
+    (result_of_word (layout_of h.values) (state_after h older e.pc) h.lines e.word e.instruction)
+    (with_access (path h older e) h)
 
 -- the entry that was found leaves; where none was, the turns of the kind end
 abbrev pub issue_oldest : Kind → Hardware → Option (List Entry × Entry) → Turn Hardware

@@ -34,7 +34,8 @@ reported_of reports = record {
 
 -- The promise, of a run whose cycles are numbered from `first` to below `done`: the state before and after it is the one
 -- that programs see.
-pub record IsPromised (values : Values) (arrivals : List Arrival) (first done : ℕ) (before : State) (run : Reported) (after : State) : Type 0 where
+pub record IsPromised (values : Values) (arrivals : List Arrival) (first done : ℕ) (before : State) (run : Reported)
+    (after : State) : Type 0 where
   -- the steps are the one-at-a-time machine's, each with the lines of its cycle, and lead from the one state to the other
   pub runs : IsTrueRun (layout_of values) arrivals first done before run.steps after
   -- they obey the laws of the described core

@@ -13,7 +13,10 @@ use Rattle.rv_memory.specs.Memory.{Layout}
 -- what a store writes
 abbrev pub access_of : State → Instr → Option StoreAccess
 access_of s (Store width rs1 rs2 offset) =
-    Some (record { address = sum (register_of s rs1) (modulo_word offset); bytes = bytes_of_number (bytes_of width) (register_of s rs2) })
+    Some (record {
+      address = sum (register_of s rs1) (modulo_word offset);
+      bytes = bytes_of_number (bytes_of width) (register_of s rs2);
+    })
 access_of s _ = None
 
 -- the value that an instruction writes, 0 where it writes none

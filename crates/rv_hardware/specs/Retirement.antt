@@ -21,7 +21,8 @@ abbrev pub execution_of : Stage → Option Execution
 execution_of Waiting = None
 execution_of (Running issue message) = None
 execution_of (Finished None cycle message) = None
-execution_of (Finished (Some issue) cycle message) = Some (record { issued = issue.cycle; cost = issue.cost; broadcast = cycle })
+execution_of (Finished (Some issue) cycle message) =
+    Some (record { issued = issue.cycle; cost = issue.cost; broadcast = cycle })
 
 -- the reported row of the head
 abbrev pub row_of : Entry → Option (ℕ × ℕ) → ℕ → Step

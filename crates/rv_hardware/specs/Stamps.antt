@@ -128,13 +128,15 @@ is_in_flight_in cycle row = nat_le row.dispatched cycle && nat_lt cycle row.reti
 -- at the end of a cycle it waits in a station of a kind
 abbrev pub is_stationed_in : Kind → ℕ → Row → Bool
 is_stationed_in kind cycle row =
-    is_row_of_kind kind row && nat_le row.dispatched cycle && passes (λ execution. nat_lt cycle execution.issued) row.execution
+    is_row_of_kind kind row && nat_le row.dispatched cycle
+    && passes (λ execution. nat_lt cycle execution.issued) row.execution
 
 -- in a cycle it executes on a unit of a kind
 abbrev pub is_executing_in : Kind → ℕ → Row → Bool
 is_executing_in kind cycle row =
     is_row_of_kind kind row &&
-    passes (λ execution. nat_le execution.issued cycle && nat_lt cycle (execution.issued + execution.cost)) row.execution
+    passes (λ execution. nat_le execution.issued cycle
+    && nat_lt cycle (execution.issued + execution.cost)) row.execution
 
 -- at the end of a cycle the store is in the store queue, where its access takes at least so many cycles
 abbrev pub is_queued_in : ℕ → ℕ → Row → Bool

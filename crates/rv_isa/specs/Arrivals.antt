@@ -23,7 +23,8 @@ last_level before (a ∷ later) = last_level a.level later
 
 -- a line's level in a cycle: that of its last arrival in the list with a cycle at most this one
 abbrev pub level_at : Line → List Arrival → ℕ → Bool
-level_at line arrivals cycle = last_level false (filter (λ a. is_line line a.line) (filter (λ a. nat_le a.cycle cycle) arrivals))
+level_at line arrivals cycle =
+    last_level false (filter (λ a. is_line line a.line) (filter (λ a. nat_le a.cycle cycle) arrivals))
 
 -- the levels of the three lines in a cycle
 abbrev pub lines_at : List Arrival → ℕ → Lines

@@ -88,4 +88,5 @@ greatest_access c = c.hit + c.miss + c.write_back
 -- accesses already begun and the drains of a full queue, units that are held, and the cache's lines written back twice
 abbrev pub gap_bound_of : Values → ℕ
 gap_bound_of v =
-    16 + (v.store_queue + 8) * greatest_access v.cache + 4 * greatest_latency v + 2 * v.cache.sets * v.cache.ways * v.cache.write_back
+    16 + (v.store_queue + 8) * greatest_access v.cache + 4 * greatest_latency v
+    + 2 * v.cache.sets * v.cache.ways * v.cache.write_back

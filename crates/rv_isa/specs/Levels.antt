@@ -15,4 +15,5 @@ line_set lines a =
 
 -- place k holds the levels after the first k blocks
 abbrev pub HoldsLevels : List Arrival → List Lines → Type 0
-HoldsLevels arrivals levels = (k : ℕ) (d : Lines) → k < BLOCKS → slice_index_or levels k d ≡ fold line_set no_lines (take (k * BLOCK) arrivals)
+HoldsLevels arrivals levels =
+    (k : ℕ) (d : Lines) → k < BLOCKS → slice_index_or levels k d ≡ fold line_set no_lines (take (k * BLOCK) arrivals)

@@ -22,7 +22,8 @@ impl<T: Drop> PerKind<T> {
         div: Result<T, AllocError>,
         mem: Result<T, AllocError>,
     ) -> Result<PerKind<T>, AllocError>
-        ensures made { IfOk result (λ parts. (alu ≡ Ok parts.alu) × (mul ≡ Ok parts.mul) × (div ≡ Ok parts.div) × (mem ≡ Ok parts.mem)) }
+        ensures made { IfOk result (λ parts. (alu ≡ Ok parts.alu) × (mul ≡ Ok parts.mul) × (div ≡ Ok parts.div)
+            × (mem ≡ Ok parts.mem)) }
         ensures refused { IfErr result (λ e. (alu ≡ Err e) ⊎ ((mul ≡ Err e) ⊎ ((div ≡ Err e) ⊎ (mem ≡ Err e)))) }
     {
         Ok(PerKind {

@@ -21,7 +21,8 @@ impl Model for StoreBytes {
 
     ghost view = { λ b. take b.count b.bytes };
 
-    ghost invariant = { λ b. (length (take b.count b.bytes) ≡ b.count) × (padded (take b.count b.bytes) ≡ b.bytes) × (b.count ≤ 4) };
+    ghost invariant = { λ b. (length (take b.count b.bytes) ≡ b.count) × (padded (take b.count b.bytes) ≡ b.bytes)
+        × (b.count ≤ 4) };
 
     ghost inverse = { λ xs. record { bytes = padded xs; count = length xs } };
 }

@@ -18,7 +18,8 @@ most_machines = 64
 abbrev pub separator_count : List ℕ → ℕ
 separator_count text = count_by is_separator (slice_split is_line_feed text)
 
--- the name of the machine that a description whose first line this is gives it: what stands after `# name: ` there, if that stands there
+-- the name of the machine that a description whose first line this is gives it: what stands after `# name: ` there, if
+-- that stands there
 unfoldable pub machine_name : List ℕ → List ℕ
 machine_name line = if bytes_eq (take 8 line) (codes "# name: ") then without_return (drop 8 line) else []
 
@@ -42,11 +43,13 @@ names_of text = let lines = slice_split is_line_feed text in names_from (without
 pub data IsAfter (text : List ℕ) : List Values → List ℕ → Type 0 where
   nothing : IsAfter text [] text
   another : {machines : List Values} {rest : List ℕ} {machine : Values} {halves : Halves} → IsAfter text machines rest →
-      halves_of rest ≡ Some halves → description_of halves.before ≡ Ok machine → IsAfter text (machines ++ machine ∷ []) halves.after
+      halves_of rest ≡ Some halves → description_of halves.before ≡ Ok machine →
+      IsAfter text (machines ++ machine ∷ []) halves.after
 
 -- a text compares a program on some machines; where no separator stands, on the one that an empty description describes
 pub data Compares (text : List ℕ) : List Values → List ℕ → Type 0 where
-  alone : {machine : Values} → halves_of text ≡ None → description_of [] ≡ Ok machine → Compares text (machine ∷ []) text
+  alone : {machine : Values} → halves_of text ≡ None → description_of [] ≡ Ok machine →
+      Compares text (machine ∷ []) text
   described : {machines : List Values} {program : List ℕ} →
       IsAfter text machines program → halves_of program ≡ None → 0 < length machines → Compares text machines program
 
@@ -59,7 +62,8 @@ pub record IsLoaded (program : List ℕ) (machine : Values) (job : Job) : Type 0
 -- jobs are a program on each of some machines
 pub data AreLoaded (program : List ℕ) : List Values → List Job → Type 0 where
   nothing : AreLoaded program [] []
-  another : {machines : List Values} {jobs : List Job} {machine : Values} {job : Job} → AreLoaded program machines jobs →
+  another : {machines : List Values} {jobs : List Job} {machine : Values} {job : Job} →
+      AreLoaded program machines jobs →
       IsLoaded program machine job → AreLoaded program (machines ++ machine ∷ []) (jobs ++ job ∷ [])
 
 -- a comparison is what a text says
@@ -91,13 +95,15 @@ RefusesProgram number program machine error = RefusesAssembly machine.ram_base p
 pub data RefusesDescriptions (text : List ℕ) : SimError → Type 0 where
   memory : RefusesDescriptions text Memory
   at : {machines : List Values} {rest : List ℕ} {halves : Halves} {error : SimError} → IsAfter text machines rest →
-      halves_of rest ≡ Some halves → RefusesDescribed (length machines + 1) halves.before error → RefusesDescriptions text error
+      halves_of rest ≡ Some halves → RefusesDescribed (length machines + 1) halves.before error →
+      RefusesDescriptions text error
 
 -- why a program is refused on some machines: on those before the one that is named it is not
 pub data RefusesLoading (program : List ℕ) : List Values → SimError → Type 0 where
   memory : {machines : List Values} → RefusesLoading program machines Memory
   on : {before : List Values} (machine : Values) (after : List Values) {jobs : List Job} {error : SimError} →
-      AreLoaded program before jobs → RefusesProgram (length before + 1) program machine error → RefusesLoading program (before ++ machine ∷ after) error
+      AreLoaded program before jobs → RefusesProgram (length before + 1) program machine error →
+      RefusesLoading program (before ++ machine ∷ after) error
 
 -- Why a text is refused as a comparison: what is tested earlier is without fault.
 pub data RefusesComparison (text : List ℕ) : SimError → Type 0 where

@@ -39,7 +39,8 @@ unfit_line number = codes "error: image does not fit description " ++ (decimal n
 
 -- the line of the assembly's first fault
 unfoldable pub assembly_line : AsmError → List ℕ
-assembly_line error = codes "error: assembly line " ++ (decimal error.line ++ (codes ": " ++ (fault_name error.fault ++ codes "\n")))
+assembly_line error =
+    codes "error: assembly line " ++ (decimal error.line ++ (codes ": " ++ (fault_name error.fault ++ codes "\n")))
 
 -- what failed, and a space where the number of a description stands after it
 unfoldable pub what_failed : SimError → List ℕ

@@ -14,7 +14,8 @@ pub record FaultStream : Type 0 where
 -- a line was written whole, or a write failed and it was written up to there
 abbrev pub Reports : FaultStream → FaultStream → List ℕ → Type 0
 Reports old new line =
-    (Appends old.known new.known line × (new.has_failed ≡ old.has_failed)) ⊎ (AppendsBeginning old.known new.known line × (new.has_failed ≡ true))
+    (Appends old.known new.known line × (new.has_failed ≡ old.has_failed))
+    ⊎ (AppendsBeginning old.known new.known line × (new.has_failed ≡ true))
 
 -- the line of an error is reported, with its exit status
 abbrev pub ReportsError : SimError → FaultStream → FaultStream → ℕ → Type 0

@@ -42,7 +42,8 @@ halves_at_front text = option_map (λ after. record { before = []; after = after
 unfoldable pub later_halves : List ℕ → Option Halves
 later_halves [] = None
 later_halves (byte ∷ later) =
-    option_map (preceded (byte ∷ [])) (option_or (if is_line_feed byte then halves_at_front later else None) (later_halves later))
+    option_map (preceded (byte ∷ []))
+    (option_or (if is_line_feed byte then halves_at_front later else None) (later_halves later))
 
 -- the halves of a text at its first separator
 unfoldable pub halves_of : List ℕ → Option Halves

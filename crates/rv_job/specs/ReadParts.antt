@@ -8,4 +8,5 @@ halves_in halves = record { before = halves.before.now; after = halves.after.now
 
 -- the bytes of the parts that it holds
 abbrev pub parts_in : Parts → text.Parts
-parts_in parts = record { description = parts.description.now; arrivals = parts.arrivals.now; assembly = parts.assembly.now }
+parts_in parts =
+    record { description = parts.description.now; arrivals = parts.arrivals.now; assembly = parts.assembly.now }

@@ -49,7 +49,8 @@ fn say_image_line<W: Write>(out: &mut Sink<'_, W>, image: &Image)
 /// Writes the line that says how many bytes an image has, and where execution starts.
 #[tactic(auto, using(rv_text::proofs::Saying::says_written))]
 pub fn write_image_line<W: Write>(writer: &mut W, image: &Image) -> Result<(), ReportError>
-    ensures { IsWritten result (W.contents writer.old) (W.contents writer.new) (image_line (length image.now.bytes) image.now.start) }
+    ensures { IsWritten result (W.contents writer.old) (W.contents writer.new)
+        (image_line (length image.now.bytes) image.now.start) }
 {
     let mut out = Sink::new(writer);
     say_image_line(&mut out, image);

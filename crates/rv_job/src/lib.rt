@@ -1,6 +1,6 @@
-//! Jobs and comparisons: their texts, read from the bytes of the input, and the lines that report their faults. Its model of a job is the
-//! machine, the arrivals and the image that the parts of its text mean, and of a comparison a job for each machine that is described.
-//! The program stands on it.
+//! Jobs and comparisons: their texts, read from the bytes of the input, and the lines that report their faults. Its
+//! model of a job is the machine, the arrivals and the image that the parts of its text mean, and of a comparison a job
+//! for each machine that is described. The program stands on it.
 #![tactic(auto)]
 
 mod comparison;

@@ -23,7 +23,8 @@ is_in_ram layout address count = nat_le layout.base address && nat_le (address +
 
 -- the bytes of a store lie in RAM, after its read-only front
 abbrev pub is_writable : Layout → ℕ → ℕ → Bool
-is_writable layout address count = nat_le (layout.base + layout.rom_bytes) address && nat_le (address + count) (layout.base + layout.size)
+is_writable layout address count =
+    nat_le (layout.base + layout.rom_bytes) address && nat_le (address + count) (layout.base + layout.size)
 
 -- Unprivileged ISA 20191213, 2.6: the address is a multiple of the number of bytes
 abbrev pub is_aligned : ℕ → ℕ → Bool

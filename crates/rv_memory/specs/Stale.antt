@@ -14,4 +14,6 @@ is_covered stale address = nat_le stale.base address && nat_lt address (stale.ba
 
 -- each stale word lies in the range
 abbrev pub AreCovered : StaleWords → Type 0
-AreCovered stale = (word : ℕ) → IsTrue (set.contains stale.words word) → (stale.base ≤ 4 * word) × (4 * word + 4 ≤ stale.base + stale.size)
+AreCovered stale =
+    (word : ℕ) → IsTrue (set.contains stale.words word) →
+    (stale.base ≤ 4 * word) × (4 * word + 4 ≤ stale.base + stale.size)

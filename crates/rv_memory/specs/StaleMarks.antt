@@ -7,7 +7,8 @@ use Rattle.rv_memory.specs.Stale.{StaleWords}
 -- stale words are distinguished as the tuple of their fields
 abbrev pub stale_words_code : Coded StaleWords
 stale_words_code =
-    code_by (ℕ × (ℕ × set.FinSet nat_cmp)) (coded× coded_ℕ (coded× coded_ℕ (set.code coded_ℕ))) (λ s. (s.base, (s.size, s.words))) (λ p. record { base = p.0; size = p.1.0; words = p.1.1 }) (λ _. refl)
+    code_by (ℕ × (ℕ × set.FinSet nat_cmp)) (coded× coded_ℕ (coded× coded_ℕ (set.code coded_ℕ)))
+    (λ s. (s.base, (s.size, s.words))) (λ p. record { base = p.0; size = p.1.0; words = p.1.1 }) (λ _. refl)
 
 -- the numbers of the words that are marked, where the first mark is that of a given word
 abbrev pub marked_words : ℕ → List Bool → List ℕ

@@ -103,7 +103,10 @@ impl Ram {
     /// Stores the low bytes of a word, lowest byte first.
     pub fn store(&mut self, address: u32, width: Width, word: u32)
         requires { IsTrue (is_writable self.old.layout address (bytes_of width)) }
-        ensures stored { self.new ≡ record self.old { bytes = with_stored self.old.layout self.old.bytes address (bytes_of width) word } }
+        ensures stored { self.new ≡ record self.old {
+          bytes = with_stored self.old.layout self.old.bytes address
+              (bytes_of width) word;
+        } }
         ensures sized { IsSized self.new }
     {
         store_in(&mut self.bytes, (address - self.base) as usize, width, word);

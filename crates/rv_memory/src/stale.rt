@@ -31,9 +31,14 @@ impl Model for StaleMap {
 
     ghost coded = { stale_words_code };
 
-    ghost view = { λ s. record { base = s.base; size = length s.marked.items * 4; words = words_of (s.base / 4) s.round s.marked.items } };
+    ghost view = { λ s. record {
+      base = s.base;
+      size = length s.marked.items * 4;
+      words = words_of (s.base / 4) s.round s.marked.items;
+    } };
 
-    ghost invariant = { λ s. IsRamBase s.base × IsRamSize (length s.marked.items * 4) × (0 < s.round) × All (λ m. m ≤ s.round) s.marked.items };
+    ghost invariant = { λ s. IsRamBase s.base × IsRamSize (length s.marked.items * 4) × (0 < s.round)
+        × All (λ m. m ≤ s.round) s.marked.items };
 }
 
 impl StaleMap {

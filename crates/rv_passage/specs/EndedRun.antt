@@ -7,6 +7,7 @@ use Rattle.rv_hardware.specs.History.{History, Moment, reports_of}
 use Rattle.rv_hardware.specs.Run.{IsStop}
 
 -- cycles one after another, at most so many, that led from the one guided hardware to the other and ended for a reason
-pub record IsEndedRun (arrivals : List Arrival) (limit : ℕ) (old : GuidedHardware) (moments : List Moment) (new : GuidedHardware) (stop : Stop) : Type 0 where
+pub record IsEndedRun (arrivals : List Arrival) (limit : ℕ) (old : GuidedHardware) (moments : List Moment)
+    (new : GuidedHardware) (stop : Stop) : Type 0 where
   pub passes : History arrivals old moments new
   pub stops : IsStop limit (reports_of moments) new.hardware stop

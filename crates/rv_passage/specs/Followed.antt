@@ -40,8 +40,10 @@ pub record HasFollowedNumbers (cycle : ℕ) (steps : List Step) (rob : ReorderBu
   pub few : length (passages_of new).rows ≤ 288
   pub quiet : length (passages_of new).interrupts ≡ 0
 
--- a table has the passages that are kept after some cycles, which led from the one hardware to the other, and so many are counted at most
-pub record HasFollowed (keep : Passages → Passages) (first : Hardware) (moments : List Moment) (now : Hardware) (table : Passages) : Type 0 where
+-- a table has the passages that are kept after some cycles, which led from the one hardware to the other, and so many
+-- are counted at most
+pub record HasFollowed (keep : Passages → Passages) (first : Hardware) (moments : List Moment) (now : Hardware)
+    (table : Passages) : Type 0 where
   pub passages : table ≡ passages_after keep first moments
   pub fetched : table.fetched ≤ 288 * (now.cycle + 1)
   pub retired : table.retired ≤ 8 * now.cycle

@@ -24,7 +24,8 @@ producer_by register p =
 -- the youngest of the older instructions in flight that writes a register, where its result is still to come
 abbrev pub producer_among : List Passage → Option ℕ → Option Producer
 producer_among older None = None
-producer_among older (Some register) = option_and_then (producer_by register) (find (is_writer register) (reverse older))
+producer_among older (Some register) =
+    option_and_then (producer_by register) (find (is_writer register) (reverse older))
 
 -- a producer, where it is not the first one again
 abbrev pub other_than : Option Producer → Producer → Option Producer
@@ -35,7 +36,10 @@ other_than (Some first) p = if first.number == p.number then None else Some p
 abbrev pub producers_for : List Passage → List (Option ℕ) → Producers
 producers_for older sources =
     let first = producer_among older (slice_index_or sources 0 None) in
-    record { first = first; second = option_and_then (other_than first) (producer_among older (slice_index_or sources 1 None)) }
+    record {
+      first = first;
+      second = option_and_then (other_than first) (producer_among older (slice_index_or sources 1 None));
+    }
 
 -- those of an instruction that is dispatched after the older ones; one that uses no unit waits for none
 abbrev pub producers_among : List Passage → Option Instr → Producers
@@ -45,16 +49,21 @@ producers_among older (Some instruction) =
 
 -- the cycle of the broadcast of the instruction with a number
 abbrev pub broadcast_among : List Passage → ℕ → Option ℕ
-broadcast_among older number = option_and_then (λ (p : Passage). p.broadcast) (find (λ p. p.number == number) (reverse older))
+broadcast_among older number =
+    option_and_then (λ (p : Passage). p.broadcast) (find (λ p. p.number == number) (reverse older))
 
 -- a producer as it stands at the end of a later cycle
 abbrev pub followed_in : List Passage → Producer → Producer
-followed_in older producer = record producer { broadcast = option_or producer.broadcast (broadcast_among older producer.number) }
+followed_in older producer =
+    record producer { broadcast = option_or producer.broadcast (broadcast_among older producer.number) }
 
 -- all of them
 abbrev pub all_followed_in : List Passage → Producers → Producers
 all_followed_in older producers =
-    record { first = option_map (followed_in older) producers.first; second = option_map (followed_in older) producers.second }
+    record {
+      first = option_map (followed_in older) producers.first;
+      second = option_map (followed_in older) producers.second;
+    }
 
 -- those of an instruction at the end of a cycle, as it stands now: they are noted in the cycle of its dispatch, and followed then
 abbrev pub producers_now : List Passage → Passage → Passage → Producers

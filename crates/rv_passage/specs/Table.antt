@@ -25,7 +25,13 @@ pub record Passages : Type 0 where
 
 -- what a table holds: its rows without those that are dropped
 abbrev pub passages_of : Table → Passages
-passages_of t = record { rows = drop t.dropped t.rows.items; interrupts = t.interrupts.items; fetched = t.fetched; retired = t.retired }
+passages_of t =
+    record {
+      rows = drop t.dropped t.rows.items;
+      interrupts = t.interrupts.items;
+      fetched = t.fetched;
+      retired = t.retired;
+    }
 
 -- instructions numbered in their order
 abbrev pub numbered_from : ℕ → List Passage → List Passage
@@ -103,7 +109,8 @@ moved_on cycle number older [] now = numbered_from number now
 moved_on cycle number older (p ∷ ps) now =
     moved cycle older now p ∷ moved_on cycle number (older ++ moved cycle older now p ∷ []) ps (left_after cycle now p)
 
--- rows have moved on to a cycle's end; of what is in flight then, all from a place on is still to be added, numbered from any number
+-- rows have moved on to a cycle's end; of what is in flight then, all from a place on is still to be added, numbered
+-- from any number
 abbrev pub AreMovedOn : ℕ → List Passage → List Passage → List Passage → ℕ → Type 0
 AreMovedOn cycle now old new place =
     (number : ℕ) → moved_on cycle number [] old now ≡ new ++ numbered_from number (drop place now)

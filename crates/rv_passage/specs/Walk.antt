@@ -12,8 +12,8 @@ pub record Standing : Type 0 where
   pub reports : List Report
   pub kept : Passages
 
--- A cycle of a run: its number, what it reported, and what the cycles so far reported, with it; the passages at its end, those of the
--- instructions that left the hardware in it among them; and the hardware that it left.
+-- A cycle of a run: its number, what it reported, and what the cycles so far reported, with it; the passages at its
+-- end, those of the instructions that left the hardware in it among them; and the hardware that it left.
 pub record FollowedCycle : Type 0 where
   pub number : ℕ
   pub report : Report
@@ -41,7 +41,8 @@ standing_after keep cycle = record { number = cycle.after.cycle; reports = cycle
 
 -- and after several
 abbrev pub standing_after_all : (Passages → Passages) → Standing → List Moment → Standing
-standing_after_all keep standing moments = fold (λ before moment. standing_after keep (next_cycle before moment)) standing moments
+standing_after_all keep standing moments =
+    fold (λ before moment. standing_after keep (next_cycle before moment)) standing moments
 
 -- the cycles from there on
 abbrev pub walk_from : (Passages → Passages) → Standing → List Moment → List FollowedCycle

@@ -14,7 +14,8 @@ pub record IsTable (table : List (Option ℕ)) (ps : List Producer) : Type 0 whe
   pub producers : (r : ℕ) → r < 32 → slice_index_or table r None ≡ youngest r ps
 
 -- what holds of the fields
-pub record IsKept (capacity : ℕ) (ps : List Producer) (table : List (Option ℕ)) (numbers : List ℕ) (room : ℕ) : Type 0 where
+pub record IsKept (capacity : ℕ) (ps : List Producer) (table : List (Option ℕ)) (numbers : List ℕ)
+    (room : ℕ) : Type 0 where
   pub in_order : IsInOrder (λ p. p.seq) ps
   pub table_ok : IsTable table ps
   pub numbers_fit : length numbers ≤ capacity

@@ -29,7 +29,8 @@ NoneAbove register n ps = All (λ p. register ≡ p.register → p.seq ≤ n) ps
 
 -- there is room for the instruction of number n, and it is younger than every producer and checkpoint
 abbrev pub CanDefine : ℕ → Renaming → Type 0
-CanDefine n m = (length m.producers < m.capacity) × AreBelow (λ p. p.seq) n m.producers × AreBelow (λ c. c.seq) n m.checkpoints
+CanDefine n m =
+    (length m.producers < m.capacity) × AreBelow (λ p. p.seq) n m.producers × AreBelow (λ c. c.seq) n m.checkpoints
 
 -- there is room for a checkpoint of number n, and no producer is younger
 abbrev pub CanCheckpoint : ℕ → Renaming → Type 0

@@ -28,9 +28,14 @@ impl Model for RenameMap {
 
     ghost Value = { Renaming };
 
-    ghost view = { λ m. record { capacity = m.producers.capacity; producers = m.producers.items; checkpoints = map (checkpoint_of m.producers.items) m.checkpoints.items } };
+    ghost view = { λ m. record {
+      capacity = m.producers.capacity;
+      producers = m.producers.items;
+      checkpoints = map (checkpoint_of m.producers.items) m.checkpoints.items;
+    } };
 
-    ghost invariant = { λ m. IsKept m.producers.capacity m.producers.items m.table m.checkpoints.items (vec_capacity m.checkpoints) };
+    ghost invariant = { λ m. IsKept m.producers.capacity m.producers.items m.table m.checkpoints.items
+        (vec_capacity m.checkpoints) };
 }
 
 impl RenameMap {

@@ -154,7 +154,8 @@ impl Rob {
     /// Changes the entry with this number, if there is one.
     fn change<F: FnOnce(&mut Entry)>(&mut self, seq: u64, change: F)
         requires { F.IsAlwaysCallable change }
-        ensures { (f : Entry → Entry) → ((e e' : Entry) → FnOnceReturnsAtMut F.FnOnce change e tt e' → e' ≡ f e) → self.new ≡ changed f seq self.old }
+        ensures { (f : Entry → Entry) → ((e e' : Entry) → FnOnceReturnsAtMut F.FnOnce change e tt e' → e' ≡ f e) →
+            self.new ≡ changed f seq self.old }
     {
         let place = self.place_of(seq);
         if let Some(entry) = self.entries.get_mut(place) {

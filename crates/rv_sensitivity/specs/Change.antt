@@ -40,7 +40,8 @@ with_number FetchBuffer n v = record v { fetch_buffer = n }
 with_number Rob n v = record v { rob = n }
 with_number StoreQueue n v = record v { store_queue = n }
 with_number Forward n v = record v { forward = n }
-with_number (OfKind kind kind_key) n v = record v { kinds = with_kind kind (with_kind_number kind_key n (at_kind kind v.kinds)) v.kinds }
+with_number (OfKind kind kind_key) n v =
+    record v { kinds = with_kind kind (with_kind_number kind_key n (at_kind kind v.kinds)) v.kinds }
 with_number CacheSets n v = record v { cache = record v.cache { sets = n } }
 with_number CacheWays n v = record v { cache = record v.cache { ways = n } }
 with_number CacheLine n v = record v { cache = record v.cache { line = n } }
@@ -53,7 +54,8 @@ with_number ReportDumpWords n v = record v { report = record v.report { dump_wor
 
 -- a machine whose units of a kind are pipelined, or not
 abbrev pub with_pipelined : Kind → Bool → Values → Values
-with_pipelined kind truth v = record v { kinds = with_kind kind (record (at_kind kind v.kinds) { pipelined = truth }) v.kinds }
+with_pipelined kind truth v =
+    record v { kinds = with_kind kind (record (at_kind kind v.kinds) { pipelined = truth }) v.kinds }
 
 -- a machine with a change
 abbrev pub changed : Change → Values → Values
@@ -94,4 +96,6 @@ is_new (Recovery recovery) v = is_new_recovery recovery v.recovery
 is_new (Pipelined kind truth) v = is_new_truth truth (at_kind kind v.kinds).pipelined
 is_new (Predictor kind) v = not (is_same_predictor kind v.predictor.kind)
 is_new (Widths widths) v =
-    not (widths.fetch == v.fetch_width) || (not (widths.dispatch == v.dispatch_width) || (not (widths.commit == v.commit_width) || not (widths.bus == v.bus_width)))
+    not (widths.fetch == v.fetch_width)
+    || (not (widths.dispatch == v.dispatch_width)
+    || (not (widths.commit == v.commit_width) || not (widths.bus == v.bus_width)))

@@ -18,7 +18,9 @@ legal_machine v = if is_legal v then Some v else None
 -- the machine that a change makes of one, if it is another one and legal
 abbrev pub neighbour_of : Values → Change → Option Neighbour
 neighbour_of v change =
-    if is_new change v then option_map (λ machine. record { change = change; machine = machine }) (legal_machine (changed change v)) else None
+    if is_new change v
+    then option_map (λ machine. record { change = change; machine = machine })
+    (legal_machine (changed change v)) else None
 
 -- those that what is tried makes of a machine, in the order of the keys, and then those that a user's own changes make of it
 unfoldable pub neighbours_of : Values → List Change → List Neighbour

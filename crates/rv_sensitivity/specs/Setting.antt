@@ -25,7 +25,8 @@ says_how_fast _ = true
 
 -- the change of the number at a key, where the key takes the number
 abbrev pub number_at : NumberKey → ℕ → Option Change
-number_at number_key n = if says_how_fast number_key && takes (row_of number_key).bounds 0 n then Some (change.Number number_key n) else None
+number_at number_key n =
+    if says_how_fast number_key && takes (row_of number_key).bounds 0 n then Some (change.Number number_key n) else None
 
 -- the change that a value makes at a key
 abbrev pub change_at : Key → KeyValue → Option Change

@@ -1,5 +1,5 @@
-//! Which line of a source text each word of an image comes from, for those that show what a program did, and how a place is printed.
-//! Its model is, for each word, the line with its number and its text, if the word comes from one.
+//! Which line of a source text each word of an image comes from, for those that show what a program did, and how a
+//! place is printed. Its model is, for each word, the line with its number and its text, if the word comes from one.
 #![tactic(auto)]
 
 mod line;

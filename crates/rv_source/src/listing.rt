@@ -60,7 +60,8 @@ impl Listing {
     /// Appends words that come from a line. The only error is that memory ran out, which changes nothing.
     #[tactic(auto, using(crate::proofs::Places::lines_at_append))]
     pub fn push_line(&mut self, line: SourceLine, words: usize) -> Result<(), AllocError>
-        ensures pushed { IfOk result (λ _. self.new ≡ record self.old { words = self.old.words ++ replicate words (Some line) }) }
+        ensures pushed { IfOk result (λ _. self.new
+            ≡ record self.old { words = self.old.words ++ replicate words (Some line) }) }
         ensures kept { OnErr result (self.new ≡ self.old) }
     {
         let place = self.lines.len();
@@ -71,7 +72,8 @@ impl Listing {
 
     /// Appends words that come from no line. The only error is that memory ran out, which changes nothing.
     pub fn push_gap(&mut self, words: usize) -> Result<(), AllocError>
-        ensures pushed { IfOk result (λ _. self.new ≡ record self.old { words = self.old.words ++ replicate words None }) }
+        ensures pushed { IfOk result (λ _. self.new
+            ≡ record self.old { words = self.old.words ++ replicate words None }) }
         ensures kept { OnErr result (self.new ≡ self.old) }
     {
         push_places(&mut self.words, words, None)?;

@@ -15,11 +15,14 @@ is_producer tag = not (tag == NO_PRODUCER)
 
 -- a bit for each operand in order, 0 where the value is there and 1 where it is waited for
 abbrev pub IsWaitMask : List Operand → ℕ → Type 0
-IsWaitMask operands mask = (place : ℕ) → place < length operands → bit_at mask place ≡ if has_value (get_or operands place (Value 0)) then 0 else 1
+IsWaitMask operands mask =
+    (place : ℕ) → place < length operands →
+    bit_at mask place ≡ if has_value (get_or operands place (Value 0)) then 0 else 1
 
 -- the bits of two masks are the same but for that of one place
 abbrev pub OtherBitsStay : ℕ → ℕ → ℕ → Type 0
-OtherBitsStay place before after = (other : ℕ) → other < 64 → (other ≡ place → ⊥) → bit_at after other ≡ bit_at before other
+OtherBitsStay place before after =
+    (other : ℕ) → other < 64 → (other ≡ place → ⊥) → bit_at after other ≡ bit_at before other
 
 -- a tag that is the number goes
 abbrev pub woken_tag : ℕ → ℕ → ℕ

@@ -42,5 +42,6 @@ abbrev pub Answers : {F : Type 0} → Shared F (Bor Waiting × Unit {0}) Verdict
 Answers g filter test = (w : Waiting) (verdict : Verdict) → FnReturnsAt g filter w verdict → IsVerdict test w verdict
 
 -- a search by a closure that answers what a test says, and that passes by the oldest so many, none of which is ready and passes
-abbrev pub Searches : {F : Type 0} → Shared F (Bor Waiting × Unit {0}) Verdict → F → (Waiting → Bool) → ℕ → Pool → Type 0
+abbrev pub Searches : {F : Type 0} → Shared F (Bor Waiting × Unit {0}) Verdict → F →
+    (Waiting → Bool) → ℕ → Pool → Type 0
 Searches g filter test passed pool = Answers g filter test × ArePassedBy test passed pool.waiting

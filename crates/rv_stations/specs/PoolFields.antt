@@ -50,7 +50,8 @@ nothing = record { pc = 0; instruction = Fence }
 
 -- the bit of the place is set if its instruction does not load, and clear if it does
 abbrev pub IsMarkedOther : List Dispatched → ℕ → ℕ → Type 0
-IsMarkedOther dispatched mask place = bit_at mask place ≡ if is_load (Some (get_or dispatched place nothing).instruction) then 0 else 1
+IsMarkedOther dispatched mask place =
+    bit_at mask place ≡ if is_load (Some (get_or dispatched place nothing).instruction) then 0 else 1
 
 -- the lists are of one length, each place is there and no two are the same, the numbers rise, and the bits of the
 -- places are set where an instruction waits

@@ -26,7 +26,8 @@ is_ready w = has_value w.first && has_value w.second
 
 -- an instruction with the values of its operands, where both are there
 abbrev pub ready_with : Waiting → Operand → Operand → Option Ready
-ready_with w (Value first) (Value second) = Some (record { seq = w.seq; pc = w.pc; instruction = w.instruction; first = first; second = second })
+ready_with w (Value first) (Value second) =
+    Some (record { seq = w.seq; pc = w.pc; instruction = w.instruction; first = first; second = second })
 ready_with w (Value first) (Tag tag) = None
 ready_with w (Tag tag) second = None
 
@@ -55,7 +56,8 @@ is_asked loads_wait w = is_ready w && not (loads_wait && loads w)
 abbrev pub IsVerdict : (Waiting → Bool) → Waiting → Verdict → Type 0
 IsVerdict test w Goes = test w ≡ true
 IsVerdict test w Waits = test w ≡ false
-IsVerdict test w LoadsWait = (test w ≡ false) × ((younger : Waiting) → w.seq < younger.seq → loads younger ≡ true → test younger ≡ false)
+IsVerdict test w LoadsWait =
+    (test w ≡ false) × ((younger : Waiting) → w.seq < younger.seq → loads younger ≡ true → test younger ≡ false)
 
 -- the oldest instruction that is ready and passes a test
 abbrev pub oldest_ready : (Waiting → Bool) → List Waiting → Option Waiting

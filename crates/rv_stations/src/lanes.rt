@@ -40,7 +40,8 @@ pub fn wake_from(
     requires like { like ≡ mask_l (map (λ tag. tag % 2 ^ 32 == seq % 2 ^ 32) (take 8 (drop start tags.old))) }
     ensures woken { result ≡ mask_l (map (λ tag. tag == seq) (take 8 (drop start tags.old))) }
     ensures tags { tags.new ≡ in_eight start (map (woken_tag seq)) tags.old }
-    ensures values { values.new ≡ in_eight start (zip2 (woken_value seq value) (take 8 (drop start tags.old))) values.old }
+    ensures values { values.new ≡ in_eight start
+        (zip2 (woken_value seq value) (take 8 (drop start tags.old))) values.old }
 {
     wake_eight(
         &mut tags[start..start + 8],
@@ -91,7 +92,8 @@ fn wake_one(tags: &mut [u64], values: &mut [u64], lane: usize, seq: u64, value: 
     requires values { lane < length values.old }
     ensures is_woken { result ≡ (get_or tags.old lane 0 == seq) }
     ensures tags { tags.new ≡ slice_set tags.old lane (woken_tag seq (get_or tags.old lane 0)) }
-    ensures values { values.new ≡ slice_set values.old lane (woken_value seq value (get_or tags.old lane 0) (get_or values.old lane 0)) }
+    ensures values { values.new ≡ slice_set values.old lane
+        (woken_value seq value (get_or tags.old lane 0) (get_or values.old lane 0)) }
 {
     let is_woken = tags[lane] == seq;
     if is_woken {

@@ -21,7 +21,8 @@ pub fn first_places(alloc: Global, count: u32) -> Result<Vec<u8>, AllocError>
 pub fn move_back(places: &mut Vec<u8>, at: usize, count: usize)
     requires within { at < count }
     requires count { count ≤ vec_len places.old }
-    ensures items { places.new.items ≡ insert (remove places.old.items at) (count - 1) (slice_index places.old.items at) }
+    ensures items { places.new.items
+        ≡ insert (remove places.old.items at) (count - 1) (slice_index places.old.items at) }
     ensures len { vec_len places.new ≡ vec_len places.old }
 {
     let place = places[at];

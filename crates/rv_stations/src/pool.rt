@@ -168,8 +168,10 @@ impl StationPool {
     fn next_asked(&self, from: usize, loads_wait: bool) -> usize
         ensures within { result ≤ length self.now.waiting }
         ensures later { from ≤ length self.now.waiting → from ≤ result }
-        ensures asked { result < length self.now.waiting → option_map (is_asked loads_wait) (slice_get self.now.waiting result) ≡ Some true }
-        ensures others { (at : ℕ) → from ≤ at → at < result → option_map (is_asked loads_wait) (slice_get self.now.waiting at) ≡ Some false }
+        ensures asked { result < length self.now.waiting →
+            option_map (is_asked loads_wait) (slice_get self.now.waiting result) ≡ Some true }
+        ensures others { (at : ℕ) → from ≤ at → at < result →
+            option_map (is_asked loads_wait) (slice_get self.now.waiting at) ≡ Some false }
     {
         let asked = one_of(loads_wait, self.held & self.others, self.held);
         let waiting = self.first.waiting() | self.second.waiting();

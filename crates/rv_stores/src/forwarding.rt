@@ -30,7 +30,8 @@ pub(crate) fn older_bytes(
 
 /// The byte found for an address, with those of the committed stores laid over it, the oldest first.
 pub(crate) fn committed_bytes(stores: &[Store], found: Option<u8>, address: u32) -> Option<u8>
-    ensures { result ≡ fold (λ found store. option_or (byte_at address store) found) found (filter is_committed stores.now) }
+    ensures { result ≡ fold (λ found store. option_or (byte_at address store) found) found
+        (filter is_committed stores.now) }
 {
     let Some((store, younger)) = stores.split_first() else {
         return found;

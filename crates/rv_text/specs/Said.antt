@@ -19,8 +19,11 @@ answered false answer = Ok answer
 -- a text is said, as far as no write fails, to the same writer
 pub record Says {W : Type 0} (contents : W → Option (List ℕ)) (old new : Sink W) (text : List ℕ) : Type 0 where
   pub same : new.writer.ghost_name ≡ old.writer.ghost_name
-  pub grows : (before : Option (List ℕ)) (first : List ℕ) → IsSaid old.has_failed before (contents old.writer.now) first → IsSaid new.has_failed before (contents new.writer.now) (first ++ text)
+  pub grows : (before : Option (List ℕ)) (first : List ℕ) →
+      IsSaid old.has_failed before (contents old.writer.now) first →
+      IsSaid new.has_failed before (contents new.writer.now) (first ++ text)
 
 -- what was said is extended by a text, as far as no write fails, where one may have failed before
 pub record Extends (was is : Bool) (old new : Option (List ℕ)) (text : List ℕ) : Type 0 where
-  pub extends : (before : Option (List ℕ)) (first : List ℕ) → IsSaid was before old first → IsSaid is before new (first ++ text)
+  pub extends : (before : Option (List ℕ)) (first : List ℕ) → IsSaid was before old first →
+      IsSaid is before new (first ++ text)

@@ -56,7 +56,8 @@ IsCommitStop (Some Limit) = ⊥
 IsCommitStop (Some Exhausted) = ⊥
 
 -- one more cycle of a run, with the lines of its number: its steps stand after those before, and it is counted
-pub record IsNextCycle (arrivals : List Arrival) (old new : GuidedHardware) (steps steps' : List Step) (progress progress' : Progress) (stop : Option Stop) : Type 0 where
+pub record IsNextCycle (arrivals : List Arrival) (old new : GuidedHardware) (steps steps' : List Step)
+    (progress progress' : Progress) (stop : Option Stop) : Type 0 where
   pub report : Report
   pub cycle : IsGuidedCycle (lines_at arrivals old.hardware.cycle) old report new
   pub few : length report.steps ≤ 8

@@ -153,7 +153,8 @@ impl Reference {
         operand: CsrOperand,
         lines: Lines,
     ) -> Performed
-        ensures { IsPerformed (accesses self.old.state word rd (access self.old.state.csrs lines op csr operand)) result self.old self.new }
+        ensures { IsPerformed (accesses self.old.state word rd (access self.old.state.csrs lines op csr operand)) result
+            self.old self.new }
     {
         match self.csrs.csr_access(op, csr, operand, lines) {
             Ok(old) => self.compute(rd, old),
