@@ -19,7 +19,6 @@ mod NoHolds
 mod Nothing
 mod Passing
 mod Queued
-mod StoreWords
 pub mod Unmarked
 mod Waits
 pub mod Walks

@@ -6,6 +6,7 @@ use Rattle.rv_hardware.specs.Step.{is_interrupt}
 use Rattle.rv_hardware.specs.declared.step.Step.{Step}
 use Rattle.rv_hardware.specs.Broadcast.{mends_early}
 use Rattle.rv_isa.specs.Instruction.{is_branch_or_jump, is_fence_i, is_serialising, is_store}
+use Rattle.rv_passage.specs.Passage.{is_retirement}
 use Rattle.rv_passage.specs.Prediction.{differ, next_of}
 use Rattle.rv_passage.specs.declared.passage.{Ending.Ending, Passage.Passage}
 use Rattle.rv_passage.specs.declared.passage.Ending.TheVariants.{InFlight, Retired, Trapped, Squashed}
@@ -59,13 +60,6 @@ leaving_wait s earlier p w =
 -- the event by which it leaves
 abbrev pub leaving_event : Setting → Option Event → Passage → Way → Event
 leaving_event s earlier p w = made_of s stage.Commit p (leaving_wait s earlier p w)
-
--- it retired
-abbrev pub is_retirement : Ending → Bool
-is_retirement InFlight = false
-is_retirement (Retired order cycle written next) = true
-is_retirement (Trapped cycle cause) = false
-is_retirement (Squashed cycle) = false
 
 -- a store retired
 abbrev pub is_retired_store : Passage → Bool

@@ -10,4 +10,3 @@ pub mod LossReasons
 pub mod PlacesGrow
 pub mod PlacesOfCycle
 pub mod FoundCounts
-mod SerialWords

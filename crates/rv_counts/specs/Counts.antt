@@ -1,12 +1,12 @@
 -- What became of the instructions that were fetched at an address.
 use Rattle.std.specs.Prelude.{ℕ, ◌+◌, ◌-◌, ◌^◌, ◌≤◌, ◌==◌, Bool, if◌then◌else◌, List, [], length, filter, count_by}
 use Rattle.std.specs.List.{filter_map}
-use Rattle.rv_passage.specs.Passage.{is_squash}
+use Rattle.rv_passage.specs.Passage.{is_retirement, is_squash}
 use Rattle.rv_passage.specs.Prediction.{is_mispredicted}
 use Rattle.rv_passage.specs.declared.passage.{Ending.Ending, Passage.Passage}
 use Rattle.rv_passage.specs.declared.passage.Ending.TheVariants as ending
 use Rattle.rv_counts.specs.Load.{is_hit, is_miss, load_cost}
-use Rattle.rv_counts.specs.Passing.{broadcast_wait, dispatch_wait, is_retirement, issue_wait, retirement_wait}
+use Rattle.rv_counts.specs.Passing.{broadcast_wait, dispatch_wait, issue_wait, retirement_wait}
 use Rattle.rv_counts.specs.Wait.{waited, with_wait}
 use Rattle.rv_counts.specs.declared.{counts.WordCounts.WordCounts, loads.LoadCosts.LoadCosts}
 

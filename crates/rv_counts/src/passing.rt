@@ -1,6 +1,6 @@
 ghost use Rattle.std.specs.Prelude.{◌≡◌};
-ghost use Rattle.rv_counts.specs.Passing.{broadcast_wait, cycles_between, dispatch_wait, is_retirement, issue_wait, retired_in, retirement_wait};
-ghost use Rattle.rv_passage.specs.Passage.{is_squash};
+ghost use Rattle.rv_counts.specs.Passing.{broadcast_wait, cycles_between, dispatch_wait, issue_wait, retirement_wait};
+ghost use Rattle.rv_passage.specs.Passage.{is_retirement, is_squash, retired_in};
 
 use rv_passage::{Ending, Passage};
 

@@ -4,11 +4,10 @@ use Rattle.std.proofs.lemmas.Bool.{false≢true}
 use Rattle.std.proofs.lemmas.List.Sums.{sum_by-append}
 use Rattle.std.specs.List.{AllPass}
 use Rattle.rv_passage.specs.Left.{IsUpToYoungestLeft}
-use Rattle.rv_passage.specs.Passage.{is_in_flight, is_running}
+use Rattle.rv_passage.specs.Passage.{is_in_flight, is_retirement, is_running}
 use Rattle.rv_passage.specs.declared.passage.{Ending.Ending, Passage.Passage}
 use Rattle.rv_passage.specs.declared.passage.Ending.TheVariants as ending
 use Rattle.rv_counts.specs.Load.{is_hit}
-use Rattle.rv_counts.specs.Passing.{is_retirement}
 use Rattle.rv_counts.specs.declared.loads.LoadCosts.{LoadCosts}
 use Rattle.rv_sentences.specs.Load.{loads_of, retired_load_cost}
 use Rattle.rv_sentences.specs.WordCount.{with_all, with_one}

@@ -20,12 +20,26 @@ is_running (ending.Retired order cycle written next) = false
 is_running (ending.Trapped cycle cause) = false
 is_running (ending.Squashed cycle) = false
 
+-- it retired
+abbrev pub is_retirement : Ending → Bool
+is_retirement (ending.Retired order cycle written next) = true
+is_retirement ending.InFlight = false
+is_retirement (ending.Trapped cycle cause) = false
+is_retirement (ending.Squashed cycle) = false
+
 -- it was squashed
 abbrev pub is_squash : Ending → Bool
 is_squash (ending.Squashed cycle) = true
 is_squash ending.InFlight = false
 is_squash (ending.Retired order cycle written next) = false
 is_squash (ending.Trapped cycle cause) = false
+
+-- the cycle in which it retired, if it did
+abbrev pub retired_in : Ending → Option ℕ
+retired_in (ending.Retired order cycle written next) = Some cycle
+retired_in ending.InFlight = None
+retired_in (ending.Trapped cycle cause) = None
+retired_in (ending.Squashed cycle) = None
 
 -- the cycle in which it left the hardware, if it did
 abbrev pub left_in : Ending → Option ℕ

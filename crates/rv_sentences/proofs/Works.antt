@@ -2,11 +2,11 @@
 use Rattle.std.proofs.Common.{◌≡◌, ◌∙◌, ℕ, ◌+◌, Bool, true, false, List, [], ◌∷◌, ◌++◌, length, filter, count_by, cond, refl, ap, sym, arith, length-append}
 use Rattle.std.specs.Prelude.{is_some, not}
 use Rattle.std.proofs.lemmas.List.Sums.{sum_by-append, sum_by-cons}
-use Rattle.rv_passage.specs.Passage.{is_running, is_squash}
+use Rattle.rv_passage.specs.Passage.{is_retirement, is_running, is_squash}
 use Rattle.rv_passage.specs.declared.passage.{Ending.Ending, Passage.Passage}
 use Rattle.rv_passage.specs.declared.passage.Ending.TheVariants as ending
 use Rattle.rv_counts.specs.Load.{is_hit}
-use Rattle.rv_counts.specs.Passing.{has_left, is_retirement}
+use Rattle.rv_counts.specs.Passing.{has_left}
 use Rattle.rv_counts.specs.declared.loads.LoadCosts.{LoadCosts}
 use Rattle.rv_sentences.specs.Access.{both}
 use Rattle.rv_sentences.specs.Load.{loads_of, retired_load_cost}

@@ -1,9 +1,9 @@
 -- The loads of a run by what they cost.
 use Rattle.std.specs.Prelude.{ℕ, if◌then◌else◌, List, codes, Option, None, count_by, is_some}
+use Rattle.rv_passage.specs.Passage.{is_retirement}
 use Rattle.rv_passage.specs.declared.passage.Passage.{Passage}
 use Rattle.rv_counts.specs.Counts.{one_more}
 use Rattle.rv_counts.specs.Load.{is_hit, load_cost}
-use Rattle.rv_counts.specs.Passing.{is_retirement}
 use Rattle.rv_counts.specs.declared.loads.LoadCosts.{LoadCosts}
 use Rattle.rv_sentences.specs.Access.{access_text}
 use Rattle.rv_sentences.specs.declared.accesses.Accesses.{Accesses}

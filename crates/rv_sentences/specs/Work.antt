@@ -2,11 +2,11 @@
 use Rattle.std.specs.Prelude.{ℕ, ◌+◌, ◌/◌, ◌%◌, ◌==◌, ◌&&◌, Bool, if◌then◌else◌, List, ◌++◌, codes, count_by, decimal, length, Option, Some, None}
 use Rattle.rv_isa.specs.Instruction.{is_branch_or_jump}
 use Rattle.rv_memory.specs.Memory.{word_of}
-use Rattle.rv_passage.specs.Passage.{is_squash}
+use Rattle.rv_passage.specs.Passage.{is_retirement, is_squash}
 use Rattle.rv_passage.specs.Prediction.{is_mispredicted}
 use Rattle.rv_passage.specs.declared.passage.Passage.{Passage}
 use Rattle.rv_counts.specs.Counts.{one_more}
-use Rattle.rv_counts.specs.Passing.{has_left, is_retirement}
+use Rattle.rv_counts.specs.Passing.{has_left}
 use Rattle.rv_sentences.specs.Stack.{parts_of}
 use Rattle.rv_sentences.specs.declared.work.{Class.Class, Work.Work}
 use Rattle.rv_sentences.specs.declared.work.Class.TheVariants.{Branch, Mispredicted}

@@ -1,7 +1,7 @@
 use Rattle.std.proofs.Common.{◌∙◌, ne_eqb, sym}
 use Rattle.rv_decode.specs.Operand.{opcode}
 use Rattle.rv_decode.proofs.Masks.{and_opcode}
-use Rattle.rv_causes.proofs.StoreWords.{no_store}
+use Rattle.rv_decode.proofs.OtherOpcodes.{no_store}
 use Rattle.rv_causes.proofs.waiting_stores.is_store_word.Goals as goal
 
 pub returns-then-word-ne-STORE : goal.returns-then-word-ne-STORE

@@ -1,7 +1,7 @@
 use Rattle.std.proofs.Common.{◌∙◌, ne_eqb, sym}
 use Rattle.rv_decode.specs.Operand.{opcode}
 use Rattle.rv_decode.proofs.Masks.{and_opcode}
-use Rattle.rv_counts.proofs.SerialWords.{not_serial}
+use Rattle.rv_decode.proofs.OtherOpcodes.{not_serial}
 use Rattle.rv_counts.proofs.place_uses.is_serialising_word.Goals as goal
 
 pub returns-then-opcode-ne-SYSTEM : goal.returns-then-opcode-ne-SYSTEM
