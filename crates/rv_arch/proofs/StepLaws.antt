@@ -47,15 +47,18 @@ pub record IsOneAtMost (layout : Layout) (s : State) (lines : Lines) : Type 0 wh
 
 -- that is so where nothing is fetched, and where the word was decoded
 module _ (layout : Layout) (s : State) (lines : Lines) where
+  -- where nothing is fetched, there is no word to be two instructions, or one and none
   pub not_fetched : (IsFetched layout s lines → ⊥) → IsOneAtMost layout s lines
   not_fetched never = record { one = λ i j fetched _ _. absurd (never fetched); none = λ i fetched _ _. never fetched }
 
+  -- a word that decodes to no instruction is one at most
   pub decoded_none : (word : ℕ) → word ≡ word_at_pc layout s → ((i : Instr) → Decodes word i → None ≡ Some i) → IsOneAtMost layout s lines
   decoded_none word at complete = record {
     one = λ i j _ first second. absurd (none-some i (complete i (rw at first)));
     none = λ i _ decodes _. none-some i (complete i (rw at decodes));
   }
 
+  -- a word that decodes to one instruction and no other, and is not illegal, is one at most
   pub decoded_some : (word : ℕ) → word ≡ word_at_pc layout s → (instruction : Instr) → ((i : Instr) → Decodes word i → Some instruction ≡ Some i) →
       (IsIllegal word → true ≡ false) → IsOneAtMost layout s lines
   decoded_some word at instruction complete legal = record {

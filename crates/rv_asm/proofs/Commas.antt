@@ -24,8 +24,10 @@ module _ (tokens : List Token) (size : ℕ) (size_is : size ≡ position_or_len 
 
   -- without a comma there is one piece
   module _ (whole : size ≡ length tokens) where
+    -- what stands before the first comma is then all of the tokens
     pub before_none : before_first is_comma (map token_of tokens) ≡ map token_of tokens
     before_none = before_comma ∙ ap (map token_of) (take_all size tokens (omega (arith, whole)))
 
+    -- the tokens are cut into one piece, which has all of them
     pub cut_nowhere : slice_split is_comma (map token_of tokens) ≡ map token_of tokens ∷ []
     cut_nowhere = slice_split_none is_comma (map token_of tokens) (λ k d below. fails_before_first is_comma (map token_of tokens) k d (omega (arith, below, size_is, whole, length-map tokens token_of)))

@@ -11,11 +11,13 @@ use Rattle.rv_asm.specs.declared.operation.Section.{Section}
 use Rattle.rv_asm.specs.declared.operation.Section.TheVariants.{Text, Data}
 use Rattle.rv_isa.specs.declared.instructions.Instr.{Instr}
 
+-- parts one after the other are spelled by their bytes one after the other
 pub spells_append : {p q : List Cell} {x y : List ℕ} → Spells p x → Spells q y → Spells (p ++ q) (x ++ y)
 spells_append nothing s = s
 spells_append (byte r) s = byte (spells_append r s)
 spells_append {y = y} (word {w = w} {bytes = bytes} is r) s = rw (append_assoc (to_le_bytes w32 w) bytes y) (word is (spells_append r s))
 
+-- parts that are appended one after the other are appended together
 pub appends_more : {p q : List Cell} {a b c : List ℕ} → Appends p a b → Appends q b c → Appends (p ++ q) a c
 appends_more {a = a} r s = record { bytes = r.bytes ++ s.bytes; spells = spells_append r.spells s.spells; appended = s.appended ∙ ap (λ l. l ++ s.bytes) r.appended ∙ append_assoc a r.bytes s.bytes }
 
@@ -36,9 +38,11 @@ pub nothing_added : {T : Type 0} (part section own : Section) (r : Result T AsmF
 nothing_added part section own (Ok x) meaning a is none = rw (is, none) (appends_nothing a)
 nothing_added part section own (Err fault) meaning a is none = tt
 
+-- a meaning without parts is emitted where the bytes stay as they are
 pub emits_nothing : (meaning : Result (List Cell) AsmFault) (a : List ℕ) → meaning ≡ Ok [] → Emits meaning a a
 emits_nothing meaning a means = record { parts = []; means = means; appends = appends_nothing a }
 
+-- where the bytes of an instruction's word are appended, lowest first, the instruction is
 pub appends_word : (i : Instr) (w : ℕ) (old new : List ℕ) → IsWordOf i w → new ≡ old ++ to_le_bytes w32 w → Appends (Word' i ∷ []) old new
 appends_word i w old new is e = record { bytes = to_le_bytes w32 w ++ []; spells = word is nothing; appended = e ∙ ap (λ l. old ++ l) (sym (append-nil (to_le_bytes w32 w))) }
 
@@ -46,9 +50,11 @@ spells_bytes : (bytes : List ℕ) → Spells (map Byte' bytes) bytes
 spells_bytes [] = nothing
 spells_bytes (b ∷ bytes) = byte (spells_bytes bytes)
 
+-- where bytes are appended, so are parts of one byte each
 pub appends_bytes : (bytes old new : List ℕ) → new ≡ old ++ bytes → Appends (map Byte' bytes) old new
 appends_bytes bytes old new e = record { bytes = bytes; spells = spells_bytes bytes; appended = e }
 
+-- bytes that are resized to a count more are followed by so many zeros
 pub zeros_after : (old new : List ℕ) (size count len : ℕ) → new ≡ take size old ++ replicate (size - len) 0 → size ≡ len + count → len ≡ length old → new ≡ old ++ replicate count 0
 zeros_after old new size count len e size_is len_is =
     let whole : take size old ≡ old = take_all size old (omega (arith, size_is, len_is)) in
@@ -68,8 +74,10 @@ emits_more rest c (Err fault) put more = λ not_memory. rw (put.means, more not_
 abbrev pub Begins : List Cell → List Cell → List ℕ → Type 0
 Begins all rest bytes = (more : List ℕ) → Spells rest more → Spells all (bytes ++ more)
 
+-- once the first of the parts that are left are appended, those after them are left
 pub begins_more : {all p rest : List Cell} {a b : List ℕ} → Begins all (p ++ rest) a → Appends p a b → Begins all rest b
 begins_more {a = a} begin put more spells = rw (put.appended, append_assoc a put.bytes more) (begin (put.bytes ++ more) (spells_append put.spells spells))
 
+-- with no parts left, the bytes spell all of them
 pub begins_all : {all : List Cell} {bytes : List ℕ} → Begins all [] bytes → Spells all bytes
 begins_all begin = simp append-nil at (begin [] nothing)

@@ -71,6 +71,7 @@ few_only form (Some (a ∷ b ∷ [])) n is many other = absurd (omega (arith, is
 few_only form (Some (a ∷ b ∷ c ∷ [])) n is many other = absurd (omega (arith, is, many))
 few_only form (Some (a ∷ b ∷ c ∷ d ∷ rest)) n is many other = statement_past form a b c d rest other
 
+-- more than three pieces are bad operands of every form but data
 pub too_many : (tokens : List Token) (form : Form) → 3 < length (slice_split is_comma (map token_of tokens)) → is_data form ≡ false → and_then (operands_read (map token_of tokens)) (statement form) ≡ Err BadOperands
 too_many [] form many other = absurd (omega arith)
 too_many (first ∷ others) form many other = let pieces = slice_split is_comma (map token_of (first ∷ others)) in few_only form (operands_in pieces) (length pieces) (counted pieces) many other
@@ -80,10 +81,12 @@ fault_read : (found : Option (List Operand)) (fault : AsmFault) → ok_or found 
 fault_read None fault is = cc
 fault_read (Some operands) fault is = absurd (cc)
 
+-- the only fault of reading operands, but for memory, is that they are bad
 pub read_fault : {V : Type 0} (meaning : V → List Operand) (r : Result V AsmFault) (found : Option (List Operand)) → Follows meaning r (ok_or found BadOperands) → IfErr r (λ fault. fault ≢ Memory → fault ≡ BadOperands)
 read_fault meaning (Ok v) found follows = tt
 read_fault meaning (Err fault) found follows = λ not_memory. fault_read found fault (follows not_memory)
 
+-- where operands are not read, but for memory, they are bad operands of every form but data
 pub read_refused : {V : Type 0} (meaning : V → List Operand) (r : Result V AsmFault) (found : Option (List Operand)) → Follows meaning r (ok_or found BadOperands) → IfErr r (λ fault. fault ≢ Memory → (form : Form) → is_data form ≡ false → and_then (ok_or found BadOperands) (statement form) ≡ Err BadOperands)
 read_refused meaning (Ok v) found follows = tt
 read_refused meaning (Err fault) found follows = λ not_memory form other.

@@ -20,6 +20,7 @@ pub record SaysNothing (line : Placed) : Type 0 where
   pub nothing : line.statement ≡ Ok Nothing
   pub starts_not : line.starts ≡ false
 
+-- where the second pass has nothing to do in a line, the line says nothing and does not define _start
 pub idle_says_nothing : (line : Placed) → is_idle line ≡ true → SaysNothing line
 idle_says_nothing line idle = record { nothing = nothing_said line.statement (grind arith); starts_not = grind arith }
 
@@ -59,11 +60,13 @@ module _ (base : ℕ) (whole : Layout) where
 
 -- of a whole text
 module _ (base : ℕ) (text : List ℕ) (whole : Layout) (lines : List Kept) (whole_is : whole ≡ layout (lines_of text)) (lines_are : lines ≡ kept 1 unlaid (slice_split (λ byte. byte == 10) text)) where
+  -- the first fault of the lines that are kept is that of the second pass over the text
   pub same_fault : first_with_fault (second_fault base whole) lines ≡ second_fault_of base (lines_of text)
   same_fault = ap (first_with_fault (second_fault base whole)) lines_are ∙ kept_fault base whole 1 unlaid (slice_split (λ byte. byte == 10) text) ∙ ap (λ l. earliest 1 (map (second_fault base l) (placed unlaid (lines_of text)))) whole_is
 
   pub same_parts : (part : Section) → contents base whole part (places lines) ≡ section_parts base part (lines_of text)
   same_parts part = ap (λ l. contents base whole part (places l)) lines_are ∙ kept_contents base whole part 1 unlaid (slice_split (λ byte. byte == 10) text) ∙ ap (λ l. contents base l part (placed unlaid (lines_of text))) whole_is
 
+  -- bytes that spell the parts of the lines that are kept spell the image of the text
   pub same_image : (bytes : List ℕ) → Spells (contents base whole Text (places lines) ++ after_text whole.reach.text_size whole.reach.data_size (contents base whole Data (places lines))) bytes → Spells (image_parts base (lines_of text)) bytes
   same_image bytes spells = subst (λ parts. Spells parts bytes) (λ i. same_parts Text i ++ after_text (whole_is i).reach.text_size (whole_is i).reach.data_size (same_parts Data i)) spells

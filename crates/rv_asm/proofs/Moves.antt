@@ -25,6 +25,7 @@ pub line_grows : (part : Section) (before : Layout) (line : Line) → offset_in 
 line_grows part before Unreadable = omega arith
 line_grows part before (Readable labels body) = after_grows part (labelled before.meanings (label_at before.reach) labels) before.reach (statement_in body)
 
+-- a section is not smaller after several lines than before them
 pub lines_grow : (part : Section) (before : Layout) (lines : List Line) → offset_in part before.reach ≤ offset_in part (laid before lines).reach
 lines_grow part before [] = omega arith
 lines_grow part before (line ∷ others) = omega (arith, line_grows part before line, lines_grow part (extended before line) others)
@@ -39,6 +40,7 @@ idle_stays before Unreadable idle = refl
 idle_stays before (Readable labels body) idle =
     ap (λ said. (after_statement (labelled before.meanings (label_at before.reach) labels) before.reach said).reach) (idle_says_nothing (place before.reach (Readable labels body)) idle).nothing ∙ grow_nothing before.reach.section before.reach
 
+-- a line stands as far along as the text has come before it
 pub place_reach : (reach : Reach) (line : Line) → (place reach line).reach ≡ reach
 place_reach reach Unreadable = refl
 place_reach reach (Readable labels body) = refl

@@ -30,16 +30,19 @@ slice_split-map : (xs : List Token) → slice_split is_comma (map token_of xs) �
 slice_split-map [] = refl
 slice_split-map (x ∷ xs) = cut_at (separates x) x _ _ (slice_split-map xs)
 
+-- the pieces of tokens, cut at the program's commas, stand for the pieces of what the tokens stand for
 pub pieces_are : {E : Type 0} (r : Result (Vec (Bor (List Token))) E) (tokens : List Token) → IfOk r (λ v. map (λ x. x.now) v.items ≡ slice_split separates tokens) → IfOk r (λ v. map (λ x. map token_of x.now) v.items ≡ slice_split is_comma (map token_of tokens))
 pieces_are (Ok v) tokens e = sym (map-map (map token_of) (λ x. x.now) v.items) ∙ ap (map (map token_of)) e ∙ sym (slice_split-map tokens)
 pieces_are (Err f) tokens e = tt
 
+-- the operands of tokens, where there are some, are those of their pieces
 pub operands_of-pieces : (tokens : List Token) → 0 < length tokens → operands_of (map token_of tokens) ≡ operands_in (slice_split is_comma (map token_of tokens))
 operands_of-pieces [] some_tokens = absurd (omega arith)
 operands_of-pieces (first ∷ others) some_tokens = refl
 
 -- the operands so far and those of the pieces are all of them
 module _ (all : Option (List Operand)) (piece : List spec.Token) (rest others : List (List spec.Token)) (done : List read.Operand) (so_far : joined operand_of done (operands_in rest) ≡ all) (rest_is : rest ≡ piece ∷ others) where
+  -- the operands so far, what the next piece is found to be, and the operands of the others are all of them
   pub joined-found : (found : Option Operand) → found ≡ operand piece → joined operand_of done (option_and_then (λ first. option_map (λ l. first ∷ l) (operands_in others)) found) ≡ all
   joined-found found found_is = ap (λ f. joined operand_of done (option_and_then (λ first. option_map (λ l. first ∷ l) (operands_in others)) f)) found_is ∙ sym (ap (λ l. joined operand_of done (operands_in l)) rest_is) ∙ so_far
 
@@ -97,6 +100,7 @@ module _ (name : List ℕ) where
   operand-ended found (a ∷ b ∷ c ∷ d ∷ e ∷ f ∷ []) alone after = after (omega arith) ∙ long-offset (token_of a) _ _ _ _ _ _ _ _
   operand-ended found (a ∷ b ∷ c ∷ d ∷ e ∷ f ∷ g ∷ offset) alone after = after (omega arith) ∙ long-offset (token_of a) _ _ _ _ _ _ _ _
 
+  -- where tokens end with a name in parentheses, their operand is by that name and the offset before it, if any
   pub operand-indirect : (found : Option Operand) (tokens offset after : List Token) → tokens ≡ offset ++ after → map token_of after ≡ LeftParenthesis ∷ Name name ∷ RightParenthesis ∷ [] → (length offset ≡ 0 → found ≡ Some (Indirect None name)) → (0 < length offset → found ≡ based (expression (map token_of offset)) (Some name)) → found ≡ operand (map token_of tokens)
   unfolding ended
   operand-indirect found tokens offset after split ends alone based_on =
@@ -121,6 +125,7 @@ operand-long (a ∷ b ∷ c ∷ d ∷ e ∷ f ∷ []) long other =
 operand-long (a ∷ b ∷ c ∷ d ∷ e ∷ f ∷ g ∷ tokens) long other = ap (option_map Value) (expression-long (token_of a) _ _ _ _) ∙ sym (operand-many (token_of a) _ _ _ _ _ _ _)
 operand-long _ long other = absurd (omega arith)
 
+-- where tokens do not end with a name in parentheses, three or more are an operand as an expression
 pub operand-direct : (found : Option Operand) (tokens after : List Token) → after ≡ drop (length tokens - 3) tokens → ((name : List ℕ) → map token_of after ≢ (LeftParenthesis ∷ Name name ∷ RightParenthesis ∷ [])) → (length tokens < 3 → found ≡ operand (map token_of tokens)) → (3 ≤ length tokens → found ≡ option_map Value (expression (map token_of tokens))) → found ≡ operand (map token_of tokens)
 operand-direct found [] after ends other short long = short (omega arith)
 operand-direct found (a ∷ []) after ends other short long = short (omega arith)

@@ -26,11 +26,13 @@ tokens_of-first [] found some_bytes found_is positive = absurd (omega arith)
 tokens_of-first (byte ∷ bytes) found some_bytes found_is positive =
     tokens_after-first byte bytes (Some found) found_is ∙ ap (option_map (λ tokens. option_to_list found.token ++ tokens)) (tokens_after-drop bytes (found.size - 1) ∙ ap (λ rest. tokens_after rest 0) (drop-size byte bytes found.size positive))
 
+-- a line that does not begin with a lexeme is not made of tokens
 pub tokens_of-none : (line : List ℕ) → 0 < length line → None ≡ first_lexeme (get_or line 0 0) line → tokens_of line ≡ None
 unfolding tokens_of
 tokens_of-none [] some_bytes found_is = absurd (omega arith)
 tokens_of-none (byte ∷ bytes) some_bytes found_is = tokens_after-first byte bytes None found_is
 
+-- an empty line has an empty list of tokens
 pub tokens_of-empty : (line : List ℕ) → length line ≡ 0 → tokens_of line ≡ Some []
 unfolding tokens_of tokens_after
 tokens_of-empty [] no_bytes = refl

@@ -11,6 +11,7 @@ use Rattle.rv_cache.specs.WriteBack.{IsInside}
 abbrev divides : ℕ → Bool
 divides n = nat_eq (n % 4) 0 && nat_eq (4096 % n) 0
 
+-- the length of a line, a power of two from 4 to 128, is a multiple of 4 and divides 4096
 pub line_divides : (line : ℕ) → 4 ≤ line → line ≤ 128 → is_power_of_two line ≡ true → (line % 4 ≡ 0) × (4096 % line ≡ 0)
 unfolding ones ones_in
 line_divides line low high power =

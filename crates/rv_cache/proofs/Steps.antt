@@ -35,6 +35,7 @@ module _ (base : ℕ) (values : CacheValues) (bytes memory : List ℕ) (sets : L
   some_sets : 0 < values.sets
   some_sets = omega (arith, was.divided.legal.0.sets.0)
 
+  -- the place of a line's set is one of those that the cache has
   pub place_in : (number : ℕ) → number % values.sets < length sets
   place_in number = omega (arith, mod-lt number some_sets, was.filled.count)
 
@@ -44,6 +45,7 @@ module _ (base : ℕ) (values : CacheValues) (bytes memory : List ℕ) (sets : L
   inside_at : (number : ℕ) → AreInside base values.line (length bytes) (get_or sets (number % values.sets) [])
   inside_at number = Each-at (AreInside base values.line (length bytes)) sets (number % values.sets) [] tt was.filled.inside
 
+  -- a line that its set drops for another lies in memory as a whole
   pub dropped_inside : (number : ℕ) → IfSome (victim values.ways number (get_or sets (number % values.sets) [])) (λ line. IsInside base values.line (length bytes) line.number)
   dropped_inside number = Each-victim values.ways number _ (λ line. IsInside base values.line (length bytes) line.number) (inside_at number)
 
@@ -111,6 +113,7 @@ module _ (base : ℕ) (values : CacheValues) (bytes memory : List ℕ) (sets : L
       ∙ ap (is_dirty number) (get_or-set_at old_sets place place now [] refl (omega (arith, place_in number, same_count)))
       ∙ is_dirty_written values.ways number lines was.divided.legal.0.ways.0
 
+  -- after an access that writes, the line of its address is dirty
   pub dirty_after_access : {M : Type 0} (old : Contents M) (address : ℕ) → values ≡ old.values → sets ≡ accessed_sets old address true → is_dirty (address / values.line) (get_or sets (address / values.line % values.sets) []) ≡ true
   dirty_after_access old address same_values is =
       let Accessed = λ (v : CacheValues). sets ≡ set old.sets (address / v.line % v.sets) (accessed v.ways (address / v.line) true (get_or old.sets (address / v.line % v.sets) [])) in
@@ -162,6 +165,7 @@ module _ (base : ℕ) (values : CacheValues) (bytes memory : List ℕ) (sets : L
       let q = (base + i) / values.line in
       sets_win base values.line bytes positive sets memory was.filled.inside was.size i (q % values.sets) (elim (cases_Bool (is_dirty q (get_or sets (q % values.sets) []))) [ inl dirty ↦ inr dirty | inr clean ↦ inl (was.in_step i (omega (arith, size)) clean) ]))
 
+  -- a cache whose lines are all cleaned is consistent with a memory that holds what a program sees
   pub consistent_cleaned : (now : List ℕ) → now ≡ bytes → IsConsistent base values bytes (map (map cleaned) sets) now
   consistent_cleaned now same = record {
     divided = was.divided;

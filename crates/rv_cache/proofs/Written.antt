@@ -12,21 +12,25 @@ use Rattle.rv_cache.specs.Line.{is_dirty}
 use Rattle.rv_cache.specs.WriteBack.{IsInside, AreInside, Each, offset_of, line_written, victim_written, lines_written, sets_written}
 
 module _ (xs ys : List ℕ) (at : ℕ) (fits : at + length ys ≤ length xs) where
+  -- bytes written within a list leave its length
   pub length-overwritten : length (overwritten xs at ys) ≡ length xs
   length-overwritten =
       let front : at ≤ length xs = omega arith in
       simp (length-append, length-drop) (omega (arith, length-take-le at xs front))
 
+  -- in the range that was written, the written byte is read
   pub get_or-overwritten_in : (k : ℕ) → at ≤ k → k < at + length ys → get_or (overwritten xs at ys) k 0 ≡ get_or ys (k - at) 0
   get_or-overwritten_in k low high =
       get_or-append_right (take at xs) (ys ++ drop (at + length ys) xs) at k 0 (length-take-le at xs (omega arith)) low
       ∙ get_or_append_left ys (drop (at + length ys) xs) 0 (k - at) (omega arith)
 
+  -- a byte before those that are written stays
   pub get_or-overwritten_below : (k : ℕ) → k < at → get_or (overwritten xs at ys) k 0 ≡ get_or xs k 0
   get_or-overwritten_below k low =
       get_or_append_left (take at xs) (ys ++ drop (at + length ys) xs) 0 k (omega (arith, length-take-le at xs (omega arith)))
       ∙ get_or-take at xs k 0 low
 
+  -- a byte after those that are written stays
   pub get_or-overwritten_above : (k : ℕ) → at + length ys ≤ k → get_or (overwritten xs at ys) k 0 ≡ get_or xs k 0
   get_or-overwritten_above k high =
       get_or-append_right (take at xs) (ys ++ drop (at + length ys) xs) at k 0 (length-take-le at xs (omega arith)) (omega arith)
@@ -129,10 +133,12 @@ module _ (base line_bytes : ℕ) (bytes : List ℕ) (positive : 0 < line_bytes) 
         ]
       ])
 
+  -- memory has as many bytes as before once the dirty lines of all sets are written
   pub length-sets_written : (sets : List (List CacheLine)) (memory : List ℕ) → Each (AreInside base line_bytes (length bytes)) sets → length memory ≡ length bytes → length (sets_written base line_bytes bytes sets memory) ≡ length bytes
   length-sets_written [] memory inside size = size
   length-sets_written (lines ∷ sets) memory inside size = length-sets_written sets _ inside.1 (length-lines_written lines memory inside.0 size)
 
+  -- once all sets are written, memory has a byte as a program sees it, if it did before or a set has its line dirty
   pub sets_win : (sets : List (List CacheLine)) (memory : List ℕ) → Each (AreInside base line_bytes (length bytes)) sets → length memory ≡ length bytes → (i k : ℕ) → IsToCome memory i (is_dirty ((base + i) / line_bytes) (get_or sets k []) ≡ true) → get_or (sets_written base line_bytes bytes sets memory) i 0 ≡ get_or bytes i 0
   sets_win [] memory inside size i k (inl same) = same
   sets_win [] memory inside size i k (inr dirty) = absurd (false≢true dirty)
@@ -143,10 +149,12 @@ module _ (base line_bytes : ℕ) (bytes : List ℕ) (positive : 0 < line_bytes) 
   sets_win (lines ∷ sets) memory inside size i (suc k) (inr dirty) =
       sets_win sets _ inside.1 (length-lines_written lines memory inside.0 size) i k (inr dirty)
 
+  -- memory has as many bytes as before once a dropped line is written
   pub length-victim_written : (victim : Option CacheLine) (memory : List ℕ) → IfSome victim (λ line. IsInside base line_bytes (length bytes) line.number) → length memory ≡ length bytes → length (victim_written base line_bytes bytes victim memory) ≡ length bytes
   length-victim_written None memory inside size = size
   length-victim_written (Some line) memory inside size = length-line_written line memory inside size
 
+  -- each byte stays where a dropped line is written, or is as a program sees it and lies in that line
   pub victim_either : (victim : Option CacheLine) (memory : List ℕ) → IfSome victim (λ line. IsInside base line_bytes (length bytes) line.number) → length memory ≡ length bytes → (i : ℕ) → (get_or (victim_written base line_bytes bytes victim memory) i 0 ≡ get_or memory i 0) ⊎ ((get_or (victim_written base line_bytes bytes victim memory) i 0 ≡ get_or bytes i 0) × (line : CacheLine) × (victim ≡ Some line) × ((base + i) / line_bytes ≡ line.number))
   victim_either None memory inside size i = inl refl
   victim_either (Some line) memory inside size i =

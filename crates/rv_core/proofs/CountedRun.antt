@@ -105,6 +105,7 @@ module _ (arrivals : List Arrival) (old : GuidedHardware) where
           lists = λ is. absurd (cc (taken_so_far.kept, is));
         }
 
+    -- no more traps and interrupts are counted than steps
     pub sorts_fit : steps.traps + steps.interrupts ≤ steps.count
     sorts_fit = fit_in (steps_of (reports_of counting.moments)) taken_so_far
 
@@ -123,6 +124,7 @@ module _ (arrivals : List Arrival) (old : GuidedHardware) where
       taken_with before taken =
           subst (Takes uncounted steps') (sym (shown_steps-push counting.moments _)) (takes_more _ _ taken next.taken)
 
+      -- with that cycle, too, no more traps and interrupts are counted than steps
       pub taken_fit : steps'.traps + steps'.interrupts ≤ steps'.count
       taken_fit = fit_in _ (taken_with None taken_so_far)
 

@@ -25,6 +25,7 @@ first_fit-row (row ∷ rows) word instruction made =
           (later.0, (suc later.1.0, omega (arith, later.1.1), later.1.2), later.2, later.3)
     ]
 
+-- the instruction that the function gives is one that the word decodes to
 pub Decodes-instruction_of : (word : ℕ) (instruction : Instr) → instruction_of word ≡ Some instruction → Decodes word instruction
 unfolding instruction_of
 Decodes-instruction_of word instruction is =
@@ -54,6 +55,7 @@ one_row word (row ∷ rows) apart =
     (All-weaker (λ other. differ row other ≡ true) (λ other. ¬ (Fits word row × Fits word other)) (λ other. not_both word row other) rows (AllPass-from_list_all (differ row) rows parts.0))
     (one_row word rows parts.1)
 
+-- a word fits one row of the table at most
 pub FitsOneRowAtMost-table : (word : ℕ) → FitsOneRowAtMost word
 unfolding table
 FitsOneRowAtMost-table word = record { not_both = one_row word table refl }
@@ -71,6 +73,7 @@ first_fit-made (first ∷ rows) word row apart (suc k, within, is) fits =
     let fails : (bit_and word first.mask == first.fixed) ≡ false = ne_eqb (bit_and word first.mask) first.fixed (λ fits_first. not_both word first row differs (fits_first, fits)) in
     rw fails (first_fit-made rows word row parts.1 later fits)
 
+-- an instruction that the word decodes to is the one that the function gives
 pub instruction_of-Decodes : (word : ℕ) (instruction : Instr) → Decodes word instruction → instruction_of word ≡ Some instruction
 unfolding instruction_of table
 instruction_of-Decodes word instruction decodes =
@@ -85,14 +88,17 @@ none_fits (row ∷ rows) word none =
       | inr fails ↦ All-cons (λ row. ¬ Fits word row) row rows (eqb-false (bit_and word row.mask) row.fixed fails) (none_fits rows word (let skipped : first_fit (row ∷ rows) word ≡ first_fit rows word = rw fails refl in sym skipped ∙ none))
     ]
 
+-- a word for which the function gives no instruction is illegal
 pub IsIllegal-instruction_of : (word : ℕ) → instruction_of word ≡ None → IsIllegal word
 unfolding instruction_of
 IsIllegal-instruction_of word none = record { none_fits = none_fits table word none }
 
+-- what the function gives, if it gives one, is an instruction that the word decodes to
 pub IfSome-instruction_of : (word : ℕ) (o : Option Instr) → o ≡ instruction_of word → IfSome o (Decodes word)
 IfSome-instruction_of word None is = search rules
 IfSome-instruction_of word (Some i) is = Decodes-instruction_of word i (sym is)
 
+-- the function gives no instruction exactly where the word is illegal
 pub IsNone-instruction_of : (word : ℕ) (o : Option Instr) → o ≡ instruction_of word → IsNone o ↔ IsIllegal word
 IsNone-instruction_of word None is = (λ _. IsIllegal-instruction_of word (sym is), λ _. search rules)
 IsNone-instruction_of word (Some i) is =

@@ -24,6 +24,7 @@ by_rows-first_fit word small (row ∷ rows) plain =
     let parts = and_parts (is_plain row) (list_all is_plain rows) plain in
     rw (fits-has_fields word row.mask row.fixed row.instruction small parts.0, by_rows-first_fit word small rows parts.1) refl
 
+-- a word of 32 bits is what the first row with its fields makes of it
 pub instruction_of-by_rows : (word : ℕ) → word < 2 ^ 32 → instruction_of word ≡ by_rows table word (opcode word) (funct3 word) (funct7 word)
 unfolding instruction_of table
 instruction_of-by_rows word small = by_rows-first_fit word small table refl
@@ -33,6 +34,7 @@ by_rows-other : (word code third seventh : ℕ) (rows : List Row) → list_any (
 by_rows-other word code third seventh [] other = refl
 by_rows-other word code third seventh (row ∷ rows) other = grind (arith, by_rows-other word code third seventh rows)
 
+-- a word whose opcode no row has is no instruction
 pub instruction_of-other : (word : ℕ) → word < 2 ^ 32 → list_any (λ row. opcode row.fixed == opcode word) table ≡ false → instruction_of word ≡ None
 instruction_of-other word small other = instruction_of-by_rows word small ∙ by_rows-other word (opcode word) (funct3 word) (funct7 word) table other
 

@@ -47,6 +47,7 @@ no_key t fault key none =
     let (index, here) = in_order key in
     none_at (λ key. is_fault (key_fault t key) fault) 1 order index key none here
 
+-- a table without a first error is faultless
 pub faultless : (t : Members) → IsNone (first_error t) → IsFaultless t
 faultless t none =
     elim (cases_Bool (has_unknown t)) [
@@ -100,6 +101,7 @@ unfolding key_fault number
 taken t legal key =
     held_taken key _ (number_of standard_values key) (held t (key_place (Number key))) (legal.keys (Number key)) (standard_taken _ key)
 
+-- each value of a faultless table is one that its key takes
 pub values_of-legal : (t : Members) → IsFaultless t → ObeysEachKey (values_of t)
 values_of-legal t legal (Number key) =
     rw (number_of-values_with (number t) (is_pipelined t) (values_of t).recovery (values_of t).predictor.kind key) (taken t legal key)

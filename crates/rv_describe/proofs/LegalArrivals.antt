@@ -33,6 +33,7 @@ length-filter_map : {A B : Type 0} (read : A → Option B) (items : List A) → 
 length-filter_map read [] = omega arith
 length-filter_map read (item ∷ later) = grind (arith, length-filter_map read later)
 
+-- the arrivals of at most 100,000 entries, among which no cycle falls, are legal
 pub legal : (entries : List Data) → length entries ≤ 100000 → first_fall 1 0 (arrivals_of entries) ≡ None → IsLegalArrivals (arrivals_of entries)
 legal entries few none =
     record {

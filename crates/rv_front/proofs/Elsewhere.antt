@@ -41,6 +41,7 @@ flow_after-by_rows pc word code third seventh elsewhere (row ∷ rows) stay =
       | inr fails ↦ rw fails (flow_after-by_rows pc word code third seventh elsewhere rows parts.1)
     ]
 
+-- after a word with the opcode of no branch and no jump, the program goes on at the next one
 pub flow_at-sequential : (pc word : ℕ) → word < 2 ^ 32 → leads_elsewhere word ≡ false → flow_at pc word ≡ Sequential
 unfolding table
 flow_at-sequential pc word small elsewhere =

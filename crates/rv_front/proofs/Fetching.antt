@@ -68,6 +68,7 @@ module _ (answers : Answers) (ram : Memory) (cycle : ℕ) where
             rw append_assoc (f.rest (e ∷ es) next stop (subst Left (sym el) (subst Room (sym less) first)));
       }
 
+  -- a word that does not end the fetch leaves one less to fetch
   pub Fetching-step : (old now new : FetchBuffer) (left more : ℕ) → left ≡ suc more → Fetching old left now → FetchesOne answers ram cycle now new None → Fetching old more new
   Fetching-step old now new left more el f one = step_in old now new left more (nat_lt (length now.entries) now.capacity) refl el f one
 
@@ -98,15 +99,18 @@ module _ (answers : Answers) (ram : Memory) (cycle : ℕ) where
       (ap (λ (b : FetchBuffer). b.capacity) news ∙ f.capacity_is) (ap (λ (b : FetchBuffer). b.width) news ∙ f.width_is)
       (ap (λ (b : FetchBuffer). b.halted) news ∙ ends e.word (nat_eq e.predicted (pc_plus_4 e.pc)) stop (sym is))
 
+  -- where the next word, or a lack of room for it, ends the fetch, what was fetched is the cycle's fetch
   pub Fetching-end : (old now new : FetchBuffer) (left more : ℕ) (stop : FetchStop) → old.halted ≡ false → left ≡ suc more → Fetching old left now → FetchesOne answers ram cycle now new (Some stop) → FetchesInto answers ram cycle old new stop
   Fetching-end old now new left more stop runs el f one = end_in old now new left more stop (nat_lt (length now.entries) now.capacity) runs refl el f one
 
+  -- with no word left to fetch, the words so far are the cycle's fetch, which its width ends
   pub Fetching-all : (old now : FetchBuffer) (left : ℕ) → old.halted ≡ false → left ≡ 0 → Fetching old left now → FetchesInto answers ram cycle old now Width
   Fetching-all old now left runs el f =
       let Left : ℕ → Type 0 = λ n. Fetches answers ram cycle n (now.capacity - length now.entries) now.next_pc [] now.next_pc Width in
       let whole = f.rest [] now.next_pc Width (subst Left (sym el) (refl, refl)) in
       into old now Width (f.added ++ []) runs whole (f.entries_are ∙ ap (λ l. old.entries ++ l) (sym (append-nil f.added))) f.capacity_is f.width_is f.halted_is
 
+-- words linked up to a pc, and one more at that pc, are linked up to its prediction
 pub IsLinked-push : (es : List Fetched) (e : Fetched) (pc : ℕ) → e.pc ≡ pc → IsLinked es pc → IsLinked (es ++ e ∷ []) e.predicted
 IsLinked-push [] e pc at h = (refl, tt)
 IsLinked-push (a ∷ []) e pc at h = (at ∙ h.0, (refl, tt))

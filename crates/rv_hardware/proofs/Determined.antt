@@ -96,6 +96,7 @@ module _ {lines : Lines} {old new new' : GuidedHardware} {report report' : Repor
   executed : cycle.cycle.dispatching ≡ cycle'.cycle.dispatching
   executed = cycle.cycle.executes ∙ ap (λ (c : Committing). execute c.hardware) committed ∙ sym cycle'.cycle.executes
 
+  -- two cycles of the same hardware with the same lines report the same
   pub reported_once : report ≡ report'
   reported_once = cycle.cycle.reports ∙ (λ i. report_of (committed i) (executed i)) ∙ sym cycle'.cycle.reports
 

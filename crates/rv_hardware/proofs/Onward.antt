@@ -33,6 +33,7 @@ stage-then (Running issue message) b c (inl is) two = subst (λ s. StaysAtStage 
 stage-then (Running issue message) b c (inr is) two = inr (is.0, subst (λ s. StaysAtStage s c) is.1 two)
 stage-then (Finished issue cycle message) b c is two = subst (λ s. StaysAtStage s c) is two
 
+-- what is unchanged stays
 pub stays-self : {X : Type 0} (a : Option X) → Stays a a
 stays-self None = tt
 stays-self (Some x) = refl

@@ -4,5 +4,6 @@ use Rattle.rv_isa.proofs.Names.{is_word}
 use Rattle.rv_hardware.specs.Report.{stall_name}
 use Rattle.rv_hardware.specs.declared.report.Stall.{Stall}
 
+-- the name of each stall is a word
 pub stall_name-word : (stall : Stall) → is_word (stall_name stall) ≡ true
 stall_name-word stall = grind arith

@@ -35,6 +35,7 @@ all_from : {X : Type 0} (test : X → Bool) (xs : List X) → ((x : X) → test 
 all_from test [] each = refl
 all_from test (y ∷ ys) each = grind (arith, each y, all_from test ys each)
 
+-- the test of all keys in their order passes exactly where the value at each key is one that the key takes
 pub obeys_each : (v : Values) → (list_all (obeys v) order ≡ true) ↔ ObeysEachKey v
 obeys_each v = (
   λ all key. let (index, here) = in_order key in all_at (obeys v) order index key all here,
@@ -78,6 +79,7 @@ legal v each =
 obeyed : (v : Values) → IsLegal v → ObeysEachKey v
 obeyed v legal key = grind (arith, nat_tests, legal.kinds)
 
+-- that test passes exactly where the values are legal
 pub each_legal : (v : Values) → (list_all (obeys v) order ≡ true) ↔ IsLegal v
 each_legal v = (λ all. legal v ((obeys_each v).0 all), λ is. (obeys_each v).1 (obeyed v is))
 
@@ -90,5 +92,6 @@ power_16 : IsTrue (is_power_of_two 16)
 unfolding ones
 power_16 = refl
 
+-- each key of a number takes its standard value
 pub standard_taken : (size : ℕ) (key : NumberKey) → takes (row_of key).bounds size (number_of standard_values key) ≡ true
 standard_taken size key = grind (arith, nat_tests, power_16)

@@ -8,6 +8,7 @@ use Rattle.rv_isa.specs.declared.values.PredictorKind.{PredictorKind}
 abbrev pub is_word_byte : ℕ → Bool
 is_word_byte byte = (nat_le 97 byte && nat_le byte 122) || (byte == 95)
 
+-- every byte of a text is a letter in lower case, or an underscore
 abbrev pub is_word : List ℕ → Bool
 is_word text = list_all is_word_byte text
 

@@ -10,6 +10,7 @@ use Rattle.rv_isa.specs.Numbered.{below, AreBelow, IsInOrder}
 module _ {X : Type 0} (seq : X → ℕ) where
   -- those below a number
 
+  -- those below n of two lists are those of the first, then those of the second
   pub below-append : (n : ℕ) (xs ys : List X) → below seq n (xs ++ ys) ≡ below seq n xs ++ below seq n ys
   below-append n xs ys = filter-append (λ x. nat_lt (seq x) n) xs ys
 
@@ -21,10 +22,12 @@ module _ {X : Type 0} (seq : X → ℕ) where
   pub below-goes : (n : ℕ) (x : X) (xs : List X) → n ≤ seq x → below seq n (x ∷ xs) ≡ below seq n xs
   below-goes n x xs le = rw (le-ltb (seq x) n le) refl
 
+  -- where every number is below n, all are kept
   pub below-all : (n : ℕ) (xs : List X) → AreBelow seq n xs → below seq n xs ≡ xs
   below-all n [] are = refl
   below-all n (x ∷ xs) are = below-stays n x xs (are 0 x (omega arith)) ∙ ap (λ l. x ∷ l) (below-all n xs (All-tail (λ z. seq z < n) x xs are))
 
+  -- where no number is below n, none is kept
   pub below-none : (n : ℕ) (xs : List X) → All (λ x. n ≤ seq x) xs → below seq n xs ≡ []
   below-none n [] are = refl
   below-none n (x ∷ xs) are = below-goes n x xs (are 0 x (omega arith)) ∙ below-none n xs (All-tail (λ z. n ≤ seq z) x xs are)
@@ -44,21 +47,27 @@ module _ {X : Type 0} (seq : X → ℕ) where
 
   -- every number is below n
 
+  -- what is below a number is below each that is no lower
   pub AreBelow-weaken : (m n : ℕ) (xs : List X) → m ≤ n → AreBelow seq m xs → AreBelow seq n xs
   AreBelow-weaken m n xs le are k d lt = omega (arith, are k d lt)
 
+  -- one more below n before all
   pub AreBelow-cons : (n : ℕ) (x : X) (xs : List X) → seq x < n → AreBelow seq n xs → AreBelow seq n (x ∷ xs)
   AreBelow-cons n x xs lt are = All-cons (λ z. seq z < n) x xs lt are
 
+  -- the first is below n
   pub AreBelow-head : (n : ℕ) (x : X) (xs : List X) → AreBelow seq n (x ∷ xs) → seq x < n
   AreBelow-head n x xs are = All-head (λ z. seq z < n) x xs are
 
+  -- those after the first are below n
   pub AreBelow-tail : (n : ℕ) (x : X) (xs : List X) → AreBelow seq n (x ∷ xs) → AreBelow seq n xs
   AreBelow-tail n x xs are = All-tail (λ z. seq z < n) x xs are
 
+  -- two lists that are below n, one after the other
   pub AreBelow-append : (n : ℕ) (xs ys : List X) → AreBelow seq n xs → AreBelow seq n ys → AreBelow seq n (xs ++ ys)
   AreBelow-append n xs ys low high = All-append (λ z. seq z < n) xs ys low high
 
+  -- one more below n after all
   pub AreBelow-push : (n : ℕ) (xs : List X) (x : X) → AreBelow seq n xs → seq x < n → AreBelow seq n (xs ++ x ∷ [])
   AreBelow-push n xs x are lt = All-push (λ z. seq z < n) xs x are lt
 
@@ -78,6 +87,7 @@ module _ {X : Type 0} (seq : X → ℕ) where
 
   -- each number is below all later ones
 
+  -- one with a smaller number before all
   pub IsInOrder-cons : (x : X) (xs : List X) → All (λ y. seq x < seq y) xs → IsInOrder seq xs → IsInOrder seq (x ∷ xs)
   IsInOrder-cons x xs above order = AllPairs-cons (λ y z. seq y < seq z) x xs above order
 
@@ -85,6 +95,7 @@ module _ {X : Type 0} (seq : X → ℕ) where
   pub IsInOrder-head : (x : X) (xs : List X) → IsInOrder seq (x ∷ xs) → All (λ y. seq x < seq y) xs
   IsInOrder-head x xs order k d lt = order 0 (suc k) d (omega arith) (omega arith)
 
+  -- those after the first are in order
   pub IsInOrder-tail : (x : X) (xs : List X) → IsInOrder seq (x ∷ xs) → IsInOrder seq xs
   IsInOrder-tail x xs order i j d lt within = order (suc i) (suc j) d (omega arith) (omega arith)
 
@@ -92,15 +103,19 @@ module _ {X : Type 0} (seq : X → ℕ) where
   pub IsInOrder-push : (xs : List X) (x : X) → IsInOrder seq xs → AreBelow seq (seq x) xs → IsInOrder seq (xs ++ x ∷ [])
   IsInOrder-push xs x order are = all_pairs_push (λ y z. seq y < seq z) xs x order are
 
+  -- those below n stay in order
   pub IsInOrder-below : (n : ℕ) (xs : List X) → IsInOrder seq xs → IsInOrder seq (below seq n xs)
   IsInOrder-below n xs order = AllPairs-filter (λ y z. seq y < seq z) (λ z. nat_lt (seq z) n) xs order
 
+  -- those that pass a test stay in order
   pub IsInOrder-filter : (test : X → Bool) (xs : List X) → IsInOrder seq xs → IsInOrder seq (filter test xs)
   IsInOrder-filter test xs order = AllPairs-filter (λ y z. seq y < seq z) test xs order
 
+  -- all but one stay in order
   pub IsInOrder-remove : (i : ℕ) (xs : List X) → i < length xs → IsInOrder seq xs → IsInOrder seq (remove xs i)
   IsInOrder-remove i xs within order = all_pairs_remove (λ y z. seq y < seq z) xs i within order
 
+  -- all but the first k stay in order
   pub IsInOrder-drop : (k : ℕ) (xs : List X) → IsInOrder seq xs → IsInOrder seq (drop k xs)
   IsInOrder-drop zero xs order = order
   IsInOrder-drop (suc k) [] order = order
@@ -148,6 +163,7 @@ module _ {X : Type 0} (seq : X → ℕ) where
 
 -- a change that keeps the numbers
 module _ {X Y : Type 0} (seq : X → ℕ) (key : Y → ℕ) (f : X → Y) (same : (x : X) → key (f x) ≡ seq x) where
+  -- those below n are changed to those below n of the changed list
   pub below-map : (n : ℕ) (xs : List X) → below key n (map f xs) ≡ map f (below seq n xs)
   below-map n [] = refl
   below-map n (x ∷ xs) = elim (cases_lt (seq x) n) [
@@ -155,6 +171,7 @@ module _ {X Y : Type 0} (seq : X → ℕ) (key : Y → ℕ) (f : X → Y) (same 
     | inr high ↦ below-goes key n (f x) (map f xs) (omega (arith, same x)) ∙ below-map n xs ∙ sym (ap (map f) (below-goes seq n x xs high))
   ]
 
+  -- a list in order is changed to one in order
   pub IsInOrder-map : (xs : List X) → IsInOrder seq xs → IsInOrder key (map f xs)
   IsInOrder-map [] order = λ i j d lt within. absurd (omega arith)
   IsInOrder-map (x ∷ xs) order =

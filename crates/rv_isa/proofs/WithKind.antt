@@ -9,12 +9,15 @@ use Rattle.rv_isa.specs.PerKind.{at_kind, by_kind, for_each, is_same, with_kind}
 pub is_same-own : (kind : Kind) → is_same kind kind ≡ true
 is_same-own kind = grind arith
 
+-- kinds that the test finds the same are equal
 pub is_same-true : (a b : Kind) → is_same a b ≡ true → a ≡ b
 is_same-true a b is = grind arith
 
+-- the part of a kind is the one that a function of the kinds gave it
 pub at_kind-by_kind : {X : Type 0} (part : Kind → X) (kind : Kind) → at_kind kind (by_kind part) ≡ part kind
 at_kind-by_kind part kind = grind arith
 
+-- after one change of each part, the part of a kind is its former one, changed
 pub at_kind-for_each : {X Y : Type 0} (change : X → Y) (parts : PerKind X) (kind : Kind) → at_kind kind (for_each change parts) ≡ change (at_kind kind parts)
 at_kind-for_each change parts kind = at_kind-by_kind (λ k. change (at_kind k parts)) kind
 
@@ -26,9 +29,11 @@ module _ {X : Type 0} (kind : Kind) (part : X) (parts : PerKind X) where
   at_kind-with_kind : (other : Kind) → at_kind other (with_kind kind part parts) ≡ cond (is_same other kind) part (at_kind other parts)
   at_kind-with_kind other = at_kind-by_kind (λ k. cond (is_same k kind) part (at_kind k parts)) other
 
+  -- the kind has the new part
   pub with_kind-own : at_kind kind (with_kind kind part parts) ≡ part
   with_kind-own = at_kind-with_kind kind ∙ ap (λ b. cond b part (at_kind kind parts)) (is_same-own kind)
 
+  -- every other kind keeps its part
   pub with_kind-other : (other : Kind) → is_same other kind ≡ false → at_kind other (with_kind kind part parts) ≡ at_kind other parts
   with_kind-other other is = at_kind-with_kind other ∙ ap (λ b. cond b part (at_kind other parts)) is
 

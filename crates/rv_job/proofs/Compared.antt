@@ -44,6 +44,7 @@ module _ (program : List ℕ) (machines : List Values) (place : ℕ) (below : pl
       subst (λ l. RefusesLoading program l error) whole
       (RefusesLoading.on machine (drop (place + 1) machines) loaded (subst (λ n. RefusesProgram (n + 1) program machine error) number refused))
 
+-- what refuses the description with a number refuses the one with an equal number
 pub renumbered : (number other : ℕ) (part : List ℕ) (error : SimError) → number ≡ other → RefusesDescribed (number + 1) part error → RefusesDescribed (other + 1) part error
 renumbered number other part error is refused = subst (λ n. RefusesDescribed (n + 1) part error) is refused
 

@@ -47,5 +47,6 @@ shorter : (text : List ℕ) → IsShorter (length text) (halves_of text)
 unfolding halves_of
 shorter text = either (length text) _ _ (at_front text) (later_shorter text)
 
+-- what stands after the first separator is shorter than the text
 pub after_shorter : (text : List ℕ) (halves : Halves) → halves_of text ≡ Some halves → length halves.after < length text
 after_shorter text halves is = subst (IsShorter (length text)) is (shorter text)

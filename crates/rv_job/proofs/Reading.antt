@@ -5,16 +5,19 @@ use Rattle.std.specs.Io.KnownBytes.{Consumes, IsAtEnd}
 use Rattle.std.proofs.Math.Seq.{take-append_seam}
 use Rattle.std.proofs.lemmas.List.{take_all}
 
+-- where the known bytes stay as they are, none was read
 pub Consumes-nothing : (known : Option (List ℕ)) → Consumes known known []
 Consumes-nothing None = tt
 Consumes-nothing (Some bytes) = refl
 
+-- bytes that are read one after the other are read together
 pub Consumes-both : (a b c : Option (List ℕ)) (xs ys : List ℕ) → Consumes a b xs → Consumes b c ys → Consumes a c (xs ++ ys)
 Consumes-both None b c xs ys first second = tt
 Consumes-both (Some a) None c xs ys first second = absurd first
 Consumes-both (Some a) (Some b) None xs ys first second = absurd second
 Consumes-both (Some a) (Some b) (Some c) xs ys first second = first ∙ ap (λ rest. xs ++ rest) second ∙ sym (append_assoc xs ys c)
 
+-- where bytes were read, equal bytes were
 pub Consumes-same : (a b : Option (List ℕ)) (xs ys : List ℕ) → xs ≡ ys → Consumes a b xs → Consumes a b ys
 Consumes-same a b xs ys same consumed = rw same at consumed
 

@@ -86,6 +86,7 @@ counted text = either_count text (later_counted text)
 pub none_more : (text : List ℕ) → halves_of text ≡ None → separator_count text ≡ 0
 none_more text none = counted text ∙ ap count_from none
 
+-- a text with a separator has one more than what stands after its first one
 pub one_more : (text : List ℕ) (halves : Halves) → halves_of text ≡ Some halves → separator_count text ≡ 1 + separator_count halves.after
 one_more text halves is = counted text ∙ ap count_from is
 
@@ -116,6 +117,7 @@ as_many (AreLoaded.another {machines = machines} {jobs = jobs} {machine = machin
     let before = as_many loaded in
     omega (arith, before, length-append machines (machine ∷ []), length-append jobs (job ∷ []))
 
+-- where separators are no more than the most machines that are compared, neither are the jobs
 pub jobs_few : {text program : List ℕ} {machines : List Values} {jobs : List Job} → Compares text machines program
     → AreLoaded program machines jobs → separator_count text ≤ most_machines → length jobs ≤ most_machines
 jobs_few compares loaded few =

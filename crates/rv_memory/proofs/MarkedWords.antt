@@ -21,9 +21,11 @@ no_marks first round (r ∷ rounds) all =
     let before = All-head (λ r. r < round) r rounds all in
     rw (ne_eqb r round (λ e. omega arith)) (no_marks (first + 1) round rounds (All-tail (λ r. r < round) r rounds all))
 
+-- the set of the words that were marked in a round after all rounds so far is empty
 pub words_of-later : (first round : ℕ) (rounds : List ℕ) → All (λ r. r < round) rounds → words_of first round rounds ≡ set.empty
 words_of-later first round rounds all = rw (no_marks first round rounds all) refl
 
+-- where every word has round 0, none was marked in round 1
 pub words_of-none : (first n : ℕ) → words_of first 1 (replicate n 0) ≡ set.empty
 words_of-none first n = words_of-later first 1 (replicate n 0) (All-replicate (λ r. r < 1) n 0 (omega arith))
 
@@ -81,15 +83,18 @@ insert-mark first marks i w within at =
 pub contains_word_below : (first round : ℕ) (rounds : List ℕ) (q : ℕ) → q < first → set.contains (words_of first round rounds) q ≡ false
 contains_word_below first round rounds q below = contains_below first (marks_of round rounds) q below
 
+-- a word was marked in a round exactly where its place has that round
 pub contains_word_at : (first round : ℕ) (rounds : List ℕ) (i q : ℕ) → q ≡ first + i → i < length rounds → set.contains (words_of first round rounds) q ≡ nat_eq (get_or rounds i 0) round
 contains_word_at first round rounds i q at within =
     contains_at first (marks_of round rounds) i q at ∙ get_or-map (λ r. nat_eq r round) rounds i 0 false within
 
+-- no word after the last place was marked
 pub contains_word_past : (first round : ℕ) (rounds : List ℕ) (i q : ℕ) → q ≡ first + i → length rounds ≤ i → set.contains (words_of first round rounds) q ≡ false
 contains_word_past first round rounds i q at past =
     let long = length-map rounds (λ r. nat_eq r round) in
     contains_at first (marks_of round rounds) i q at ∙ get_or_past (marks_of round rounds) i false (omega arith)
 
+-- a word that was marked has a place among those of the rounds
 pub words_of-within : (first round : ℕ) (rounds : List ℕ) (q : ℕ) → IsTrue (set.contains (words_of first round rounds) q) → (first ≤ q) × (q < first + length rounds)
 words_of-within first round rounds q found =
     elim (cases_lt q first) [
@@ -101,6 +106,7 @@ words_of-within first round rounds q found =
           ]
     ]
 
+-- a round written at the place of a word adds this word to those marked in the round
 pub insert_word : (first round : ℕ) (rounds : List ℕ) (i w : ℕ) → i < length rounds → w ≡ first + i → words_of first round (set rounds i round) ≡ set.insert (words_of first round rounds) w
 insert_word first round rounds i w within at =
     let long = length-map rounds (λ r. nat_eq r round) in

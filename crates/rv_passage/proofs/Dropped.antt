@@ -36,6 +36,7 @@ open-after_first (p ∷ ps) = elim (cases_Bool (is_in_flight p)) [
       rw ended (ap (λ k. filter is_in_flight (drop k (p ∷ ps))) next ∙ open-after_first ps)
 ]
 
+-- no more rows come before the first in flight than there are
 pub first-within : (rows : List Passage) → position_or_len is_in_flight rows ≤ length rows
 first-within [] = omega arith
 first-within (p ∷ ps) = elim (cases_Bool (is_in_flight p)) [

@@ -11,6 +11,7 @@ use Rattle.rv_hardware.specs.Run.{EndsWith, IsStop, NoneStops}
 use Rattle.rv_passage.specs.EndedRun.{IsEndedRun}
 use Rattle.rv_passage.specs.Walk.{hardware_after}
 
+-- there are as many reports as moments
 pub length-reports_of : (moments : List Moment) → length (reports_of moments) ≡ length moments
 length-reports_of [] = refl
 length-reports_of (moment ∷ moments) = omega (arith, length-reports_of moments)

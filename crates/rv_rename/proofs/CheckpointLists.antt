@@ -18,6 +18,7 @@ checkpoint_seq c = c.seq
 below-define : (n : ℕ) (ps : List Producer) (p : Producer) → n ≤ p.seq → below seq_of n (ps ++ p ∷ []) ≡ below seq_of n ps
 below-define n ps p h = below-append seq_of n ps (p ∷ []) ∙ ap (λ qs. below seq_of n ps ++ qs) (below-goes seq_of n p [] h) ∙ append-nil _
 
+-- a further producer with a number above every checkpoint changes none of them
 pub checkpoints-define : (ns : List ℕ) (ps : List Producer) (p : Producer) → AreBelow checkpoint_seq p.seq (map (checkpoint_of ps) ns)
     → map (checkpoint_of (ps ++ p ∷ [])) ns ≡ map (checkpoint_of ps) ns
 checkpoints-define [] ps p are = refl
@@ -53,6 +54,7 @@ without_oldest-below register k n (p ∷ ps) order =
       | inr high ↦ ap (without_oldest register k) (below-stops seq_of n p ps order high) ∙ oldest-goes (is_oldest register k (p ∷ ps)) n p ps order high
     ]
 
+-- a producer taken from each checkpoint where it is the oldest leaves the checkpoints of the others
 pub checkpoints-retire : (register k : ℕ) (ns : List ℕ) (ps : List Producer) → IsInOrder seq_of ps
     → map (checkpoint_without_oldest register k) (map (checkpoint_of ps) ns) ≡ map (checkpoint_of (without_oldest register k ps)) ns
 checkpoints-retire register k [] ps order = refl
@@ -74,6 +76,7 @@ checkpoints-choice : (b : Bool) (m : ℕ) (ns : List ℕ) (ps : List Producer)
 checkpoints-choice true m ns ps = refl
 checkpoints-choice false m ns ps = refl
 
+-- the checkpoints whose numbers pass a test are those of the numbers that pass
 pub checkpoints-filter : (test : ℕ → Bool) (ns : List ℕ) (ps : List Producer)
     → filter (λ c. test c.seq) (map (checkpoint_of ps) ns) ≡ map (checkpoint_of ps) (filter test ns)
 checkpoints-filter test [] ps = refl

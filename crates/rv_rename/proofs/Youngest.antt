@@ -119,6 +119,7 @@ pub option_eq-true : (x : Option ℕ) (n : ℕ) → option_eq nat_eq x (Some n) 
 option_eq-true None n e = absurd (cc)
 option_eq-true (Some m) n e = ap (λ k. Some k) (eqb-true m n e)
 
+-- an option that is found to differ from a number is not that number
 pub option_eq-false : (x : Option ℕ) (n : ℕ) → option_eq nat_eq x (Some n) ≡ false → x ≢ Some n
 option_eq-false None n e same = cc
 option_eq-false (Some m) n e same = let is : m ≡ n = cc in eqb-false m n e is
@@ -156,6 +157,7 @@ NoneAbove-youngest r n (p ∷ ps) order e =
     ] in
     go (youngest r ps) refl
 
+-- what holds of each number that an option may be holds of the one that it is, if it is one
 pub IfSome-from : (x : Option ℕ) (P : ℕ → Type 0) → ((n : ℕ) → x ≡ Some n → P n) → IfSome x P
 IfSome-from None P h = tt
 IfSome-from (Some n) P h = h n refl

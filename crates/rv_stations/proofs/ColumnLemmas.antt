@@ -27,6 +27,7 @@ use Rattle.rv_stations.proofs.ZipLemmas.{zip2-append, zip2-take, zip2-drop}
 pub length-column : (p : Inside) → IsSoundColumn p → length (operands p) ≡ length p.tags.items
 length-column p sound = length-zip2 operand_of p.tags.items p.values.items (omega (arith, sound.as_many))
 
+-- a place of an operand is one of a tag
 pub place_within : (p : Inside) → IsSoundColumn p → (seen : List Operand) → operands p ≡ seen → (at : ℕ) → at < length seen → at < length p.tags.items
 place_within p sound seen is at within = omega (arith, rw (← is) at within, length-column p sound)
 
@@ -72,6 +73,7 @@ woken_by_none value tag held = elim (cases_Bool (eqb tag 18446744073709551615)) 
   | inr waits ↦ unwoken 18446744073709551615 value tag held waits
 ]
 
+-- the number of no producer wakes no operand
 pub operands-unwoken : (value : ℕ) (tags values : List ℕ) →
     map (woken_operand 18446744073709551615 value) (zip2 operand_of tags values) ≡ zip2 operand_of tags values
 operands-unwoken value [] values = refl
@@ -103,6 +105,7 @@ has_value-operand_of tag held = elim (cases_Bool (eqb tag 18446744073709551615))
   | inr waits ↦ rw waits refl
 ]
 
+-- an operand that has its value has the lower 32 bits of the number held for it
 pub operand_of-has_value : (tag held : ℕ) → has_value (operand_of tag held) ≡ true → operand_of tag held ≡ Value (held % 4294967296)
 operand_of-has_value tag held has = operand_of-value tag held (eqb-true tag 18446744073709551615 (sym (has_value-operand_of tag held) ∙ has))
 
@@ -139,9 +142,11 @@ module _ {X : Type 0} (f : X → X) (start : ℕ) (xs : List X) (room : start + 
   eight =
       length-map (take 8 (drop start xs)) f ∙ length-take-le 8 (drop start xs) (omega (arith, length-drop start xs))
 
+  -- an item before the eight stays
   pub in_eight-below : (i : ℕ) → i < start → get_or (in_eight start (map f) xs) i d ≡ get_or xs i d
   in_eight-below i lt = get_or_append_left (take start xs) _ d i (omega (arith, front)) ∙ get_or-take start xs i d lt
 
+  -- an item after the eight stays
   pub in_eight-above : (i : ℕ) → start + 8 ≤ i → get_or (in_eight start (map f) xs) i d ≡ get_or xs i d
   in_eight-above i le =
       let back : start + 8 + (i - start - 8) ≡ i = omega arith in
@@ -150,6 +155,7 @@ module _ {X : Type 0} (f : X → X) (start : ℕ) (xs : List X) (room : start + 
       ∙ get_or-drop (start + 8) xs (i - start - 8) d
       ∙ ap (λ n. get_or xs n d) back
 
+  -- each of the eight is changed
   pub in_eight-inside : (i : ℕ) → start ≤ i → i < start + 8 → get_or (in_eight start (map f) xs) i d ≡ f (get_or xs i d)
   in_eight-inside i le lt =
       let back : start + (i - start) ≡ i = omega arith in
@@ -158,6 +164,7 @@ module _ {X : Type 0} (f : X → X) (start : ℕ) (xs : List X) (room : start + 
       ∙ get_or-map f (take 8 (drop start xs)) (i - start) d d (omega (arith, eight, length-map (take 8 (drop start xs)) f))
       ∙ ap f (get_or-take 8 (drop start xs) (i - start) d (omega arith) ∙ get_or-drop start xs (i - start) d ∙ ap (λ n. get_or xs n d) back)
 
+  -- as many items as before
   pub length-in_eight : length (in_eight start (map f) xs) ≡ length xs
   length-in_eight =
       length-append (take start xs) _
@@ -281,6 +288,7 @@ module _ (seq value start waiting : ℕ) (tags values : List ℕ) (some : eqb se
       changed : get_or operands_after at (Value 0) ≡ woken_operand seq value (get_or operands_now at (Value 0))
       changed = in_eight-inside (woken_operand seq value) start operands_now (omega (arith, long)) (Value 0) at le le8
 
+  -- without the bits of those of the eight that had the number, the mask is that of the operands afterwards
   pub IsWaitMask-woken : IsWaitMask operands_now waiting → IsWaitMask operands_after after
   IsWaitMask-woken marked at within =
       let as_long = length-in_eight (woken_operand seq value) start operands_now (omega (arith, long)) (Value 0) in
@@ -340,11 +348,13 @@ cleared-inside mask start place room le lt =
     ∙ ap (λ b. cond b 1 0) (get_or-replicate 8 (place - start) true false (omega arith)) in
     bit_at-cleared (replicate 8 true) start refl room mask place (omega arith) ∙ omega (arith, set)
 
+-- a bit below those of the eight places stays
 pub cleared-below : (mask start place : ℕ) → start + 8 ≤ 64 → place < start →
     bit_at (bit_and mask (18446744073709551615 - 255 * 2 ^ start % 18446744073709551616)) place ≡ bit_at mask place
 cleared-below mask start place room lt =
     not_cleared (replicate 8 true) start refl room mask place (omega arith) (moved_below (replicate 8 true) start refl room place lt)
 
+-- a bit above those of the eight places stays
 pub cleared-above : (mask start place : ℕ) → start + 8 ≤ 64 → start + 8 ≤ place → place < 64 →
     bit_at (bit_and mask (18446744073709551615 - 255 * 2 ^ start % 18446744073709551616)) place ≡ bit_at mask place
 cleared-above mask start place room le lt =

@@ -52,6 +52,7 @@ like_mask : (seq : ℕ) (tags : List ℕ) →
 like_mask seq [] = refl
 like_mask seq (t ∷ ts) = ap₂ (λ (b : Bool) (n : ℕ). cond b 1 0 + 2 * n) (ap₂ eqb (and_mask t 32) (and_mask seq 32)) (like_mask seq ts)
 
+-- the mask of a comparison lane by lane is that of the tags whose lower 32 bits are the number's
 pub like_lanes : (seq : ℕ) (tags : List ℕ) → length tags ≡ 8 →
     mask_l (map (top 31)
     (zip2 (λ a b. cond (eqb a b) 4294967295 0)
@@ -79,6 +80,7 @@ module _ (seq value : ℕ) (tags values : List ℕ) where
     pub bits : (i : ℕ) → i < 8 → bit_at left i ≡ 0 → bit_at woken i ≡ cond (eqb (get_or tags i 0) seq) 1 0
     pub above : (i : ℕ) → 8 ≤ i → i < 64 → bit_at woken i ≡ 0
 
+  -- before any lane is woken, all that are marked are left, where no other has the number
   pub Giving-start : (like : ℕ) → ((i : ℕ) → i < 8 → bit_at like i ≡ 0 → eqb (get_or tags i 0) seq ≡ false) → Giving like 0 tags values
   Giving-start like others = record {
     rest_tags = λ i lt set. refl;
@@ -89,6 +91,7 @@ module _ (seq value : ℕ) (tags values : List ℕ) where
     above = λ i le lt. bit_at-zero i;
   }
 
+  -- once one of the lanes that are left is woken, the rest are left
   pub Giving-next : (left next woken woken_next lane : ℕ) (now_tags now_values : List ℕ) → length now_tags ≡ 8 →
       length now_values ≡ 8 → lane < 8 → bit_at left lane ≡ 1 → OtherBitsStay lane left next →
       bit_at woken_next lane ≡ cond (eqb (get_or now_tags lane 0) seq) 1 0 → OtherBitsStay lane woken woken_next →
@@ -128,11 +131,13 @@ module _ (seq value : ℕ) (tags values : List ℕ) where
 
   module _ (woken : ℕ) (now_tags now_values : List ℕ) (many : length tags ≡ 8) (as_many : length values ≡ 8)
       (long : length now_tags ≡ 8) (as_long : length now_values ≡ 8) (g : Giving 0 woken now_tags now_values) where
+    -- with no lane left, each tag that was the number is gone
     pub given-tags : now_tags ≡ map (woken_tag seq) tags
     given-tags =
         same_number_lists now_tags (map (woken_tag seq) tags) (omega (arith, long, many, length-map tags (woken_tag seq)))
         (λ i lt. g.now_woken i (omega arith) (bit_at-zero i) ∙ sym (get_or-map (woken_tag seq) tags i 0 0 (omega arith)))
 
+    -- with no lane left, each tag that was the number has its value
     pub given-values : now_values ≡ zip2 (woken_value seq value) tags values
     given-values =
         same_number_lists now_values (zip2 (woken_value seq value) tags values)
@@ -146,6 +151,7 @@ module _ (seq value : ℕ) (tags values : List ℕ) where
     small : mask_l (map (λ t. eqb t seq) tags) < 2 ^ 8
     small = rw equals at (mask_l-lt (map (λ t. eqb t seq) tags))
 
+    -- with no lane left, the bits are those of the tags that were the number
     pub given-bits : woken < 2 ^ 64 → woken ≡ mask_l (map (λ t. eqb t seq) tags)
     given-bits fits =
         same_from_bits_below 64 woken (mask_l (map (λ t. eqb t seq) tags)) fits (omega (arith, small))

@@ -14,6 +14,7 @@ unheld-tags seq (t ∷ ts) none = elim (cases_Bool (eqb t seq)) [
       ap₂ ◌∷◌ (rw other refl) (unheld-tags seq ts (omega (arith, rest)))
 ]
 
+-- where no bit is set, every value stays
 pub unheld-values : (seq value : ℕ) (tags values : List ℕ) → length tags ≡ length values →
     mask_l (map (λ t. eqb t seq) tags) ≡ 0 → zip2 (woken_value seq value) tags values ≡ values
 unheld-values seq value [] [] long none = refl

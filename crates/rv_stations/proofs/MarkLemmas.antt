@@ -28,6 +28,7 @@ flip a b apart same = apart (sym same)
 
 -- what holds of the places in use, and of the others still once one more is
 module _ (P Q : ℕ → Type 0) (place : ℕ) (step : (k : ℕ) → k < 64 → (k ≡ place → ⊥) → P k → Q k) where
+  -- where P holds of the places in use, and Q of the next place, Q holds of all once that is in use
   pub marks-next : (ks : List ℕ) (n : ℕ) → AreApart ks → All (λ k. k < 64) ks → slice_get ks n ≡ Some place → Q place →
       All P (take n ks) → All Q (take (n + 1) ks)
   marks-next ks n apart few is here marks =
@@ -51,6 +52,7 @@ module _ (P Q : ℕ → Type 0) (place : ℕ) (step : (k : ℕ) → k < 64 → (
       (λ equal. All-others (λ a b. a ≡ b → ⊥) flip at ks 0 within apart i d lt (is ∙ sym equal))
       (All-remove P at ks within marks i d lt)
 
+-- what holds of the first m places holds of the first n, where n is no larger
 pub marks-shorter : (P : ℕ → Type 0) (n m : ℕ) (ks : List ℕ) → n ≤ m → All P (take m ks) → All P (take n ks)
 marks-shorter P zero m ks order marks = All-nil P
 marks-shorter P (suc n) zero ks order marks = absurd (omega arith)
@@ -58,6 +60,7 @@ marks-shorter P (suc n) (suc m) [] order marks = All-nil P
 marks-shorter P (suc n) (suc m) (k ∷ ks) order marks =
     All-cons P k (take n ks) (All-head P k (take m ks) marks) (marks-shorter P n m ks (omega arith) (All-tail P k (take m ks) marks))
 
+-- no two of the first n places are the same, where no two of all are
 pub AreApart-take : (n : ℕ) (ks : List ℕ) → n ≤ length ks → AreApart ks → AreApart (take n ks)
 AreApart-take n ks low apart = λ i j d lt within same.
     let under : j < n = omega (arith, within, length-take-le n ks low) in

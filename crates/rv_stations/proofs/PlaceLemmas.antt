@@ -19,11 +19,13 @@ module _ {A : Type 0} where
   moved-back (suc at) count zero (a ∷ xs) x is within = absurd (omega arith)
   moved-back (suc at) count (suc last) (a ∷ xs) x is within = ap (λ ys. a ∷ ys) (moved-back at count last xs x (omega arith) (omega arith))
 
+  -- an element inserted after the first n leaves them
   pub take-insert : (n : ℕ) (xs : List A) (x : A) → n ≤ length xs → take n (insert xs n x) ≡ take n xs
   take-insert zero xs x within = refl
   take-insert (suc n) [] x within = absurd (omega arith)
   take-insert (suc n) (a ∷ xs) x within = ap (λ ys. a ∷ ys) (take-insert n xs x (omega arith))
 
+  -- the first n once one of the first n + 1 is removed are those n + 1 without it
   pub take-remove : (at n : ℕ) (xs : List A) → at ≤ n → at < length xs → take n (remove xs at) ≡ remove (take (suc n) xs) at
   take-remove at n [] order within = absurd (omega arith)
   take-remove zero n (a ∷ xs) order within = refl
@@ -31,11 +33,13 @@ module _ {A : Type 0} where
   take-remove (suc at) (suc n) (a ∷ xs) order within = ap (λ ys. a ∷ ys) (take-remove at n xs (omega arith) (omega arith))
 
   module _ (P : A → Type 0) where
+    -- what holds of all holds with one more of which it holds
     pub All-insert : (n : ℕ) (xs : List A) (x : A) → All P xs → P x → All P (insert xs n x)
     All-insert zero xs x all holds = All-cons P x xs holds all
     All-insert (suc n) [] x all holds = All-cons P x [] holds all
     All-insert (suc n) (a ∷ xs) x all holds = All-cons P a (insert xs n x) (All-head P a xs all) (All-insert n xs x (All-tail P a xs all) holds)
 
+    -- what holds of all holds of those that a removal leaves
     pub All-remove : (at : ℕ) (xs : List A) → at < length xs → All P xs → All P (remove xs at)
     All-remove at [] within all = absurd (omega arith)
     All-remove zero (a ∷ xs) within all = All-tail P a xs all
@@ -57,6 +61,7 @@ module _ {A : Type 0} where
         (flip x (get_or xs at d) (pairs 0 (suc at) d (omega arith) (omega arith)))
         (All-others at xs d (omega arith) (others x xs pairs))
 
+    -- one more that is related to all may be inserted anywhere, and all pairs stay related
     pub AllPairs-insert : (n : ℕ) (xs : List A) (x : A) → All (R x) xs → AllPairs R xs → AllPairs R (insert xs n x)
     AllPairs-insert zero xs x all pairs = AllPairs-cons R x xs all pairs
     AllPairs-insert (suc n) [] x all pairs = AllPairs-cons R x [] all pairs
@@ -73,5 +78,6 @@ range_with_len-next a (suc n) =
     let same : a + suc n ≡ a + 1 + n = omega arith in
     rw (next, same) (ap (λ ns. a ∷ ns) (range_with_len-next (a + 1) n))
 
+-- the numbers below n, then n, are those below n + 1
 pub range-next : (n : ℕ) → range_with_len 0 n ++ n ∷ [] ≡ range_with_len 0 (n + 1)
 range-next n = let same : 0 + n ≡ n = omega arith in rw same at (range_with_len-next 0 n)

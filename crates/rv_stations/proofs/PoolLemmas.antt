@@ -39,9 +39,11 @@ module _ (ns : List ℕ) (fs : List Dispatched) (xs ys : List Operand) (same : S
   right : length (zip2 both_operands xs ys) ≡ length ns
   right = length-zip2 both_operands xs ys (same.first ∙ sym same.second) ∙ same.first
 
+  -- as many instructions as numbers
   pub length-joined : length (joined ns fs xs ys) ≡ length ns
   length-joined = length-zip2 instruction_of _ _ (left ∙ sym right) ∙ left
 
+  -- the parts of an instruction, each written at one place of its list, write the instruction at that place
   pub joined-set : (i : ℕ) (n : ℕ) (f : Dispatched) (x y : Operand) → i < length ns →
       joined (slice_set ns i n) (slice_set fs i f) (slice_set xs i x) (slice_set ys i y)
       ≡ slice_set (joined ns fs xs ys) i (instruction_of (n, f) (x, y))
@@ -161,6 +163,7 @@ pub is_ready-in_place : (ws : List Waiting) (i : ℕ) (w : Waiting) (ready : Boo
 is_ready-in_place ws i w ready is shown =
     let same : Some (is_ready w) ≡ Some ready = sym (ap (option_map is_ready) is) ∙ shown in cc same
 
+-- an instruction that is read at a place has the number that is known there
 pub seq-in_place : (ws : List Waiting) (i : ℕ) (d : Waiting) (seq : ℕ) → option_map seq_of (slice_get ws i) ≡ Some seq →
     i < length ws → (get_or ws i d).seq ≡ seq
 seq-in_place ws i d seq shown within =
@@ -178,6 +181,7 @@ joined-woken seq value (n ∷ ns) (f ∷ fs) (x ∷ xs) [] = refl
 joined-woken seq value (n ∷ ns) (f ∷ fs) (x ∷ xs) (y ∷ ys) =
     ap (λ ws. woken seq value (instruction_of (n, f) (x, y)) ∷ ws) (joined-woken seq value ns fs xs ys)
 
+-- a change of all instructions is one of those in the places
 pub in_places-map : (f : Waiting → Waiting) (ws : List Waiting) (ks : List ℕ) → All (λ k. k < length ws) ks →
     in_places (map f ws) ks ≡ map f (in_places ws ks)
 in_places-map f ws [] there = refl
@@ -207,11 +211,13 @@ in_places-next ws ks n place w apart is there =
     (map-append (λ k. get_or (slice_set ws place w) k some_waiting) (take n ks) (place ∷ [])
     ∙ ap₂ ◌++◌ (in_places-unset ws (take n ks) place w before) (ap (λ v. v ∷ []) (get_or-set_same ws place w some_waiting there)))
 
+-- the instructions in all places but one are all but the one in it
 pub in_places-remove : (ws : List Waiting) (ks : List ℕ) (at : ℕ) → at < length ks → in_places ws (remove ks at) ≡ remove (in_places ws ks) at
 in_places-remove ws [] at within = absurd (omega arith)
 in_places-remove ws (k ∷ ks) zero within = refl
 in_places-remove ws (k ∷ ks) (suc at) within = ap (λ vs. get_or ws k some_waiting ∷ vs) (in_places-remove ws ks at (omega arith))
 
+-- the instructions in the first n places are the first n of those in more places
 pub in_places-take : (ws : List Waiting) (ks : List ℕ) (n m : ℕ) → n ≤ m → in_places ws (take n ks) ≡ take n (in_places ws (take m ks))
 in_places-take ws ks zero m order = refl
 in_places-take ws ks (suc n) zero order = absurd (omega arith)

@@ -80,6 +80,7 @@ Searching-pass test ws at w is fails s =
       passed = rw passed (oldest_ready-append test (take at ws) (w ∷ []) s.passed ∙ rw fails refl);
     }
 
+-- an instruction at the place that is ready and passes is the one found, and leaves the others
 pub Searching-found : (test : Waiting → Bool) (ws : List Waiting) (at : ℕ) (w : Waiting) → slice_get ws at ≡ Some w →
     (is_ready w && test w) ≡ true → Searching test ws at → (oldest_ready test ws ≡ slice_get ws at) ×
     (without_oldest_ready test ws ≡ remove ws at)

@@ -35,6 +35,7 @@ module _ (seq : ℕ) (news : StoreState) where
       rw (map-answered_above s.seq ss above (IsInOrder-head (λ t. t.seq) s ss h)) (ap (λ t. answered seq news t ∷ ss) same)
   map-answered_one false s ss (suc j) e at h x is on = absurd (omega arith)
 
+  -- of stores in order, a broadcast changes no other than the first that is not below its number
   pub map-answered : (ss : List Store) (i : ℕ) (x : Store) → i ≡ prefix_len (λ s. nat_lt s.seq seq) ss → IsInOrder (λ t. t.seq) ss → slice_get ss i ≡ Some x → map (answered seq news) ss ≡ slice_set ss i (answered seq news x)
   map-answered [] i x at h is = absurd (cc)
   map-answered (s ∷ ss) i x at h is =
@@ -48,11 +49,13 @@ module _ (seq : ℕ) (news : StoreState) where
   map-answered_none_one false s ss zero e at is on = absurd (cc)
   map-answered_none_one false s ss (suc j) e at is on = absurd (omega arith)
 
+  -- where all stores are below its number, a broadcast changes none
   pub map-answered_none : (ss : List Store) (i : ℕ) → i ≡ prefix_len (λ s. nat_lt s.seq seq) ss → slice_get ss i ≡ None → map (answered seq news) ss ≡ ss
   map-answered_none [] i at is = refl
   map-answered_none (s ∷ ss) i at is =
       map-answered_none_one (nat_lt s.seq seq) s ss i refl at is (λ j at' is'. map-answered_none ss j at' is')
 
+  -- a broadcast leaves the number of a store
   pub seq-answered : (s : Store) → (answered seq news s).seq ≡ s.seq
   seq-answered s = elim (nat_eq s.seq seq) as (λ b. (cond b (record s { state = told news s.state }) s).seq ≡ s.seq) [ true ↦ refl | false ↦ refl ]
 

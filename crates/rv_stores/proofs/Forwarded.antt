@@ -22,6 +22,7 @@ fold-laid_from place (s ∷ ss) found =
     fold-laid_from place ss (option_or (byte_at place s) found) ∙
     sym (option_or_assoc (youngest_byte place ss) (byte_at place s) found)
 
+-- at one place, the stores laid over one another leave the byte of the youngest that has one
 pub fold-youngest_byte : (place : ℕ) (ss : List Store) → fold (λ found s. option_or (byte_at place s) found) None ss ≡ youngest_byte place ss
 fold-youngest_byte place ss = fold-laid_from place ss None ∙ option_or-none (youngest_byte place ss)
 
@@ -64,6 +65,7 @@ module _ (address count : ℕ) where
   over_byte-none true rest = option_or-none rest
   over_byte-none false rest = refl
 
+  -- the stores laid over one another, from no bytes on, leave the bytes that they forward
   pub fold-laid_over : (ss : List Store) → fold (λ found s. laid_over address count s found) (None ∷ None ∷ None ∷ None ∷ []) ss ≡ forwarded ss address count
   fold-laid_over ss =
       let none : (offset : ℕ) → over_byte ss None offset ≡ cond (nat_lt offset count) (youngest_byte (address + offset) ss) None = λ offset. over_byte-none (nat_lt offset count) (youngest_byte (address + offset) ss) in

@@ -13,6 +13,7 @@ use Rattle.rv_stores.specs.Queue.{ComeFirst}
 use Rattle.rv_stores.proofs.Prefix.{ComeFirst-tail}
 
 module _ {X : Type 0} (p : X → Bool) where
+  -- of the elements that another test keeps, those that pass still come first
   pub ComeFirst-filter : (q : X → Bool) (xs : List X) → ComeFirst p xs → ComeFirst p (filter q xs)
   ComeFirst-filter q xs h = AllPairs-filter (λ x y. p y ≡ true → p x ≡ true) q xs h
 
@@ -22,6 +23,7 @@ module _ {X : Type 0} (p : X → Bool) where
       all_pairs_push (λ x z. p z ≡ true → p x ≡ true) xs y h
       (λ k d lt passes. absurd (true≢false (sym passes ∙ e)))
 
+  -- without the first element, if there is one, those that pass still come first
   pub ComeFirst-rest : (xs : List X) → ComeFirst p xs → ComeFirst p (drop 1 xs)
   ComeFirst-rest [] h = h
   ComeFirst-rest (x ∷ xs) h = ComeFirst-tail p x xs h
@@ -39,8 +41,10 @@ keep_last-room capacity ss t h =
 pub AreBelow-none : (n : ℕ) (ss : List Store) → last_item ss ≡ None → AreBelow (λ s. s.seq) n ss
 AreBelow-none n ss h k d lt = absurd (none-some _ (sym h ∙ slice_get-get_or ss (length ss - 1) d (omega arith)))
 
+-- stores in order are below a number where the youngest is
 pub AreBelow-youngest : (n : ℕ) (ss : List Store) (s : Store) → IsInOrder (λ t. t.seq) ss → last_item ss ≡ Some s → s.seq < n → AreBelow (λ t. t.seq) n ss
 AreBelow-youngest n ss s order at lt = AreBelow-last (λ t. t.seq) n (length ss - 1) ss s order (omega arith) at lt
 
+-- where all are below a number, the youngest is
 pub youngest-below : (n : ℕ) (ss : List Store) (s : Store) → last_item ss ≡ Some s → AreBelow (λ t. t.seq) n ss → s.seq < n
 youngest-below n ss s at are = AreBelow-slice_get (λ t. t.seq) n (length ss - 1) ss s are at

@@ -6,6 +6,7 @@ use Rattle.std.proofs.lemmas.List.Elements.{All-tail}
 use Rattle.rv_stores.specs.Queue.{ComeFirst}
 
 module _ {X : Type 0} (p : X → Bool) where
+  -- after the first element, those that pass still come first
   pub ComeFirst-tail : (x : X) (xs : List X) → ComeFirst p (x ∷ xs) → ComeFirst p xs
   ComeFirst-tail x xs h i j d lt within = h (suc i) (suc j) d (omega arith) (omega arith)
 
@@ -33,5 +34,6 @@ module _ {X : Type 0} (p : X → Bool) where
       (λ e. take-prefix_len xs (ComeFirst-tail x xs h))
       (λ e. filter-none x e xs (ComeFirst-fails x xs h e))
 
+  -- the same for a number that is equal to the length of that beginning
   pub take-prefix_len_at : (xs : List X) (n : ℕ) → n ≡ prefix_len p xs → ComeFirst p xs → take n xs ≡ filter p xs
   take-prefix_len_at xs n e h = ap (λ k. take k xs) e ∙ take-prefix_len xs h

@@ -20,6 +20,7 @@ set_one true s ss (suc j) x at is on = ap (λ l. s ∷ l) (on j (omega arith) is
 set_one false s ss zero x at is on = let same : s ≡ x = cc in ap (λ t. retired_store t ∷ ss) same
 set_one false s ss (suc j) x at is on = absurd (omega arith)
 
+-- a retirement replaces the first store after those that are committed by the retired one
 pub with_oldest_retired-set : (ss : List Store) (i : ℕ) (x : Store) → i ≡ prefix_len is_committed ss → slice_get ss i ≡ Some x → with_oldest_retired ss ≡ slice_set ss i (retired_store x)
 with_oldest_retired-set [] i x at is = absurd (cc)
 with_oldest_retired-set (s ∷ ss) i x at is =
@@ -31,6 +32,7 @@ same_one true s ss (suc j) at is on = ap (λ l. s ∷ l) (on j (omega arith) is)
 same_one false s ss zero at is on = absurd (cc)
 same_one false s ss (suc j) at is on = absurd (omega arith)
 
+-- where all stores are committed, a retirement changes none
 pub with_oldest_retired-same : (ss : List Store) (i : ℕ) → i ≡ prefix_len is_committed ss → slice_get ss i ≡ None → with_oldest_retired ss ≡ ss
 with_oldest_retired-same [] i at is = refl
 with_oldest_retired-same (s ∷ ss) i at is =
@@ -43,6 +45,7 @@ above-retired n (s ∷ ss) h =
     elim (is_committed s) as (λ b. All (above n) (cond b (s ∷ with_oldest_retired ss) (retired_store s ∷ ss)))
     [ true ↦ All-cons (above n) s (with_oldest_retired ss) (All-head (above n) s ss h) (above-retired n ss (All-tail (above n) s ss h)) | false ↦ All-cons (above n) (retired_store s) ss (All-head (above n) s ss h) (All-tail (above n) s ss h) ]
 
+-- a retirement leaves the numbers in order
 pub IsInOrder-retired : (ss : List Store) → IsInOrder (λ s. s.seq) ss → IsInOrder (λ s. s.seq) (with_oldest_retired ss)
 IsInOrder-retired [] h = h
 IsInOrder-retired (s ∷ ss) h =
@@ -56,6 +59,7 @@ first_one true s ss e h on =
 first_one false s ss e h on =
     AllPairs-cons (λ x y. is_committed y ≡ true → is_committed x ≡ true) (retired_store s) ss (λ k d lt passes. absurd (true≢false (sym (ComeFirst-fails is_committed s ss h e k d lt passes) ∙ e))) (ComeFirst-tail is_committed s ss h)
 
+-- a retirement leaves the committed stores first
 pub ComeFirst-retired : (ss : List Store) → ComeFirst is_committed ss → ComeFirst is_committed (with_oldest_retired ss)
 ComeFirst-retired [] h = h
 ComeFirst-retired (s ∷ ss) h =

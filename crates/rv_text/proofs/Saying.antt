@@ -17,12 +17,14 @@ said_same false before now xs ys same said = Appends-same before now xs ys same 
 pub extends_nothing : (failed : Bool) (known : Option (List ℕ)) → Extends failed failed known known []
 extends_nothing failed known = record { extends = λ before first said. said_same failed before known first (first ++ []) (sym (append-nil first)) said }
 
+-- what is extended by a text and then by another is extended by both
 pub extends_both : {f g h : Bool} {a b c : Option (List ℕ)} {xs ys : List ℕ} → Extends f g a b xs → Extends g h b c ys → Extends f h a c (xs ++ ys)
 extends_both {h = h} {c = c} {xs = xs} {ys = ys} one other = record {
   extends = λ before first said.
       said_same h before c ((first ++ xs) ++ ys) (first ++ (xs ++ ys)) (append_assoc first xs ys) (other.extends before (first ++ xs) (one.extends before first said));
 }
 
+-- what is extended by a text is extended by an equal one
 pub extends_same : {f g : Bool} {a b : Option (List ℕ)} {xs ys : List ℕ} → xs ≡ ys → Extends f g a b xs → Extends f g a b ys
 extends_same same extended = rw same at extended
 
@@ -59,6 +61,7 @@ module _ {W : Type 0} {contents : W → Option (List ℕ)} where
       → Says contents a b (flat_map text (take place items)) → Says contents b c (text (get_or items place other)) → Says contents a c (flat_map text (take (place + 1) items))
   says_at text items place other here front last = says_same (sym (flat_map-more text items place other here)) (says_both front last)
 
+  -- one text more, that of a number after those of the numbers below it
   pub says_below : {a b c : Sink W} (text : ℕ → List ℕ) (place : ℕ) → Says contents a b (texts_below text place) → Says contents b c (text place) → Says contents a c (texts_below text (place + 1))
   says_below text place front last = says_same (sym (ap (texts_below text) (add-one place) ∙ texts_below-more text place)) (says_both front last)
 

@@ -19,6 +19,7 @@ holds-then cycle latest other = elim (cases_lt cycle latest) [
   ]))
 ]
 
+-- starts of a cycle that last for one cycle all hold a unit in it
 pub holding-now : (cycle n : ℕ) → holding cycle (replicate n (record { cycle = cycle; cost = 1 })) ≡ replicate n (record { cycle = cycle; cost = 1 })
 holding-now cycle zero = refl
 holding-now cycle (suc n) =
@@ -26,6 +27,7 @@ holding-now cycle (suc n) =
     let rest : List Issue = holding cycle (replicate n start) in
     ap (λ b. cond b (start ∷ rest) rest) (holds-now cycle) ∙ ap (λ l. start ∷ l) (holding-now cycle n)
 
+-- starts of another cycle that last for one cycle hold no unit
 pub holding-then : (cycle latest n : ℕ) → (latest ≡ cycle → ⊥) → holding cycle (replicate n (record { cycle = latest; cost = 1 })) ≡ []
 holding-then cycle latest zero other = refl
 holding-then cycle latest (suc n) other =

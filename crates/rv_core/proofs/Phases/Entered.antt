@@ -25,6 +25,7 @@ first_and_rest : (fs : List Fetched) (f : Fetched) → slice_get fs 0 ≡ Some f
 first_and_rest [] f first = absurd (cc)
 first_and_rest (g ∷ fs) f first = ap (λ x. x ∷ fs) cc
 
+-- there is one oldest fetched word
 pub one_first : (fs : List Fetched) (a b : Fetched) → slice_get fs 0 ≡ Some a → slice_get fs 0 ≡ Some b → a ≡ b
 one_first fs a b first second =
     let same : Some a ≡ Some b = sym first ∙ second in

@@ -35,6 +35,7 @@ pub ends_with_none : (h : Hardware) (steps : List Step) → slice_get h.rob.entr
     commit_turn set.contains (committing h steps) ≡ Ends (committing h steps)
 ends_with_none h steps none = ap (λ l. commit_turn_of set.contains l (committing h steps)) (none_of h.rob.entries none)
 
+-- with nothing in flight the turn ends the phase, takes no step and changes nothing
 pub turn_of_none : (h : Hardware) (steps : Steps) (known : Guide) → slice_get h.rob.entries 0 ≡ None →
     IsTurn h h steps steps known known (head.Ends None)
 turn_of_none h steps known none = turn_ends h steps known None (λ before. ends_with_none h before none)
@@ -47,10 +48,12 @@ retires_one r (e ∷ entries) = omega arith
 pub kept : (h : Hardware) → IsKept h h
 kept h = record { values = refl; cycle = refl; retired = omega arith }
 
+-- a change that leaves values, cycle and reorder buffer as they are keeps what no turn changes
 pub kept_as : (h next : Hardware) → next.values ≡ h.values → next.cycle ≡ h.cycle → next.rob ≡ h.rob → IsKept h next
 kept_as h next values cycle rob =
     record { values = values; cycle = cycle; retired = omega (arith, ap (λ (r : ReorderBuffer). r.retired) rob) }
 
+-- two changes that keep it, the first of which leaves the reorder buffer as it is, keep it together
 pub kept_from : (h now next : Hardware) → IsKept h now → now.rob ≡ h.rob → IsKept now next → IsKept h next
 kept_from h now next before rob after = record {
   values = after.values ∙ before.values;
@@ -58,16 +61,20 @@ kept_from h now next before rob after = record {
   retired = omega (arith, after.retired, ap (λ (r : ReorderBuffer). r.retired) rob);
 }
 
+-- a serialising head that retires, with a pc and registers, and flushes everything keeps it
 pub kept_serial : (h next : Hardware) (pc : ℕ) (registers : List ℕ) →
     next ≡ flushed (record h { pc = pc; registers = registers; rob = head_retired h.rob }) → IsKept h next
 kept_serial h next pc registers is = rw is (record { values = refl; cycle = refl; retired = retires_one h.rob h.rob.entries })
 
+-- a trap keeps it
 pub kept_trapped : (h next : Hardware) (cause value : ℕ) → next ≡ with_trap cause value h → IsKept h next
 kept_trapped h next cause value is = rw is (record { values = refl; cycle = refl; retired = omega arith })
 
+-- a result that retires keeps it
 pub kept_retired : (h next : Hardware) (e : Entry) (m : Message) → next ≡ with_result e m h → IsKept h next
 kept_retired h next e m is = rw is (record { values = refl; cycle = refl; retired = retires_one h.rob h.rob.entries })
 
+-- a result that retires and flushes everything younger keeps it
 pub kept_flushed : (h next : Hardware) (e : Entry) (m : Message) → next ≡ flushed (with_result e m h) → IsKept h next
 kept_flushed h next e m is = rw is (record { values = refl; cycle = refl; retired = retires_one h.rob h.rob.entries })
 
@@ -125,6 +132,7 @@ pub retires_on : (e : Entry) (m : Message) (h : Hardware) (steps : List Step) �
 retires_on e m h steps none foreseen = ap (λ f. finish_head e m f (committing h steps)) none
     ∙ rw (eq-eqb m.next_pc e.predicted_next foreseen) refl
 
+-- a result without a fault that goes on elsewhere than predicted retires, flushes everything and ends the phase
 pub retires_last : (e : Entry) (m : Message) (h : Hardware) (steps : List Step) → m.fault ≡ None →
     m.next_pc ≢ e.predicted_next →
     finish_broadcast e (Some m) (committing h steps)

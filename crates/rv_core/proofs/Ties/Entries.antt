@@ -12,6 +12,7 @@ pub data IsHeld (n s : ℕ) (d : Entry) (es : List Entry) (e : Entry) : Type 0 w
   at_head : (n == s) ≡ true → n ≡ s → d ≡ e → IsHeld n s d es e
   in_tail : (n == s) ≡ false → entry_of n (s + 1) es ≡ Some e → IsHeld n s d es e
 
+-- an entry that is held in a list is its first one, or is held after it
 pub held_at : (n s : ℕ) (d : Entry) (es : List Entry) (e : Entry) → entry_of n s (d ∷ es) ≡ Some e → IsHeld n s d es e
 held_at n s d es e held = elim (cases_Bool (n == s)) [
   | inl equal ↦
@@ -75,6 +76,7 @@ module _ (R : Entry → Entry → Type 0) where
   pairs-head : (e : Entry) (es : List Entry) → AllPairs R (e ∷ es) → All (R e) es
   pairs-head e es pairs k d lt = pairs 0 (suc k) d (omega arith) (omega arith)
 
+  -- what holds of each entry and all later ones holds so without the first
   pub pairs-tail : (e : Entry) (es : List Entry) → AllPairs R (e ∷ es) → AllPairs R es
   pairs-tail e es pairs i j d lt within = pairs (suc i) (suc j) d (omega arith) (omega arith)
 

@@ -119,6 +119,7 @@ can_enter committed capacity rob older room = (
 
 -- ---- a broadcast
 module _ (n : ℕ) (news : StoreState) where
+  -- a broadcast leaves stores of other numbers as they are
   pub answered-other : (ss : List Store) → All (λ (x : Store). (x.seq == n) ≡ false) ss → map (answered n news) ss ≡ ss
   answered-other [] others = refl
   answered-other (x ∷ ss) others =

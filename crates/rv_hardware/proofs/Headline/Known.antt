@@ -37,6 +37,7 @@ length-with_register : (b : Bool) (registers : List ℕ) (rd value : ℕ) →
     length (cond b registers (slice_set registers rd value)) ≡ length registers
 length-with_register b registers rd value = grind (arith, length-set)
 
+-- there are as many registers after a value was written as before
 pub length-with_value : (registers : List ℕ) (target : Option ℕ) (message : Option Message) →
     length (with_value registers target message) ≡ length registers
 length-with_value registers target message = grind (arith, length-with_register)

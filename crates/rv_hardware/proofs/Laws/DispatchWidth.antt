@@ -18,6 +18,7 @@ module _ (now total : ℕ) where
       Leads (DispatchedNow (suc k)) (DispatchedNow total) t
   dispatch_leads k lt it h = grind (arith, count-push)
 
+  -- where before the phase no entry was dispatched in a cycle, after it at most its width were
   pub dispatch_within : (h : Hardware) → h.values.dispatch_width ≡ total →
       count (λ e. e.dispatched == now) h.rob.entries ≤ 0 →
       count (λ e. e.dispatched == now) (dispatch h).hardware.rob.entries ≤ total

@@ -62,6 +62,7 @@ in_memory (word ∷ words) = bytes_of_number 4 word ++ in_memory words
 abbrev pub steps_at : ℕ → Values → List ℕ → ℕ → List Step
 steps_at start values words cycles = steps_from cycles (reset_hardware values (in_memory words) start)
 
+-- those of a program at address 0x8000_0000
 abbrev pub steps_of : Values → List ℕ → ℕ → List Step
 steps_of values words cycles = steps_at 0x8000_0000 values words cycles
 
@@ -72,6 +73,7 @@ reasons_from (suc cycles) h =
     let dispatching : Dispatching = execute (commit_with (λ words word. false) no_lines h).hardware in
     stall_of dispatching ∷ reasons_from cycles (with_fetch dispatching.hardware)
 
+-- why each of so many cycles of a program at address 0x8000_0000 dispatched nothing
 abbrev pub reasons_of : Values → List ℕ → ℕ → List (Option Stall)
 reasons_of values words cycles = reasons_from cycles (reset_hardware values (in_memory words) 0x8000_0000)
 
