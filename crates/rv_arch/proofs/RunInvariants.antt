@@ -102,12 +102,14 @@ one_at_most : (b : Bool) → (if b then 1 else 0) ≤ 1
 one_at_most true = omega arith
 one_at_most false = omega arith
 
-unbroken_more : (outcomes : List RefStep) (outcome : RefStep) → list_any is_breakpoint outcomes ≡ false → is_breakpoint outcome ≡ false → HasNoBreakpoint (outcomes ++ outcome ∷ [])
+unbroken_more : (outcomes : List RefStep) (outcome : RefStep) → list_any is_breakpoint outcomes ≡ false →
+    is_breakpoint outcome ≡ false → HasNoBreakpoint (outcomes ++ outcome ∷ [])
 unbroken_more outcomes outcome before now = list_any-append is_breakpoint outcomes (outcome ∷ []) ∙ rw (before, now) refl
 
 module _ {arrivals : List Arrival} {n : ℕ} {old mid new : Machine} {outcome : RefStep} {counts counts' : RefOutcome}
     (before : IsCounted arrivals n old mid counts) (now : Steps arrivals n mid new outcome) where
-  pub counted_more : is_stale outcome ≡ false → CountsOne counts counts' outcome → counts'.stop ≡ counts.stop → is_breakpoint outcome ≡ false → IsCounted arrivals (n + 1) old new counts'
+  pub counted_more : is_stale outcome ≡ false → CountsOne counts counts' outcome → counts'.stop ≡ counts.stop →
+      is_breakpoint outcome ≡ false → IsCounted arrivals (n + 1) old new counts'
   counted_more fresh one same_stop unbroken = record {
     outcomes = before.outcomes ++ outcome ∷ [];
     went = rw range_more (went_more before.went now fresh);
@@ -123,7 +125,8 @@ module _ {arrivals : List Arrival} {n : ℕ} {old mid new : Machine} {outcome : 
     going = same_stop ∙ before.going;
   }
 
-  pub counted_to_breakpoint : (limit : ℕ) → n < limit → is_stale outcome ≡ false → CountsOne counts counts' outcome → is_breakpoint outcome ≡ true → IsRunTo arrivals limit old new (record counts' { stop = stop.Breakpoint })
+  pub counted_to_breakpoint : (limit : ℕ) → n < limit → is_stale outcome ≡ false → CountsOne counts counts' outcome →
+      is_breakpoint outcome ≡ true → IsRunTo arrivals limit old new (record counts' { stop = stop.Breakpoint })
   counted_to_breakpoint limit below fresh one broken =
       let taken : counts'.steps ≡ n + 1 = omega arith in
       let all = length_push before.outcomes outcome in
@@ -142,7 +145,8 @@ module _ {arrivals : List Arrival} {n : ℕ} {old mid new : Machine} {outcome : 
 
 module _ {arrivals : List Arrival} {n : ℕ} {old mid new : Machine} {outcome : RefStep} {counts : RefOutcome}
     (before : IsCounted arrivals n old mid counts) (now : Steps arrivals n mid new outcome) where
-  pub counted_to_stale : (limit pc : ℕ) → n < limit → outcome ≡ step.Stale pc → IsRunTo arrivals limit old new (record counts { stop = stop.Stale pc })
+  pub counted_to_stale : (limit pc : ℕ) → n < limit → outcome ≡ step.Stale pc →
+      IsRunTo arrivals limit old new (record counts { stop = stop.Stale pc })
   counted_to_stale limit pc below is =
       let found : is_stale outcome ≡ true = ap is_stale is in
       let lines = lines_after_step before.went now in

@@ -33,7 +33,8 @@ module _ (layout : Layout) (s : State) (lines : Lines) where
       faulted fetched instruction (rw at at decoded) cause value (rw at at faults)
 
   -- a fetched instruction whose effect is a retirement retires, and leads to the state of that effect
-  pub retired_at : IsFetched layout s lines → (pc : ℕ) → pc ≡ s.pc → (word : ℕ) → word ≡ word_at_pc layout s → (instruction : Instr) → Decodes word instruction →
+  pub retired_at : IsFetched layout s lines → (pc : ℕ) → pc ≡ s.pc → (word : ℕ) → word ≡ word_at_pc layout s →
+      (instruction : Instr) → Decodes word instruction →
       (written : Option (ℕ × ℕ)) (next : State) → effect layout s lines word instruction ≡ Retires written next →
       Step layout s lines (Retired pc word written) next
   retired_at fetched pc here word at instruction decoded written next retires =
@@ -49,7 +50,8 @@ pub stale_once : {layout : Layout} {s t : State} {lines : Lines} {o : RefStep} �
 stale_once {layout} {s} {t} {lines} {o} step found = subst (λ u. Step layout u lines o t) (sym (stale_keeps step found)) step
 
 -- the state that a stale outcome leaves has a step that finds a stale word at its pc, and stays
-pub stale_again : {layout : Layout} {s t : State} {lines : Lines} {o : RefStep} → Step layout s lines o t → is_stale o ≡ true → Step layout t lines (Stale t.pc) t
+pub stale_again : {layout : Layout} {s t : State} {lines : Lines} {o : RefStep} → Step layout s lines o t →
+    is_stale o ≡ true → Step layout t lines (Stale t.pc) t
 stale_again (stale due inside marked) found = stale due inside marked
 stale_again _ found = cc
 

@@ -15,7 +15,9 @@ module _ (tokens : List Token) (size : ℕ) (size_is : size ≡ position_or_len 
   before_comma = ap (λ n. take n (map token_of tokens)) (sym size_is) ∙ take-map token_of size tokens
 
   -- it is the first piece, and what stands after the comma has the others
-  pub cut_at_comma : size < length tokens → slice_split is_comma (map token_of tokens) ≡ map token_of (take size tokens) ∷ slice_split is_comma (map token_of (drop (size + 1) tokens))
+  pub cut_at_comma : size < length tokens →
+      slice_split is_comma (map token_of tokens)
+      ≡ map token_of (take size tokens) ∷ slice_split is_comma (map token_of (drop (size + 1) tokens))
   cut_at_comma within =
       slice_split_first is_comma (map token_of tokens) spec.Comma (omega (arith, size_is, length-map tokens token_of))
       ∙ ap (λ first. first ∷ slice_split is_comma (drop (position_or_len is_comma (map token_of tokens) + 1) (map token_of tokens))) before_comma
@@ -30,4 +32,7 @@ module _ (tokens : List Token) (size : ℕ) (size_is : size ≡ position_or_len 
 
     -- the tokens are cut into one piece, which has all of them
     pub cut_nowhere : slice_split is_comma (map token_of tokens) ≡ map token_of tokens ∷ []
-    cut_nowhere = slice_split_none is_comma (map token_of tokens) (λ k d below. fails_before_first is_comma (map token_of tokens) k d (omega (arith, below, size_is, whole, length-map tokens token_of)))
+    cut_nowhere =
+        slice_split_none is_comma (map token_of tokens)
+        (λ k d below. fails_before_first is_comma (map token_of tokens) k d
+        (omega (arith, below, size_is, whole, length-map tokens token_of)))

@@ -18,7 +18,10 @@ and_false : (b : Bool) → (b && false) ≡ false
 and_false true = refl
 and_false false = refl
 
-taken_next : (found : Option Operand) (others : Option (List Operand)) → option_map_or (list_all (takes place.Value)) (option_and_then (λ first. option_map (λ rest. first ∷ rest) others) found) false ≡ (option_map_or (takes place.Value) found false && option_map_or (list_all (takes place.Value)) others false)
+taken_next : (found : Option Operand) (others : Option (List Operand)) →
+    option_map_or (list_all (takes place.Value))
+    (option_and_then (λ first. option_map (λ rest. first ∷ rest) others) found) false
+    ≡ (option_map_or (takes place.Value) found false && option_map_or (list_all (takes place.Value)) others false)
 taken_next None others = refl
 taken_next (Some o) None = sym (and_false (takes place.Value o))
 taken_next (Some o) (Some rest) = refl
@@ -40,25 +43,34 @@ all_read (piece ∷ pieces) all =
     ap (λ found. option_and_then (λ first. option_map (λ rest. first ∷ rest) (operands_in pieces)) found) (read_one (operand piece) here)
     ∙ ap (option_map (λ rest. datum piece ∷ rest)) (all_read pieces others)
 
-refused : (width : Width) (read : Option (List Operand)) → option_map_or (list_all (takes place.Value)) read false ≡ false → and_then (ok_or read BadOperands) (statement (form.Values width)) ≡ Err BadOperands
+refused : (width : Width) (read : Option (List Operand)) →
+    option_map_or (list_all (takes place.Value)) read false ≡ false →
+    and_then (ok_or read BadOperands) (statement (form.Values width)) ≡ Err BadOperands
 unfolding statement
 refused width None is = refl
 refused width (Some []) is = refl
 refused width (Some (first ∷ others)) is = rw is refl
 
-accepted : (width : Width) (operands : List Operand) → 0 < length operands → list_all (takes place.Value) operands ≡ true → statement (form.Values width) operands ≡ Ok (Values width operands)
+accepted : (width : Width) (operands : List Operand) → 0 < length operands →
+    list_all (takes place.Value) operands ≡ true → statement (form.Values width) operands ≡ Ok (Values width operands)
 unfolding statement
 accepted width [] some_operands is = absurd (omega arith)
 accepted width (first ∷ others) some_operands is = rw is refl
 
 -- a piece that is no expression
-pub data_refused : (width : Width) (tokens : List Token) → list_all is_value (slice_split is_comma (map token_of tokens)) ≡ false → and_then (operands_read (map token_of tokens)) (statement (form.Values width)) ≡ Err BadOperands
+pub data_refused : (width : Width) (tokens : List Token) →
+    list_all is_value (slice_split is_comma (map token_of tokens)) ≡ false →
+    and_then (operands_read (map token_of tokens)) (statement (form.Values width)) ≡ Err BadOperands
 unfolding statement
 data_refused width [] is = refl
-data_refused width (first ∷ others) is = refused width (operands_in (slice_split is_comma (map token_of (first ∷ others)))) (taken (slice_split is_comma (map token_of (first ∷ others))) ∙ is)
+data_refused width (first ∷ others) is =
+    refused width (operands_in (slice_split is_comma (map token_of (first ∷ others))))
+    (taken (slice_split is_comma (map token_of (first ∷ others))) ∙ is)
 
 -- all are expressions
-pub data_taken : (width : Width) (tokens : List Token) → list_all is_value (slice_split is_comma (map token_of tokens)) ≡ true → and_then (operands_read (map token_of tokens)) (statement (form.Values width)) ≡ Ok (Values width (data_in tokens))
+pub data_taken : (width : Width) (tokens : List Token) →
+    list_all is_value (slice_split is_comma (map token_of tokens)) ≡ true →
+    and_then (operands_read (map token_of tokens)) (statement (form.Values width)) ≡ Ok (Values width (data_in tokens))
 data_taken width [] all = absurd (cc)
 data_taken width (first ∷ others) all =
     let pieces = slice_split is_comma (map token_of (first ∷ others)) in

@@ -19,22 +19,32 @@ spells_append {y = y} (word {w = w} {bytes = bytes} is r) s = rw (append_assoc (
 
 -- parts that are appended one after the other are appended together
 pub appends_more : {p q : List Cell} {a b c : List ℕ} → Appends p a b → Appends q b c → Appends (p ++ q) a c
-appends_more {a = a} r s = record { bytes = r.bytes ++ s.bytes; spells = spells_append r.spells s.spells; appended = s.appended ∙ ap (λ l. l ++ s.bytes) r.appended ∙ append_assoc a r.bytes s.bytes }
+appends_more {a = a} r s =
+    record {
+      bytes = r.bytes ++ s.bytes;
+      spells = spells_append r.spells s.spells;
+      appended = s.appended ∙ ap (λ l. l ++ s.bytes) r.appended ∙ append_assoc a r.bytes s.bytes;
+    }
 
 pub appends_nothing : (a : List ℕ) → Appends [] a a
 appends_nothing a = record { bytes = []; spells = nothing; appended = sym (append-nil a) }
 
-added : {T : Type 0} (section : Section) (r : Result T AsmFault) (meaning : Result (List Cell) AsmFault) (a b : List ℕ) → IfOk r (λ _. Emits meaning a b) → OnOk r (Appends (parts_in section section meaning) a b)
+added : {T : Type 0} (section : Section) (r : Result T AsmFault) (meaning : Result (List Cell) AsmFault)
+    (a b : List ℕ) → IfOk r (λ _. Emits meaning a b) → OnOk r (Appends (parts_in section section meaning) a b)
 added Text (Ok x) meaning a b put = rw put.means put.appends
 added Data (Ok x) meaning a b put = rw put.means put.appends
 added section (Err fault) meaning a b put = tt
 
 -- a line adds what it means to the section that it stands in
-pub added_here : {T : Type 0} (section own : Section) (r : Result T AsmFault) (meaning : Result (List Cell) AsmFault) (a b : List ℕ) → own ≡ section → IfOk r (λ _. Emits meaning a b) → OnOk r (Appends (parts_in section own meaning) a b)
+pub added_here : {T : Type 0} (section own : Section) (r : Result T AsmFault) (meaning : Result (List Cell) AsmFault)
+    (a b : List ℕ) → own ≡ section → IfOk r (λ _. Emits meaning a b) →
+    OnOk r (Appends (parts_in section own meaning) a b)
 added_here section own r meaning a b is put = rw is (added section r meaning a b put)
 
 -- to another section a line adds nothing
-pub nothing_added : {T : Type 0} (part section own : Section) (r : Result T AsmFault) (meaning : Result (List Cell) AsmFault) (a : List ℕ) → own ≡ section → parts_in part section meaning ≡ [] → OnOk r (Appends (parts_in part own meaning) a a)
+pub nothing_added : {T : Type 0} (part section own : Section) (r : Result T AsmFault)
+    (meaning : Result (List Cell) AsmFault) (a : List ℕ) → own ≡ section → parts_in part section meaning ≡ [] →
+    OnOk r (Appends (parts_in part own meaning) a a)
 nothing_added part section own (Ok x) meaning a is none = rw (is, none) (appends_nothing a)
 nothing_added part section own (Err fault) meaning a is none = tt
 
@@ -44,7 +54,12 @@ emits_nothing meaning a means = record { parts = []; means = means; appends = ap
 
 -- where the bytes of an instruction's word are appended, lowest first, the instruction is
 pub appends_word : (i : Instr) (w : ℕ) (old new : List ℕ) → IsWordOf i w → new ≡ old ++ to_le_bytes w32 w → Appends (Word' i ∷ []) old new
-appends_word i w old new is e = record { bytes = to_le_bytes w32 w ++ []; spells = word is nothing; appended = e ∙ ap (λ l. old ++ l) (sym (append-nil (to_le_bytes w32 w))) }
+appends_word i w old new is e =
+    record {
+      bytes = to_le_bytes w32 w ++ [];
+      spells = word is nothing;
+      appended = e ∙ ap (λ l. old ++ l) (sym (append-nil (to_le_bytes w32 w)));
+    }
 
 spells_bytes : (bytes : List ℕ) → Spells (map Byte' bytes) bytes
 spells_bytes [] = nothing
@@ -55,7 +70,8 @@ pub appends_bytes : (bytes old new : List ℕ) → new ≡ old ++ bytes → Appe
 appends_bytes bytes old new e = record { bytes = bytes; spells = spells_bytes bytes; appended = e }
 
 -- bytes that are resized to a count more are followed by so many zeros
-pub zeros_after : (old new : List ℕ) (size count len : ℕ) → new ≡ take size old ++ replicate (size - len) 0 → size ≡ len + count → len ≡ length old → new ≡ old ++ replicate count 0
+pub zeros_after : (old new : List ℕ) (size count len : ℕ) → new ≡ take size old ++ replicate (size - len) 0 →
+    size ≡ len + count → len ≡ length old → new ≡ old ++ replicate count 0
 zeros_after old new size count len e size_is len_is =
     let whole : take size old ≡ old = take_all size old (omega (arith, size_is, len_is)) in
     let left : size - len ≡ count = omega (arith, size_is) in
@@ -66,8 +82,15 @@ pub rest_is : {X : Type 0} (xs : List X) (i : ℕ) (x : X) → x ≡ get_or xs i
 rest_is xs i x is within = drop_more xs i x within ∙ ap (λ y. y ∷ drop (i + 1) xs) (sym is)
 
 -- what is emitted first, and what the rest gives
-pub emits_more : {first : Result (List Cell) AsmFault} (rest : Result (List Cell) AsmFault) {a b : List ℕ} (c : List ℕ) (result : Result Unit AsmFault) → Emits first a b → EmitsOrRefuses rest b c result → EmitsOrRefuses (and_then first (λ parts. and_then rest (λ others. Ok (parts ++ others)))) a c result
-emits_more rest c (Ok done) put more = record { parts = put.parts ++ more.parts; means = rw (put.means, more.means) refl; appends = appends_more put.appends more.appends }
+pub emits_more : {first : Result (List Cell) AsmFault} (rest : Result (List Cell) AsmFault) {a b : List ℕ} (c : List ℕ)
+    (result : Result Unit AsmFault) → Emits first a b → EmitsOrRefuses rest b c result →
+    EmitsOrRefuses (and_then first (λ parts. and_then rest (λ others. Ok (parts ++ others)))) a c result
+emits_more rest c (Ok done) put more =
+    record {
+      parts = put.parts ++ more.parts;
+      means = rw (put.means, more.means) refl;
+      appends = appends_more put.appends more.appends;
+    }
 emits_more rest c (Err fault) put more = λ not_memory. rw (put.means, more not_memory) refl
 
 -- whatever the rest of the parts spells, after these bytes it spells all of them
@@ -76,7 +99,8 @@ Begins all rest bytes = (more : List ℕ) → Spells rest more → Spells all (b
 
 -- once the first of the parts that are left are appended, those after them are left
 pub begins_more : {all p rest : List Cell} {a b : List ℕ} → Begins all (p ++ rest) a → Appends p a b → Begins all rest b
-begins_more {a = a} begin put more spells = rw (put.appended, append_assoc a put.bytes more) (begin (put.bytes ++ more) (spells_append put.spells spells))
+begins_more {a = a} begin put more spells =
+    rw (put.appended, append_assoc a put.bytes more) (begin (put.bytes ++ more) (spells_append put.spells spells))
 
 -- with no parts left, the bytes spell all of them
 pub begins_all : {all : List Cell} {bytes : List ℕ} → Begins all [] bytes → Spells all bytes

@@ -14,7 +14,8 @@ module _ {A B : Type 0} (read : A → B) where
   joined-nil (Some rest) = refl
 
   -- the last of the items so far may as well be the first of the others
-  pub joined-push : (done : List A) (item : A) (others : Option (List B)) → joined (done ++ item ∷ []) others ≡ joined done (option_map (λ rest. read item ∷ rest) others)
+  pub joined-push : (done : List A) (item : A) (others : Option (List B)) →
+      joined (done ++ item ∷ []) others ≡ joined done (option_map (λ rest. read item ∷ rest) others)
   joined-push done item None = refl
   joined-push done item (Some rest) = ap Some (simp (map-append, append_assoc))
 

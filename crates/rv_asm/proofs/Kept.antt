@@ -42,31 +42,58 @@ module _ (base : ℕ) (whole : Layout) where
   kept_one line others false idle = record { parts = λ part. refl; fault = refl }
 
   module _ (number : ℕ) (layout : Layout) (bytes : List ℕ) (others : List (List ℕ)) where
-    one : Same (kept number layout (bytes ∷ others)) (record { number = number; bytes = bytes; place = place layout.reach (line_in bytes) } ∷ kept (number + 1) (extended layout (line_in bytes)) others)
-    one = kept_one (record { number = number; bytes = bytes; place = place layout.reach (line_in bytes) }) (kept (number + 1) (extended layout (line_in bytes)) others) (is_idle (place layout.reach (line_in bytes))) refl
+    one : Same (kept number layout (bytes ∷ others))
+        (record { number = number; bytes = bytes; place = place layout.reach (line_in bytes) }
+        ∷ kept (number + 1) (extended layout (line_in bytes)) others)
+    one =
+        kept_one (record { number = number; bytes = bytes; place = place layout.reach (line_in bytes) })
+        (kept (number + 1) (extended layout (line_in bytes)) others)
+        (is_idle (place layout.reach (line_in bytes))) refl
 
   -- the parts of a section
-  pub kept_contents : (part : Section) (number : ℕ) (layout : Layout) (lines : List (List ℕ)) → contents base whole part (places (kept number layout lines)) ≡ contents base whole part (placed layout (map line_in lines))
+  pub kept_contents : (part : Section) (number : ℕ) (layout : Layout) (lines : List (List ℕ)) →
+      contents base whole part (places (kept number layout lines))
+      ≡ contents base whole part (placed layout (map line_in lines))
   kept_contents part number layout [] = refl
   kept_contents part number layout (bytes ∷ others) =
       let line = place layout.reach (line_in bytes) in
-      (one number layout bytes others).parts part ∙ ap (λ rest. parts_in part line.reach.section (line_cells base whole line) ++ rest) (kept_contents part (number + 1) (extended layout (line_in bytes)) others)
+      (one number layout bytes others).parts part
+      ∙ ap (λ rest. parts_in part line.reach.section (line_cells base whole line) ++ rest)
+      (kept_contents part (number + 1) (extended layout (line_in bytes)) others)
 
   -- the first fault
-  pub kept_fault : (number : ℕ) (layout : Layout) (lines : List (List ℕ)) → first_with_fault (second_fault base whole) (kept number layout lines) ≡ earliest number (map (second_fault base whole) (placed layout (map line_in lines)))
+  pub kept_fault : (number : ℕ) (layout : Layout) (lines : List (List ℕ)) →
+      first_with_fault (second_fault base whole) (kept number layout lines)
+      ≡ earliest number (map (second_fault base whole) (placed layout (map line_in lines)))
   kept_fault number layout [] = refl
   kept_fault number layout (bytes ∷ others) =
-      (one number layout bytes others).fault ∙ ap (option_or (option_map (λ found. (found, number)) (second_fault base whole (place layout.reach (line_in bytes))))) (kept_fault (number + 1) (extended layout (line_in bytes)) others)
+      (one number layout bytes others).fault
+      ∙ ap (option_or
+      (option_map (λ found. (found, number)) (second_fault base whole (place layout.reach (line_in bytes)))))
+      (kept_fault (number + 1) (extended layout (line_in bytes)) others)
 
 -- of a whole text
-module _ (base : ℕ) (text : List ℕ) (whole : Layout) (lines : List Kept) (whole_is : whole ≡ layout (lines_of text)) (lines_are : lines ≡ kept 1 unlaid (slice_split (λ byte. byte == 10) text)) where
+module _ (base : ℕ) (text : List ℕ) (whole : Layout) (lines : List Kept) (whole_is : whole ≡ layout (lines_of text))
+    (lines_are : lines ≡ kept 1 unlaid (slice_split (λ byte. byte == 10) text)) where
   -- the first fault of the lines that are kept is that of the second pass over the text
   pub same_fault : first_with_fault (second_fault base whole) lines ≡ second_fault_of base (lines_of text)
-  same_fault = ap (first_with_fault (second_fault base whole)) lines_are ∙ kept_fault base whole 1 unlaid (slice_split (λ byte. byte == 10) text) ∙ ap (λ l. earliest 1 (map (second_fault base l) (placed unlaid (lines_of text)))) whole_is
+  same_fault =
+      ap (first_with_fault (second_fault base whole)) lines_are
+      ∙ kept_fault base whole 1 unlaid (slice_split (λ byte. byte == 10) text)
+      ∙ ap (λ l. earliest 1 (map (second_fault base l) (placed unlaid (lines_of text)))) whole_is
 
   pub same_parts : (part : Section) → contents base whole part (places lines) ≡ section_parts base part (lines_of text)
-  same_parts part = ap (λ l. contents base whole part (places l)) lines_are ∙ kept_contents base whole part 1 unlaid (slice_split (λ byte. byte == 10) text) ∙ ap (λ l. contents base l part (placed unlaid (lines_of text))) whole_is
+  same_parts part =
+      ap (λ l. contents base whole part (places l)) lines_are
+      ∙ kept_contents base whole part 1 unlaid (slice_split (λ byte. byte == 10) text)
+      ∙ ap (λ l. contents base l part (placed unlaid (lines_of text))) whole_is
 
   -- bytes that spell the parts of the lines that are kept spell the image of the text
-  pub same_image : (bytes : List ℕ) → Spells (contents base whole Text (places lines) ++ after_text whole.reach.text_size whole.reach.data_size (contents base whole Data (places lines))) bytes → Spells (image_parts base (lines_of text)) bytes
-  same_image bytes spells = subst (λ parts. Spells parts bytes) (λ i. same_parts Text i ++ after_text (whole_is i).reach.text_size (whole_is i).reach.data_size (same_parts Data i)) spells
+  pub same_image : (bytes : List ℕ) →
+      Spells (contents base whole Text (places lines)
+      ++ after_text whole.reach.text_size whole.reach.data_size (contents base whole Data (places lines))) bytes →
+      Spells (image_parts base (lines_of text)) bytes
+  same_image bytes spells =
+      subst (λ parts. Spells parts bytes)
+      (λ i. same_parts Text i
+      ++ after_text (whole_is i).reach.text_size (whole_is i).reach.data_size (same_parts Data i)) spells

@@ -14,7 +14,8 @@ grow Text Data n reach = omega arith
 grow Data Text n reach = omega arith
 grow Data Data n reach = omega arith
 
-after_grows : (part : Section) (m : Meanings) (reach : Reach) (said : Result Statement AsmFault) → offset_in part reach ≤ offset_in part (after_statement m reach said).reach
+after_grows : (part : Section) (m : Meanings) (reach : Reach) (said : Result Statement AsmFault) →
+    offset_in part reach ≤ offset_in part (after_statement m reach said).reach
 after_grows Text m reach (Ok (Choice section)) = omega arith
 after_grows Data m reach (Ok (Choice section)) = omega arith
 after_grows part m reach (Ok said) = grow part reach.section (size m (offset reach) said) reach
@@ -23,7 +24,8 @@ after_grows part m reach (Err fault) = omega arith
 -- after a line a section is not smaller, nor after many
 pub line_grows : (part : Section) (before : Layout) (line : Line) → offset_in part before.reach ≤ offset_in part (extended before line).reach
 line_grows part before Unreadable = omega arith
-line_grows part before (Readable labels body) = after_grows part (labelled before.meanings (label_at before.reach) labels) before.reach (statement_in body)
+line_grows part before (Readable labels body) =
+    after_grows part (labelled before.meanings (label_at before.reach) labels) before.reach (statement_in body)
 
 -- a section is not smaller after several lines than before them
 pub lines_grow : (part : Section) (before : Layout) (lines : List Line) → offset_in part before.reach ≤ offset_in part (laid before lines).reach
@@ -38,7 +40,9 @@ grow_nothing Data reach = let same : reach.data_size + 0 ≡ reach.data_size = o
 pub idle_stays : (before : Layout) (line : Line) → is_idle (place before.reach line) ≡ true → (extended before line).reach ≡ before.reach
 idle_stays before Unreadable idle = refl
 idle_stays before (Readable labels body) idle =
-    ap (λ said. (after_statement (labelled before.meanings (label_at before.reach) labels) before.reach said).reach) (idle_says_nothing (place before.reach (Readable labels body)) idle).nothing ∙ grow_nothing before.reach.section before.reach
+    ap (λ said. (after_statement (labelled before.meanings (label_at before.reach) labels) before.reach said).reach)
+    (idle_says_nothing (place before.reach (Readable labels body)) idle).nothing
+    ∙ grow_nothing before.reach.section before.reach
 
 -- a line stands as far along as the text has come before it
 pub place_reach : (reach : Reach) (line : Line) → (place reach line).reach ≡ reach

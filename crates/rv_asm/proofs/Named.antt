@@ -8,7 +8,8 @@ use Rattle.rv_asm.specs.Names.{named, register_names, register_named}
 use Rattle.std.proofs.lemmas.Bool.Decides.{nat_tests}
 
 -- what is found in a table whose numbers are all below a bound is below it
-named_below : (rows : List (List ℕ × ℕ)) (name : List ℕ) (bound number : ℕ) → list_all (λ row. nat_lt row.1 bound) rows ≡ true → named rows name ≡ Some number → number < bound
+named_below : (rows : List (List ℕ × ℕ)) (name : List ℕ) (bound number : ℕ) →
+    list_all (λ row. nat_lt row.1 bound) rows ≡ true → named rows name ≡ Some number → number < bound
 named_below [] name bound number all found = absurd (cc)
 named_below (row ∷ rows) name bound number all found = grind (arith, nat_tests, named_below rows name bound number)
 
@@ -23,14 +24,20 @@ some_below {r = None} valid is below = let impossible : IsSome {T = ℕ} None = 
 some_below {r = Some x} valid is below = ap Some is
 
 -- what is left of a table that a loop reads: its next row, and what stands after it
-module _ {T : Type 0} (table : List (Bor (List ℕ) × T)) (i : ℕ) (row : Bor (List ℕ) × T) (name : List ℕ) (inside : i < length table) (row_is : row ≡ get_or table i row) where
-  next_row : named (map (λ row. (row.0.now, row.1)) (drop i table)) name ≡ cond (bytes_eq row.0.now name) (Some row.1) (named (map (λ row. (row.0.now, row.1)) (drop (i + 1) table)) name)
-  next_row = ap (λ rows. named (map (λ row. (row.0.now, row.1)) rows) name) (drop_more table i row inside ∙ ap (λ first. first ∷ drop (i + 1) table) (sym row_is))
+module _ {T : Type 0} (table : List (Bor (List ℕ) × T)) (i : ℕ) (row : Bor (List ℕ) × T) (name : List ℕ)
+    (inside : i < length table) (row_is : row ≡ get_or table i row) where
+  next_row : named (map (λ row. (row.0.now, row.1)) (drop i table)) name
+      ≡ cond (bytes_eq row.0.now name) (Some row.1) (named (map (λ row. (row.0.now, row.1)) (drop (i + 1) table)) name)
+  next_row =
+      ap (λ rows. named (map (λ row. (row.0.now, row.1)) rows) name)
+      (drop_more table i row inside ∙ ap (λ first. first ∷ drop (i + 1) table) (sym row_is))
 
   -- where the next row has the name, it is the one that is found
   pub named-here : bytes_eq row.0.now name ≡ true → named (map (λ row. (row.0.now, row.1)) (drop i table)) name ≡ Some row.1
   named-here same = next_row ∙ ap (λ b. cond b (Some row.1) (named (map (λ row. (row.0.now, row.1)) (drop (i + 1) table)) name)) same
 
   -- where it has another name, what is found is found among the rows after it
-  pub named-after : bytes_eq row.0.now name ≡ false → named (map (λ row. (row.0.now, row.1)) (drop i table)) name ≡ named (map (λ row. (row.0.now, row.1)) (drop (i + 1) table)) name
+  pub named-after : bytes_eq row.0.now name ≡ false →
+      named (map (λ row. (row.0.now, row.1)) (drop i table)) name
+      ≡ named (map (λ row. (row.0.now, row.1)) (drop (i + 1) table)) name
   named-after other = next_row ∙ ap (λ b. cond b (Some row.1) (named (map (λ row. (row.0.now, row.1)) (drop (i + 1) table)) name)) other

@@ -15,16 +15,24 @@ drop-size : (byte : ℕ) (bytes : List ℕ) (size : ℕ) → 0 < size → drop (
 drop-size byte bytes zero positive = absurd (omega arith)
 drop-size byte bytes (suc size) positive = ap (λ n. drop n bytes) (omega arith)
 
-tokens_after-first : (byte : ℕ) (bytes : List ℕ) (found : Option Lexeme) → found ≡ first_lexeme byte (byte ∷ bytes) → tokens_after (byte ∷ bytes) 0 ≡ option_and_then (λ l. option_map (λ tokens. option_to_list l.token ++ tokens) (tokens_after bytes (l.size - 1))) found
+tokens_after-first : (byte : ℕ) (bytes : List ℕ) (found : Option Lexeme) → found ≡ first_lexeme byte (byte ∷ bytes) →
+    tokens_after (byte ∷ bytes) 0
+    ≡ option_and_then
+    (λ l. option_map (λ tokens. option_to_list l.token ++ tokens) (tokens_after bytes (l.size - 1))) found
 unfolding tokens_after
 tokens_after-first byte bytes found found_is = rw found_is refl
 
 -- the first lexeme's token comes first
-pub tokens_of-first : (line : List ℕ) (found : Lexeme) → 0 < length line → Some found ≡ first_lexeme (get_or line 0 0) line → 0 < found.size → tokens_of line ≡ option_map (λ tokens. option_to_list found.token ++ tokens) (tokens_of (drop found.size line))
+pub tokens_of-first : (line : List ℕ) (found : Lexeme) → 0 < length line →
+    Some found ≡ first_lexeme (get_or line 0 0) line → 0 < found.size →
+    tokens_of line ≡ option_map (λ tokens. option_to_list found.token ++ tokens) (tokens_of (drop found.size line))
 unfolding tokens_of
 tokens_of-first [] found some_bytes found_is positive = absurd (omega arith)
 tokens_of-first (byte ∷ bytes) found some_bytes found_is positive =
-    tokens_after-first byte bytes (Some found) found_is ∙ ap (option_map (λ tokens. option_to_list found.token ++ tokens)) (tokens_after-drop bytes (found.size - 1) ∙ ap (λ rest. tokens_after rest 0) (drop-size byte bytes found.size positive))
+    tokens_after-first byte bytes (Some found) found_is
+    ∙ ap (option_map (λ tokens. option_to_list found.token ++ tokens))
+    (tokens_after-drop bytes (found.size - 1)
+    ∙ ap (λ rest. tokens_after rest 0) (drop-size byte bytes found.size positive))
 
 -- a line that does not begin with a lexeme is not made of tokens
 pub tokens_of-none : (line : List ℕ) → 0 < length line → None ≡ first_lexeme (get_or line 0 0) line → tokens_of line ≡ None

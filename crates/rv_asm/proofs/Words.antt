@@ -35,8 +35,14 @@ pub record Gives (part : Section) (end : Reach) (lines : List Kept) (begin : Rea
 
 module _ (part : Section) (end : Reach) where
   -- a line, before others that begin after it
-  keep_gives : (number : ℕ) (before : Layout) (bytes : List ℕ) (others : List Kept) (idle : Bool) → is_idle (place before.reach (line_in bytes)) ≡ idle → reach_before end others ≡ (extended before (line_in bytes)).reach
-      → Gives part end (cond idle [] (record { number = number; bytes = bytes; place = place before.reach (line_in bytes) } ∷ []) ++ others) before.reach (replicate (words_between part before.reach (extended before (line_in bytes)).reach) (Some (shown number bytes)) ++ words_in part end others)
+  keep_gives : (number : ℕ) (before : Layout) (bytes : List ℕ) (others : List Kept) (idle : Bool) →
+      is_idle (place before.reach (line_in bytes)) ≡ idle →
+      reach_before end others ≡ (extended before (line_in bytes)).reach
+      → Gives part end
+      (cond idle [] (record { number = number; bytes = bytes; place = place before.reach (line_in bytes) } ∷ [])
+      ++ others) before.reach
+      (replicate (words_between part before.reach (extended before (line_in bytes)).reach)
+      (Some (shown number bytes)) ++ words_in part end others)
   keep_gives number before bytes others true idle rest =
       let stays = idle_stays before (line_in bytes) idle in
       let none : 0 ≡ words_between part before.reach before.reach = omega arith in
@@ -46,8 +52,12 @@ module _ (part : Section) (end : Reach) where
       record { begins = here; words_are = rw (here, rest) refl }
 
   -- the lines after a layout: the words that begin after it
-  pub kept_words : (number : ℕ) (before : Layout) (lines : List (List ℕ)) (n : ℕ) → (laid before (map line_in lines)).reach ≡ end → word_count (offset_in part before.reach) + n ≡ word_count (offset_in part end)
-      → Gives part end (kept number before lines) before.reach (map (λ i. line_holding part number before lines (4 * i)) (range_with_len (word_count (offset_in part before.reach)) n))
+  pub kept_words : (number : ℕ) (before : Layout) (lines : List (List ℕ)) (n : ℕ) →
+      (laid before (map line_in lines)).reach ≡ end →
+      word_count (offset_in part before.reach) + n ≡ word_count (offset_in part end)
+      → Gives part end (kept number before lines) before.reach
+      (map (λ i. line_holding part number before lines (4 * i))
+      (range_with_len (word_count (offset_in part before.reach)) n))
   kept_words number before [] n end_is size =
       let none : n ≡ 0 = omega (arith, ap (λ reach. word_count (offset_in part reach)) end_is) in
       record { begins = sym end_is; words_are = rw none refl }
@@ -64,10 +74,20 @@ module _ (part : Section) (end : Reach) where
       let rest = kept_words (number + 1) after others (n - m) end_is (omega (arith, first_grows, others_grow, end_size)) in
       let lines = keep_gives number before bytes (kept (number + 1) after others) (is_idle (place before.reach (line_in bytes))) refl rest.begins in
       let words = split_range f g (Some (shown number bytes)) (word_count (offset_in part after.reach)) (λ i above. ap (λ h. cond h (Some (shown number bytes)) (g i)) (held_not _ _ i above)) (word_count (offset_in part before.reach)) m (n - m) begin (λ i above below. ap (λ h. cond h (Some (shown number bytes)) (g i)) (held _ _ i above below)) in
-      record { begins = lines.begins; words_are = lines.words_are ∙ ap (λ l. replicate m (Some (shown number bytes)) ++ l) rest.words_are ∙ sym (ap (λ k. map f (range_with_len (word_count (offset_in part before.reach)) k)) whole ∙ words) }
+      record {
+        begins = lines.begins;
+        words_are = lines.words_are ∙ ap (λ l. replicate m (Some (shown number bytes)) ++ l) rest.words_are
+            ∙ sym (ap (λ k. map f (range_with_len (word_count (offset_in part before.reach)) k)) whole ∙ words);
+      }
 
 -- the listing of what the program keeps
-pub listed_is : (base : ℕ) (text : List ℕ) (end : Reach) (all : List Kept) (listing : Listed) → end ≡ (layout (lines_of text)).reach → all ≡ kept 1 unlaid (slice_split (λ byte. byte == 10) text) → listing ≡ record { base = base; words = words_in Text end all ++ lines_after_text end.text_size end.data_size (words_in Data end all) } → listing ≡ listing_of base text
+pub listed_is : (base : ℕ) (text : List ℕ) (end : Reach) (all : List Kept) (listing : Listed) →
+    end ≡ (layout (lines_of text)).reach → all ≡ kept 1 unlaid (slice_split (λ byte. byte == 10) text) →
+    listing ≡ record {
+      base = base;
+      words = words_in Text end all ++ lines_after_text end.text_size end.data_size (words_in Data end all);
+    } →
+    listing ≡ listing_of base text
 listed_is base text end all listing end_is all_are is =
     let lines = slice_split (λ byte. byte == 10) text in
     let text_words = (kept_words Text end 1 unlaid lines (word_count end.text_size) (sym end_is) (omega arith)).words_are in

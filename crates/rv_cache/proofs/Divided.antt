@@ -32,7 +32,8 @@ base_divides base line positive pages aligned =
     let of_lines : base ≡ base / 4096 * (4096 / line) * line + 0 = of_pages ∙ ap (λ n. base / 4096 * n) page ∙ sym (mul_assoc (base / 4096) (4096 / line) line) ∙ omega arith in
     ap (λ n. n % line) of_lines ∙ mul-add-mod_self_right (base / 4096 * (4096 / line)) line 0 ∙ mod-eq_of_lt positive
 
-module _ (base size line_bytes address : ℕ) (positive : 0 < line_bytes) (base_aligned : base % line_bytes ≡ 0) (whole_lines : size % line_bytes ≡ 0) (above : base ≤ address) (below : address < base + size) where
+module _ (base size line_bytes address : ℕ) (positive : 0 < line_bytes) (base_aligned : base % line_bytes ≡ 0)
+    (whole_lines : size % line_bytes ≡ 0) (above : base ≤ address) (below : address < base + size) where
   -- the line of an address in memory lies in memory
   pub line_inside : IsInside base line_bytes size (address / line_bytes)
   line_inside =
@@ -45,7 +46,9 @@ module _ (base size line_bytes address : ℕ) (positive : 0 < line_bytes) (base_
       (omega (arith, first, from_times), omega (arith, first, lines, to_times))
 
 -- an access at a multiple of its width lies in one line
-pub same_line : (line_bytes address count k : ℕ) → 0 < line_bytes → line_bytes % 4 ≡ 0 → (count ≡ 1) ⊎ ((count ≡ 2) ⊎ (count ≡ 4)) → address % count ≡ 0 → k < count → (address + k) / line_bytes ≡ address / line_bytes
+pub same_line : (line_bytes address count k : ℕ) → 0 < line_bytes → line_bytes % 4 ≡ 0 →
+    (count ≡ 1) ⊎ ((count ≡ 2) ⊎ (count ≡ 4)) → address % count ≡ 0 → k < count →
+    (address + k) / line_bytes ≡ address / line_bytes
 same_line line_bytes address count k positive words width aligned within =
     let number = address / line_bytes in
     let rest = address % line_bytes in

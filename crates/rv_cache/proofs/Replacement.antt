@@ -22,7 +22,9 @@ is_dirty-without number q (line ∷ lines) other = elim (cases_Bool (nat_eq line
 ]
 
 -- a dirty line that the first n lines lack is the next one
-dirty_last : (q n : ℕ) (lines : List CacheLine) → length lines ≤ n + 1 → is_dirty q lines ≡ true → is_dirty q (take n lines) ≡ false → (line : CacheLine) × (slice_get lines n ≡ Some line) × (line.number ≡ q) × (line.dirty ≡ true)
+dirty_last : (q n : ℕ) (lines : List CacheLine) → length lines ≤ n + 1 → is_dirty q lines ≡ true →
+    is_dirty q (take n lines) ≡ false →
+    (line : CacheLine) × (slice_get lines n ≡ Some line) × (line.number ≡ q) × (line.dirty ≡ true)
 dirty_last q n [] short dirty gone = absurd (false≢true dirty)
 dirty_last q zero (line ∷ lines) short dirty gone = elim (is_dirty_cases q line lines dirty) [
   | inl own ↦ (line, refl, own.0, own.1)
@@ -46,21 +48,30 @@ module _ (ways number : ℕ) (lines : List CacheLine) where
 
   module _ (writes : Bool) where
     -- a line that is held then was held, or is the one that is accessed
-    pub Each-accessed : (P : CacheLine → Type 0) → ((dirty : Bool) → P (record { number = number; dirty = dirty })) → Each P lines → Each P (accessed ways number writes lines)
+    pub Each-accessed : (P : CacheLine → Type 0) → ((dirty : Bool) → P (record { number = number; dirty = dirty })) →
+        Each P lines → Each P (accessed ways number writes lines)
     Each-accessed P own each = Each-take P ways _ (own (writes || is_dirty number lines), Each-filter P _ lines each)
 
     -- a set still holds no more lines than it may
     pub length-accessed : length lines ≤ ways → length (accessed ways number writes lines) ≤ ways
-    length-accessed room = omega (arith, length-take ways (record { number = number; dirty = writes || is_dirty number lines } ∷ without number lines))
+    length-accessed room =
+        omega (
+          arith,
+          length-take ways
+              (record { number = number; dirty = writes || is_dirty number lines } ∷ without number lines),
+        )
 
     -- the line that is accessed is the first, and the others have the places that are left
-    pub accessed-first : 1 ≤ ways → record { number = number; dirty = writes || is_dirty number lines } ∷ take (ways - 1) (without number lines) ≡ accessed ways number writes lines
+    pub accessed-first : 1 ≤ ways → record { number = number; dirty = writes || is_dirty number lines }
+        ∷ take (ways - 1) (without number lines) ≡ accessed ways number writes lines
     accessed-first positive =
         let next : suc (ways - 1) ≡ ways = omega arith in
         ap (λ n. take n (record { number = number; dirty = writes || is_dirty number lines } ∷ without number lines)) next
 
     -- a dirty line that a set then lacks is the one that it dropped
-    pub dropped_line : (q : ℕ) → 1 ≤ ways → length lines ≤ ways → is_dirty q lines ≡ true → is_dirty q (accessed ways number writes lines) ≡ false → (line : CacheLine) × (victim ways number lines ≡ Some line) × (line.number ≡ q) × (line.dirty ≡ true)
+    pub dropped_line : (q : ℕ) → 1 ≤ ways → length lines ≤ ways → is_dirty q lines ≡ true →
+        is_dirty q (accessed ways number writes lines) ≡ false →
+        (line : CacheLine) × (victim ways number lines ≡ Some line) × (line.number ≡ q) × (line.dirty ≡ true)
     dropped_line q positive room dirty gone =
         let lacks = or_parts (nat_eq number q && (writes || is_dirty number lines)) _ (ap (is_dirty q) (accessed-first positive) ∙ gone) in
         elim (cases_eq number q) [

@@ -20,15 +20,21 @@ use Rattle.rv_cache.proofs.Divided.{line_inside, same_line}
 
 module _ (base line_bytes : ℕ) (bytes : List ℕ) (positive : 0 < line_bytes) where
   -- a byte of a dirty line that is dropped is then the one that a program sees
-  victim_wins : (dropped : Option CacheLine) (memory : List ℕ) → IfSome dropped (λ line. IsInside base line_bytes (length bytes) line.number) → length memory ≡ length bytes → (i : ℕ) → IsToCome base line_bytes bytes positive memory i ((line : CacheLine) × (dropped ≡ Some line) × (line.number ≡ (base + i) / line_bytes) × (line.dirty ≡ true)) → get_or (victim_written base line_bytes bytes dropped memory) i 0 ≡ get_or bytes i 0
+  victim_wins : (dropped : Option CacheLine) (memory : List ℕ) →
+      IfSome dropped (λ line. IsInside base line_bytes (length bytes) line.number) → length memory ≡ length bytes →
+      (i : ℕ) → IsToCome base line_bytes bytes positive memory i
+      ((line : CacheLine) × (dropped ≡ Some line) × (line.number ≡ (base + i) / line_bytes) × (line.dirty ≡ true)) →
+      get_or (victim_written base line_bytes bytes dropped memory) i 0 ≡ get_or bytes i 0
   victim_wins dropped memory inside size i (inl same) =
       elim (victim_either base line_bytes bytes positive dropped memory inside size i) [ inl stays ↦ stays ∙ same | inr seen ↦ seen.0 ]
   victim_wins None memory inside size i (inr own) = absurd (cc (own.1))
   victim_wins (Some line) memory inside size i (inr own) =
       let is : line ≡ own.0 = cc (own.1) in
-      line_wins base line_bytes bytes positive line memory inside size i (inr (ap (λ (l : CacheLine). l.number) is ∙ own.2, ap (λ (l : CacheLine). l.dirty) is ∙ own.3))
+      line_wins base line_bytes bytes positive line memory inside size i
+      (inr (ap (λ (l : CacheLine). l.number) is ∙ own.2, ap (λ (l : CacheLine). l.dirty) is ∙ own.3))
 
-module _ (base : ℕ) (values : CacheValues) (bytes memory : List ℕ) (sets : List (List CacheLine)) (was : IsConsistent base values bytes sets memory) where
+module _ (base : ℕ) (values : CacheValues) (bytes memory : List ℕ) (sets : List (List CacheLine))
+    (was : IsConsistent base values bytes sets memory) where
   pub positive : 0 < values.line
   positive = omega (arith, was.divided.legal.0.line.0)
 
@@ -46,7 +52,9 @@ module _ (base : ℕ) (values : CacheValues) (bytes memory : List ℕ) (sets : L
   inside_at number = Each-at (AreInside base values.line (length bytes)) sets (number % values.sets) [] tt was.filled.inside
 
   -- a line that its set drops for another lies in memory as a whole
-  pub dropped_inside : (number : ℕ) → IfSome (victim values.ways number (get_or sets (number % values.sets) [])) (λ line. IsInside base values.line (length bytes) line.number)
+  pub dropped_inside : (number : ℕ) →
+      IfSome (victim values.ways number (get_or sets (number % values.sets) []))
+      (λ line. IsInside base values.line (length bytes) line.number)
   dropped_inside number = Each-victim values.ways number _ (λ line. IsInside base values.line (length bytes) line.number) (inside_at number)
 
   module _ (address : ℕ) (above : base ≤ address) (below : address < base + length bytes) (writes : Bool) where
@@ -73,8 +81,14 @@ module _ (base : ℕ) (values : CacheValues) (bytes memory : List ℕ) (sets : L
         let own = line_inside base (length bytes) values.line address positive was.divided.base_aligned was.divided.whole_lines above below in
         record {
           count = length-set sets place after ∙ was.filled.count;
-          room = Each-set (λ ls. length ls ≤ values.ways) sets place after (length-accessed values.ways number lines writes (room_at number)) was.filled.room;
-          inside = Each-set (AreInside base values.line (length bytes)) sets place after (Each-accessed values.ways number lines writes (λ line. IsInside base values.line (length bytes) line.number) (λ dirty. own) (inside_at number)) was.filled.inside;
+          room =
+              Each-set (λ ls. length ls ≤ values.ways) sets place after
+              (length-accessed values.ways number lines writes (room_at number)) was.filled.room;
+          inside =
+              Each-set (AreInside base values.line (length bytes)) sets place after
+              (Each-accessed values.ways number lines writes
+              (λ line. IsInside base values.line (length bytes) line.number) (λ dirty. own) (inside_at number))
+              was.filled.inside;
         }
 
     in_step_after : IsInStep base values bytes (set sets place after) (victim_written base values.line bytes dropped memory)
@@ -93,7 +107,10 @@ module _ (base : ℕ) (values : CacheValues) (bytes memory : List ℕ) (sets : L
         ])
 
     -- each byte of memory stays, or is the one that a program sees and lies in another line
-    pub updated_elsewhere : (i : ℕ) → (get_or (victim_written base values.line bytes dropped memory) i 0 ≡ get_or memory i 0) ⊎ ((get_or (victim_written base values.line bytes dropped memory) i 0 ≡ get_or bytes i 0) × ((base + i) / values.line ≢ number))
+    pub updated_elsewhere : (i : ℕ) → (get_or (victim_written base values.line bytes dropped memory) i 0
+        ≡ get_or memory i 0)
+        ⊎ ((get_or (victim_written base values.line bytes dropped memory) i 0 ≡ get_or bytes i 0)
+        × ((base + i) / values.line ≢ number))
     updated_elsewhere i = elim (victim_either base values.line bytes positive dropped memory (dropped_inside number) was.size i) [
       | inl stays ↦ inl stays
       | inr seen ↦ inr (seen.0, λ own. not_accessed values.ways number lines seen.1 seen.2 (sym seen.3 ∙ own))
@@ -104,7 +121,9 @@ module _ (base : ℕ) (values : CacheValues) (bytes memory : List ℕ) (sets : L
     consistent_after = record { divided = was.divided; filled = filled_after; size = length_after; in_step = in_step_after }
 
   -- a line that was just written is dirty
-  dirty_after_write : (number : ℕ) (old_sets : List (List CacheLine)) (lines : List CacheLine) → sets ≡ set old_sets (number % values.sets) (accessed values.ways number true lines) → is_dirty number (get_or sets (number % values.sets) []) ≡ true
+  dirty_after_write : (number : ℕ) (old_sets : List (List CacheLine)) (lines : List CacheLine) →
+      sets ≡ set old_sets (number % values.sets) (accessed values.ways number true lines) →
+      is_dirty number (get_or sets (number % values.sets) []) ≡ true
   dirty_after_write number old_sets lines is =
       let place = number % values.sets in
       let now = accessed values.ways number true lines in
@@ -114,14 +133,21 @@ module _ (base : ℕ) (values : CacheValues) (bytes memory : List ℕ) (sets : L
       ∙ is_dirty_written values.ways number lines was.divided.legal.0.ways.0
 
   -- after an access that writes, the line of its address is dirty
-  pub dirty_after_access : {M : Type 0} (old : Contents M) (address : ℕ) → values ≡ old.values → sets ≡ accessed_sets old address true → is_dirty (address / values.line) (get_or sets (address / values.line % values.sets) []) ≡ true
+  pub dirty_after_access : {M : Type 0} (old : Contents M) (address : ℕ) → values ≡ old.values →
+      sets ≡ accessed_sets old address true →
+      is_dirty (address / values.line) (get_or sets (address / values.line % values.sets) []) ≡ true
   dirty_after_access old address same_values is =
       let Accessed = λ (v : CacheValues). sets ≡ set old.sets (address / v.line % v.sets) (accessed v.ways (address / v.line) true (get_or old.sets (address / v.line % v.sets) [])) in
-      dirty_after_write (address / values.line) old.sets (get_or old.sets (address / values.line % values.sets) []) (subst Accessed (sym same_values) is)
+      dirty_after_write (address / values.line) old.sets (get_or old.sets (address / values.line % values.sets) [])
+      (subst Accessed (sym same_values) is)
 
-  module _ (address : ℕ) (written : List ℕ) (width : (length written ≡ 1) ⊎ ((length written ≡ 2) ⊎ (length written ≡ 4))) (aligned : address % length written ≡ 0) (above : base ≤ address) (below : address + length written ≤ base + length bytes) where
+  module _ (address : ℕ) (written : List ℕ)
+      (width : (length written ≡ 1) ⊎ ((length written ≡ 2) ⊎ (length written ≡ 4)))
+      (aligned : address % length written ≡ 0) (above : base ≤ address)
+      (below : address + length written ≤ base + length bytes) where
     -- bytes that are written into a dirty line
-    pub consistent_written : is_dirty (address / values.line) (get_or sets (address / values.line % values.sets) []) ≡ true → IsConsistent base values (overwritten bytes (address - base) written) sets memory
+    pub consistent_written : is_dirty (address / values.line) (get_or sets (address / values.line % values.sets) [])
+        ≡ true → IsConsistent base values (overwritten bytes (address - base) written) sets memory
     consistent_written dirty =
         let at = address - base in
         let fits : at + length written ≤ length bytes = omega arith in
@@ -143,7 +169,8 @@ module _ (base : ℕ) (values : CacheValues) (bytes memory : List ℕ) (sets : L
         }
 
     -- of bytes that are written into a line, those of other lines stay
-    pub written_elsewhere : (i : ℕ) → ((base + i) / values.line ≢ address / values.line) → get_or bytes i 0 ≡ get_or (overwritten bytes (address - base) written) i 0
+    pub written_elsewhere : (i : ℕ) → ((base + i) / values.line ≢ address / values.line) →
+        get_or bytes i 0 ≡ get_or (overwritten bytes (address - base) written) i 0
     written_elsewhere i other =
         let at = address - base in
         let fits : at + length written ≤ length bytes = omega arith in
@@ -153,7 +180,10 @@ module _ (base : ℕ) (values : CacheValues) (bytes memory : List ℕ) (sets : L
             | inr behind ↦ sym (get_or-overwritten_above bytes written at fits i behind)
             | inl here ↦
                 let place_of_byte : base + i ≡ address + (i - at) = omega arith in
-                absurd (other (ap (λ n. n / values.line) place_of_byte ∙ same_line values.line address (length written) (i - at) positive was.divided.words width aligned (omega arith)))
+                absurd (other
+                (ap (λ n. n / values.line) place_of_byte
+                ∙ same_line values.line address (length written)
+                (i - at) positive was.divided.words width aligned (omega arith)))
           ]
         ]
 
@@ -171,15 +201,21 @@ module _ (base : ℕ) (values : CacheValues) (bytes memory : List ℕ) (sets : L
     divided = was.divided;
     filled = record {
       count = length-map sets (map cleaned) ∙ was.filled.count;
-      room = Each-map (λ lines. length lines ≤ values.ways) (map cleaned) (λ lines fits. omega (arith, length-map lines cleaned)) sets was.filled.room;
-      inside = Each-map (AreInside base values.line (length bytes)) (map cleaned) (Each-map (λ line. IsInside base values.line (length bytes) line.number) cleaned (λ line is. is)) sets was.filled.inside;
+      room =
+          Each-map (λ lines. length lines ≤ values.ways) (map cleaned)
+          (λ lines fits. omega (arith, length-map lines cleaned)) sets was.filled.room;
+      inside =
+          Each-map (AreInside base values.line (length bytes)) (map cleaned)
+          (Each-map (λ line. IsInside base values.line (length bytes) line.number) cleaned (λ line is. is)) sets
+          was.filled.inside;
     };
     size = ap length same;
     in_step = λ i within clean. ap (λ (xs : List ℕ). get_or xs i 0) same;
   }
 
 -- a cache that holds no line
-pub consistent_new : (base : ℕ) (values : CacheValues) (bytes : List ℕ) → IsDivided base values (length bytes) → IsConsistent base values bytes (replicate values.sets []) bytes
+pub consistent_new : (base : ℕ) (values : CacheValues) (bytes : List ℕ) → IsDivided base values (length bytes) →
+    IsConsistent base values bytes (replicate values.sets []) bytes
 consistent_new base values bytes divided = record {
   divided = divided;
   filled = record {

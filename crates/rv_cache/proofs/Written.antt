@@ -39,14 +39,16 @@ module _ (xs ys : List ℕ) (at : ℕ) (fits : at + length ys ≤ length xs) whe
       ∙ ap (λ j. get_or xs j 0) (omega arith)
 
 -- a byte's line, and where it begins
-pub in_line : (base line_bytes i number : ℕ) → 0 < line_bytes → base ≤ number * line_bytes → number ≡ (base + i) / line_bytes → (number * line_bytes - base ≤ i) × (i < number * line_bytes - base + line_bytes)
+pub in_line : (base line_bytes i number : ℕ) → 0 < line_bytes → base ≤ number * line_bytes →
+    number ≡ (base + i) / line_bytes → (number * line_bytes - base ≤ i) × (i < number * line_bytes - base + line_bytes)
 in_line base line_bytes i number positive from is =
     let whole = div-add-mod' (base + i) line_bytes in
     let start : number * line_bytes ≡ (base + i) / line_bytes * line_bytes = ap (λ n. n * line_bytes) is in
     (omega (arith, whole, start), omega (arith, whole, start))
 
 -- the line that is dirty is the first, or a later one
-pub is_dirty_cases : (number : ℕ) (line : CacheLine) (lines : List CacheLine) → is_dirty number (line ∷ lines) ≡ true → ((line.number ≡ number) × (line.dirty ≡ true)) ⊎ (is_dirty number lines ≡ true)
+pub is_dirty_cases : (number : ℕ) (line : CacheLine) (lines : List CacheLine) → is_dirty number (line ∷ lines) ≡ true →
+    ((line.number ≡ number) × (line.dirty ≡ true)) ⊎ (is_dirty number lines ≡ true)
 is_dirty_cases number line lines dirty = elim (or_cases _ _ dirty) [
   | inl own ↦ let parts = and_parts _ _ own in inl (eqb-true line.number number parts.0, parts.1)
   | inr later ↦ inr later
@@ -60,12 +62,15 @@ module _ (base line_bytes : ℕ) (bytes : List ℕ) (positive : 0 < line_bytes) 
   abbrev pub IsLineOf : CacheLine → ℕ → Type 0
   IsLineOf line i = (line.number ≡ (base + i) / line_bytes) × (line.dirty ≡ true)
 
-  module _ (line : CacheLine) (memory : List ℕ) (inside : IsInside base line_bytes (length bytes) line.number) (size : length memory ≡ length bytes) where
+  module _ (line : CacheLine) (memory : List ℕ) (inside : IsInside base line_bytes (length bytes) line.number)
+      (size : length memory ≡ length bytes) where
     abbrev block : List ℕ
     block = slice_range bytes (offset_of base line_bytes line.number) (offset_of base line_bytes line.number + line_bytes)
 
     length-block : length block ≡ line_bytes
-    length-block = length-between bytes (offset_of base line_bytes line.number) (offset_of base line_bytes line.number + line_bytes) (omega arith) ∙ omega arith
+    length-block =
+        length-between bytes (offset_of base line_bytes line.number)
+        (offset_of base line_bytes line.number + line_bytes) (omega arith) ∙ omega arith
 
     written : line.dirty ≡ true → line_written base line_bytes bytes line memory ≡ overwritten memory (offset_of base line_bytes line.number) block
     written dirty = cond-true line.dirty _ memory dirty
@@ -80,7 +85,9 @@ module _ (base line_bytes : ℕ) (bytes : List ℕ) (positive : 0 < line_bytes) 
     ]
 
     -- each byte stays, or is the one that a program sees and lies in the line
-    pub line_either : (i : ℕ) → (get_or (line_written base line_bytes bytes line memory) i 0 ≡ get_or memory i 0) ⊎ ((get_or (line_written base line_bytes bytes line memory) i 0 ≡ get_or bytes i 0) × ((base + i) / line_bytes ≡ line.number))
+    pub line_either : (i : ℕ) → (get_or (line_written base line_bytes bytes line memory) i 0 ≡ get_or memory i 0)
+        ⊎ ((get_or (line_written base line_bytes bytes line memory) i 0 ≡ get_or bytes i 0)
+        × ((base + i) / line_bytes ≡ line.number))
     line_either i = elim (cases_Bool line.dirty) [
       | inr clean ↦ inl (ap (λ (xs : List ℕ). get_or xs i 0) (kept clean))
       | inl dirty ↦
@@ -117,11 +124,15 @@ module _ (base line_bytes : ℕ) (bytes : List ℕ) (positive : 0 < line_bytes) 
         ∙ get_or-between bytes off (off + line_bytes) (i - off) 0 (omega arith)
         ∙ ap (λ j. get_or bytes j 0) (omega arith)
 
-  pub length-lines_written : (lines : List CacheLine) (memory : List ℕ) → AreInside base line_bytes (length bytes) lines → length memory ≡ length bytes → length (lines_written base line_bytes bytes lines memory) ≡ length bytes
+  pub length-lines_written : (lines : List CacheLine) (memory : List ℕ) →
+      AreInside base line_bytes (length bytes) lines → length memory ≡ length bytes →
+      length (lines_written base line_bytes bytes lines memory) ≡ length bytes
   length-lines_written [] memory inside size = size
   length-lines_written (line ∷ lines) memory inside size = length-lines_written lines _ inside.1 (length-line_written line memory inside.0 size)
 
-  pub lines_win : (lines : List CacheLine) (memory : List ℕ) → AreInside base line_bytes (length bytes) lines → length memory ≡ length bytes → (i : ℕ) → IsToCome memory i (is_dirty ((base + i) / line_bytes) lines ≡ true) → get_or (lines_written base line_bytes bytes lines memory) i 0 ≡ get_or bytes i 0
+  pub lines_win : (lines : List CacheLine) (memory : List ℕ) → AreInside base line_bytes (length bytes) lines →
+      length memory ≡ length bytes → (i : ℕ) → IsToCome memory i (is_dirty ((base + i) / line_bytes) lines ≡ true) →
+      get_or (lines_written base line_bytes bytes lines memory) i 0 ≡ get_or bytes i 0
   lines_win [] memory inside size i (inl same) = same
   lines_win [] memory inside size i (inr dirty) = absurd (false≢true dirty)
   lines_win (line ∷ lines) memory inside size i to_come =
@@ -134,12 +145,17 @@ module _ (base line_bytes : ℕ) (bytes : List ℕ) (positive : 0 < line_bytes) 
       ])
 
   -- memory has as many bytes as before once the dirty lines of all sets are written
-  pub length-sets_written : (sets : List (List CacheLine)) (memory : List ℕ) → Each (AreInside base line_bytes (length bytes)) sets → length memory ≡ length bytes → length (sets_written base line_bytes bytes sets memory) ≡ length bytes
+  pub length-sets_written : (sets : List (List CacheLine)) (memory : List ℕ) →
+      Each (AreInside base line_bytes (length bytes)) sets → length memory ≡ length bytes →
+      length (sets_written base line_bytes bytes sets memory) ≡ length bytes
   length-sets_written [] memory inside size = size
   length-sets_written (lines ∷ sets) memory inside size = length-sets_written sets _ inside.1 (length-lines_written lines memory inside.0 size)
 
   -- once all sets are written, memory has a byte as a program sees it, if it did before or a set has its line dirty
-  pub sets_win : (sets : List (List CacheLine)) (memory : List ℕ) → Each (AreInside base line_bytes (length bytes)) sets → length memory ≡ length bytes → (i k : ℕ) → IsToCome memory i (is_dirty ((base + i) / line_bytes) (get_or sets k []) ≡ true) → get_or (sets_written base line_bytes bytes sets memory) i 0 ≡ get_or bytes i 0
+  pub sets_win : (sets : List (List CacheLine)) (memory : List ℕ) →
+      Each (AreInside base line_bytes (length bytes)) sets → length memory ≡ length bytes → (i k : ℕ) →
+      IsToCome memory i (is_dirty ((base + i) / line_bytes) (get_or sets k []) ≡ true) →
+      get_or (sets_written base line_bytes bytes sets memory) i 0 ≡ get_or bytes i 0
   sets_win [] memory inside size i k (inl same) = same
   sets_win [] memory inside size i k (inr dirty) = absurd (false≢true dirty)
   sets_win (lines ∷ sets) memory inside size i zero to_come =
@@ -150,12 +166,18 @@ module _ (base line_bytes : ℕ) (bytes : List ℕ) (positive : 0 < line_bytes) 
       sets_win sets _ inside.1 (length-lines_written lines memory inside.0 size) i k (inr dirty)
 
   -- memory has as many bytes as before once a dropped line is written
-  pub length-victim_written : (victim : Option CacheLine) (memory : List ℕ) → IfSome victim (λ line. IsInside base line_bytes (length bytes) line.number) → length memory ≡ length bytes → length (victim_written base line_bytes bytes victim memory) ≡ length bytes
+  pub length-victim_written : (victim : Option CacheLine) (memory : List ℕ) →
+      IfSome victim (λ line. IsInside base line_bytes (length bytes) line.number) → length memory ≡ length bytes →
+      length (victim_written base line_bytes bytes victim memory) ≡ length bytes
   length-victim_written None memory inside size = size
   length-victim_written (Some line) memory inside size = length-line_written line memory inside size
 
   -- each byte stays where a dropped line is written, or is as a program sees it and lies in that line
-  pub victim_either : (victim : Option CacheLine) (memory : List ℕ) → IfSome victim (λ line. IsInside base line_bytes (length bytes) line.number) → length memory ≡ length bytes → (i : ℕ) → (get_or (victim_written base line_bytes bytes victim memory) i 0 ≡ get_or memory i 0) ⊎ ((get_or (victim_written base line_bytes bytes victim memory) i 0 ≡ get_or bytes i 0) × (line : CacheLine) × (victim ≡ Some line) × ((base + i) / line_bytes ≡ line.number))
+  pub victim_either : (victim : Option CacheLine) (memory : List ℕ) →
+      IfSome victim (λ line. IsInside base line_bytes (length bytes) line.number) → length memory ≡ length bytes →
+      (i : ℕ) → (get_or (victim_written base line_bytes bytes victim memory) i 0 ≡ get_or memory i 0)
+      ⊎ ((get_or (victim_written base line_bytes bytes victim memory) i 0 ≡ get_or bytes i 0) × (line : CacheLine)
+      × (victim ≡ Some line) × ((base + i) / line_bytes ≡ line.number))
   victim_either None memory inside size i = inl refl
   victim_either (Some line) memory inside size i =
       elim (line_either line memory inside size i) [ inl stays ↦ inl stays | inr seen ↦ inr (seen.0, line, refl, seen.1) ]

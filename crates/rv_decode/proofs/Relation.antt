@@ -12,7 +12,8 @@ use Rattle.rv_decode.specs.InstructionTable.{Row, table}
 use Rattle.rv_decode.specs.Decodes.{Fits, Decodes, IsIllegal, FitsOneRowAtMost, first_fit, instruction_of}
 
 -- what the first row that fits makes is made by some row
-first_fit-row : (rows : List Row) (word : ℕ) (instruction : Instr) → first_fit rows word ≡ Some instruction → (row : Row) × Contains rows row × Fits word row × (row.instruction word ≡ instruction)
+first_fit-row : (rows : List Row) (word : ℕ) (instruction : Instr) → first_fit rows word ≡ Some instruction →
+    (row : Row) × Contains rows row × Fits word row × (row.instruction word ≡ instruction)
 first_fit-row [] word instruction made = cc
 first_fit-row (row ∷ rows) word instruction made =
     elim (cases_Bool (bit_and word row.mask == row.fixed)) [
@@ -52,7 +53,8 @@ one_row word [] apart = λ i j d below within. absurd (omega arith)
 one_row word (row ∷ rows) apart =
     let parts = and_parts (list_all (differ row) rows) (are_apart rows) apart in
     AllPairs-cons (λ row other. ¬ (Fits word row × Fits word other)) row rows
-    (All-weaker (λ other. differ row other ≡ true) (λ other. ¬ (Fits word row × Fits word other)) (λ other. not_both word row other) rows (AllPass-from_list_all (differ row) rows parts.0))
+    (All-weaker (λ other. differ row other ≡ true) (λ other. ¬ (Fits word row × Fits word other))
+    (λ other. not_both word row other) rows (AllPass-from_list_all (differ row) rows parts.0))
     (one_row word rows parts.1)
 
 -- a word fits one row of the table at most
@@ -61,7 +63,8 @@ unfolding table
 FitsOneRowAtMost-table word = record { not_both = one_row word table refl }
 
 -- where no two rows agree, each row that fits is the first
-first_fit-made : (rows : List Row) (word : ℕ) (row : Row) → are_apart rows ≡ true → Contains rows row → Fits word row → first_fit rows word ≡ Some (row.instruction word)
+first_fit-made : (rows : List Row) (word : ℕ) (row : Row) → are_apart rows ≡ true → Contains rows row → Fits word row →
+    first_fit rows word ≡ Some (row.instruction word)
 first_fit-made [] word row apart (k, within, is) fits = absurd (omega arith)
 first_fit-made (first ∷ rows) word row apart (zero, within, is) fits =
     let passes : (bit_and word first.mask == first.fixed) ≡ true = eq-eqb (bit_and word first.mask) first.fixed (rw is fits) in
@@ -102,7 +105,10 @@ IfSome-instruction_of word (Some i) is = Decodes-instruction_of word i (sym is)
 pub IsNone-instruction_of : (word : ℕ) (o : Option Instr) → o ≡ instruction_of word → IsNone o ↔ IsIllegal word
 IsNone-instruction_of word None is = (λ _. IsIllegal-instruction_of word (sym is), λ _. search rules)
 IsNone-instruction_of word (Some i) is =
-    let decodes : Decodes word i = Decodes-instruction_of word i (sym is) in
-    (λ none. absurd (search (rules, none)), λ illegal. absurd (All-contains (λ row. ¬ Fits word row) table decodes.row illegal.none_fits decodes.listed decodes.fits))
+    let decodes : Decodes word i = Decodes-instruction_of word i (sym is) in (
+      λ none. absurd (search (rules, none)),
+      λ illegal. absurd
+          (All-contains (λ row. ¬ Fits word row) table decodes.row illegal.none_fits decodes.listed decodes.fits),
+    )
 
 pub ruleset Decodes_instruction_of = (Decodes-instruction_of)

@@ -13,12 +13,20 @@ use Rattle.rv_decode.proofs.Masks.{and_opcode, and_funct3, and_funct7, and_word}
 abbrev is_plain : Row → Bool
 is_plain row =
     ((row.mask == 0x7f) && (row.fixed == opcode row.fixed)) || ((row.mask == 0x707f) && (row.fixed == funct3 row.fixed * 2 ^ 12 + opcode row.fixed))
-    || ((row.mask == 0xfe00707f) && (row.fixed == funct7 row.fixed * 2 ^ 25 + funct3 row.fixed * 2 ^ 12 + opcode row.fixed)) || (row.mask == 0xffffffff)
+    || ((row.mask == 0xfe00707f)
+    && (row.fixed == funct7 row.fixed * 2 ^ 25 + funct3 row.fixed * 2 ^ 12 + opcode row.fixed))
+    || (row.mask == 0xffffffff)
 
-fits-has_fields : (word mask fixed : ℕ) (form : ℕ → Instr) → word < 2 ^ 32 → is_plain (record { mask = mask; fixed = fixed; instruction = form }) ≡ true → (bit_and word mask == fixed) ≡ has_fields (record { mask = mask; fixed = fixed; instruction = form }) word (opcode word) (funct3 word) (funct7 word)
-fits-has_fields word mask fixed form small plain = grind (arith, nat_tests, and_opcode word, and_funct3 word, and_funct7 word small, and_word word small)
+fits-has_fields : (word mask fixed : ℕ) (form : ℕ → Instr) → word < 2 ^ 32 →
+    is_plain (record { mask = mask; fixed = fixed; instruction = form }) ≡ true →
+    (bit_and word mask == fixed)
+    ≡ has_fields (record { mask = mask; fixed = fixed; instruction = form }) word (opcode word)
+    (funct3 word) (funct7 word)
+fits-has_fields word mask fixed form small plain =
+    grind (arith, nat_tests, and_opcode word, and_funct3 word, and_funct7 word small, and_word word small)
 
-by_rows-first_fit : (word : ℕ) → word < 2 ^ 32 → (rows : List Row) → list_all is_plain rows ≡ true → first_fit rows word ≡ by_rows rows word (opcode word) (funct3 word) (funct7 word)
+by_rows-first_fit : (word : ℕ) → word < 2 ^ 32 → (rows : List Row) → list_all is_plain rows ≡ true →
+    first_fit rows word ≡ by_rows rows word (opcode word) (funct3 word) (funct7 word)
 by_rows-first_fit word small [] plain = refl
 by_rows-first_fit word small (row ∷ rows) plain =
     let parts = and_parts (is_plain row) (list_all is_plain rows) plain in
@@ -30,7 +38,8 @@ unfolding instruction_of table
 instruction_of-by_rows word small = by_rows-first_fit word small table refl
 
 -- no row has another opcode
-by_rows-other : (word code third seventh : ℕ) (rows : List Row) → list_any (λ row. opcode row.fixed == code) rows ≡ false → by_rows rows word code third seventh ≡ None
+by_rows-other : (word code third seventh : ℕ) (rows : List Row) →
+    list_any (λ row. opcode row.fixed == code) rows ≡ false → by_rows rows word code third seventh ≡ None
 by_rows-other word code third seventh [] other = refl
 by_rows-other word code third seventh (row ∷ rows) other = grind (arith, by_rows-other word code third seventh rows)
 

@@ -22,7 +22,8 @@ use Rattle.rv_describe.specs.Setting.{is_pipelined, number, values_of, word_of}
 use Rattle.rv_describe.specs.Unknown.{has_unknown}
 
 -- where there is no first element that passes, none does
-none_at : {X : Type 0} (test : X → Bool) (start : ℕ) (xs : List X) (i : ℕ) (x : X) → position_from test start xs ≡ None → slice_get xs i ≡ Some x → test x ≡ false
+none_at : {X : Type 0} (test : X → Bool) (start : ℕ) (xs : List X) (i : ℕ) (x : X) →
+    position_from test start xs ≡ None → slice_get xs i ≡ Some x → test x ≡ false
 none_at test start [] i x none here = absurd (cc)
 none_at test start (y ∷ ys) zero x none here = grind arith
 none_at test start (y ∷ ys) (suc i) x none here = grind (arith, none_at test (start + 1) ys i x)
@@ -33,11 +34,14 @@ nowhere test start [] none = refl
 nowhere test start (x ∷ xs) none = rw (none x) (nowhere test (start + 1) xs none)
 
 -- none of the three faults is no fault
-no_fault : (found : Option ValueFault) → is_fault found WrongKind ≡ false → is_fault found OutOfRange ≡ false → is_fault found NotPowerOfTwo ≡ false → found ≡ None
+no_fault : (found : Option ValueFault) → is_fault found WrongKind ≡ false → is_fault found OutOfRange ≡ false →
+    is_fault found NotPowerOfTwo ≡ false → found ≡ None
 no_fault found kind range power = grind arith
 
 -- where there is no error there is no place of one
-no_places : (kind range power : Option ℕ) → IsNone (option_or (option_map error.WrongKind kind) (option_or (option_map error.OutOfRange range) (option_map error.NotPowerOfTwo power)))
+no_places : (kind range power : Option ℕ) →
+    IsNone (option_or (option_map error.WrongKind kind)
+    (option_or (option_map error.OutOfRange range) (option_map error.NotPowerOfTwo power)))
     → (kind ≡ None) × (range ≡ None) × (power ≡ None)
 no_places kind range power none = (grind arith, grind arith, grind arith)
 
@@ -54,7 +58,9 @@ faultless t none =
       | inl unknown ↦ let impossible : true ≡ false = rw unknown at none in absurd (cc)
       | inr known ↦ let places = no_places (first_place WrongKind t) (first_place OutOfRange t) (first_place NotPowerOfTwo t) (rw known at none) in record {
         known = known;
-        keys = λ key. no_fault (key_fault t key) (no_key t WrongKind key places.0) (no_key t OutOfRange key places.1) (no_key t NotPowerOfTwo key places.2);
+        keys =
+            λ key. no_fault (key_fault t key) (no_key t WrongKind key places.0) (no_key t OutOfRange key places.1)
+            (no_key t NotPowerOfTwo key places.2);
       }
     ]
 
@@ -68,11 +74,13 @@ first_error-faultless t legal =
     rw (legal.known, no_place t WrongKind legal.keys, no_place t OutOfRange legal.keys, no_place t NotPowerOfTwo legal.keys)
 
 -- what is described without an error has none
-no_error : (found : Option DescriptionError) (values : Values) → IsOk {T = Values} {E = DescriptionError} (option_map_or Err found (Ok values)) → IsNone found
+no_error : (found : Option DescriptionError) (values : Values) →
+    IsOk {T = Values} {E = DescriptionError} (option_map_or Err found (Ok values)) → IsNone found
 no_error found values ok = grind arith
 
 -- a machine is described exactly where the bytes are a legal text
-pub described-legal : (bytes : List ℕ) (t : Members) (answer : Result Values DescriptionError) → Some t ≡ document bytes → answer ≡ described t → IsOk answer ↔ IsLegalText bytes
+pub described-legal : (bytes : List ℕ) (t : Members) (answer : Result Values DescriptionError) →
+    Some t ≡ document bytes → answer ≡ described t → IsOk answer ↔ IsLegalText bytes
 described-legal bytes t answer is_text is = (
   λ ok. (t, sym is_text, faultless t (no_error (first_error t) (values_of t) (rw is at ok))),
   λ legal.
@@ -81,16 +89,20 @@ described-legal bytes t answer is_text is = (
 )
 
 -- the number that is held, or the default, is taken where it has no fault
-word_taken : (bounds : Bounds) (size default : ℕ) (word : Option ℕ) → number_fault bounds size (Some word) ≡ None → takes bounds size default ≡ true → takes bounds size (unwrap_or word default) ≡ true
+word_taken : (bounds : Bounds) (size default : ℕ) (word : Option ℕ) → number_fault bounds size (Some word) ≡ None →
+    takes bounds size default ≡ true → takes bounds size (unwrap_or word default) ≡ true
 word_taken bounds size default None none base = base
 word_taken bounds size default (Some n) none base = grind arith
 
-integer_taken : (bounds : Bounds) (size default : ℕ) (integer : Option ℤ) → number_fault bounds size (option_map word_of integer) ≡ None → takes bounds size default ≡ true
+integer_taken : (bounds : Bounds) (size default : ℕ) (integer : Option ℤ) →
+    number_fault bounds size (option_map word_of integer) ≡ None → takes bounds size default ≡ true
     → takes bounds size (unwrap_or (option_and_then word_of integer) default) ≡ true
 integer_taken bounds size default None none base = base
 integer_taken bounds size default (Some z) none base = word_taken bounds size default (word_of z) none base
 
-held_taken : (key : NumberKey) (size default : ℕ) (found : Option (Option Data)) → option_map_or (option_and_then (value_fault (Number key) size)) found (Some WrongKind) ≡ None → takes (row_of key).bounds size default ≡ true
+held_taken : (key : NumberKey) (size default : ℕ) (found : Option (Option Data)) →
+    option_map_or (option_and_then (value_fault (Number key) size)) found (Some WrongKind) ≡ None →
+    takes (row_of key).bounds size default ≡ true
     → takes (row_of key).bounds size (unwrap_or (option_and_then word_of (option_and_then as_integer (option_flatten found))) default) ≡ true
 held_taken key size default None none base = base
 held_taken key size default (Some None) none base = base

@@ -11,7 +11,8 @@ use Rattle.rv_describe.specs.Entries.{arrivals_of, first_fall}
 use Rattle.rv_describe.specs.Entry.{arrival_of}
 
 -- no cycle is below the one before
-adjacent : (number before : ℕ) (arrivals : List Arrival) → first_fall number before arrivals ≡ None → (k : ℕ) (d : Arrival) → k + 1 < length arrivals → (get_or arrivals k d).cycle ≤ (get_or arrivals (k + 1) d).cycle
+adjacent : (number before : ℕ) (arrivals : List Arrival) → first_fall number before arrivals ≡ None →
+    (k : ℕ) (d : Arrival) → k + 1 < length arrivals → (get_or arrivals k d).cycle ≤ (get_or arrivals (k + 1) d).cycle
 adjacent number before [] none k d within = absurd (omega arith)
 adjacent number before (a ∷ []) none k d within = absurd (omega arith)
 adjacent number before (a ∷ b ∷ later) none zero d within = grind (arith, nat_tests)
@@ -21,7 +22,9 @@ adjacent number before (a ∷ b ∷ later) none (suc k) d within = grind (arith,
 within : (entry : Data) (arrival : Arrival) → arrival_of entry ≡ Some arrival → arrival.cycle ≤ 1000000
 within entry arrival found = grind (arith, nat_tests)
 
-one_within : (o : Option Arrival) (later : List Arrival) → ((arrival : Arrival) → o ≡ Some arrival → arrival.cycle ≤ 1000000) → AllByRecursion (λ a. a.cycle ≤ 1000000) later → AllByRecursion (λ a. a.cycle ≤ 1000000) (cons_option o later)
+one_within : (o : Option Arrival) (later : List Arrival) →
+    ((arrival : Arrival) → o ≡ Some arrival → arrival.cycle ≤ 1000000) → AllByRecursion (λ a. a.cycle ≤ 1000000) later →
+    AllByRecursion (λ a. a.cycle ≤ 1000000) (cons_option o later)
 one_within None later here rest = rest
 one_within (Some arrival) later here rest = (here arrival refl, rest)
 

@@ -9,6 +9,7 @@ module _ {A B : Type 0} (view : A → B) where
   list_any-map test (item ∷ later) = ap (λ rest. test (view item) || rest) (list_any-map test later)
 
   -- what is read of the images is what is read of the items through their images
-  pub filter_map-map : {C : Type 0} (read : B → Option C) (items : List A) → filter_map read (map view items) ≡ filter_map (λ item. read (view item)) items
+  pub filter_map-map : {C : Type 0} (read : B → Option C) (items : List A) →
+      filter_map read (map view items) ≡ filter_map (λ item. read (view item)) items
   filter_map-map read [] = refl
   filter_map-map read (item ∷ later) = ap (cons_option (read (view item))) (filter_map-map read later)

@@ -32,7 +32,9 @@ sequential Indirect is = cc
 abbrev stays : ℕ → ℕ → Row → Bool
 stays pc word row = list_any (λ code. opcode row.fixed == code) codes_elsewhere || is_sequential (flow_of pc (row.instruction word))
 
-flow_after-by_rows : (pc word code third seventh : ℕ) → list_any (λ known. code == known) codes_elsewhere ≡ false → (rows : List Row) → list_all (stays pc word) rows ≡ true → flow_after pc (by_rows rows word code third seventh) ≡ Sequential
+flow_after-by_rows : (pc word code third seventh : ℕ) → list_any (λ known. code == known) codes_elsewhere ≡ false →
+    (rows : List Row) → list_all (stays pc word) rows ≡ true →
+    flow_after pc (by_rows rows word code third seventh) ≡ Sequential
 flow_after-by_rows pc word code third seventh elsewhere [] stay = refl
 flow_after-by_rows pc word code third seventh elsewhere (row ∷ rows) stay =
     let parts = and_parts (stays pc word row) (list_all (stays pc word) rows) stay in
@@ -45,10 +47,13 @@ flow_after-by_rows pc word code third seventh elsewhere (row ∷ rows) stay =
 pub flow_at-sequential : (pc word : ℕ) → word < 2 ^ 32 → leads_elsewhere word ≡ false → flow_at pc word ≡ Sequential
 unfolding table
 flow_at-sequential pc word small elsewhere =
-    rw (instruction_of-by_rows word small) (flow_after-by_rows pc word (opcode word) (funct3 word) (funct7 word) (rw (sym (and_opcode word)) elsewhere) table refl)
+    rw (instruction_of-by_rows word small)
+    (flow_after-by_rows pc word (opcode word) (funct3 word) (funct7 word)
+    (rw (sym (and_opcode word)) elsewhere) table refl)
 
 -- each described predictor answers the next word
-pub answer-sequential : (predictor : DescribedPredictor) (pc word : ℕ) → word < 2 ^ 32 → leads_elsewhere word ≡ false → answer predictor pc (flow_at pc word) ≡ pc_plus_4 pc
+pub answer-sequential : (predictor : DescribedPredictor) (pc word : ℕ) → word < 2 ^ 32 → leads_elsewhere word ≡ false →
+    answer predictor pc (flow_at pc word) ≡ pc_plus_4 pc
 answer-sequential (NotTaken plain) pc word small elsewhere = ap (not_taken pc) (flow_at-sequential pc word small elsewhere)
 answer-sequential (BackwardTaken plain) pc word small elsewhere = ap (backward_taken pc) (flow_at-sequential pc word small elsewhere)
 answer-sequential (Bimodal tables) pc word small elsewhere = ap (bimodal tables pc) (flow_at-sequential pc word small elsewhere)
@@ -58,4 +63,5 @@ pub taught-sequential : (predictor : DescribedPredictor) (pc word next : ℕ) �
     → taught predictor (record { pc = pc; word = word; next = next }) ≡ predictor
 taught-sequential (NotTaken plain) pc word next small elsewhere = refl
 taught-sequential (BackwardTaken plain) pc word next small elsewhere = refl
-taught-sequential (Bimodal tables) pc word next small elsewhere = ap (λ flow. Bimodal (learned tables pc next flow)) (flow_at-sequential pc word small elsewhere)
+taught-sequential (Bimodal tables) pc word next small elsewhere =
+    ap (λ flow. Bimodal (learned tables pc next flow)) (flow_at-sequential pc word small elsewhere)

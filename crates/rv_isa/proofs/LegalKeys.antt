@@ -1,4 +1,5 @@
--- The laws of the table of the keys: every key stands in the order, and values are legal exactly where each is one that its key takes.
+-- The laws of the table of the keys: every key stands in the order, and values are legal exactly where each is one that
+-- its key takes.
 use Rattle.std.proofs.Common.{◌≡◌, ℕ, zero, suc, Bool, true, List, [], ◌∷◌, Some, unwrap_or, IsTrue, ◌↔◌, refl, arith}
 use Rattle.std.specs.Int.{is_power_of_two}
 use lib.Count.{ones}
@@ -43,7 +44,15 @@ obeys_each v = (
 )
 
 in_kind : (v : Values) → ObeysEachKey v → (kind : Kind) → IsLegalKind (at_kind kind v.kinds)
-in_kind v each kind = grind (arith, nat_tests, each (Number (OfKind kind Stations)), each (Number (OfKind kind Units)), each (Number (OfKind kind Latency)))
+in_kind v each kind =
+    grind (
+      arith,
+      nat_tests,
+      each (Number (OfKind kind Stations)),
+      each (Number (OfKind kind Units)),
+      each
+          (Number (OfKind kind Latency)),
+    )
 
 in_memory : (v : Values) → ObeysEachKey v → IsLegalMemory v
 in_memory v each = grind (arith, nat_tests, each (Number RamBase), each (Number RamSize), each (Number RomBytes))
@@ -63,7 +72,17 @@ in_pipeline v each =
 
 in_cache : (v : Values) → ObeysEachKey v → IsLegalCache v.cache
 in_cache v each =
-    grind (arith, nat_tests, each (Number CacheSets), each (Number CacheWays), each (Number CacheLine), each (Number CacheHit), each (Number CacheMiss), each (Number CacheWriteBack))
+    grind (
+      arith,
+      nat_tests,
+      each (Number CacheSets),
+      each (Number CacheWays),
+      each (Number CacheLine),
+      each
+          (Number CacheHit),
+      each (Number CacheMiss),
+      each (Number CacheWriteBack),
+    )
 
 legal : (v : Values) → ObeysEachKey v → IsLegal v
 legal v each =
@@ -84,7 +103,9 @@ pub each_legal : (v : Values) → (list_all (obeys v) order ≡ true) ↔ IsLega
 each_legal v = (λ all. legal v ((obeys_each v).0 all), λ is. (obeys_each v).1 (obeyed v is))
 
 -- the numbers of the values with these numbers
-pub number_of-values_with : (number : NumberKey → ℕ) (is_pipelined : Kind → Bool) (recovery : Mending) (predictor : Prediction) (key : NumberKey) → number_of (values_with number is_pipelined recovery predictor) key ≡ number key
+pub number_of-values_with : (number : NumberKey → ℕ) (is_pipelined : Kind → Bool) (recovery : Mending)
+    (predictor : Prediction) (key : NumberKey) →
+    number_of (values_with number is_pipelined recovery predictor) key ≡ number key
 number_of-values_with number is_pipelined recovery predictor key = grind arith
 
 -- the standard values are taken, whatever the bytes of RAM

@@ -10,7 +10,10 @@ use Rattle.rv_isa.specs.Arrivals.{lines_at, no_lines}
 use Rattle.rv_isa.proofs.LastLevels.{level_after}
 
 -- where exactly the first i elements pass, those are left
-pub filter_prefix : {X : Type 0} (p : X → Bool) (xs : List X) (i : ℕ) → ((k : ℕ) (d : X) → k < i → p (slice_index_or xs k d) ≡ true) → ((k : ℕ) (d : X) → i ≤ k → k < length xs → p (slice_index_or xs k d) ≡ false) → i ≤ length xs → filter p xs ≡ take i xs
+pub filter_prefix : {X : Type 0} (p : X → Bool) (xs : List X) (i : ℕ) →
+    ((k : ℕ) (d : X) → k < i → p (slice_index_or xs k d) ≡ true) →
+    ((k : ℕ) (d : X) → i ≤ k → k < length xs → p (slice_index_or xs k d) ≡ false) → i ≤ length xs →
+    filter p xs ≡ take i xs
 filter_prefix p [] zero on off le = refl
 filter_prefix p [] (suc i) on off le = refl
 filter_prefix p (x ∷ xs) zero on off le =
@@ -18,10 +21,13 @@ filter_prefix p (x ∷ xs) zero on off le =
     rw first (filter_prefix p xs 0 (λ k d lt. absurd (omega arith)) (λ k d ge lt. off (suc k) d (omega arith) (omega arith)) (omega arith))
 filter_prefix p (x ∷ xs) (suc i) on off le =
     let first : p x ≡ true = on 0 x (omega arith) in
-    rw first (ap (λ r. x ∷ r) (filter_prefix p xs i (λ k d lt. on (suc k) d (omega arith)) (λ k d ge lt. off (suc k) d (omega arith) (omega arith)) (omega arith)))
+    rw first (ap (λ r. x ∷ r)
+    (filter_prefix p xs i (λ k d lt. on (suc k) d (omega arith))
+    (λ k d ge lt. off (suc k) d (omega arith) (omega arith)) (omega arith)))
 
 -- the levels after n more of what follows the first m
-pub fold-more : (before lines : Lines) (xs rest : List Arrival) (m n : ℕ) → rest ≡ take n (drop m xs) → lines ≡ fold line_set before (take m xs) → fold line_set lines rest ≡ fold line_set before (take (m + n) xs)
+pub fold-more : (before lines : Lines) (xs rest : List Arrival) (m n : ℕ) → rest ≡ take n (drop m xs) →
+    lines ≡ fold line_set before (take m xs) → fold line_set lines rest ≡ fold line_set before (take (m + n) xs)
 fold-more before lines xs rest m n from here = rw (from, here, take-add m n xs) (sym (fold-append line_set before (take m xs) (take n (drop m xs))))
 
 -- the levels in a cycle, by going over the arrivals that are not later
@@ -35,11 +41,18 @@ lines_at-fold arrivals cycle =
     }
 
 -- the levels in a cycle, from those after a first part of the arrivals that are not later
-pub lines_at-from : (arrivals : List Arrival) (cycle count from : ℕ) (lines : Lines) → from ≤ count → filter (λ a. nat_le a.cycle cycle) arrivals ≡ take count arrivals → lines ≡ fold line_set no_lines (take from arrivals) → fold line_set lines (take (count - from) (drop from arrivals)) ≡ lines_at arrivals cycle
+pub lines_at-from : (arrivals : List Arrival) (cycle count from : ℕ) (lines : Lines) → from ≤ count →
+    filter (λ a. nat_le a.cycle cycle) arrivals ≡ take count arrivals →
+    lines ≡ fold line_set no_lines (take from arrivals) →
+    fold line_set lines (take (count - from) (drop from arrivals)) ≡ lines_at arrivals cycle
 lines_at-from arrivals cycle count from lines le passed here =
     let sum : from + (count - from) ≡ count = omega arith in
-    fold-more no_lines lines arrivals _ from (count - from) refl here ∙ ap (λ n. fold line_set no_lines (take n arrivals)) sum ∙ ap (fold line_set no_lines) (sym passed) ∙ sym (lines_at-fold arrivals cycle)
+    fold-more no_lines lines arrivals _ from (count - from) refl here
+    ∙ ap (λ n. fold line_set no_lines (take n arrivals)) sum ∙ ap (fold line_set no_lines) (sym passed)
+    ∙ sym (lines_at-fold arrivals cycle)
 
 -- one more place of a table
-pub table_more : {X : Type 0} (f : ℕ → X) (xs : List X) (n : ℕ) (x : X) → n < length xs → x ≡ f n → ((k : ℕ) (d : X) → k < n → slice_index_or xs k d ≡ f k) → (k : ℕ) (d : X) → k < n + 1 → slice_index_or (slice_set xs n x) k d ≡ f k
+pub table_more : {X : Type 0} (f : ℕ → X) (xs : List X) (n : ℕ) (x : X) → n < length xs → x ≡ f n →
+    ((k : ℕ) (d : X) → k < n → slice_index_or xs k d ≡ f k) → (k : ℕ) (d : X) → k < n + 1 →
+    slice_index_or (slice_set xs n x) k d ≡ f k
 table_more f xs n x lt here before k d le = grind (arith, common_steps, before k d)

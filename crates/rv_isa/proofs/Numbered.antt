@@ -141,11 +141,15 @@ module _ {X : Type 0} (seq : X → ℕ) where
   ]
 
   -- where exactly the first i are below n, those are a beginning of length i
-  pub below-prefix : (n i : ℕ) (xs : List X) → i ≤ length xs → ((k : ℕ) (d : X) → k < i → seq (get_or xs k d) < n) → ((k : ℕ) (d : X) → i ≤ k → k < length xs → n ≤ seq (get_or xs k d)) → below seq n xs ≡ take i xs
+  pub below-prefix : (n i : ℕ) (xs : List X) → i ≤ length xs → ((k : ℕ) (d : X) → k < i → seq (get_or xs k d) < n) →
+      ((k : ℕ) (d : X) → i ≤ k → k < length xs → n ≤ seq (get_or xs k d)) → below seq n xs ≡ take i xs
   below-prefix n zero xs within low high = below-none n xs (λ k d lt. high k d (omega arith) lt)
   below-prefix n (suc i) [] within low high = refl
   below-prefix n (suc i) (x ∷ xs) within low high =
-      below-stays n x xs (low 0 x (omega arith)) ∙ ap (λ l. x ∷ l) (below-prefix n i xs (omega arith) (λ k d lt. low (suc k) d (omega arith)) (λ k d le lt. high (suc k) d (omega arith) (omega arith)))
+      below-stays n x xs (low 0 x (omega arith))
+      ∙ ap (λ l. x ∷ l)
+      (below-prefix n i xs (omega arith) (λ k d lt. low (suc k) d (omega arith))
+      (λ k d le lt. high (suc k) d (omega arith) (omega arith)))
 
   -- the one at a place is above the first
   IsInOrder-slice_get : (x : X) (i : ℕ) (xs : List X) (y : X) → All (λ z. seq x < seq z) xs → slice_get xs i ≡ Some y → seq x < seq y
@@ -159,7 +163,8 @@ module _ {X : Type 0} (seq : X → ℕ) where
   AreBelow-last n zero (y ∷ []) x order past at lt = let same : y ≡ x = cc in AreBelow-cons n y [] (rw same lt) (λ k d within. absurd (omega arith))
   AreBelow-last n zero (y ∷ z ∷ ys) x order past at lt = absurd (omega arith)
   AreBelow-last n (suc i) (y ∷ ys) x order past at lt =
-      AreBelow-cons n y ys (omega (arith, IsInOrder-slice_get y i ys x (IsInOrder-head y ys order) at)) (AreBelow-last n i ys x (IsInOrder-tail y ys order) (omega arith) at lt)
+      AreBelow-cons n y ys (omega (arith, IsInOrder-slice_get y i ys x (IsInOrder-head y ys order) at))
+      (AreBelow-last n i ys x (IsInOrder-tail y ys order) (omega arith) at lt)
 
 -- a change that keeps the numbers
 module _ {X Y : Type 0} (seq : X → ℕ) (key : Y → ℕ) (f : X → Y) (same : (x : X) → key (f x) ≡ seq x) where
@@ -175,4 +180,7 @@ module _ {X Y : Type 0} (seq : X → ℕ) (key : Y → ℕ) (f : X → Y) (same 
   pub IsInOrder-map : (xs : List X) → IsInOrder seq xs → IsInOrder key (map f xs)
   IsInOrder-map [] order = λ i j d lt within. absurd (omega arith)
   IsInOrder-map (x ∷ xs) order =
-      IsInOrder-cons key (f x) (map f xs) (All-map (λ z. key (f x) < key z) f xs (λ k d lt. omega (arith, same x, same (get_or xs k d), IsInOrder-head seq x xs order k d lt))) (IsInOrder-map xs (IsInOrder-tail seq x xs order))
+      IsInOrder-cons key (f x) (map f xs)
+      (All-map (λ z. key (f x) < key z) f xs
+      (λ k d lt. omega (arith, same x, same (get_or xs k d), IsInOrder-head seq x xs order k d lt)))
+      (IsInOrder-map xs (IsInOrder-tail seq x xs order))

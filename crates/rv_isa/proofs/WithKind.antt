@@ -18,7 +18,8 @@ pub at_kind-by_kind : {X : Type 0} (part : Kind → X) (kind : Kind) → at_kind
 at_kind-by_kind part kind = grind arith
 
 -- after one change of each part, the part of a kind is its former one, changed
-pub at_kind-for_each : {X Y : Type 0} (change : X → Y) (parts : PerKind X) (kind : Kind) → at_kind kind (for_each change parts) ≡ change (at_kind kind parts)
+pub at_kind-for_each : {X Y : Type 0} (change : X → Y) (parts : PerKind X) (kind : Kind) →
+    at_kind kind (for_each change parts) ≡ change (at_kind kind parts)
 at_kind-for_each change parts kind = at_kind-by_kind (λ k. change (at_kind k parts)) kind
 
 -- parts are the same where they are so for each kind
@@ -38,14 +39,17 @@ module _ {X : Type 0} (kind : Kind) (part : X) (parts : PerKind X) where
   with_kind-other other is = at_kind-with_kind other ∙ ap (λ b. cond b part (at_kind other parts)) is
 
   -- what holds of the new part, and of each other one
-  pub with_kind-each : (Q : Kind → X → Type 0) → Q kind part → ((other : Kind) → is_same other kind ≡ false → Q other (at_kind other parts)) → (other : Kind) → Q other (at_kind other (with_kind kind part parts))
+  pub with_kind-each : (Q : Kind → X → Type 0) → Q kind part →
+      ((other : Kind) → is_same other kind ≡ false → Q other (at_kind other parts)) → (other : Kind) →
+      Q other (at_kind other (with_kind kind part parts))
   with_kind-each Q new all other = rw (at_kind-with_kind other) (elim (cases_Bool (is_same other kind)) [
     | inl same ↦ rw same (subst (λ k. Q k part) (sym (is_same-true other kind same)) new)
     | inr differ ↦ rw differ (all other differ)
   ])
 
 -- functions that agree on every other kind
-pub with_kind-by_kind : {X : Type 0} (kind : Kind) (a b : Kind → X) → ((other : Kind) → is_same other kind ≡ false → a other ≡ b other) → with_kind kind (b kind) (by_kind a) ≡ by_kind b
+pub with_kind-by_kind : {X : Type 0} (kind : Kind) (a b : Kind → X) →
+    ((other : Kind) → is_same other kind ≡ false → a other ≡ b other) → with_kind kind (b kind) (by_kind a) ≡ by_kind b
 with_kind-by_kind kind a b same = by_kind-same (λ k. cond (is_same k kind) (b kind) (at_kind k (by_kind a))) b (λ other.
     elim (cases_Bool (is_same other kind)) [
       | inl is ↦ rw is (ap b (sym (is_same-true other kind is)))

@@ -25,7 +25,9 @@ compares_alone text rest [] machine front none last described =
     subst (Compares text (machine ∷ [])) (sym whole) (Compares.alone (subst (λ t. halves_of t ≡ None) whole last) described)
 compares_alone text rest (first ∷ machines) machine front none last described = absurd (omega (arith, none))
 
-module _ (program : List ℕ) (machines : List Values) (place : ℕ) (below : place < length machines) (jobs : List Job) (loaded : AreLoaded program (take place machines) jobs) (machine : Values) (is : machine ≡ get_or machines place machine) where
+module _ (program : List ℕ) (machines : List Values) (place : ℕ) (below : place < length machines) (jobs : List Job)
+    (loaded : AreLoaded program (take place machines) jobs) (machine : Values)
+    (is : machine ≡ get_or machines place machine) where
   -- one more machine
   pub loaded_more : (job : Job) → IsLoaded program machine job → AreLoaded program (take (place + 1) machines) (jobs ++ job ∷ [])
   loaded_more job here =
@@ -39,17 +41,21 @@ module _ (program : List ℕ) (machines : List Values) (place : ℕ) (below : pl
       let number : place ≡ length (take place machines) = sym (length-take-le place machines (omega arith)) in
       let whole : take place machines ++ machine ∷ drop (place + 1) machines ≡ machines =
       ap (λ m. take place machines ++ m ∷ drop (place + 1) machines) is
-      ∙ ap (λ l. take place machines ++ l) (sym (drop-cons machines place machine below ∙ ap (λ n. get_or machines place machine ∷ drop n machines) (sym (add-one place))))
+      ∙ ap (λ l. take place machines ++ l)
+      (sym (drop-cons machines place machine below
+      ∙ ap (λ n. get_or machines place machine ∷ drop n machines) (sym (add-one place))))
       ∙ take-append-drop place machines in
       subst (λ l. RefusesLoading program l error) whole
       (RefusesLoading.on machine (drop (place + 1) machines) loaded (subst (λ n. RefusesProgram (n + 1) program machine error) number refused))
 
 -- what refuses the description with a number refuses the one with an equal number
-pub renumbered : (number other : ℕ) (part : List ℕ) (error : SimError) → number ≡ other → RefusesDescribed (number + 1) part error → RefusesDescribed (other + 1) part error
+pub renumbered : (number other : ℕ) (part : List ℕ) (error : SimError) → number ≡ other →
+    RefusesDescribed (number + 1) part error → RefusesDescribed (other + 1) part error
 renumbered number other part error is refused = subst (λ n. RefusesDescribed (n + 1) part error) is refused
 
 -- a program that is refused by itself is refused on each machine
-pub refused_alone : (number : ℕ) (program : List ℕ) (machine : Values) (error : SimError) → RefusesAssembly machine.ram_base program error → RefusesProgram number program machine error
+pub refused_alone : (number : ℕ) (program : List ℕ) (machine : Values) (error : SimError) →
+    RefusesAssembly machine.ram_base program error → RefusesProgram number program machine error
 refused_alone number program machine (DoesNotFit place) refused = absurd refused
 refused_alone number program machine TooLong refused = refused
 refused_alone number program machine TooManyDescriptions refused = refused

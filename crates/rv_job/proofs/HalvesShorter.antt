@@ -32,7 +32,10 @@ at_front (byte ∷ later) = go (is_separator (before_first is_line_feed (byte �
     place : ℕ
     place = position_or_len is_line_feed text
 
-    go : (test : Bool) → IsShorter (length text) (option_map (λ after. record { before = []; after = after }) (if test then Some (after_first is_line_feed text) else None))
+    go : (test : Bool) →
+        IsShorter (length text)
+        (option_map (λ after. record { before = []; after = after })
+        (if test then Some (after_first is_line_feed text) else None))
     go true = omega (arith, length-drop (place + 1) text)
     go false = tt
 

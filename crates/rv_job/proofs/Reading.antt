@@ -22,7 +22,8 @@ pub Consumes-same : (a b : Option (List ℕ)) (xs ys : List ℕ) → xs ≡ ys �
 Consumes-same a b xs ys same consumed = rw same at consumed
 
 -- all was read
-pub taken_to_end : (most : ℕ) (old new : Option (List ℕ)) (read : List ℕ) → Consumes old new read → IsAtEnd new → length read ≤ most → IfSome old (λ bytes. read ≡ take most bytes)
+pub taken_to_end : (most : ℕ) (old new : Option (List ℕ)) (read : List ℕ) → Consumes old new read → IsAtEnd new →
+    length read ≤ most → IfSome old (λ bytes. read ≡ take most bytes)
 taken_to_end most None new read consumed at_end few = tt
 taken_to_end most (Some bytes) None read consumed at_end few = absurd consumed
 taken_to_end most (Some bytes) (Some rest) read consumed at_end few =
@@ -30,7 +31,8 @@ taken_to_end most (Some bytes) (Some rest) read consumed at_end few =
     sym (ap (take most) all ∙ take_all most read few)
 
 -- as much was read as may be
-pub taken_most : (most : ℕ) (old new : Option (List ℕ)) (read : List ℕ) → Consumes old new read → length read ≡ most → IfSome old (λ bytes. read ≡ take most bytes)
+pub taken_most : (most : ℕ) (old new : Option (List ℕ)) (read : List ℕ) → Consumes old new read → length read ≡ most →
+    IfSome old (λ bytes. read ≡ take most bytes)
 taken_most most None new read consumed many = tt
 taken_most most (Some bytes) None read consumed many = absurd consumed
 taken_most most (Some bytes) (Some rest) read consumed many =

@@ -60,7 +60,8 @@ contains_below first marks q below = set.contains-from_list_nat (marked_words fi
 contains_at : (first : ℕ) (marks : List Bool) (i q : ℕ) → q ≡ first + i → set.contains (marked first marks) q ≡ get_or marks i false
 contains_at first marks i q at = set.contains-from_list_nat (marked_words first marks) q ∙ has_at first marks i q at
 
-insert-mark : (first : ℕ) (marks : List Bool) (i w : ℕ) → i < length marks → w ≡ first + i → marked first (set marks i true) ≡ set.insert (marked first marks) w
+insert-mark : (first : ℕ) (marks : List Bool) (i w : ℕ) → i < length marks → w ≡ first + i →
+    marked first (set marks i true) ≡ set.insert (marked first marks) w
 insert-mark first marks i w within at =
     let before = marked first marks in
     set.same_set nat_cmp_total set.nat_cmp-IsAntisymmetric _ _ (λ q.
@@ -84,18 +85,21 @@ pub contains_word_below : (first round : ℕ) (rounds : List ℕ) (q : ℕ) → 
 contains_word_below first round rounds q below = contains_below first (marks_of round rounds) q below
 
 -- a word was marked in a round exactly where its place has that round
-pub contains_word_at : (first round : ℕ) (rounds : List ℕ) (i q : ℕ) → q ≡ first + i → i < length rounds → set.contains (words_of first round rounds) q ≡ nat_eq (get_or rounds i 0) round
+pub contains_word_at : (first round : ℕ) (rounds : List ℕ) (i q : ℕ) → q ≡ first + i → i < length rounds →
+    set.contains (words_of first round rounds) q ≡ nat_eq (get_or rounds i 0) round
 contains_word_at first round rounds i q at within =
     contains_at first (marks_of round rounds) i q at ∙ get_or-map (λ r. nat_eq r round) rounds i 0 false within
 
 -- no word after the last place was marked
-pub contains_word_past : (first round : ℕ) (rounds : List ℕ) (i q : ℕ) → q ≡ first + i → length rounds ≤ i → set.contains (words_of first round rounds) q ≡ false
+pub contains_word_past : (first round : ℕ) (rounds : List ℕ) (i q : ℕ) → q ≡ first + i → length rounds ≤ i →
+    set.contains (words_of first round rounds) q ≡ false
 contains_word_past first round rounds i q at past =
     let long = length-map rounds (λ r. nat_eq r round) in
     contains_at first (marks_of round rounds) i q at ∙ get_or_past (marks_of round rounds) i false (omega arith)
 
 -- a word that was marked has a place among those of the rounds
-pub words_of-within : (first round : ℕ) (rounds : List ℕ) (q : ℕ) → IsTrue (set.contains (words_of first round rounds) q) → (first ≤ q) × (q < first + length rounds)
+pub words_of-within : (first round : ℕ) (rounds : List ℕ) (q : ℕ) →
+    IsTrue (set.contains (words_of first round rounds) q) → (first ≤ q) × (q < first + length rounds)
 words_of-within first round rounds q found =
     elim (cases_lt q first) [
       | inl low ↦ absurd (true≢false (sym found ∙ contains_word_below first round rounds q low))
@@ -107,7 +111,8 @@ words_of-within first round rounds q found =
     ]
 
 -- a round written at the place of a word adds this word to those marked in the round
-pub insert_word : (first round : ℕ) (rounds : List ℕ) (i w : ℕ) → i < length rounds → w ≡ first + i → words_of first round (set rounds i round) ≡ set.insert (words_of first round rounds) w
+pub insert_word : (first round : ℕ) (rounds : List ℕ) (i w : ℕ) → i < length rounds → w ≡ first + i →
+    words_of first round (set rounds i round) ≡ set.insert (words_of first round rounds) w
 insert_word first round rounds i w within at =
     let long = length-map rounds (λ r. nat_eq r round) in
     let moved : marks_of round (set rounds i round) ≡ set (marks_of round rounds) i true =
@@ -115,5 +120,6 @@ insert_word first round rounds i w within at =
     rw moved (insert-mark first (marks_of round rounds) i w (omega arith) at)
 
 -- an address that is covered
-pub covered_parts : (stale : StaleWords) (address : ℕ) → IsTrue (is_covered stale address) → (stale.base ≤ address) × (address < stale.base + stale.size)
+pub covered_parts : (stale : StaleWords) (address : ℕ) → IsTrue (is_covered stale address) →
+    (stale.base ≤ address) × (address < stale.base + stale.size)
 covered_parts stale address covered = (grind (arith, nat_tests), grind (arith, nat_tests))

@@ -21,7 +21,8 @@ reports_of-append [] more = refl
 reports_of-append (moment ∷ some) more = ap (λ reports. moment.report ∷ reports) (reports_of-append some more)
 
 -- a history, and one that goes on from its end
-pub History-append : {arrivals : List Arrival} {old middle new : GuidedHardware} {some more : List Moment} → History arrivals old some middle → History arrivals middle more new →
+pub History-append : {arrivals : List Arrival} {old middle new : GuidedHardware} {some more : List Moment} →
+    History arrivals old some middle → History arrivals middle more new →
     History arrivals old (some ++ more) new
 History-append ended after = after
 History-append (cycled cycle rest) after = cycled cycle (History-append rest after)
@@ -34,7 +35,8 @@ History-split (moment ∷ some) more (cycled cycle rest) =
     let (middle, before, after) = History-split some more rest in (middle, cycled cycle before, after)
 
 -- a history leads to the hardware that its last cycle left
-pub history_end : {arrivals : List Arrival} {old new : GuidedHardware} {moments : List Moment} → History arrivals old moments new → hardware_after old.hardware moments ≡ new.hardware
+pub history_end : {arrivals : List Arrival} {old new : GuidedHardware} {moments : List Moment} →
+    History arrivals old moments new → hardware_after old.hardware moments ≡ new.hardware
 history_end ended = refl
 history_end (cycled cycle rest) = history_end rest
 
@@ -51,15 +53,20 @@ ends_after some more none ends = record {
   stops = ends.stops;
 }
 
-stops_after : (from limit : ℕ) (some more : List Report) (new : Hardware) (reason : Stop) → NoneStops some → length some ≡ from → IsStop limit more new reason → IsStop (from + limit) (some ++ more) new reason
-stops_after from limit some more new stop.Limit none so_many stops = (NoneStops-append some more none stops.0, omega (arith, length-append some more, so_many, stops.1))
-stops_after from limit some more new stop.Breakpoint none so_many stops = (ends_after some more none stops.0, omega (arith, length-append some more, so_many, stops.1))
-stops_after from limit some more new (stop.Stale pc) none so_many stops = (ends_after some more none stops.0, omega (arith, length-append some more, so_many, stops.1))
+stops_after : (from limit : ℕ) (some more : List Report) (new : Hardware) (reason : Stop) → NoneStops some →
+    length some ≡ from → IsStop limit more new reason → IsStop (from + limit) (some ++ more) new reason
+stops_after from limit some more new stop.Limit none so_many stops =
+    (NoneStops-append some more none stops.0, omega (arith, length-append some more, so_many, stops.1))
+stops_after from limit some more new stop.Breakpoint none so_many stops =
+    (ends_after some more none stops.0, omega (arith, length-append some more, so_many, stops.1))
+stops_after from limit some more new (stop.Stale pc) none so_many stops =
+    (ends_after some more none stops.0, omega (arith, length-append some more, so_many, stops.1))
 stops_after from limit some more new stop.Exhausted none so_many stops =
     (NoneStops-append some more none stops.0, omega (arith, length-append some more, so_many, stops.1), stops.2)
 
 -- a run of so many cycles, and one that goes on from its end
-pub run_on : {arrivals : List Arrival} {from limit : ℕ} {old middle new : GuidedHardware} {some more : List Moment} {reason : Stop} → IsEndedRun arrivals from old some middle stop.Limit
+pub run_on : {arrivals : List Arrival} {from limit : ℕ} {old middle new : GuidedHardware} {some more : List
+    Moment} {reason : Stop} → IsEndedRun arrivals from old some middle stop.Limit
     → IsEndedRun arrivals limit middle more new reason → IsEndedRun arrivals (from + limit) old (some ++ more) new reason
 run_on {from = from} {limit = limit} {new = new} {some = some} {more = more} {reason = reason} run after = record {
   passes = History-append run.passes after.passes;
@@ -67,14 +74,16 @@ run_on {from = from} {limit = limit} {new = new} {some = some} {more = more} {re
       (stops_after from limit (reports_of some) (reports_of more) new.hardware reason run.stops.0 run.stops.1 after.stops);
 }
 
-stops_earlier : (limit more : ℕ) (reports : List Report) (new : Hardware) (reason : Stop) → reason ≢ stop.Limit → IsStop limit reports new reason → IsStop (limit + more) reports new reason
+stops_earlier : (limit more : ℕ) (reports : List Report) (new : Hardware) (reason : Stop) → reason ≢ stop.Limit →
+    IsStop limit reports new reason → IsStop (limit + more) reports new reason
 stops_earlier limit more reports new stop.Limit other stops = absurd (other refl)
 stops_earlier limit more reports new stop.Breakpoint other stops = (stops.0, omega (arith, stops.1))
 stops_earlier limit more reports new (stop.Stale pc) other stops = (stops.0, omega (arith, stops.1))
 stops_earlier limit more reports new stop.Exhausted other stops = (stops.0, omega (arith, stops.1), stops.2)
 
 -- a run that ended before its limit is one with a greater limit
-pub run_earlier : {arrivals : List Arrival} {limit : ℕ} {old new : GuidedHardware} {moments : List Moment} {reason : Stop} (more : ℕ) → reason ≢ stop.Limit → IsEndedRun arrivals limit old moments new reason
+pub run_earlier : {arrivals : List Arrival} {limit : ℕ} {old new : GuidedHardware} {moments : List
+    Moment} {reason : Stop} (more : ℕ) → reason ≢ stop.Limit → IsEndedRun arrivals limit old moments new reason
     → IsEndedRun arrivals (limit + more) old moments new reason
 run_earlier {limit = limit} {new = new} {moments = moments} {reason = reason} more other run =
     record { passes = run.passes; stops = stops_earlier limit more (reports_of moments) new.hardware reason other run.stops }

@@ -58,7 +58,8 @@ module _ (rows left before : List Passage) (p : Passage) (last : left ≡ before
       }
 
 -- the one before a count
-module _ (rows : List Passage) (count : ℕ) (p : Passage) (some : 0 < count) (within : count ≤ length rows) (read : p ≡ get_or rows (count - 1) p) (after : AreInFlightAfter rows (take count rows)) where
+module _ (rows : List Passage) (count : ℕ) (p : Passage) (some : 0 < count) (within : count ≤ length rows)
+    (read : p ≡ get_or rows (count - 1) p) (after : AreInFlightAfter rows (take count rows)) where
   last_taken : take count rows ≡ take (count - 1) rows ++ p ∷ []
   last_taken =
       let one_more : count ≡ count - 1 + 1 = omega (arith, some) in

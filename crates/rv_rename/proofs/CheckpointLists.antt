@@ -106,11 +106,13 @@ producers_at-none n (m ∷ ns) ps now none =
 
 -- the numbers say whether every checkpoint is below n
 pub AreBelow-checkpoints : (n : ℕ) (ns : List ℕ) (ps : List Producer)
-    → (AreBelow (λ m. m) n ns → AreBelow checkpoint_seq n (map (checkpoint_of ps) ns)) × (AreBelow checkpoint_seq n (map (checkpoint_of ps) ns) → AreBelow (λ m. m) n ns)
+    → (AreBelow (λ m. m) n ns → AreBelow checkpoint_seq n (map (checkpoint_of ps) ns))
+    × (AreBelow checkpoint_seq n (map (checkpoint_of ps) ns) → AreBelow (λ m. m) n ns)
 AreBelow-checkpoints n [] ps = (λ are. All-nil (λ c. checkpoint_seq c < n), λ are. All-nil (λ m. m < n))
 AreBelow-checkpoints n (m ∷ ns) ps =
     let rest = AreBelow-checkpoints n ns ps in
     let cs = map (checkpoint_of ps) ns in (
       λ are. AreBelow-cons checkpoint_seq n (checkpoint_of ps m) cs (AreBelow-head (λ m. m) n m ns are) (rest.0 (AreBelow-tail (λ m. m) n m ns are)),
-      λ are. AreBelow-cons (λ m. m) n m ns (AreBelow-head checkpoint_seq n (checkpoint_of ps m) cs are) (rest.1 (AreBelow-tail checkpoint_seq n (checkpoint_of ps m) cs are)),
+      λ are. AreBelow-cons (λ m. m) n m ns (AreBelow-head checkpoint_seq n (checkpoint_of ps m) cs are)
+          (rest.1 (AreBelow-tail checkpoint_seq n (checkpoint_of ps m) cs are)),
     )

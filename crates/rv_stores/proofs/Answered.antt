@@ -24,7 +24,12 @@ module _ (seq : ℕ) (news : StoreState) where
       let other : nat_eq s.seq seq ≡ false = grind (arith, nat_tests) in
       rw (answered-other s other, map-answered_above m ss le (All-tail (λ t. m < t.seq) s ss h)) refl
 
-  map-answered_one : (b : Bool) (s : Store) (ss : List Store) (i : ℕ) → nat_lt s.seq seq ≡ b → i ≡ cond b (1 + prefix_len (λ t. nat_lt t.seq seq) ss) 0 → IsInOrder (λ t. t.seq) (s ∷ ss) → (x : Store) → slice_get (s ∷ ss) i ≡ Some x → ((j : ℕ) → j ≡ prefix_len (λ t. nat_lt t.seq seq) ss → slice_get ss j ≡ Some x → map (answered seq news) ss ≡ slice_set ss j (answered seq news x)) → map (answered seq news) (s ∷ ss) ≡ slice_set (s ∷ ss) i (answered seq news x)
+  map-answered_one : (b : Bool) (s : Store) (ss : List Store) (i : ℕ) → nat_lt s.seq seq ≡ b →
+      i ≡ cond b (1 + prefix_len (λ t. nat_lt t.seq seq) ss) 0 → IsInOrder (λ t. t.seq) (s ∷ ss) → (x : Store) →
+      slice_get (s ∷ ss) i ≡ Some x →
+      ((j : ℕ) → j ≡ prefix_len (λ t. nat_lt t.seq seq) ss → slice_get ss j ≡ Some x →
+      map (answered seq news) ss ≡ slice_set ss j (answered seq news x)) →
+      map (answered seq news) (s ∷ ss) ≡ slice_set (s ∷ ss) i (answered seq news x)
   map-answered_one true s ss zero e at h x is on = absurd (omega arith)
   map-answered_one true s ss (suc j) e at h x is on =
       let other : nat_eq s.seq seq ≡ false = grind (arith, nat_tests) in
@@ -36,12 +41,17 @@ module _ (seq : ℕ) (news : StoreState) where
   map-answered_one false s ss (suc j) e at h x is on = absurd (omega arith)
 
   -- of stores in order, a broadcast changes no other than the first that is not below its number
-  pub map-answered : (ss : List Store) (i : ℕ) (x : Store) → i ≡ prefix_len (λ s. nat_lt s.seq seq) ss → IsInOrder (λ t. t.seq) ss → slice_get ss i ≡ Some x → map (answered seq news) ss ≡ slice_set ss i (answered seq news x)
+  pub map-answered : (ss : List Store) (i : ℕ) (x : Store) → i ≡ prefix_len (λ s. nat_lt s.seq seq) ss →
+      IsInOrder (λ t. t.seq) ss → slice_get ss i ≡ Some x →
+      map (answered seq news) ss ≡ slice_set ss i (answered seq news x)
   map-answered [] i x at h is = absurd (cc)
   map-answered (s ∷ ss) i x at h is =
       map-answered_one (nat_lt s.seq seq) s ss i refl at h x is (λ j at' is'. map-answered ss j x at' (IsInOrder-tail (λ t. t.seq) s ss h) is')
 
-  map-answered_none_one : (b : Bool) (s : Store) (ss : List Store) (i : ℕ) → nat_lt s.seq seq ≡ b → i ≡ cond b (1 + prefix_len (λ t. nat_lt t.seq seq) ss) 0 → slice_get (s ∷ ss) i ≡ None → ((j : ℕ) → j ≡ prefix_len (λ t. nat_lt t.seq seq) ss → slice_get ss j ≡ None → map (answered seq news) ss ≡ ss) → map (answered seq news) (s ∷ ss) ≡ s ∷ ss
+  map-answered_none_one : (b : Bool) (s : Store) (ss : List Store) (i : ℕ) → nat_lt s.seq seq ≡ b →
+      i ≡ cond b (1 + prefix_len (λ t. nat_lt t.seq seq) ss) 0 → slice_get (s ∷ ss) i ≡ None →
+      ((j : ℕ) → j ≡ prefix_len (λ t. nat_lt t.seq seq) ss → slice_get ss j ≡ None → map (answered seq news) ss ≡ ss) →
+      map (answered seq news) (s ∷ ss) ≡ s ∷ ss
   map-answered_none_one true s ss zero e at is on = absurd (omega arith)
   map-answered_none_one true s ss (suc j) e at is on =
       let other : nat_eq s.seq seq ≡ false = grind (arith, nat_tests) in
@@ -50,7 +60,8 @@ module _ (seq : ℕ) (news : StoreState) where
   map-answered_none_one false s ss (suc j) e at is on = absurd (omega arith)
 
   -- where all stores are below its number, a broadcast changes none
-  pub map-answered_none : (ss : List Store) (i : ℕ) → i ≡ prefix_len (λ s. nat_lt s.seq seq) ss → slice_get ss i ≡ None → map (answered seq news) ss ≡ ss
+  pub map-answered_none : (ss : List Store) (i : ℕ) → i ≡ prefix_len (λ s. nat_lt s.seq seq) ss →
+      slice_get ss i ≡ None → map (answered seq news) ss ≡ ss
   map-answered_none [] i at is = refl
   map-answered_none (s ∷ ss) i at is =
       map-answered_none_one (nat_lt s.seq seq) s ss i refl at is (λ j at' is'. map-answered_none ss j at' is')
@@ -70,6 +81,13 @@ module _ (seq : ℕ) (news : StoreState) where
       [ true ↦ committed-told h s.state | false ↦ refl ]
 
   -- a change that the test does not see
-  pub ComeFirst-answered : is_committed_state news ≡ false → (ss : List Store) → ComeFirst is_committed ss → ComeFirst is_committed (map (answered seq news) ss)
+  pub ComeFirst-answered : is_committed_state news ≡ false → (ss : List Store) → ComeFirst is_committed ss →
+      ComeFirst is_committed (map (answered seq news) ss)
   ComeFirst-answered h [] first = first
-  ComeFirst-answered h (s ∷ ss) first = AllPairs-cons (λ x y. is_committed y ≡ true → is_committed x ≡ true) (answered seq news s) (map (answered seq news) ss) (All-map (λ y. is_committed y ≡ true → is_committed (answered seq news s) ≡ true) (answered seq news) ss (λ k d lt passes. committed-answered h s ∙ first 0 (suc k) d (omega arith) (omega arith) (sym (committed-answered h (get_or ss k d)) ∙ passes))) (ComeFirst-answered h ss (ComeFirst-tail is_committed s ss first))
+  ComeFirst-answered h (s ∷ ss) first =
+      AllPairs-cons (λ x y. is_committed y ≡ true → is_committed x ≡ true) (answered seq news s)
+      (map (answered seq news) ss)
+      (All-map (λ y. is_committed y ≡ true → is_committed (answered seq news s) ≡ true) (answered seq news) ss
+      (λ k d lt passes. committed-answered h s
+      ∙ first 0 (suc k) d (omega arith) (omega arith) (sym (committed-answered h (get_or ss k d)) ∙ passes)))
+      (ComeFirst-answered h ss (ComeFirst-tail is_committed s ss first))

@@ -42,7 +42,8 @@ pub AreBelow-none : (n : ℕ) (ss : List Store) → last_item ss ≡ None → Ar
 AreBelow-none n ss h k d lt = absurd (none-some _ (sym h ∙ slice_get-get_or ss (length ss - 1) d (omega arith)))
 
 -- stores in order are below a number where the youngest is
-pub AreBelow-youngest : (n : ℕ) (ss : List Store) (s : Store) → IsInOrder (λ t. t.seq) ss → last_item ss ≡ Some s → s.seq < n → AreBelow (λ t. t.seq) n ss
+pub AreBelow-youngest : (n : ℕ) (ss : List Store) (s : Store) → IsInOrder (λ t. t.seq) ss → last_item ss ≡ Some s →
+    s.seq < n → AreBelow (λ t. t.seq) n ss
 AreBelow-youngest n ss s order at lt = AreBelow-last (λ t. t.seq) n (length ss - 1) ss s order (omega arith) at lt
 
 -- where all are below a number, the youngest is

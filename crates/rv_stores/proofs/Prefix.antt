@@ -22,7 +22,8 @@ module _ {X : Type 0} (p : X → Bool) where
       is in
       first (p y) refl
 
-  take-prefix_len_one : (b : Bool) (n : ℕ) (x : X) (xs : List X) → (b ≡ true → take n xs ≡ filter p xs) → (b ≡ false → filter p xs ≡ []) → take (cond b (1 + n) 0) (x ∷ xs) ≡ cond b (x ∷ filter p xs) (filter p xs)
+  take-prefix_len_one : (b : Bool) (n : ℕ) (x : X) (xs : List X) → (b ≡ true → take n xs ≡ filter p xs) →
+      (b ≡ false → filter p xs ≡ []) → take (cond b (1 + n) 0) (x ∷ xs) ≡ cond b (x ∷ filter p xs) (filter p xs)
   take-prefix_len_one true n x xs same none = let one : 1 + n ≡ suc n = omega arith in rw one (ap (λ l. x ∷ l) (same refl))
   take-prefix_len_one false n x xs same none = rw none refl
 

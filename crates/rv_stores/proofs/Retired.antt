@@ -14,19 +14,27 @@ use Rattle.rv_stores.proofs.Prefix.{ComeFirst-tail, ComeFirst-fails}
 abbrev pub retired_store : Store → Store
 retired_store s = record s { state = retired s.state }
 
-set_one : (b : Bool) (s : Store) (ss : List Store) (i : ℕ) (x : Store) → i ≡ cond b (1 + prefix_len is_committed ss) 0 → slice_get (s ∷ ss) i ≡ Some x → ((j : ℕ) → j ≡ prefix_len is_committed ss → slice_get ss j ≡ Some x → with_oldest_retired ss ≡ slice_set ss j (retired_store x)) → cond b (s ∷ with_oldest_retired ss) (retired_store s ∷ ss) ≡ slice_set (s ∷ ss) i (retired_store x)
+set_one : (b : Bool) (s : Store) (ss : List Store) (i : ℕ) (x : Store) → i ≡ cond b (1 + prefix_len is_committed ss) 0 →
+    slice_get (s ∷ ss) i ≡ Some x →
+    ((j : ℕ) → j ≡ prefix_len is_committed ss → slice_get ss j ≡ Some x →
+    with_oldest_retired ss ≡ slice_set ss j (retired_store x)) →
+    cond b (s ∷ with_oldest_retired ss) (retired_store s ∷ ss) ≡ slice_set (s ∷ ss) i (retired_store x)
 set_one true s ss zero x at is on = absurd (omega arith)
 set_one true s ss (suc j) x at is on = ap (λ l. s ∷ l) (on j (omega arith) is)
 set_one false s ss zero x at is on = let same : s ≡ x = cc in ap (λ t. retired_store t ∷ ss) same
 set_one false s ss (suc j) x at is on = absurd (omega arith)
 
 -- a retirement replaces the first store after those that are committed by the retired one
-pub with_oldest_retired-set : (ss : List Store) (i : ℕ) (x : Store) → i ≡ prefix_len is_committed ss → slice_get ss i ≡ Some x → with_oldest_retired ss ≡ slice_set ss i (retired_store x)
+pub with_oldest_retired-set : (ss : List Store) (i : ℕ) (x : Store) → i ≡ prefix_len is_committed ss →
+    slice_get ss i ≡ Some x → with_oldest_retired ss ≡ slice_set ss i (retired_store x)
 with_oldest_retired-set [] i x at is = absurd (cc)
 with_oldest_retired-set (s ∷ ss) i x at is =
     set_one (is_committed s) s ss i x at is (λ j at' is'. with_oldest_retired-set ss j x at' is')
 
-same_one : (b : Bool) (s : Store) (ss : List Store) (i : ℕ) → i ≡ cond b (1 + prefix_len is_committed ss) 0 → slice_get (s ∷ ss) i ≡ None → ((j : ℕ) → j ≡ prefix_len is_committed ss → slice_get ss j ≡ None → with_oldest_retired ss ≡ ss) → cond b (s ∷ with_oldest_retired ss) (retired_store s ∷ ss) ≡ s ∷ ss
+same_one : (b : Bool) (s : Store) (ss : List Store) (i : ℕ) → i ≡ cond b (1 + prefix_len is_committed ss) 0 →
+    slice_get (s ∷ ss) i ≡ None →
+    ((j : ℕ) → j ≡ prefix_len is_committed ss → slice_get ss j ≡ None → with_oldest_retired ss ≡ ss) →
+    cond b (s ∷ with_oldest_retired ss) (retired_store s ∷ ss) ≡ s ∷ ss
 same_one true s ss zero at is on = absurd (omega arith)
 same_one true s ss (suc j) at is on = ap (λ l. s ∷ l) (on j (omega arith) is)
 same_one false s ss zero at is on = absurd (cc)
@@ -53,11 +61,15 @@ IsInOrder-retired (s ∷ ss) h =
     elim (is_committed s) as (λ b. IsInOrder seq (cond b (s ∷ with_oldest_retired ss) (retired_store s ∷ ss)))
     [ true ↦ IsInOrder-cons seq s (with_oldest_retired ss) (above-retired s.seq ss (IsInOrder-head seq s ss h)) (IsInOrder-retired ss (IsInOrder-tail seq s ss h)) | false ↦ IsInOrder-cons seq (retired_store s) ss (IsInOrder-head seq s ss h) (IsInOrder-tail seq s ss h) ]
 
-first_one : (b : Bool) (s : Store) (ss : List Store) → is_committed s ≡ b → ComeFirst is_committed (s ∷ ss) → ComeFirst is_committed (with_oldest_retired ss) → ComeFirst is_committed (cond b (s ∷ with_oldest_retired ss) (retired_store s ∷ ss))
+first_one : (b : Bool) (s : Store) (ss : List Store) → is_committed s ≡ b → ComeFirst is_committed (s ∷ ss) →
+    ComeFirst is_committed (with_oldest_retired ss) →
+    ComeFirst is_committed (cond b (s ∷ with_oldest_retired ss) (retired_store s ∷ ss))
 first_one true s ss e h on =
     AllPairs-cons (λ x y. is_committed y ≡ true → is_committed x ≡ true) s (with_oldest_retired ss) (λ k d lt passes. e) on
 first_one false s ss e h on =
-    AllPairs-cons (λ x y. is_committed y ≡ true → is_committed x ≡ true) (retired_store s) ss (λ k d lt passes. absurd (true≢false (sym (ComeFirst-fails is_committed s ss h e k d lt passes) ∙ e))) (ComeFirst-tail is_committed s ss h)
+    AllPairs-cons (λ x y. is_committed y ≡ true → is_committed x ≡ true) (retired_store s) ss
+    (λ k d lt passes. absurd (true≢false (sym (ComeFirst-fails is_committed s ss h e k d lt passes) ∙ e)))
+    (ComeFirst-tail is_committed s ss h)
 
 -- a retirement leaves the committed stores first
 pub ComeFirst-retired : (ss : List Store) → ComeFirst is_committed ss → ComeFirst is_committed (with_oldest_retired ss)

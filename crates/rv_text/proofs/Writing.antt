@@ -44,7 +44,8 @@ pub beginning-both : (a b c : Option (List ℕ)) (xs ys : List ℕ) → Appends 
 beginning-both a b c xs ys first (n, within, appended) = (
   length xs + n,
   omega (arith, length-append xs ys),
-  Appends-same a c (xs ++ take n ys) (take (length xs + n) (xs ++ ys)) (sym (take-append-add xs ys n)) (Appends-both a b c xs (take n ys) first appended),
+  Appends-same a c (xs ++ take n ys) (take (length xs + n) (xs ++ ys)) (sym (take-append-add xs ys n))
+      (Appends-both a b c xs (take n ys) first appended),
 )
 
 -- a beginning of a text is a beginning of an equal one
@@ -56,7 +57,9 @@ module _ {X : Type 0} (text : X → List ℕ) (items : List X) (place : ℕ) (ot
   -- the texts of one item more are those up to its place, and its own
   pub flat_map-more : flat_map text (take (place + 1) items) ≡ flat_map text (take place items) ++ text (get_or items place other)
   flat_map-more =
-      ap (flat_map text) (take_more items place other here) ∙ flat_map-append text (take place items) (get_or items place other ∷ []) ∙ ap (λ last. flat_map text (take place items) ++ last) (append-nil (text (get_or items place other)))
+      ap (flat_map text) (take_more items place other here)
+      ∙ flat_map-append text (take place items) (get_or items place other ∷ [])
+      ∙ ap (λ last. flat_map text (take place items) ++ last) (append-nil (text (get_or items place other)))
 
 range-more : (first count : ℕ) → range_with_len first (suc count) ≡ range_with_len first count ++ (first + count) ∷ []
 range-more first zero = ap (λ n. n ∷ []) (omega arith)
@@ -72,7 +75,8 @@ texts_below text bound = flat_map text (range_with_len 0 bound)
 pub texts_below-more : (text : ℕ → List ℕ) (bound : ℕ) → texts_below text (suc bound) ≡ texts_below text bound ++ text bound
 unfolding texts_below
 texts_below-more text bound =
-    ap (flat_map text) (range-more 0 bound) ∙ flat_map-append text (range_with_len 0 bound) ((0 + bound) ∷ []) ∙ ap (λ last. texts_below text bound ++ last) (append-nil (text (0 + bound)) ∙ ap text (omega arith))
+    ap (flat_map text) (range-more 0 bound) ∙ flat_map-append text (range_with_len 0 bound) ((0 + bound) ∷ [])
+    ∙ ap (λ last. texts_below text bound ++ last) (append-nil (text (0 + bound)) ∙ ap text (omega arith))
 
 -- the address of a word by its number, as it is computed
 pub place_of_word : (address number : ℕ) → (address + number * 4 % 2 ^ 32) % 2 ^ 32 ≡ (address + 4 * number) % 2 ^ 32

@@ -36,7 +36,10 @@ holding-then cycle latest (suc n) other =
     ap (λ b. cond b (start ∷ rest) rest) (holds-then cycle latest other) ∙ holding-then cycle latest n other
 
 -- those that hold a unit are starts of the cycle itself
-holding-one_cycle : (cycle latest n : ℕ) → holding cycle (replicate n (record { cycle = latest; cost = 1 })) ≡ replicate (length (holding cycle (replicate n (record { cycle = latest; cost = 1 })))) (record { cycle = cycle; cost = 1 })
+holding-one_cycle : (cycle latest n : ℕ) →
+    holding cycle (replicate n (record { cycle = latest; cost = 1 }))
+    ≡ replicate (length (holding cycle (replicate n (record { cycle = latest; cost = 1 }))))
+    (record { cycle = cycle; cost = 1 })
 holding-one_cycle cycle latest n = elim (cases_Bool (eqb latest cycle)) [
   | inl same ↦
       let is : latest ≡ cycle = eqb-true latest cycle same in
@@ -47,7 +50,15 @@ holding-one_cycle cycle latest n = elim (cases_Bool (eqb latest cycle)) [
 ]
 
 -- one more start of pipelined units is one more in their count
-pub started-pipelined : (units cost cycle latest n : ℕ) → (record { units = units; is_pipelined = true; starts = replicate (length (holding cycle (replicate n (record { cycle = latest; cost = 1 }))) + 1) (record { cycle = cycle; cost = 1 }) }) ≡ started cost cycle (record { units = units; is_pipelined = true; starts = replicate n (record { cycle = latest; cost = 1 }) })
+pub started-pipelined : (units cost cycle latest n : ℕ) →
+    (record {
+      units = units;
+      is_pipelined = true;
+      starts = replicate (length (holding cycle (replicate n (record { cycle = latest; cost = 1 }))) + 1)
+          (record { cycle = cycle; cost = 1 });
+    })
+    ≡ started cost cycle
+    (record { units = units; is_pipelined = true; starts = replicate n (record { cycle = latest; cost = 1 }) })
 started-pipelined units cost cycle latest n =
     let start : Issue = record { cycle = cycle; cost = 1 } in
     let pool : List Issue → Pool = λ ss. record { units = units; is_pipelined = true; starts = ss } in

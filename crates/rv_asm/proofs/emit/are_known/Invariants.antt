@@ -9,7 +9,10 @@ use Rattle.rv_asm.proofs.emit.are_known.Given as goal
 
 -- each operand so far has a value
 abbrev pub invariant-loop-rest : goal.invariant-loop-rest
-invariant-loop-rest l = list_all (λ operand. is_some (evaluate (value_in l.program) (expression_in operand))) (data_in l.tokens) ≡ list_all (λ operand. is_some (evaluate (value_in l.program) (expression_in operand))) (map datum (pieces_left l.rest))
+invariant-loop-rest l =
+    list_all (λ operand. is_some (evaluate (value_in l.program) (expression_in operand))) (data_in l.tokens)
+    ≡ list_all (λ operand. is_some (evaluate (value_in l.program) (expression_in operand)))
+    (map datum (pieces_left l.rest))
 
 abbrev pub decreases-loop-rest : goal.decreases-loop-rest
 decreases-loop-rest l = option_map_or (λ rest. length rest.now + 1) l.rest 0

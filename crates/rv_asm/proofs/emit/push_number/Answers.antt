@@ -12,4 +12,9 @@ returns c =
     let fits : fits_width c.args.width c.args.number ≡ true = search rules in
     let word : c.modulo_word.result ≡ modulo_word c.args.number = search rules in
     let is : c.split_at.result.0.now ≡ low = c.split_at.ensures.front ∙ ap (λ n. take n c.as_slice.result.now) c.bytes.ensures ∙ ap (take (bytes_of c.args.width)) (c.as_slice.ensures ∙ c.to_le_bytes-bytes.ensures ∙ ap (to_le_bytes w32) word) in
-    record { parts = map Byte' low; means = rw fits refl; appends = appends_bytes low _ _ (c.in_ok-extend_from_slice.ensures.items ∙ ap (λ l. c.args.out.now.items ++ l) is) }
+    record {
+      parts = map Byte' low;
+      means = rw fits refl;
+      appends = appends_bytes low _ _
+          (c.in_ok-extend_from_slice.ensures.items ∙ ap (λ l. c.args.out.now.items ++ l) is);
+    }

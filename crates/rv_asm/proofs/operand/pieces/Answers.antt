@@ -5,4 +5,8 @@ use Rattle.rv_asm.proofs.Operands.{pieces_are}
 use Rattle.rv_asm.proofs.operand.pieces.Goals as goal
 
 pub returns : goal.returns
-returns c = pieces_are c.collect.result c.args.tokens.now (map_from_collect _ c.collect.ensures.ran (YieldsList-from_slice_split _ _ c.args.tokens.now c.split.ensures.rest c.split.ensures.done c.split.ensures.closure (λ x r q k. search (rules, tests))))
+returns c =
+    pieces_are c.collect.result c.args.tokens.now
+    (map_from_collect _ c.collect.ensures.ran
+    (YieldsList-from_slice_split _ _ c.args.tokens.now c.split.ensures.rest c.split.ensures.done
+    c.split.ensures.closure (λ x r q k. search (rules, tests))))

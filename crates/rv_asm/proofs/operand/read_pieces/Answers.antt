@@ -23,4 +23,6 @@ returns-in_default c = λ _.
 pub returns : goal.returns
 returns c =
     let none_left = ap (map (λ piece. map token_of piece.now)) (drop_all c.loop-piece.piece-index c.args.pieces.now (omega (arith, c.loop-piece-test.false))) in
-    ap (λ o. ok_or o BadOperands) (sym c.loop-piece.invariant ∙ ap (λ l. joined operand_of c.loop-piece.operands.items (operands_in l)) none_left ∙ joined-end operand_of _)
+    ap (λ o. ok_or o BadOperands)
+    (sym c.loop-piece.invariant ∙ ap (λ l. joined operand_of c.loop-piece.operands.items (operands_in l)) none_left
+    ∙ joined-end operand_of _)

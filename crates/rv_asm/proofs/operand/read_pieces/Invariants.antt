@@ -6,4 +6,7 @@ use Rattle.rv_asm.proofs.operand.read_pieces.Given as goal
 
 -- the operands so far and those of the pieces that are left are all of them
 abbrev pub invariant-loop-piece : goal.invariant-loop-piece
-invariant-loop-piece l = joined operand_of l.operands.items (operands_in (map (λ piece. map token_of piece.now) (drop l.piece-index l.pieces))) ≡ operands_in (map (λ piece. map token_of piece.now) l.pieces)
+invariant-loop-piece l =
+    joined operand_of l.operands.items
+    (operands_in (map (λ piece. map token_of piece.now) (drop l.piece-index l.pieces)))
+    ≡ operands_in (map (λ piece. map token_of piece.now) l.pieces)

@@ -20,7 +20,14 @@ pub returns-in-Ok : goal.returns-in-Ok
 returns-in-Ok c =
     let no_plus : slice_index c.args.digits.now 0 ≢ 43 = omega (arith, first_is c.args.digits.now c.in_ok-first.field-0.now c.in_ok-first.ensures.value) in
     let text_is = ap without_leading_plus c.in-Ok.ensures.cases.0 ∙ without_plus c.args.digits.now no_plus in
-    c.ok.ensures.value ∙ number_in-read c.args.base c.args.digits.now c.from_str_radix.result (subst (λ ds. OkIff c.from_str_radix.result (IsNumeral c.args.base ds × (digits_value c.args.base ds < 4294967296)) (digits_value c.args.base ds)) text_is c.from_str_radix.ensures.value)
+    c.ok.ensures.value
+    ∙ number_in-read c.args.base c.args.digits.now c.from_str_radix.result
+    (subst (λ ds. OkIff c.from_str_radix.result
+    (IsNumeral c.args.base ds × (digits_value c.args.base ds < 4294967296)) (digits_value c.args.base ds)) text_is
+    c.from_str_radix.ensures.value)
 
 pub returns-in-Err : goal.returns-in-Err
-returns-in-Err c = number_in-none c.args.base c.args.digits.now (λ all. c.in-Err.ensures.cases.0 (IsUtf8-from_ascii c.args.digits.now (digits_are_ascii c.args.base c.args.digits.now (omega arith) all)))
+returns-in-Err c =
+    number_in-none c.args.base c.args.digits.now
+    (λ all. c.in-Err.ensures.cases.0
+    (IsUtf8-from_ascii c.args.digits.now (digits_are_ascii c.args.base c.args.digits.now (omega arith) all)))

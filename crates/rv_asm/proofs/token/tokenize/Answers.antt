@@ -29,9 +29,14 @@ loop-rest-preserved c =
     let first = tokens_of-first c.loop-rest.rest.now (lexeme_of c.in-Some.found) (grind (arith, nat_tests)) c.in-Some.ensures.lexeme c.in-Some.ensures.size.0 in
     let after = tokens_of (drop c.in-Some.found.size c.loop-rest.rest.now) in
     let token_first = first ∙ ap (λ token. option_map (λ tokens. option_to_list (option_map token_of token) ++ tokens) after) c.in-Some-token.is in
-    rw (c.in_ok-push.ensures.items, c.split_at.ensures.back) (joined-push token_of c.loop-rest.tokens.items c.in-Some-token.token after ∙ ap (joined token_of c.loop-rest.tokens.items) (sym token_first) ∙ c.loop-rest.invariant)
+    rw (c.in_ok-push.ensures.items, c.split_at.ensures.back)
+    (joined-push token_of c.loop-rest.tokens.items c.in-Some-token.token after
+    ∙ ap (joined token_of c.loop-rest.tokens.items) (sym token_first) ∙ c.loop-rest.invariant)
 
 pub returns : goal.returns
 returns c =
     let none : length c.loop-rest.rest.now ≡ 0 = grind (arith, nat_tests) in
-    ap (λ o. ok_or o BadToken) (sym c.loop-rest.invariant ∙ ap (joined token_of c.loop-rest.tokens.items) (tokens_of-empty c.loop-rest.rest.now none) ∙ joined-end token_of _)
+    ap (λ o. ok_or o BadToken)
+    (sym c.loop-rest.invariant
+    ∙ ap (joined token_of c.loop-rest.tokens.items) (tokens_of-empty c.loop-rest.rest.now none)
+    ∙ joined-end token_of _)

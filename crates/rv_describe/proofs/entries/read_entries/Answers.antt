@@ -30,4 +30,10 @@ unfolding entries_meaning
 returns-in-None-clause-read c =
     let same : c.in-Ok.arrivals.items ≡ arrivals_of (map view c.args.entries.now) = c.in-Ok.ensures ∙ sym (filter_map-map view arrival_of c.args.entries.now) in
     let sorted = ap (first_fall 1 0) (sym (c.as_slice.ensures.value ∙ same)) ∙ sym c.first_fall.ensures ∙ c.in-None.is in
-    λ memory. ap Ok (rw c.unwrap.ensures at c.new.ensures.arrivals ∙ same) ∙ sym (rw (sym c.entry_fault.ensures ∙ c.in_default.is, few c.args.entries.now c.if-entries-gt-MOST_ARRIVALS.false, sorted))
+    λ memory. ap Ok (rw c.unwrap.ensures at c.new.ensures.arrivals ∙ same)
+    ∙ sym (rw (
+      sym c.entry_fault.ensures
+          ∙ c.in_default.is,
+      few c.args.entries.now c.if-entries-gt-MOST_ARRIVALS.false,
+      sorted,
+    ))

@@ -6,4 +6,5 @@ use Rattle.rv_describe.proofs.unknown.has_other_name.Given as goal
 -- no name so far is another
 abbrev pub invariant-loop-name : goal.invariant-loop-name
 invariant-loop-name l =
-    has_other_name (map (λ name. name.now) l.names) (members_view l.name-iterator) ≡ has_other_name (map (λ name. name.now) l.names) (members_view l.table.entries)
+    has_other_name (map (λ name. name.now) l.names) (members_view l.name-iterator)
+    ≡ has_other_name (map (λ name. name.now) l.names) (members_view l.table.entries)

@@ -4,7 +4,8 @@ use Rattle.rv_isa.specs.Word.{upper_word}
 use Rattle.rv_isa.proofs.arithmetic.multiply_high_mixed.Goals as goal
 
 -- x and y are a and b in 64 bits
-product : (a : ℤ) (b : ℕ) (x y : ℤ) → SFits w32 a → SFits w64 x → SFits w64 y → x ≡ to_z w32 (of_z w32 a) → y ≡ pos b → to_z w64 (of_z w64 x) *ℤ to_z w64 (of_z w64 y) ≡ a *ℤ pos b
+product : (a : ℤ) (b : ℕ) (x y : ℤ) → SFits w32 a → SFits w64 x → SFits w64 y → x ≡ to_z w32 (of_z w32 a) → y ≡ pos b →
+    to_z w64 (of_z w64 x) *ℤ to_z w64 (of_z w64 y) ≡ a *ℤ pos b
 product a b x y fits fits_x fits_y is_x is_y =
     rw (to_z-of_z w64 x fits_x, to_z-of_z w64 y fits_y, is_x, to_z-of_z w32 a fits, is_y) refl
 

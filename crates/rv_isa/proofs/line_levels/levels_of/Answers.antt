@@ -14,6 +14,9 @@ loop-block-preserved c =
       grind (arith, common_steps),
       grind (arith, common_steps, drop-drop, drop_min, next, c.split_at.ensures.back),
       let count : take c.min.result c.loop-block.rest.now ≡ take BLOCK c.loop-block.rest.now = grind (arith, c.min.ensures, take_min BLOCK c.loop-block.rest.now) in
-          rw (c.lines_after-lines.ensures, c.split_at.ensures.front, next) (fold-more no_lines c.loop-block.lines c.args.items.now (take c.min.result c.loop-block.rest.now) (c.loop-block.block * BLOCK) BLOCK (count ∙ ap (take BLOCK) c.loop-block.invariant.1) here),
-      table_more (λ k. fold line_set no_lines (take (k * BLOCK) c.args.items.now)) c.loop-block.levels _ _ (omega (arith, c.loop-block.invariant.0, c.loop-block-test.true)) here c.loop-block.invariant.3,
+          rw (c.lines_after-lines.ensures, c.split_at.ensures.front, next)
+          (fold-more no_lines c.loop-block.lines c.args.items.now (take c.min.result c.loop-block.rest.now)
+          (c.loop-block.block * BLOCK) BLOCK (count ∙ ap (take BLOCK) c.loop-block.invariant.1) here),
+      table_more (λ k. fold line_set no_lines (take (k * BLOCK) c.args.items.now)) c.loop-block.levels _ _
+          (omega (arith, c.loop-block.invariant.0, c.loop-block-test.true)) here c.loop-block.invariant.3,
     )

@@ -17,19 +17,23 @@ pub returns-in_err-descriptions-clause-refused : goal.returns-in_err-description
 returns-in_err-descriptions-clause-refused c =
     refused_on (RefusesComparison c.args.text.now) _ _ c.from_residual.ensures.1
     (RefusesComparison.descriptions (omega (arith, c.if-text-gt-MOST_BYTES.false))
-    (ltb-false most_machines (separator_count c.args.text.now) (sym c.has_too_many.ensures ∙ c.if-has_too_many.false)) c.in_err-descriptions.ensures.refused)
+    (ltb-false most_machines (separator_count c.args.text.now) (sym c.has_too_many.ensures ∙ c.if-has_too_many.false))
+    c.in_err-descriptions.ensures.refused)
 
 pub returns-in_err-jobs-clause-refused : goal.returns-in_err-jobs-clause-refused
 returns-in_err-jobs-clause-refused c =
     refused_on (RefusesComparison c.args.text.now) _ _ c.from_residual-in_err-jobs.ensures.1
     (RefusesComparison.program (omega (arith, c.if-text-gt-MOST_BYTES.false))
-    (ltb-false most_machines (separator_count c.args.text.now) (sym c.has_too_many.ensures ∙ c.if-has_too_many.false)) c.in_ok-descriptions.ensures.machines
-    (subst (λ machines. RefusesLoading c.in_ok-descriptions.program.now machines c.in_err-jobs.field-0.0) c.as_slice.ensures.value c.in_err-jobs.ensures.refused))
+    (ltb-false most_machines (separator_count c.args.text.now) (sym c.has_too_many.ensures ∙ c.if-has_too_many.false))
+    c.in_ok-descriptions.ensures.machines
+    (subst (λ machines. RefusesLoading c.in_ok-descriptions.program.now machines c.in_err-jobs.field-0.0)
+    c.as_slice.ensures.value c.in_err-jobs.ensures.refused))
 
 pub returns-clause-few : goal.returns-clause-few
 returns-clause-few c =
     jobs_few c.in_ok-descriptions.ensures.machines
-    (subst (λ machines. AreLoaded c.in_ok-descriptions.program.now machines c.in_ok-jobs.jobs.items) c.as_slice.ensures.value c.in_ok-jobs.ensures.jobs)
+    (subst (λ machines. AreLoaded c.in_ok-descriptions.program.now machines c.in_ok-jobs.jobs.items)
+    c.as_slice.ensures.value c.in_ok-jobs.ensures.jobs)
     (ltb-false most_machines (separator_count c.args.text.now) (sym c.has_too_many.ensures ∙ c.if-has_too_many.false))
 
 pub returns-in_default-clause-refused : goal.returns-in_default-clause-refused
@@ -44,6 +48,8 @@ returns-clause-comparison c = record {
   machines = c.in_ok-descriptions.descriptions.items;
   program = c.in_ok-descriptions.program.now;
   compares = c.in_ok-descriptions.ensures.machines;
-  loaded = subst (λ machines. AreLoaded c.in_ok-descriptions.program.now machines c.in_ok-jobs.jobs.items) c.as_slice.ensures.value c.in_ok-jobs.ensures.jobs;
+  loaded =
+      subst (λ machines. AreLoaded c.in_ok-descriptions.program.now machines c.in_ok-jobs.jobs.items)
+      c.as_slice.ensures.value c.in_ok-jobs.ensures.jobs;
   names = c.in-Ok.ensures;
 }

@@ -6,7 +6,12 @@ use Rattle.rv_passage.proofs.in_flight.count_kept.Goals as goal
 pub loop-place-preserved : goal.loop-place-preserved
 loop-place-preserved c =
     let now = in_buffers c.args.rob.now c.args.front.now in
-    omega (arith, c.loop-place.invariant, kept-next c.args.cycle now c.loop-place.place c.args.count (omega arith) (sym c.is_before.ensures ∙ c.if-not-is_before.false))
+    omega (
+      arith,
+      c.loop-place.invariant,
+      kept-next c.args.cycle now c.loop-place.place c.args.count (omega arith)
+          (sym c.is_before.ensures ∙ c.if-not-is_before.false),
+    )
 
 pub returns : goal.returns
 returns c =

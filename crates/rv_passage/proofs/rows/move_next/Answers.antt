@@ -5,4 +5,5 @@ use Rattle.rv_passage.proofs.rows.move_next.Goals as goal
 
 pub returns-then-go_on-clause-left : goal.returns-then-go_on-clause-left
 returns-then-go_on-clause-left c =
-    goes-left c.args.cycle c.args.next (in_buffers c.args.rob.now c.args.front.now) c.args.row.now (sym c.is_in_flight.ensures ∙ search rules) (sym c.go_on.ensures.went ∙ c.if-go_on.true)
+    goes-left c.args.cycle c.args.next (in_buffers c.args.rob.now c.args.front.now) c.args.row.now
+    (sym c.is_in_flight.ensures ∙ search rules) (sym c.go_on.ensures.went ∙ c.if-go_on.true)

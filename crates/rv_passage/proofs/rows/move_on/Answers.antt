@@ -14,7 +14,9 @@ loop-place-preserved c =
     let within : c.loop-place.place < length c.loop-place.rows = omega (arith, c.loop-place.auto.rows) in
     elim (slice_get_cases c.loop-place.rows c.loop-place.place).1 [
       | inl (p, _, there, read) ↦ record {
-        moved = moved-here c.args.cycle c.args.rows.now now c.loop-place.rows c.move_at-next.new.rows c.loop-place.place c.loop-place.next c.move_at-next.result p within (sym read) c.loop-place.invariant.moved
+        moved =
+            moved-here c.args.cycle c.args.rows.now now c.loop-place.rows c.move_at-next.new.rows c.loop-place.place
+            c.loop-place.next c.move_at-next.result p within (sym read) c.loop-place.invariant.moved
             (c.move_at-next.ensures.moved p there) (c.move_at-next.ensures.left p there);
         no_further = omega (arith, c.move_at-next.ensures.few, c.loop-place.invariant.no_further);
         still = λ told.

@@ -8,7 +8,8 @@ pub returns-in-Some : goal.returns-in-Some
 returns-in-Some c =
     let change : Passage → Passage = trapped_by c.args.cause c.args.cycle in
     let place = sym c.oldest_in_flight.ensures ∙ c.in-Some.is in
-    ap (set c.args.rows.now c.in-Some.place) c.trap.ensures ∙ sym (with_oldest-at change c.args.rows.now c.in-Some.place c.index-rows-place.result place)
+    ap (set c.args.rows.now c.in-Some.place) c.trap.ensures
+    ∙ sym (with_oldest-at change c.args.rows.now c.in-Some.place c.index-rows-place.result place)
 
 pub returns-in_default : goal.returns-in_default
 returns-in_default c =

@@ -24,6 +24,10 @@ loop-i-preserved c =
     let more = take-next c.loop-i.i c.args.producers.now.items c.in-Some.producer.now held in
     let next = below-next (c.args.seq + 1) c.loop-i.i c.args.producers.now.items c.in-Some.producer.now held (omega (arith, c.if-producer-seq.false)) in
     rw (more, c.index.ensures.number) (
-      c.loop-i.invariant.0 ∙ rw next (sym (append_assoc (take c.loop-i.i c.args.producers.now.items) (c.in-Some.producer.now ∷ []) (below seq_of (c.args.seq + 1) (drop (c.loop-i.i + 1) c.args.producers.now.items)))),
-      IsTable-push c.loop-i.table (take c.loop-i.i c.args.producers.now.items) c.in-Some.producer.now (omega (arith, c.index.ensures)) c.loop-i.invariant.1,
+      c.loop-i.invariant.0
+          ∙ rw next (sym
+          (append_assoc (take c.loop-i.i c.args.producers.now.items) (c.in-Some.producer.now ∷ [])
+          (below seq_of (c.args.seq + 1) (drop (c.loop-i.i + 1) c.args.producers.now.items)))),
+      IsTable-push c.loop-i.table (take c.loop-i.i c.args.producers.now.items) c.in-Some.producer.now
+          (omega (arith, c.index.ensures)) c.loop-i.invariant.1,
     )

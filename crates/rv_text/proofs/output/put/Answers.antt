@@ -11,5 +11,8 @@ loop-written-preserved g c =
     let taken = ap (take count) c.split_at.ensures.back in
     record {
       in_range = omega (arith, c.in-Ok.ensures.bound, c.split_at.ensures.back_len);
-      appended = Appends-same _ _ _ _ (sym (take-add place count text)) (Appends-both _ _ _ _ _ c.loop-written.invariant.appended (Appends-same _ _ _ _ taken c.in-Ok.ensures.bytes));
+      appended =
+          Appends-same _ _ _ _ (sym (take-add place count text))
+          (Appends-both _ _ _ _ _ c.loop-written.invariant.appended
+          (Appends-same _ _ _ _ taken c.in-Ok.ensures.bytes));
     }

@@ -12,7 +12,8 @@ pub returns-then-not-in_range-clause-step : goal.returns-then-not-in_range-claus
 returns-then-not-in_range-clause-step c =
     let next = ap (λ (m : Machine). m.state) c.trap.ensures.state in
     let outside : is_in_ram c.args.self.now.layout c.args.self.now.state.pc 4 ≡ false = grind arith in
-    same_step _ _ _ (rw (ap (λ (m : Machine). m.state.pc) c.self.view_is) at c.trap.ensures.outcome) (rw (ap (λ (m : Machine). m.state.pc) c.self.view_is) at next) (unfetched c.requires outside)
+    same_step _ _ _ (rw (ap (λ (m : Machine). m.state.pc) c.self.view_is) at c.trap.ensures.outcome)
+    (rw (ap (λ (m : Machine). m.state.pc) c.self.view_is) at next) (unfetched c.requires outside)
 
 pub returns-then-not-in_range-clause-only : goal.returns-then-not-in_range-clause-only
 returns-then-not-in_range-clause-only c =
@@ -38,7 +39,9 @@ returns-in-None-clause-step c =
     let inside : is_in_ram c.args.self.now.layout c.args.self.now.state.pc 4 ≡ true = grind arith in
     let fresh = rw (ap (λ (m : Machine). m.state.pc) c.self.view_is) at c.if-is_stale.ensures.stale in
     let word : c.number-word.result ≡ word_at_pc c.args.self.now.layout c.args.self.now.state = grind arith in
-    same_step _ _ _ c.trap-in-None.ensures.outcome next (illegal_at _ _ _ (record { undisturbed = c.requires; in_ram = inside; fresh = sym fresh }) _ word (c.in-None.ensures.illegal.0 refl))
+    same_step _ _ _ c.trap-in-None.ensures.outcome next
+    (illegal_at _ _ _ (record { undisturbed = c.requires; in_ram = inside; fresh = sym fresh }) _ word
+    (c.in-None.ensures.illegal.0 refl))
 
 pub returns-in-None-clause-only : goal.returns-in-None-clause-only
 returns-in-None-clause-only c =

@@ -23,7 +23,9 @@ pub returns-in-Err-clause-refused : goal.returns-in-Err-clause-refused
 returns-in-Err-clause-refused c = λ memory.
     let not_memory = λ (e : _). memory (c.at.ensures.fault ∙ e) in
     rw (c.at.ensures.fault, c.at.ensures.line not_memory, ← c.deref-line-items.ensures.value)
-    (sym c.loop-line.invariant.fault ∙ next_fault c.deref-line-items.result.now c.loop-line.line-index _ c.loop-line-test.true _ _ (c.in-Err.ensures.refused not_memory))
+    (sym c.loop-line.invariant.fault
+    ∙ next_fault c.deref-line-items.result.now c.loop-line.line-index _ c.loop-line-test.true _ _
+    (c.in-Err.ensures.refused not_memory))
 
 finished : (c : After-loop-line) → drop c.loop-line.line-index c.deref-line-items.result.now ≡ []
 finished c = drop_all c.loop-line.line-index c.deref-line-items.result.now (omega (arith, c.loop-line-test.false))

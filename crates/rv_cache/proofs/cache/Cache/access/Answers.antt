@@ -9,7 +9,8 @@ write_back_victim-requires-clause-inside g c =
     let memory = g.M.Backing.bytes s.backing in
     let number = c.args.address / s.values.line in
     let read = get_or_read s.sets.items (number % s.values.sets) c.index_mut.result.now (place_in s.base s.values s.bytes.items memory s.sets.items c.self.invariant number) c.index_mut.ensures.value [] in
-    rw (c.access-access.ensures.victim, c.deref.ensures.value, read) (dropped_inside s.base s.values s.bytes.items memory s.sets.items c.self.invariant number)
+    rw (c.access-access.ensures.victim, c.deref.ensures.value, read)
+    (dropped_inside s.base s.values s.bytes.items memory s.sets.items c.self.invariant number)
 
 pub invariant_of-self : goal.invariant_of-self
 invariant_of-self g c =
@@ -27,4 +28,13 @@ returns-clause-elsewhere g c i =
     let cached = rw (← c.self.view_is) at c.requires.cached in
     let number = c.args.address / s.values.line in
     let read = get_or_read s.sets.items (number % s.values.sets) c.index_mut.result.now (place_in s.base s.values s.bytes.items memory s.sets.items c.self.invariant number) c.index_mut.ensures.value [] in
-    rw (c.write_back_victim.ensures.written, c.access-access.ensures.victim, c.deref.ensures.value, read, ← c.self.view_is) (updated_elsewhere s.base s.values s.bytes.items memory s.sets.items c.self.invariant c.args.address cached.0 cached.1 c.args.writes i)
+    rw (
+      c.write_back_victim.ensures.written,
+      c.access-access.ensures.victim,
+      c.deref.ensures.value,
+      read,
+      ←
+          c.self.view_is,
+    )
+    (updated_elsewhere s.base s.values s.bytes.items memory s.sets.items c.self.invariant c.args.address cached.0
+    cached.1 c.args.writes i)

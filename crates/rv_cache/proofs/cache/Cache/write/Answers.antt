@@ -16,7 +16,9 @@ invariant_of-self g c =
     let below : c.args.address + length c.args.bytes.now ≤ s.base + length s.bytes.items = omega (arith, same_base, ap length same_bytes, access.1.1) in
     let dirty = dirty_after_access s.base s.values s.bytes.items memory s.sets.items c.self.invariant c.args.self.now c.args.address (ap (λ (v : Contents _). v.values) tie) (ap (λ (v : Contents _). v.sets) tie) in
     let same_count = c.overwrite.auto.bytes ∙ c.deref_mut.ensures.len in
-    rw (take_at c.overwrite.new.bytes _ s.bytes.len same_count, c.overwrite.ensures, c.deref_mut.ensures.value) (consistent_written s.base s.values s.bytes.items memory s.sets.items c.self.invariant c.args.address c.args.bytes.now access.0.0 access.0.1 above below dirty)
+    rw (take_at c.overwrite.new.bytes _ s.bytes.len same_count, c.overwrite.ensures, c.deref_mut.ensures.value)
+    (consistent_written s.base s.values s.bytes.items memory s.sets.items c.self.invariant c.args.address
+    c.args.bytes.now access.0.0 access.0.1 above below dirty)
 
 pub returns-clause-updated : goal.returns-clause-updated
 returns-clause-updated g c i =

@@ -15,4 +15,5 @@ pub returns-clause-written : goal.returns-clause-written
 returns-clause-written g c =
     let s = c.self.inside in
     let memory = g.M.Backing.bytes s.backing in
-    rw (c.write_back_sets.ensures.written, c.deref_mut.ensures.value, c.deref.ensures.value, ← c.self.view_is) (memory_written s.base s.values s.bytes.items memory s.sets.items c.self.invariant)
+    rw (c.write_back_sets.ensures.written, c.deref_mut.ensures.value, c.deref.ensures.value, ← c.self.view_is)
+    (memory_written s.base s.values s.bytes.items memory s.sets.items c.self.invariant)

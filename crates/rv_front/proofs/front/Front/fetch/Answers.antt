@@ -7,14 +7,16 @@ returns-in-Some-clause-fetched g c =
     let runs : c.args.self.now.halted ≡ false = sym (ap (λ f. f.halted) c.self.view_is) ∙ c.if-self.false in
     let left : c.self.inside.width - c.loop.counter ≡ suc (c.self.inside.width - (c.loop.counter + 1)) = omega (arith, c.loop-test.true) in
     Fetching-end _ c.args.ram.now c.args.cycle c.args.self.now c.loop.self c.fetch_next.new.self
-    (c.self.inside.width - c.loop.counter) (c.self.inside.width - (c.loop.counter + 1)) c.in-Some.stop runs left c.loop.invariant.fetching c.in-Some.ensures.fetched
+    (c.self.inside.width - c.loop.counter) (c.self.inside.width - (c.loop.counter + 1)) c.in-Some.stop runs left
+    c.loop.invariant.fetching c.in-Some.ensures.fetched
 
 pub loop-preserved : goal.loop-preserved
 loop-preserved g c =
     let left : c.self.inside.width - c.loop.counter ≡ suc (c.self.inside.width - (c.loop.counter + 1)) = omega (arith, c.loop-test.true) in
     record {
       fetching = Fetching-step _ c.args.ram.now c.args.cycle c.args.self.now c.loop.self c.fetch_next.new.self
-          (c.self.inside.width - c.loop.counter) (c.self.inside.width - (c.loop.counter + 1)) left c.loop.invariant.fetching c.in_default.ensures.fetched;
+          (c.self.inside.width - c.loop.counter) (c.self.inside.width - (c.loop.counter + 1)) left
+          c.loop.invariant.fetching c.in_default.ensures.fetched;
       width = c.loop.invariant.width;
       chained = c.fetch_next.ensures.chain;
     }

@@ -6,7 +6,8 @@ use Rattle.rv_front.proofs.front.Front.fetch.Given as goal
 
 abbrev pub invariant-loop : goal.invariant-loop
 invariant-loop g l = record {
-  fetching : Fetching (answers_of ((goal.Predictor-dyn g l.predictor.now).known l.predictor.now.1)) l.ram l.cycle l.fn.self (l.width - l.counter) l.self;
+  fetching : Fetching (answers_of ((goal.Predictor-dyn g l.predictor.now).known l.predictor.now.1)) l.ram l.cycle
+      l.fn.self (l.width - l.counter) l.self;
   width : l.width ≡ l.fn.self.width;
   chained : IsLinked l.self.entries l.self.next_pc;
 }

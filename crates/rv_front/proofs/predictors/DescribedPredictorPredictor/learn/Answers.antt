@@ -5,4 +5,5 @@ use Rattle.rv_front.proofs.predictors.DescribedPredictorPredictor.learn.Goals as
 
 pub returns-else-leads_elsewhere : goal.returns-else-leads_elsewhere
 returns-else-leads_elsewhere c =
-    sym (taught-sequential c.args.self.now c.args.pc c.args.word c.args.next c.ranges.word.fits (sym c.leads_elsewhere.ensures ∙ c.if-leads_elsewhere.false))
+    sym (taught-sequential c.args.self.now c.args.pc c.args.word c.args.next c.ranges.word.fits
+    (sym c.leads_elsewhere.ensures ∙ c.if-leads_elsewhere.false))

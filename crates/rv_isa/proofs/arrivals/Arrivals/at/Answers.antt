@@ -18,4 +18,5 @@ returns c =
     rw same (c.self.invariant.1 (count / BLOCK) no_lines full) in
     let whole : count / BLOCK * BLOCK ≤ count = omega arith in
     rw (c.lines_after.ensures, ← c.self.view_is, ← same)
-    (lines_at-from c.as_slice-items.result.now c.args.cycle count (count / BLOCK * BLOCK) (get_or c.self.inside.levels (count / BLOCK) no_lines) whole split.not_later levels)
+    (lines_at-from c.as_slice-items.result.now c.args.cycle count (count / BLOCK * BLOCK)
+    (get_or c.self.inside.levels (count / BLOCK) no_lines) whole split.not_later levels)

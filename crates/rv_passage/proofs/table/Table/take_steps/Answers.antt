@@ -14,7 +14,8 @@ loop-place-preserved c =
     let noted = ap (λ (t : Passages). length t.interrupts) taken in
     record {
       left = ap (with_steps (drop (c.loop-place.place + 1) steps) c.args.next) taken
-          ∙ sym (with_steps-next steps c.loop-place.place c.args.next c.index-steps-place.result (passages_of c.loop-place.self) (omega arith) c.index-steps-place.is)
+          ∙ sym (with_steps-next steps c.loop-place.place c.args.next c.index-steps-place.result
+          (passages_of c.loop-place.self) (omega arith) c.index-steps-place.is)
           ∙ c.loop-place.invariant.left;
       retired = omega (arith, within.retired, retired, c.loop-place.invariant.retired);
       noted = omega (arith, within.interrupts, noted, c.loop-place.invariant.noted);

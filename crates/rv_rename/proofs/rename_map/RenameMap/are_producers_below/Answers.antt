@@ -10,4 +10,8 @@ returns-in-Some c =
 
 pub returns-in-None : goal.returns-in-None
 returns-in-None c =
-    rw (← c.self.view_is) (λ t. AreBelow-empty c.args.seq c.self.inside.producers.items (sym c.back.ensures ∙ ap option_copied c.in-None.is), λ are. refl)
+    rw (← c.self.view_is) (
+      λ t. AreBelow-empty c.args.seq c.self.inside.producers.items
+          (sym c.back.ensures ∙ ap option_copied c.in-None.is),
+      λ are. refl,
+    )

@@ -9,8 +9,13 @@ pub invariant_of-self : goal.invariant_of-self
 invariant_of-self c =
     let older = rw (← c.self.view_is) at c.requires.1 in
     rw (c.append.ensures, c.index-place.ensures.number) (record {
-      in_order = IsInOrder-push seq_of c.self.inside.producers.items (record { register = c.args.reg; seq = c.args.seq }) c.self.invariant.in_order older;
-      table_ok = IsTable-push c.self.inside.table c.self.inside.producers.items (record { register = c.args.reg; seq = c.args.seq }) (omega (arith, c.index-place.ensures)) c.self.invariant.table_ok;
+      in_order =
+          IsInOrder-push seq_of c.self.inside.producers.items (record { register = c.args.reg; seq = c.args.seq })
+          c.self.invariant.in_order older;
+      table_ok =
+          IsTable-push c.self.inside.table c.self.inside.producers.items
+          (record { register = c.args.reg; seq = c.args.seq })
+          (omega (arith, c.index-place.ensures)) c.self.invariant.table_ok;
       numbers_fit = c.self.invariant.numbers_fit;
       room_ok = c.self.invariant.room_ok;
     })
@@ -18,4 +23,9 @@ invariant_of-self c =
 pub returns : goal.returns
 returns c =
     let after = rw (← c.self.view_is) at c.requires.2 in
-    rw (← c.self.view_is, c.append.ensures, checkpoints-define c.self.inside.checkpoints.items c.self.inside.producers.items (record { register = c.args.reg; seq = c.args.seq }) after)
+    rw (
+      ← c.self.view_is,
+      c.append.ensures,
+      checkpoints-define c.self.inside.checkpoints.items
+          c.self.inside.producers.items (record { register = c.args.reg; seq = c.args.seq }) after,
+    )

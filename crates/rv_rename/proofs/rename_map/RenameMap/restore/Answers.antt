@@ -29,6 +29,7 @@ returns c =
             ← c.self.view_is,
             kept,
             producers_at-none c.args.seq c.self.inside.checkpoints.items c.self.inside.producers.items c.self.inside.producers.items none,
-            below-map (λ m. m) checkpoint_seq (checkpoint_of c.self.inside.producers.items) (λ m. refl) (c.args.seq + 1) c.self.inside.checkpoints.items,
+            below-map (λ m. m) checkpoint_seq (checkpoint_of c.self.inside.producers.items) (λ m. refl)
+                (c.args.seq + 1) c.self.inside.checkpoints.items,
           )
     ]

@@ -10,7 +10,10 @@ invariant_of-self c =
     let oldest = rw (← c.self.view_is) at (sym c.is_oldest.ensures ∙ c.if-is_oldest.true) in
     rw (c.pop_front.ensures.items, c.index-place.ensures.number) (record {
       in_order = IsInOrder-drop seq_of 1 c.self.inside.producers.items c.self.invariant.in_order;
-      table_ok = IsTable-retire c.self.inside.table c.args.reg c.args.seq c.self.inside.producers.items (omega (arith, c.index-place.ensures)) c.self.invariant.in_order oldest c.self.invariant.table_ok (rw (← c.index-place.ensures.number) (option_eq-true _ c.args.seq (sym c.eq.ensures ∙ c.if-eq.true)));
+      table_ok =
+          IsTable-retire c.self.inside.table c.args.reg c.args.seq c.self.inside.producers.items
+          (omega (arith, c.index-place.ensures)) c.self.invariant.in_order oldest c.self.invariant.table_ok
+          (rw (← c.index-place.ensures.number) (option_eq-true _ c.args.seq (sym c.eq.ensures ∙ c.if-eq.true)));
       numbers_fit = c.self.invariant.numbers_fit;
       room_ok = c.self.invariant.room_ok;
     })
@@ -20,7 +23,10 @@ invariant_of-self-else-eq c =
     let oldest = rw (← c.self.view_is) at (sym c.is_oldest.ensures ∙ c.if-is_oldest.true) in
     rw c.pop_front.ensures.items (record {
       in_order = IsInOrder-drop seq_of 1 c.self.inside.producers.items c.self.invariant.in_order;
-      table_ok = IsTable-keep c.self.inside.table c.args.reg c.args.seq c.self.inside.producers.items oldest c.self.invariant.table_ok (rw (← c.index-place.ensures.number) (option_eq-false _ c.args.seq (sym c.eq.ensures ∙ c.if-eq.false)));
+      table_ok =
+          IsTable-keep c.self.inside.table c.args.reg c.args.seq c.self.inside.producers.items oldest
+          c.self.invariant.table_ok
+          (rw (← c.index-place.ensures.number) (option_eq-false _ c.args.seq (sym c.eq.ensures ∙ c.if-eq.false)));
       numbers_fit = c.self.invariant.numbers_fit;
       room_ok = c.self.invariant.room_ok;
     })
@@ -28,14 +34,34 @@ invariant_of-self-else-eq c =
 pub returns-then-eq-clause-oldest : goal.returns-then-eq-clause-oldest
 returns-then-eq-clause-oldest c =
     let oldest = rw (← c.self.view_is) at (sym c.is_oldest.ensures ∙ c.if-is_oldest.true) in
-    rw (← c.self.view_is, c.pop_front.ensures.items, oldest, checkpoints-retire c.args.reg c.args.seq c.self.inside.checkpoints.items c.self.inside.producers.items c.self.invariant.in_order, oldest)
+    rw (
+      ← c.self.view_is,
+      c.pop_front.ensures.items,
+      oldest,
+      checkpoints-retire c.args.reg c.args.seq
+          c.self.inside.checkpoints.items c.self.inside.producers.items c.self.invariant.in_order,
+      oldest,
+    )
 
 pub returns-else-eq-clause-oldest : goal.returns-else-eq-clause-oldest
 returns-else-eq-clause-oldest c =
     let oldest = rw (← c.self.view_is) at (sym c.is_oldest.ensures ∙ c.if-is_oldest.true) in
-    rw (← c.self.view_is, c.pop_front.ensures.items, oldest, checkpoints-retire c.args.reg c.args.seq c.self.inside.checkpoints.items c.self.inside.producers.items c.self.invariant.in_order, oldest)
+    rw (
+      ← c.self.view_is,
+      c.pop_front.ensures.items,
+      oldest,
+      checkpoints-retire c.args.reg c.args.seq
+          c.self.inside.checkpoints.items c.self.inside.producers.items c.self.invariant.in_order,
+      oldest,
+    )
 
 pub returns-else-is_oldest-clause-oldest : goal.returns-else-is_oldest-clause-oldest
 returns-else-is_oldest-clause-oldest c =
     let other = rw (← c.self.view_is) at (sym c.is_oldest.ensures ∙ c.if-is_oldest.false) in
-    rw (← c.self.view_is, other, checkpoints-retire c.args.reg c.args.seq c.self.inside.checkpoints.items c.self.inside.producers.items c.self.invariant.in_order, other)
+    rw (
+      ← c.self.view_is,
+      other,
+      checkpoints-retire c.args.reg c.args.seq c.self.inside.checkpoints.items
+          c.self.inside.producers.items c.self.invariant.in_order,
+      other,
+    )

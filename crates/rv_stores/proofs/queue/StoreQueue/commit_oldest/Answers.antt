@@ -5,7 +5,11 @@ use Rattle.rv_stores.proofs.queue.StoreQueue.commit_oldest.Goals as goal
 pub returns-in_default : goal.returns-in_default
 returns-in_default c =
     let count = rw (← c.self.view_is) at c.committed_count-place.ensures in
-    rw (← c.self.view_is, with_oldest_retired-same c.self.inside.ring.items c.committed_count-place.result count (sym c.in_default.ensures.value)) refl
+    rw (
+      ← c.self.view_is,
+      with_oldest_retired-same c.self.inside.ring.items c.committed_count-place.result count
+          (sym c.in_default.ensures.value),
+    ) refl
 
 pub invariant_of-self-2 : goal.invariant_of-self-2
 invariant_of-self-2 c =

@@ -6,7 +6,9 @@ use Rattle.rv_stores.proofs.Kept.{ComeFirst-filter, ComeFirst-older}
 use Rattle.rv_isa.proofs.Numbered.{IsInOrder-filter}
 use Rattle.rv_stores.proofs.queue.StoreQueue.squash.Goals as goal
 
-kept : (c : goal.After-truncate_back) → c.truncate_back.new.self ≡ buffer (filter (λ s. nat_lt s.seq c.args.from) c.self.inside.ring.items) c.self.inside.ring.capacity
+kept : (c : goal.After-truncate_back) →
+    c.truncate_back.new.self
+    ≡ buffer (filter (λ s. nat_lt s.seq c.args.from) c.self.inside.ring.items) c.self.inside.ring.capacity
 kept c =
     let items = c.self.inside.ring.items in
     let same : take c.older_count-kept.result items ≡ filter (λ s. nat_lt s.seq c.args.from) items = take-prefix_len_at (λ s. nat_lt s.seq c.args.from) items c.older_count-kept.result (rw (← c.self.view_is) at c.older_count-kept.ensures) (ComeFirst-older c.args.from items c.self.invariant.0) in

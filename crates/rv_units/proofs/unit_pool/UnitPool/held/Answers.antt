@@ -10,4 +10,6 @@ returns-then-self-cycle c =
 
 pub returns-else-self-cycle : goal.returns-else-self-cycle
 returns-else-self-cycle c =
-    rw (← c.self.view_is) (rw (c.if-self.true) (ap length (sym (holding-then c.args.cycle c.self.inside.latest c.self.inside.count c.if-self-cycle.false))))
+    rw (← c.self.view_is)
+    (rw (c.if-self.true)
+    (ap length (sym (holding-then c.args.cycle c.self.inside.latest c.self.inside.count c.if-self-cycle.false))))

@@ -10,7 +10,9 @@ use Rattle.rv_units.proofs.unit_pool.UnitPool.start.Goals as goal
 pub returns-then-self : goal.returns-then-self
 returns-then-self c =
     let held = rw (← c.self.view_is, c.if-self.true) at c.held.ensures in
-    rw (← c.self.view_is) (rw (c.if-self.true, held) (started-pipelined c.self.inside.units c.args.cost c.args.cycle c.self.inside.latest c.self.inside.count))
+    rw (← c.self.view_is)
+    (rw (c.if-self.true, held)
+    (started-pipelined c.self.inside.units c.args.cost c.args.cycle c.self.inside.latest c.self.inside.count))
 
 kept : (c : goal.After-push_reserved) → c.retain.new.self.items ≡ holding c.args.cycle c.self.inside.starts.items
 kept c = filter_same _ (holds_unit c.args.cycle) _ (λ x b f' k. search rules) _ _ c.retain.ensures.filtered
@@ -24,4 +26,7 @@ push_reserved-requires c =
 pub returns : goal.returns
 returns c =
     let pool : List Issue → Pool = λ ss. record { units = c.self.inside.units; is_pipelined = false; starts = ss } in
-    rw (← c.self.view_is) (rw c.if-self.false (ap pool (c.push_reserved.ensures.items ∙ ap (λ (ss : List Issue). ss ++ record { cycle = c.args.cycle; cost = c.args.cost } ∷ []) (kept c))))
+    rw (← c.self.view_is)
+    (rw c.if-self.false
+    (ap pool (c.push_reserved.ensures.items
+    ∙ ap (λ (ss : List Issue). ss ++ record { cycle = c.args.cycle; cost = c.args.cost } ∷ []) (kept c))))
