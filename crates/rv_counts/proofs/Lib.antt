@@ -10,4 +10,4 @@ pub mod LossReasons
 pub mod PlacesGrow
 pub mod PlacesOfCycle
 pub mod FoundCounts
-mod SerialWords
+pub mod OtherOpcodes
