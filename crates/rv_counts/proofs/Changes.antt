@@ -35,6 +35,7 @@ module _ (address : ℕ) (change : WordCounts → WordCounts) (P : List WordCoun
   by_test true is here new later = rw is (here (eqb-true w.address address is))
   by_test false is here new later = by_order (nat_lt address w.address) is refl new later
 
+  -- a property of the counts with a change is shown by where the address of the first stands
   pub by_place : (w.address ≡ address → P (change w ∷ ws)) → (address < w.address → P (change (nothing_at address) ∷ w ∷ ws))
       → (w.address < address → P (w ∷ with_change address change ws)) → P (with_change address change (w ∷ ws))
   by_place here new later = by_test (w.address == address) refl here new later
@@ -46,6 +47,7 @@ module _ (address : ℕ) (change : WordCounts → WordCounts) where
   each-change P then new (w ∷ ws) each =
       by_place address change (λ words. Each P words) w ws (λ is. (then w each.0, each.1)) (λ above. (new, each)) (λ below. (each.0, each-change P then new ws each.1))
 
+  -- a change adds one address at most
   pub length-change : (words : List WordCounts) → length (with_change address change words) ≤ length words + 1
   length-change [] = omega arith
   length-change (w ∷ ws) =
@@ -56,6 +58,7 @@ module _ (address : ℕ) (change : WordCounts → WordCounts) where
     above-change low words under above =
         each-change (λ w. low < w.address) (λ w over. subst (λ (a : ℕ). low < a) (sym (keeps w)) over) (subst (λ (a : ℕ). low < a) (sym (keeps (nothing_at address))) under) words above
 
+    -- the addresses stay in order
     pub in_order-change : (words : List WordCounts) → IsInOrder words → IsInOrder (with_change address change words)
     in_order-change [] order = (tt, tt)
     in_order-change (w ∷ ws) order =
@@ -73,6 +76,7 @@ module _ (address : ℕ) (change : WordCounts → WordCounts) where
     has-change (w ∷ ws) =
         by_place address change (HasAddress address) w ws (λ is. inl (keeps w ∙ is)) (λ above. inl (keeps (nothing_at address))) (λ below. inr (has-change ws))
 
+    -- an address that has counts keeps them
     pub has-kept : (other : ℕ) (words : List WordCounts) → HasAddress other words → HasAddress other (with_change address change words)
     has-kept other [] has = absurd has
     has-kept other (w ∷ ws) (inl is) =
@@ -122,6 +126,7 @@ module _ (address : ℕ) (change : WordCounts → WordCounts) (old new : ℕ →
   above_all : (w : WordCounts) (ws : List WordCounts) → address < w.address → AreAbove w.address ws → AreAbove address (w ∷ ws)
   above_all w ws above order = (above, each-by ws (λ v over. omega (arith, over, above)) order)
 
+  -- each address is counted as before, but the changed one
   pub counted-change : (words : List WordCounts) → IsInOrder words → AreOld words → Lists words → AreNew (with_change address change words)
   counted-change [] order are lists = (is_new _ (fresh [] lists (λ has. has)), tt)
   counted-change (w ∷ ws) order are lists =

@@ -71,6 +71,7 @@ places_counted first moments last add_up wide few =
 
 -- the places of a cycle, by what is seen after it
 module _ {old new : Hardware} {report : Report} (placed : ArePlaced old report new) (cycle before : ℕ) (steps : List Step) (number : cycle ≡ old.cycle) (in_flight : before ≡ length old.rob.entries) (steps_are : steps ≡ report.steps) where
+  -- what is counted of a cycle that is shown are its places
   pub places_seen : places_by new.values cycle before steps new.rob new.front ≡ places_in old (record { report = report; after = new })
   places_seen =
       let dispatched : dispatched_in cycle new.rob ≡ report.dispatched = ap (λ n. dispatched_in n new.rob) number ∙ placed.dispatched in

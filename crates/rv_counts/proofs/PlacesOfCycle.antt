@@ -136,6 +136,7 @@ pub record ArePlaced (old : Hardware) (report : Report) (new : Hardware) : Type 
   pub add_up : cycle_total (places_in old (record { report = report; after = new })) + length new.rob.entries ≡ new.values.dispatch_width + length old.rob.entries
 
 module _ {lines : Lines} {old new : Hardware} {report : Report} (reached : Reachable old) (cycle : IsCycle any_prediction lines old report new) where
+  -- each cycle of hardware that a reset and cycles lead to is so
   pub placed : ArePlaced old report new
   placed =
       let before = reachable_has_history reached in

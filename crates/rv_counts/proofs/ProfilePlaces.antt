@@ -1,8 +1,9 @@
 -- The place of an address among counts in order, and the change there.
-use Rattle.std.proofs.Common.{◌≡◌, ◌∙◌, ℕ, zero, suc, ◌<◌, ◌≤◌, nat_lt, List, [], ◌∷◌, length, get_or, set, refl, ap, sym, arith, eq-eqb, ne_eqb, inl, inr}
+use Rattle.std.proofs.Common.{◌≡◌, ◌∙◌, ℕ, zero, suc, ◌<◌, ◌≤◌, List, [], ◌∷◌, length, get_or, set, refl, ap, sym, arith, eq-eqb, ne_eqb}
 use Rattle.std.specs.Prelude.{insert}
 use Rattle.std.proofs.lemmas.List.{set-get_or}
-use Rattle.std.proofs.lemmas.Bool.{cases_Bool, le-ltb, lt-ltb, ltb-true, ltb-false}
+use Rattle.std.proofs.lemmas.List.Edits.{get_or-insert_at}
+use Rattle.std.proofs.lemmas.Bool.{le-ltb, lt-ltb}
 use Rattle.rv_cache.specs.WriteBack.{Each}
 use Rattle.rv_counts.specs.Counts.{nothing_at}
 use Rattle.rv_counts.specs.Order.{IsInOrder, IsPlaceFor, IsPlaceOf, with_change}
@@ -29,13 +30,6 @@ in_order-lt (w ∷ ws) zero zero d e order along within = absurd (omega arith)
 in_order-lt (w ∷ ws) zero (suc j) d e order along within = each-at (λ v. w.address < v.address) ws j e order.0 (omega arith)
 in_order-lt (w ∷ ws) (suc i) zero d e order along within = absurd (omega arith)
 in_order-lt (w ∷ ws) (suc i) (suc j) d e order along within = in_order-lt ws i j d e order.1 (omega arith) (omega arith)
-
--- no lower and not the same
-pub over : (m n : ℕ) → (m ≡ n → ⊥) → n ≤ m → n < m
-over m n other above = elim (cases_Bool (nat_lt n m)) [
-  | inl below ↦ ltb-true n m below
-  | inr not_below ↦ let under = ltb-false n m not_below in absurd (other (omega (arith, above, under)))
-]
 
 module _ (address : ℕ) (change : WordCounts → WordCounts) where
   lower : (w : WordCounts) (ws : List WordCounts) → w.address < address → with_change address change (w ∷ ws) ≡ w ∷ with_change address change ws
@@ -65,24 +59,19 @@ module _ (address : ℕ) (change : WordCounts → WordCounts) where
       lower w ws (before 0 w (omega arith)) ∙
       ap (λ l. w ∷ l) (change-new ws i (omega arith) (λ k v low. before (suc k) v (omega arith)) (λ k v from to. after (suc k) v (omega arith) (omega arith)))
 
--- what was put in at a place stands there, and may be changed there
-pub set-insert : {X : Type 0} (xs : List X) (i : ℕ) (x y : X) → i ≤ length xs → set (insert xs i x) i y ≡ insert xs i y
+-- what was put in at a place may be changed there
+set-insert : {X : Type 0} (xs : List X) (i : ℕ) (x y : X) → i ≤ length xs → set (insert xs i x) i y ≡ insert xs i y
 set-insert [] zero x y within = refl
 set-insert [] (suc i) x y within = absurd (omega arith)
 set-insert (z ∷ xs) zero x y within = refl
 set-insert (z ∷ xs) (suc i) x y within = ap (λ l. z ∷ l) (set-insert xs i x y (omega arith))
-
-pub insert-at : {X : Type 0} (xs : List X) (i : ℕ) (x d : X) → i ≤ length xs → get_or (insert xs i x) i d ≡ x
-insert-at [] zero x d within = refl
-insert-at [] (suc i) x d within = absurd (omega arith)
-insert-at (z ∷ xs) zero x d within = refl
-insert-at (z ∷ xs) (suc i) x d within = insert-at xs i x d (omega arith)
 
 module _ (address : ℕ) (words : List WordCounts) (place : ℕ) where
   -- a change at the place of an address
   pub change-at : IsPlaceOf address place words → (change : WordCounts → WordCounts) (w : WordCounts) → with_change address change words ≡ set words place (change (get_or words place w))
   change-at is change w = change-there address change words place w is.within is.before (is.there w)
 
+  -- a change that changes nothing leaves what stands there
   pub begun-there : IsPlaceOf address place words → words ≡ with_change address (λ w. w) words
   begun-there is = sym (change-at is (λ w. w) (nothing_at address) ∙ set-get_or words place (nothing_at address))
 
@@ -90,13 +79,14 @@ module _ (address : ℕ) (words : List WordCounts) (place : ℕ) where
   pub begun-new : IsPlaceFor address place words → insert words place (nothing_at address) ≡ with_change address (λ w. w) words
   begun-new is = sym (change-new address (λ w. w) words place is.within is.before is.after)
 
-  pub change-begun : IsPlaceFor address place words → (change : WordCounts → WordCounts) (w : WordCounts)
+  change-begun : IsPlaceFor address place words → (change : WordCounts → WordCounts) (w : WordCounts)
       → with_change address change words ≡ set (insert words place (nothing_at address)) place (change (get_or (insert words place (nothing_at address)) place w))
   change-begun is change w =
       change-new address change words place is.within is.before is.after
       ∙ sym (set-insert words place (nothing_at address) (change (nothing_at address)) is.within)
-      ∙ ap (λ v. set (insert words place (nothing_at address)) place (change v)) (sym (insert-at words place (nothing_at address) w is.within))
+      ∙ ap (λ v. set (insert words place (nothing_at address)) place (change v)) (sym (get_or-insert_at words place (nothing_at address) w is.within))
 
+  -- a change where counts of nothing were put in first
   pub change-made : IsPlaceFor address place words → (made : List WordCounts) → made ≡ insert words place (nothing_at address) → (change : WordCounts → WordCounts) (w : WordCounts)
       → with_change address change words ≡ set made place (change (get_or made place w))
   change-made is made made_is change w = change-begun is change w ∙ ap (λ ws. set ws place (change (get_or ws place w))) (sym made_is)

@@ -147,6 +147,7 @@ pub within-head : (head : Option ℕ) (most : ℕ) (words : List WordCounts) →
 within-head None most words each = each-by words (λ w is. within-more most (most + 1) w (omega arith) is) each
 within-head (Some head) most words each = change-within most head once_more_at_head (head-grows most) words each
 
+-- each passage adds one at most
 pub within-passages : (costs : LoadCosts) (ps : List Passage) (most : ℕ) (words : List WordCounts) → Each (IsWithin most) words → Each (IsWithin (most + length ps)) (with_passages costs ps words)
 within-passages costs [] most words each = each-by words (λ w is. within-more most (most + 0) w (omega arith) is) each
 within-passages costs (p ∷ ps) most words each =
@@ -169,11 +170,13 @@ length-passages costs [] words = omega arith
 length-passages costs (p ∷ ps) words =
     omega (arith, length-passages costs ps words, length-change p.pc (added costs p) (with_passages costs ps words))
 
+-- a beginning is no longer than the whole
 pub take-shorter : {X : Type 0} (n : ℕ) (xs : List X) → length (take n xs) ≤ length xs
 take-shorter zero xs = omega arith
 take-shorter (suc n) [] = omega arith
 take-shorter (suc n) (x ∷ xs) = omega (arith, take-shorter n xs)
 
+-- no more pass a test than there are
 pub filter-le : (test : Passage → Bool) (ps : List Passage) → length (filter test ps) ≤ length ps
 filter-le test ps = omega (arith, length-filter test ps, count_by-le-length test ps)
 
@@ -184,11 +187,13 @@ room-head head old new more room words capacity = record {
   counts = subst (λ ws. CanCountMore ws more) (sym words) (can_count-head head old.words more room.counts);
 }
 
+-- after some passages there is room for what comes after them
 pub room-passages : (costs : LoadCosts) (ps : List Passage) (old new : Profiled) (more : ℕ) → HasRoom old (length ps + more) → new.words ≡ with_passages costs ps old.words → old.capacity ≤ new.capacity → HasRoom new more
 room-passages costs ps old new more room words capacity = record {
   capacity = omega (arith, room.capacity, ap length words, length-passages costs ps old.words, capacity);
   counts = subst (λ ws. CanCountMore ws more) (sym words) (can_count-passages costs ps old.words more room.counts);
 }
 
+-- room for more is room for fewer
 pub room-fewer : (profile : Profiled) (more fewer : ℕ) → fewer ≤ more → HasRoom profile more → HasRoom profile fewer
 room-fewer profile more fewer under room = record { capacity = omega (arith, room.capacity, under); counts = can_count-fewer profile.words more fewer under room.counts }

@@ -59,12 +59,8 @@ with_waits p counts = record counts {
 
 -- with one more that retired
 abbrev pub with_retired : LoadCosts → Passage → WordCounts → WordCounts
-with_retired costs p counts = record counts {
+with_retired costs p counts = record (with_waits p counts) {
   retired = counts.retired + 1;
-  dispatch = with_wait (dispatch_wait p) counts.dispatch;
-  issue = with_wait (issue_wait p) counts.issue;
-  broadcast = with_wait (broadcast_wait p) counts.broadcast;
-  retirement = with_wait (retirement_wait p) counts.retirement;
   hits = one_more (is_hit costs (load_cost p)) counts.hits;
   misses = one_more (is_miss costs (load_cost p)) counts.misses;
   mispredicted = one_more (is_mispredicted p) counts.mispredicted;

@@ -13,7 +13,8 @@ load_cost p =
 
 -- what loads cost: a hit, bytes that all come from the store queue, and a miss that writes no dirty line back
 abbrev pub costs_of : Values → LoadCosts
-costs_of values = record { hit = values.cache.hit; forward = values.forward; clean_miss = values.cache.hit + values.cache.miss }
+costs_of values =
+    record { hit = values.cache.hit; forward = values.forward; clean_miss = values.cache.hit + values.cache.miss }
 
 -- the cost of a load that need not go to memory
 abbrev pub is_quick : LoadCosts → ℕ → Bool

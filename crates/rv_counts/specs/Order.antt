@@ -29,7 +29,8 @@ pub record IsPlaceOf (address place : ℕ) (words : List WordCounts) : Type 0 wh
 pub record IsPlaceFor (address place : ℕ) (words : List WordCounts) : Type 0 where
   pub within : place ≤ length words
   pub before : (k : ℕ) (word : WordCounts) → k < place → (slice_index_or words k word).address < address
-  pub after : (k : ℕ) (word : WordCounts) → place ≤ k → k < length words → address < (slice_index_or words k word).address
+  pub after : (k : ℕ) (word : WordCounts) → place ≤ k → k < length words →
+      address < (slice_index_or words k word).address
 
 -- a change of the counts at an address, which are nothing where there are none yet
 abbrev pub with_change : ℕ → (WordCounts → WordCounts) → List WordCounts → List WordCounts
@@ -42,4 +43,5 @@ with_change address change (word ∷ words) =
 -- any change of the counts at a place of the new list is that change of the counts of an address in the old one
 abbrev pub StandsFor : ℕ → ℕ → List WordCounts → List WordCounts → Type 0
 StandsFor address place old new =
-    (change : WordCounts → WordCounts) (word : WordCounts) → with_change address change old ≡ slice_set new place (change (slice_index_or new place word))
+    (change : WordCounts → WordCounts) (word : WordCounts) →
+    with_change address change old ≡ slice_set new place (change (slice_index_or new place word))

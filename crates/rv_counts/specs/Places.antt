@@ -1,6 +1,7 @@
--- What became of the places of a run. In each cycle as many instructions can be dispatched as the dispatch width says: so many places the
--- cycle has. Each is used by an instruction, which retires, traps or is squashed, or is in flight at the end; or it is lost. This is the
--- top-down account of A. Yasin, "A Top-Down Method for Performance Analysis and Counters Architecture", ISPASS 2014, at dispatch.
+-- What became of the places of a run. In each cycle as many instructions can be dispatched as the dispatch width says:
+-- so many places the cycle has. Each is used by an instruction, which retires, traps or is squashed, or is in flight at
+-- the end; or it is lost. This is the top-down account of A. Yasin, "A Top-Down Method for Performance Analysis and
+-- Counters Architecture", ISPASS 2014, at dispatch.
 use Rattle.std.specs.Prelude.{◌≡◌, ℕ, ◌+◌, ◌-◌, ◌*◌, ◌^◌, ◌<◌, ◌≤◌, ◌==◌, Bool, nat_le, nat_lt, if◌then◌else◌, List, [], ◌∷◌, count_by, filter, length, Option, Some, None}
 use Rattle.std.specs.FinSet as set
 use Rattle.std.specs.List.{list_any, slice_get}
@@ -39,7 +40,8 @@ flush_of (step ∷ next ∷ steps) = flush_of (next ∷ steps)
 
 -- all stations of a kind are taken
 abbrev pub has_no_station : Values → ReorderBuffer → Kind → Bool
-has_no_station values rob kind = nat_le (at_kind kind values.kinds).stations (length (filter (is_stationed kind) rob.entries))
+has_no_station values rob kind =
+    nat_le (at_kind kind values.kinds).stations (length (filter (is_stationed kind) rob.entries))
 
 -- an instruction with a unit waits for a station of its kind, where those are full, and any other for the store queue
 abbrev pub loss_of_kind : Values → ReorderBuffer → Option Kind → Loss
@@ -60,14 +62,15 @@ loss_of values rob instruction =
 -- what the oldest word of the fetch buffer waits for, where it was fetched before a cycle
 abbrev pub loss_by : ℕ → Values → ReorderBuffer → Option Fetched → Loss
 loss_by cycle values rob None = loss.Fetch
-loss_by cycle values rob (Some fetched) = if nat_lt fetched.cycle cycle then loss_of values rob fetched.instruction else loss.Fetch
+loss_by cycle values rob (Some fetched) =
+    if nat_lt fetched.cycle cycle then loss_of values rob fetched.instruction else loss.Fetch
 
 -- why places of a cycle are lost that left such buffers
 abbrev pub loss_in : ℕ → Values → ReorderBuffer → FetchBuffer → Loss
 loss_in cycle values rob front = loss_by cycle values rob (slice_get front.entries 0)
 
--- the places of a cycle of a described machine, by its number, how many instructions were in the reorder buffer before it, its steps,
--- how many instructions were dispatched in it, and the buffers that it left
+-- the places of a cycle of a described machine, by its number, how many instructions were in the reorder buffer before
+-- it, its steps, how many instructions were dispatched in it, and the buffers that it left
 abbrev pub cycle_places : Values → ℕ → ℕ → List Step → ℕ → ReorderBuffer → FetchBuffer → CyclePlaces
 cycle_places values cycle before steps dispatched rob front = record {
   retired = count_by is_retirement steps;
@@ -81,7 +84,8 @@ cycle_places values cycle before steps dispatched rob front = record {
 -- those of a cycle from some hardware on
 abbrev pub places_in : Hardware → Moment → CyclePlaces
 places_in h moment =
-    cycle_places moment.after.values h.cycle (length h.rob.entries) moment.report.steps moment.report.dispatched moment.after.rob moment.after.front
+    cycle_places moment.after.values h.cycle (length h.rob.entries) moment.report.steps moment.report.dispatched
+    moment.after.rob moment.after.front
 
 -- how many instructions were dispatched in a cycle that left such a reorder buffer
 abbrev pub dispatched_in : ℕ → ReorderBuffer → ℕ
@@ -89,7 +93,8 @@ dispatched_in cycle rob = count_by (λ (e : Entry). e.dispatched == cycle) rob.e
 
 -- the places of a cycle, with what was dispatched in it by the reorder buffer that it left
 abbrev pub places_by : Values → ℕ → ℕ → List Step → ReorderBuffer → FetchBuffer → CyclePlaces
-places_by values cycle before steps rob front = cycle_places values cycle before steps (dispatched_in cycle rob) rob front
+places_by values cycle before steps rob front =
+    cycle_places values cycle before steps (dispatched_in cycle rob) rob front
 
 -- of no cycle
 abbrev pub no_places : Places
@@ -112,7 +117,8 @@ abbrev pub with_lost : Loss → ℕ → Lost → Lost
 with_lost loss.Fetch count l = record l { fetch = l.fetch + count }
 with_lost loss.Serial count l = record l { serial = l.serial + count }
 with_lost loss.Rob count l = record l { rob = l.rob + count }
-with_lost (loss.Station kind) count l = record l { stations = with_kind kind (at_kind kind l.stations + count) l.stations }
+with_lost (loss.Station kind) count l =
+    record l { stations = with_kind kind (at_kind kind l.stations + count) l.stations }
 with_lost loss.Store count l = record l { store = l.store + count }
 
 -- with those of one more cycle
@@ -147,11 +153,13 @@ placed_after values cycle steps rob front p = record {
 -- of how many places each became that, where so many instructions are in flight at the end
 abbrev pub place_counts : ℕ → Places → List ℕ
 place_counts in_flight p =
-    p.retired ∷ p.trapped ∷ p.squashed.predictions ∷ p.squashed.serialising ∷ p.squashed.traps ∷ p.squashed.interrupts ∷ in_flight ∷
-    p.lost.fetch ∷ p.lost.serial ∷ p.lost.rob ∷ p.lost.stations.alu ∷ p.lost.stations.mul ∷ p.lost.stations.div ∷ p.lost.stations.mem ∷
+    p.retired ∷ p.trapped ∷
+    p.squashed.predictions ∷ p.squashed.serialising ∷ p.squashed.traps ∷ p.squashed.interrupts ∷
+    in_flight ∷ p.lost.fetch ∷ p.lost.serial ∷ p.lost.rob ∷
+    p.lost.stations.alu ∷ p.lost.stations.mul ∷ p.lost.stations.div ∷ p.lost.stations.mem ∷
     p.lost.store ∷ []
 
--- how many of a cycle are told apart
+-- how many of a cycle are counted
 abbrev pub cycle_total : CyclePlaces → ℕ
 cycle_total c = c.retired + c.trapped + c.squashed + c.lost
 
@@ -166,7 +174,8 @@ abbrev pub all_places : Places → ℕ
 all_places p = p.retired + p.trapped + all_squashed p.squashed + all_lost p.lost
 
 -- the places of one more cycle can be counted
-pub record CanPlace (values : Values) (cycle : ℕ) (steps : List Step) (rob : ReorderBuffer) (front : FetchBuffer) (p : RunPlaces) : Type 0 where
+pub record CanPlace (values : Values) (cycle : ℕ) (steps : List Step) (rob : ReorderBuffer) (front : FetchBuffer)
+    (p : RunPlaces) : Type 0 where
   pub before : p.in_flight ≤ 256
   pub after : length rob.entries ≤ 256
   pub room : all_places p.places + cycle_total (places_by values cycle p.in_flight steps rob front) < 2 ^ 64
@@ -175,7 +184,8 @@ pub record CanPlace (values : Values) (cycle : ℕ) (steps : List Step) (rob : R
 -- that were lost are all places of its cycles, and those of the instructions that were in it before.
 abbrev pub AddUp : Hardware → List Moment → Hardware → Type 0
 AddUp first moments last =
-    all_places (places_of first moments) + length last.rob.entries ≡ length moments * last.values.dispatch_width + length first.rob.entries
+    all_places (places_of first moments) + length last.rob.entries
+    ≡ length moments * last.values.dispatch_width + length first.rob.entries
 
 -- the stall that a reason is
 abbrev pub stall_for : Loss → Stall
@@ -193,4 +203,5 @@ awaited_in arrivals h = (execute (commit_with set.contains (lines_at arrivals h.
 abbrev pub AreLostFor : List Arrival → Hardware → List Moment → Type 0
 AreLostFor arrivals h [] = Unit {0}
 AreLostFor arrivals h (moment ∷ moments) =
-    (0 < (places_in h moment).lost → awaited_in arrivals h ≡ Some (stall_for (places_in h moment).loss)) × AreLostFor arrivals moment.after moments
+    (0 < (places_in h moment).lost → awaited_in arrivals h ≡ Some (stall_for (places_in h moment).loss))
+    × AreLostFor arrivals moment.after moments

@@ -8,7 +8,8 @@ use Rattle.rv_counts.specs.declared.{counts.WordCounts.WordCounts, loads.LoadCos
 
 -- Counts are those of all passages of a run, and of the addresses at the head, cycle by cycle: there are some for each address
 -- that was fetched or stood at the head and for no other, in increasing order.
-pub record IsProfileOf (costs : LoadCosts) (passages : List Passage) (heads : List ℕ) (words : List WordCounts) : Type 0 where
+pub record IsProfileOf (costs : LoadCosts) (passages : List Passage) (heads : List ℕ)
+    (words : List WordCounts) : Type 0 where
   pub in_order : IsInOrder words
   pub counted : Each (λ word. word ≡ counts_at costs passages heads word.address) words
   pub seen : Each (λ word. 0 < times_of word) words

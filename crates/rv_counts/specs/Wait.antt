@@ -19,4 +19,5 @@ waited waits = record { count = length waits; total = sum waits; most = greatest
 -- one more wait, if there was one
 abbrev pub with_wait : Option ℕ → Waited → Waited
 with_wait None wait = wait
-with_wait (Some cycles) wait = record { count = wait.count + 1; total = wait.total + cycles; most = max cycles wait.most }
+with_wait (Some cycles) wait =
+    record { count = wait.count + 1; total = wait.total + cycles; most = max cycles wait.most }

@@ -10,9 +10,13 @@ use rv_passage::{Ending, Passage};
 /// predictions are those of the instructions that retired.
 #[derive(Drop)]
 pub struct WordCounts {
+    /// The address.
     pub address: u32,
+    /// How many were fetched.
     pub fetched: u64,
+    /// How many of them retired.
     pub retired: u64,
+    /// How many were squashed.
     pub squashed: u64,
     /// From fetch to dispatch.
     pub dispatch: Wait,

@@ -87,7 +87,7 @@ fn kind_sought(instruction: &Decoded) -> Kind
     }
 }
 
-// With a word that was not dispatched: one walk tells all.
+// With a word that was not dispatched: one walk counts all.
 fn dispatch_before(cycle: u64, values: &Values, rob: &Rob, fetched: &Fetched) -> Dispatch
     ensures count { result.count ≡ dispatched_in cycle rob.now }
     ensures few { result.count ≤ length rob.now.entries }

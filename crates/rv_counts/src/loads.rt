@@ -1,7 +1,7 @@
 ghost use Rattle.std.specs.Prelude.{◌≡◌};
 ghost use Rattle.rv_counts.specs.Load.{costs_of, is_hit, is_miss, is_quick, is_slow, load_cost};
 
-use rv_isa::{Description, Instr};
+use rv_isa::{Description, Instr, Values};
 use rv_passage::Passage;
 
 /// What a load costs, in cycles.
@@ -30,7 +30,13 @@ impl LoadCosts {
     pub fn new(description: &Description) -> LoadCosts
         ensures { result ≡ costs_of description.now }
     {
-        let values = description.values();
+        LoadCosts::of(description.values())
+    }
+
+    /// Those of the machine with these values.
+    pub fn of(values: &Values) -> LoadCosts
+        ensures { result ≡ costs_of values.now }
+    {
         LoadCosts {
             hit: values.cache.hit,
             forward: values.forward,

@@ -39,8 +39,8 @@ const MISC_MEM: u32 = 0b000_1111;
 
 const SYSTEM: u32 = 0b111_0011;
 
-// Whether the instruction of a word waits to be the oldest, with nothing younger in flight beside it. A word with another opcode is not
-// decoded: most are no such instruction.
+// Whether the instruction of a word waits to be the oldest, with nothing younger in flight beside it. A word with
+// another opcode is not decoded: most are no such instruction.
 fn is_serialising_word(word: u32) -> bool
     ensures { result ≡ is_serialising (instruction_of word) }
 {

@@ -29,7 +29,11 @@ impl Model for Profile {
 
     ghost use Rattle.std.specs.Prelude.{vec_capacity};
 
-    ghost view = { λ profile. record { costs = profile.costs; words = profile.words.items; capacity = vec_capacity profile.words } };
+    ghost view = { λ profile. record {
+      costs = profile.costs;
+      words = profile.words.items;
+      capacity = vec_capacity profile.words;
+    } };
 
     ghost use Rattle.rv_counts.specs.Order.{IsInOrder};
 

@@ -14,7 +14,9 @@ pub enum Flush {
     Prediction,
     /// A serialising instruction that retires.
     Serialising,
+    /// A trap.
     Trap,
+    /// An interrupt.
     Interrupt,
 }
 
@@ -53,34 +55,48 @@ pub struct CyclePlaces {
 /// Instructions that were squashed after their dispatch, by what squashed them.
 #[derive(Clone, Copy)]
 pub struct Squashed {
+    /// By wrong predictions.
     pub predictions: u64,
+    /// By serialising instructions.
     pub serialising: u64,
+    /// By traps.
     pub traps: u64,
+    /// By interrupts.
     pub interrupts: u64,
 }
 
 /// Places in which nothing was dispatched, by the reason.
 #[derive(Clone, Copy)]
 pub struct Lost {
+    /// Fetch gave no word.
     pub fetch: u64,
+    /// A serialising instruction was in flight.
     pub serial: u64,
+    /// The reorder buffer was full.
     pub rob: u64,
+    /// The stations of a kind were full.
     pub stations: PerKind<u64>,
+    /// The store queue was full.
     pub store: u64,
 }
 
 /// What became of the places of some cycles.
 #[derive(Clone, Copy)]
 pub struct Places {
+    /// Those of instructions that retired.
     pub retired: u64,
+    /// Those of instructions that trapped.
     pub trapped: u64,
+    /// Those of instructions that were squashed.
     pub squashed: Squashed,
+    /// Those in which nothing was dispatched.
     pub lost: Lost,
 }
 
 /// What became of the places of a run so far.
 #[derive(Clone, Copy)]
 pub struct RunPlaces {
+    /// Those of what left the reorder buffer, and those that were lost.
     pub places: Places,
     /// The instructions in the reorder buffer, of whose places it is open what becomes.
     pub in_flight: usize,
@@ -163,9 +179,11 @@ impl Places {
         self.squashed.add(cycle.flush, cycle.squashed);
         self.lost.add(cycle.loss, cycle.lost);
     }
-    /// Of how many places each became that, where so many instructions are in flight at the end: those of what retired, trapped, and was
-    /// squashed by wrong predictions, serialising instructions, traps and interrupts; those in flight; and those lost since fetch gave no
-    /// word, since a serialising instruction was in flight, and to a full reorder buffer, full stations of each kind and a full store queue.
+
+    /// Of how many places each became that, where so many instructions are in flight at the end: those of what retired,
+    /// trapped, and was squashed by wrong predictions, serialising instructions, traps and interrupts; those in flight;
+    /// and those lost since fetch gave no word, since a serialising instruction was in flight, and to a full reorder
+    /// buffer, full stations of each kind and a full store queue.
     pub fn counts(&self, in_flight: u64) -> [u64; 15]
         ensures { result ≡ place_counts in_flight self.now }
     {

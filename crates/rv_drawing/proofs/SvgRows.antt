@@ -19,6 +19,7 @@ module _ (listing : Listed) (window : Window) (all : List Passage) (reasons : Li
   abbrev pub rows_from : ℕ → List Passage → List ℕ
   rows_from place passages = svg_rows listing window all reasons marks place passages
 
+  -- how many rows of the picture some instructions have
   abbrev pub count : List Passage → ℕ
   count passages = count_by (has_cell window) passages
 
@@ -36,6 +37,7 @@ module _ (listing : Listed) (window : Window) (all : List Passage) (reasons : Li
     abbrev pub row : Passage
     row = get_or items index other
 
+    -- the rows with one instruction more
     pub svg_rows-more : rows_from 0 (take (index + 1) items) ≡ rows_from 0 (take index items) ++ placed_row listing window all reasons marks place row
     unfolding svg_rows
     svg_rows-more =
@@ -43,6 +45,7 @@ module _ (listing : Listed) (window : Window) (all : List Passage) (reasons : Li
         ap (rows_from 0) (take_more items index other here) ∙ svg_rows-append 0 (take index items) (row ∷ []) ∙ ap (λ n. rows_from 0 (take index items) ++ rows_from n (row ∷ [])) same
         ∙ ap (λ l. rows_from 0 (take index items) ++ l) (append-nil (placed_row listing window all reasons marks place row))
 
+    -- and how many they are
     pub count-more : place + rows_of window row ≡ count (take (index + 1) items)
     count-more =
         let one : count (row ∷ []) ≡ rows_of window row = omega arith in

@@ -51,7 +51,8 @@ cell_of passage cycle =
 -- an instruction shows something in a window: it was fetched before the window's end, and did not end before its begin
 unfoldable pub has_cell : Window → Passage → Bool
 has_cell window passage =
-    nat_lt 0 window.cycles && nat_lt passage.fetched (window.first + window.cycles) && not (is_past window.first (left_in passage.ending))
+    nat_lt 0 window.cycles && nat_lt passage.fetched (window.first + window.cycles)
+    && not (is_past window.first (left_in passage.ending))
 
 -- the letter of a cell
 unfoldable pub letter_of : Cell → List ℕ

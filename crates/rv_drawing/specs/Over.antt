@@ -8,7 +8,8 @@ over_of window = if window.cycles == 0 then Some window.first else None
 
 -- the sentence, between what stands before and after it, for a number of cycles
 unfoldable pub over_sentence : List ℕ → List ℕ → List ℕ → List ℕ
-over_sentence before cycles after = before ++ (codes "The run ended after " ++ (cycles ++ (codes " cycles, before those of this picture." ++ after)))
+over_sentence before cycles after =
+    before ++ (codes "The run ended after " ++ (cycles ++ (codes " cycles, before those of this picture." ++ after)))
 
 -- nothing where the run did not end before
 unfoldable pub over_text : List ℕ → List ℕ → Option ℕ → List ℕ

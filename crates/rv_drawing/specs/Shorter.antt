@@ -9,7 +9,8 @@ is_between byte first last = nat_le first byte && nat_le byte last
 -- a byte is no letter, no digit, no underscore, no point and no dollar sign
 abbrev pub ends_name : ℕ → Bool
 ends_name byte =
-    not (is_between byte 48 57 || is_between byte 65 90 || is_between byte 97 122 || byte == 95 || byte == 46 || byte == 36)
+    not (is_between byte 48 57 || is_between byte 65 90 || is_between byte 97 122 || byte == 95
+    || byte == 46 || byte == 36)
 
 -- a name up to some place is a label where a colon stands there
 abbrev pub label_up_to : List ℕ → Option ℕ → ℕ
@@ -27,9 +28,11 @@ label_left label size = max (30 - (size - label)) 4
 -- what is left of a label, two points for the others, and what stands after it
 unfoldable pub with_label_cut : ℕ → List ℕ → List ℕ
 with_label_cut label text =
-    take (label_left label (length text)) text ++ (codes ".." ++ take (30 - label_left label (length text)) (drop label text))
+    take (label_left label (length text)) text
+    ++ (codes ".." ++ take (30 - label_left label (length text)) (drop label text))
 
 -- a text that is longer has its label cut, where that is longer than what would be left of it
 unfoldable pub shortened : List ℕ → List ℕ
 shortened text =
-    if nat_le (length text) 32 || nat_le (label_length text) 6 then take 32 text else with_label_cut (label_length text) text
+    if nat_le (length text) 32 || nat_le (label_length text) 6 then take 32 text
+    else with_label_cut (label_length text) text

@@ -30,7 +30,8 @@ cell_box class x tip cycle middle letter = box_begin class x ++ (tip ++ box_end 
 unfoldable pub box_of : Option Cell → Window → List Passage → Option Stall → Bool → Passage → ℕ → ℕ → List ℕ
 box_of None window passages reason is_marked passage column cycle = []
 box_of (Some cell) window passages reason is_marked passage column cycle =
-    cell_box (class_of cell) (decimal (column_x column)) (tip_of window passages reason passage cycle cell) (decimal cycle)
+    cell_box (class_of cell) (decimal (column_x column))
+    (tip_of window passages reason passage cycle cell) (decimal cycle)
     (box_middle is_marked) (letter_of cell)
 
 -- what the oldest fetched word waits for in a column
@@ -40,5 +41,6 @@ reason_in reasons column = slice_index_or reasons column None
 -- the box of an instruction among others in a column of a window, where its cells in some columns are marked
 unfoldable pub box_at : Window → List Passage → List (Option Stall) → (ℕ → Bool) → Passage → ℕ → List ℕ
 box_at window passages reasons is_marked passage column =
-    box_of (cell_of passage (window.first + column)) window passages (reason_in reasons column) (is_marked column) passage column
+    box_of (cell_of passage (window.first + column)) window passages (reason_in reasons column)
+    (is_marked column) passage column
     (window.first + column)

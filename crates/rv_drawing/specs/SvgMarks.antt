@@ -6,7 +6,8 @@ use Rattle.rv_drawing.specs.declared.window.Window.{Window}
 
 -- a line in front of a column, down to the last row, with its cycle as a tip
 unfoldable pub line_down : List ℕ → List ℕ → List ℕ → List ℕ → List ℕ → List ℕ
-line_down begin top x cycle bottom = begin ++ (x ++ (codes " 0)'><title>cycle " ++ (cycle ++ (top ++ (bottom ++ codes "'/>")))))
+line_down begin top x cycle bottom =
+    begin ++ (x ++ (codes " 0)'><title>cycle " ++ (cycle ++ (top ++ (bottom ++ codes "'/>")))))
 
 -- the number of a tenth cycle, over such a line
 unfoldable pub tenth_mark : List ℕ → List ℕ → List ℕ → List ℕ
@@ -28,11 +29,13 @@ number_mark x cycle = codes "<text x='" ++ (x ++ (codes "'>" ++ (cycle ++ codes 
 -- that of a column
 unfoldable pub number_at : Window → ℕ → List ℕ
 number_at window column =
-    if (window.first + column) % 10 == 0 then number_mark (decimal (column_x column)) (decimal (window.first + column)) else []
+    if (window.first + column) % 10 == 0
+    then number_mark (decimal (column_x column)) (decimal (window.first + column)) else []
 
 -- the numbers of a window
 unfoldable pub numbers : Window → List ℕ
-numbers window = codes "<g class='n' transform='translate(3 -4)'>\n" ++ (columns window (number_at window) ++ codes "</g>\n")
+numbers window =
+    codes "<g class='n' transform='translate(3 -4)'>\n" ++ (columns window (number_at window) ++ codes "</g>\n")
 
 -- they stand again above every fortieth row
 unfoldable pub numbers_again : Window → ℕ → List ℕ
@@ -41,7 +44,8 @@ numbers_again window place = if place % 40 == 0 && not (place == 0) then numbers
 -- a line in front of the cycle of an interrupt
 unfoldable pub interrupt_mark : List ℕ → List ℕ → List ℕ → List ℕ
 interrupt_mark x cycle bottom =
-    line_down (codes "<g class='v' transform='translate(") (codes ", interrupt</title><path d='M0 38V") x cycle bottom ++
+    line_down (codes "<g class='v' transform='translate(")
+    (codes ", interrupt</title><path d='M0 38V") x cycle bottom ++
     codes "<text x='7' y='34'>!</text></g>\n"
 
 -- those in the window, across so many rows

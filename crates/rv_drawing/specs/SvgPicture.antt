@@ -48,12 +48,14 @@ near_text x pc = codes "<text class='a' dx='-4' y='13' x='" ++ (x ++ (codes "'>"
 -- where the first cell is fifty columns or more from the left, the address again in front of it
 unfoldable pub near_address : Window → Passage → List ℕ
 near_address window passage =
-    if nat_le 50 (passage.fetched - window.first) then near_text (decimal (column_x (passage.fetched - window.first))) (word_text passage.pc) else []
+    if nat_le 50 (passage.fetched - window.first)
+    then near_text (decimal (column_x (passage.fetched - window.first))) (word_text passage.pc) else []
 
 -- an instruction among others: its address, its statement, what it wrote, its cells, and its tip
 unfoldable pub svg_row : Listed → Window → List Passage → List (Option Stall) → List Mark → ℕ → Passage → List ℕ
 svg_row listing window passages reasons marks place passage =
-    row_begin (class_of_row (is_stopped window passage) passage.ending) (decimal (row_y place)) (word_text passage.pc) ++
+    row_begin (class_of_row (is_stopped window passage) passage.ending) (decimal (row_y place))
+    (word_text passage.pc) ++
     (flat_map markup_byte (statement_of listing passage) ++
     (codes "</text><text x='328' y='13'>" ++ (outcome_text (is_stopped window passage) (written_by passage.ending) ++
     (codes "</text>\n" ++ (numbers_again window place ++
@@ -76,8 +78,8 @@ svg_rows listing window passages reasons marks place (passage ∷ rest) =
     placed_row listing window passages reasons marks place passage
     ++ svg_rows listing window passages reasons marks (place + rows_of window passage) rest
 
--- the picture of some instructions, which take so many rows, and interrupts in a window, with what the oldest fetched word waited for
--- in each cycle, which may have marks
+-- the picture of some instructions, which take so many rows, and interrupts in a window, with what the oldest fetched
+-- word waited for in each cycle, which may have marks
 unfoldable pub svg_of : ℕ → List Passage → List ℕ → List (Option Stall) → Option (List Mark) → Listed → Window → List ℕ
 svg_of rows passages interrupts reasons marks listing window =
     svg_begin window.cycles rows ++ (svg_style ++ (mark_style marks ++ (svg_legend marks ++

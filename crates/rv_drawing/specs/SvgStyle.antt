@@ -2,8 +2,8 @@
 use Rattle.std.specs.Prelude.{ℕ, List, [], ◌++◌, codes, Option, Some, None}
 use Rattle.rv_drawing.specs.declared.mark.Mark.{Mark}
 
--- fonts, and a colour for each class of cells, on a white ground, and on a dark one where the viewer asks for it; a printed page is as wide
--- as the picture
+-- fonts, and a colour for each class of cells, on a white ground, and on a dark one where the viewer asks for it; a
+-- printed page is as wide as the picture
 unfoldable pub svg_style : List ℕ
 svg_style =
     codes "<style>\n" ++ (
@@ -52,8 +52,8 @@ svg_style =
     codes "</style>\n" ++ (
     codes "<rect class='page' width='100%' height='100%'/>\n"))))))))))))))))))))))))))))))))))))))))))))
 
--- rings and a bold letter for the marked cells of a picture that has marks: a white one and a black one, of which one is seen on each
--- colour and on each ground
+-- rings and a bold letter for the marked cells of a picture that has marks: a white one and a black one, of which one
+-- is seen on each colour and on each ground
 unfoldable pub mark_style : Option (List Mark) → List ℕ
 mark_style None = []
 mark_style (Some marks) =

@@ -24,7 +24,8 @@ scale_at window column =
 -- the cycle numbers, above the cells
 unfoldable pub scale_line : Window → List ℕ
 scale_line window =
-    codes "                                                           " ++ (columns window (scale_at window) ++ codes "\n")
+    codes "                                                           "
+    ++ (columns window (scale_at window) ++ codes "\n")
 
 -- a statement in 33 columns
 unfoldable pub statement_field : List ℕ → List ℕ
@@ -91,5 +92,6 @@ mark_legend (Some marks) = codes "In lower case, or * in place of = ~ x . : on t
 -- the picture of some instructions and interrupts in a window, which may have marks
 unfoldable pub text_picture : List Passage → List ℕ → Option (List Mark) → Listed → Window → List ℕ
 text_picture passages interrupts marks listing window =
-    scale_line window ++ (flat_map (shown_line listing window (marks_in marks)) passages ++ (interrupt_line window interrupts ++
+    scale_line window
+    ++ (flat_map (shown_line listing window (marks_in marks)) passages ++ (interrupt_line window interrupts ++
     (over_note [] (codes "\n") window ++ (legend_line ++ mark_legend marks))))

@@ -1,4 +1,5 @@
--- The tip of a cell: what it is called, where a wait says what for. What a dispatched instruction waits for until its issue stands here.
+-- The tip of a cell: what it is called, where a wait says what for. What a dispatched instruction waits for until its
+-- issue stands here.
 use Rattle.std.specs.Prelude.{ℕ, if◌then◌else◌, List, [], ◌++◌, codes, decimal, Option, Some, None}
 use Rattle.rv_isa.specs.Instruction.{kind_of_word}
 use Rattle.rv_isa.specs.declared.operations.Kind.{Kind}
@@ -53,7 +54,8 @@ operand_wait kind (Some first) second = producer_text (codes "wait for ") first 
 unfoldable pub issue_wait : Window → Passage → ℕ → List ℕ
 issue_wait window passage cycle =
     if is_past window.first passage.dispatched then name_of cell.IssueWait
-    else operand_wait (kind_of_word passage.instruction) (awaited cycle passage.producers.first) (awaited cycle passage.producers.second)
+    else operand_wait (kind_of_word passage.instruction) (awaited cycle passage.producers.first)
+    (awaited cycle passage.producers.second)
 
 -- the tip of a cell of an instruction among others, in a cycle in which the oldest fetched word waits for something
 unfoldable pub tip_of : Window → List Passage → Option Stall → Passage → ℕ → Cell → List ℕ

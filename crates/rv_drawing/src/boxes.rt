@@ -66,7 +66,9 @@ fn write_box<W: Write>(
     column: u64,
     cycle: u64,
 )
-    ensures { Says W.contents out.old out.new (cell_box (class_of cell) (decimal (column_x column)) (tip_of window rows.now stall row.now cycle cell) (decimal cycle) (box_middle is_marked) (letter_of cell)) }
+    ensures { Says W.contents out.old out.new
+        (cell_box (class_of cell) (decimal (column_x column)) (tip_of window rows.now stall row.now cycle cell)
+        (decimal cycle) (box_middle is_marked) (letter_of cell)) }
 {
     write_box_begin(out, cell, column);
     write_tip(out, window, rows, stall, row, cycle, cell);
@@ -94,7 +96,8 @@ pub(crate) fn write_box_at<W: Write>(
     column: u64,
 )
     requires { window.first + column < 2 ^ 64 }
-    ensures { Says W.contents out.old out.new (box_at window rows.now stalls.now (is_marked marks.now row.now.number) row.now column) }
+    ensures { Says W.contents out.old out.new
+        (box_at window rows.now stalls.now (is_marked marks.now row.now.number) row.now column) }
 {
     let cycle = window.first + column;
     if let Some(cell) = cell_in(row, cycle) {

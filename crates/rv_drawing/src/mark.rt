@@ -1,10 +1,13 @@
 ghost use Rattle.std.specs.Prelude.{◌≡◌, option_copied};
 ghost use Rattle.rv_drawing.specs.Marked.{is_mark, is_marked, marks_in};
 
-/// An event on the critical path, which a picture marks: the instruction's number in the picture, and the column of its cycle, from 0.
+/// An event on the critical path, which a picture marks: the instruction's number in the picture, and the column of its
+/// cycle, from 0.
 #[derive(Clone, Copy)]
 pub struct Mark {
+    /// The instruction's number, from 0.
     pub number: u64,
+    /// The column, from 0.
     pub column: u64,
 }
 

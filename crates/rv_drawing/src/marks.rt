@@ -20,7 +20,8 @@ fn write_line_down<W: Write>(
     column: u64,
     cycle: u64,
 )
-    ensures { Says W.contents out.old out.new (line_down begin.now top.now (decimal (column_x column)) (decimal cycle) (decimal (row_y rows))) }
+    ensures { Says W.contents out.old out.new
+        (line_down begin.now top.now (decimal (column_x column)) (decimal cycle) (decimal (row_y rows))) }
 {
     let mut at_column = Buffer::new();
     let x = digits(&mut at_column, column_x(column));
@@ -32,7 +33,8 @@ fn write_line_down<W: Write>(
 }
 
 fn write_tenth_mark<W: Write>(out: &mut Sink<'_, W>, rows: usize, column: u64, cycle: u64)
-    ensures { Says W.contents out.old out.new (tenth_mark (decimal (column_x column)) (decimal (row_y rows)) (decimal cycle)) }
+    ensures { Says W.contents out.old out.new
+        (tenth_mark (decimal (column_x column)) (decimal (row_y rows)) (decimal cycle)) }
 {
     write_line_down(
         out,
@@ -94,7 +96,8 @@ pub(crate) fn write_numbers_again<W: Write>(out: &mut Sink<'_, W>, window: Windo
 }
 
 fn write_interrupt_mark<W: Write>(out: &mut Sink<'_, W>, rows: usize, column: u64, cycle: u64)
-    ensures { Says W.contents out.old out.new (interrupt_mark (decimal (column_x column)) (decimal cycle) (decimal (row_y rows))) }
+    ensures { Says W.contents out.old out.new
+        (interrupt_mark (decimal (column_x column)) (decimal cycle) (decimal (row_y rows))) }
 {
     write_line_down(
         out,

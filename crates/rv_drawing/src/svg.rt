@@ -50,7 +50,9 @@ fn class_of_row(is_stopped: bool, ending: Ending) -> &'static [u8]
 }
 
 fn write_row_begin<W: Write>(out: &mut Sink<'_, W>, window: Window, place: usize, row: &Passage)
-    ensures { Says W.contents out.old out.new (row_begin (class_of_row (is_stopped window row.now) row.now.ending) (decimal (row_y place)) (word_text row.now.pc)) }
+    ensures { Says W.contents out.old out.new
+        (row_begin (class_of_row (is_stopped window row.now) row.now.ending) (decimal (row_y place))
+        (word_text row.now.pc)) }
 {
     let mut at_row = Buffer::new();
     let y = digits(&mut at_row, row_y(place));
@@ -138,7 +140,8 @@ fn write_placed<W: Write>(
     row: &Passage,
 )
     requires { window.first + window.cycles < 2 ^ 64 }
-    ensures { Says W.contents out.old out.new (placed_row listing.now window rows.now stalls.now marks.now place row.now) }
+    ensures { Says W.contents out.old out.new
+        (placed_row listing.now window rows.now stalls.now marks.now place row.now) }
 {
     if has_cell(window, row) {
         write_row(out, listing, window, rows, stalls, marks, place, row)
@@ -198,7 +201,8 @@ fn write_shown<W: Write>(
     shown: usize,
 )
     requires { window.first + window.cycles < 2 ^ 64 }
-    ensures { Says W.contents out.old out.new (svg_of shown rows.now interrupts.now stalls.now (option_copied marks.entry) listing.now window) }
+    ensures { Says W.contents out.old out.new
+        (svg_of shown rows.now interrupts.now stalls.now (option_copied marks.entry) listing.now window) }
 {
     write_begin(out, window.cycles, shown);
     write_style(out);
@@ -222,7 +226,8 @@ fn write_picture<W: Write>(
     marks: Option<&[Mark]>,
 )
     requires { window.first + window.cycles < 2 ^ 64 }
-    ensures { Says W.contents out.old out.new (svg_picture rows.now interrupts.now stalls.now (option_copied marks.entry) listing.now window) }
+    ensures { Says W.contents out.old out.new
+        (svg_picture rows.now interrupts.now stalls.now (option_copied marks.entry) listing.now window) }
 {
     let shown = count_shown(window, rows);
     write_shown(out, rows, interrupts, stalls, marks, listing, window, shown)
@@ -244,7 +249,8 @@ pub fn write_picture_svg<W: Write>(
     writer: &mut W,
 ) -> Result<(), ReportError>
     requires { window.first + window.cycles < 2 ^ 64 }
-    ensures { IsWritten result (W.contents writer.old) (W.contents writer.new) (svg_picture rows.now interrupts.now stalls.now (option_copied marks.entry) listing.now window) }
+    ensures { IsWritten result (W.contents writer.old) (W.contents writer.new)
+        (svg_picture rows.now interrupts.now stalls.now (option_copied marks.entry) listing.now window) }
 {
     let mut out = Sink::new(writer);
     write_picture(&mut out, listing, window, rows, interrupts, stalls, marks);

@@ -41,7 +41,8 @@ pub(crate) fn write_scale_column<W: Write>(out: &mut Sink<'_, W>, window: Window
 #[tactic(auto, using(rv_text::proofs::Saying::saying))]
 fn write_line<W: Write>(out: &mut Sink<'_, W>, heading: &[u8], window: Window, shown: Columns<'_>)
     requires { window.first + window.cycles < 2 ^ 64 }
-    ensures { Says W.contents out.old out.new (heading.now ++ (columns window (column_text shown.entry window) ++ codes "\n")) }
+    ensures { Says W.contents out.old out.new
+        (heading.now ++ (columns window (column_text shown.entry window) ++ codes "\n")) }
 {
     out.put(heading);
     write_columns(out, window, shown);
@@ -249,7 +250,8 @@ fn write_picture<W: Write>(
     interrupts: &[u64],
 )
     requires { window.first + window.cycles < 2 ^ 64 }
-    ensures { Says W.contents out.old out.new (text_picture rows.now interrupts.now (option_copied marks.entry) listing.now window) }
+    ensures { Says W.contents out.old out.new
+        (text_picture rows.now interrupts.now (option_copied marks.entry) listing.now window) }
 {
     write_scale(out, window);
     write_rows(out, listing, window, marks_in(marks), rows);
@@ -275,7 +277,8 @@ pub fn write_picture_text<W: Write>(
     writer: &mut W,
 ) -> Result<(), ReportError>
     requires { window.first + window.cycles < 2 ^ 64 }
-    ensures { IsWritten result (W.contents writer.old) (W.contents writer.new) (text_picture rows.now interrupts.now (option_copied marks.entry) listing.now window) }
+    ensures { IsWritten result (W.contents writer.old) (W.contents writer.new)
+        (text_picture rows.now interrupts.now (option_copied marks.entry) listing.now window) }
 {
     let mut out = Sink::new(writer);
     write_picture(&mut out, listing, window, marks, rows, interrupts);

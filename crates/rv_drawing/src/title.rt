@@ -1,6 +1,6 @@
 ghost use Rattle.std.specs.Prelude.{◌++◌};
 ghost use Rattle.rv_isa.specs.Cause.{code_of};
-ghost use Rattle.rv_drawing.specs.Title.{correction_text, prediction_title, row_end, row_title, stale_title, title_of_row, trap_title};
+ghost use Rattle.rv_drawing.specs.Title.{correction_text, prediction_title, row_end, row_title, title_of_row, trap_title};
 ghost use Rattle.rv_drawing.specs.Stopped.{is_stopped};
 ghost use Rattle.rv_text.specs.Line.{word_text};
 ghost use Rattle.rv_text.specs.Said.{Says};
@@ -21,7 +21,8 @@ pub fn put_correction<W: Write>(
     correction: Option<u32>,
     after: &[u8],
 )
-    ensures { Says W.contents out.old out.new (before.now ++ (word_text predicted ++ (correction_text correction ++ after.now))) }
+    ensures { Says W.contents out.old out.new
+        (before.now ++ (word_text predicted ++ (correction_text correction ++ after.now))) }
 {
     let predicted = hexadecimal(predicted);
     match correction {

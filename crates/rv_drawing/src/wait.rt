@@ -99,7 +99,9 @@ fn write_operand_wait<W: Write>(
 }
 
 fn write_seen_wait<W: Write>(out: &mut Sink<'_, W>, row: &Passage, cycle: u64)
-    ensures { Says W.contents out.old out.new (operand_wait (kind_of_word row.now.instruction) (awaited cycle row.now.producers.first) (awaited cycle row.now.producers.second)) }
+    ensures { Says W.contents out.old out.new
+        (operand_wait (kind_of_word row.now.instruction) (awaited cycle row.now.producers.first)
+        (awaited cycle row.now.producers.second)) }
 {
     let kind = row.instruction.kind();
     let first = awaited(row.producers.first, cycle);

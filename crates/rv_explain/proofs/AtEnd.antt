@@ -198,12 +198,14 @@ module _ (cycle : ℕ) (unit : Bool) where
     apart =
         ap (λ l. l ++ others) first_are ∙ take-append-drop (length rows - length after.front.entries) rows
 
+    -- they add nothing to why instructions stay
     pub stays_of_first : (s : Stays) →
         with_stays (stays_among cycle unit true first) s ≡ with_stays (stays_among cycle unit true rows) s
     stays_of_first s =
         sym (stays_before true first others s end.waiting)
         ∙ ap (λ l. with_stays (stays_among cycle unit true l) s) apart
 
+    -- nor to what the oldest awaits
     pub oldest_of_first :
         oldest_awaited (stays_among cycle unit true first) ≡ oldest_awaited (stays_among cycle unit true rows)
     oldest_of_first =
@@ -240,6 +242,7 @@ youngest_left (p ∷ ps) all =
     let last : length (p ∷ ps) - 1 ≡ length ps = omega arith in
     subst (λ k. LeftAt (p ∷ ps) k (p ∷ ps ≡ [])) (sym last) (last_left (p ∷ ps ≡ []) p ps all)
 
+-- the first rows left the hardware, where all others are in flight
 pub first_left : (rows : List Passage) (count : ℕ) → count ≡ length rows - length (filter is_in_flight rows) →
     list_all has_left (take count rows) ≡ true → IsUpToYoungestLeft rows (take count rows)
 first_left rows count count_is all =

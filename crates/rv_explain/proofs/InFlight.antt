@@ -28,6 +28,7 @@ unretired p flies = running p.ending flies
 pub no_branch : (p : Passage) → is_in_flight p ≡ true → word_in Branch p ≡ None
 no_branch p flies = rw (unretired p flies) refl
 
+-- nor is it one that was mispredicted
 pub no_mispredicted : (p : Passage) → is_in_flight p ≡ true → word_in Mispredicted p ≡ None
 no_mispredicted p flies = rw (unretired p flies) refl
 
@@ -60,9 +61,11 @@ module _ (place : Passage → Option ℕ) (fails : (p : Passage) → is_in_fligh
   noted_among [] others notes all = none_noted others notes all
   noted_among (p ∷ ps) others notes all = ap (with_one (place p)) (noted_among ps others notes all)
 
+  -- so what is counted at words is the same without them
   pub noted_same : (rows kept : List Passage) (notes : Notes ℕ) → IsUpToYoungestLeft rows kept → with_all place kept notes ≡ with_all place rows notes
   noted_same rows kept notes up = sym (noted_among kept up.others notes up.in_flight) ∙ ap (λ ps. with_all place ps notes) (sym up.rows_are)
 
+-- and so are the loads
 pub loads_same : (costs : LoadCosts) (rows kept : List Passage) → IsUpToYoungestLeft rows kept → loads_of costs kept ≡ loads_of costs rows
 loads_same costs rows kept up =
     let all = counted_same (λ p. is_some (retired_load_cost p)) (λ p flies. ap is_some (no_load p flies)) rows kept up in

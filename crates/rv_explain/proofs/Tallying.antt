@@ -24,12 +24,12 @@ use Rattle.rv_passage.specs.Table.{Passages, after_cycle, passages_of, still_ope
 use Rattle.rv_passage.specs.Walk.{passages_after}
 use Rattle.rv_passage.specs.declared.{passage.Passage.Passage, table.Table.Table}
 use Rattle.rv_passage.proofs.EndedRun.{length-reports_of}
-use Rattle.rv_counts.specs.Left.{left_after}
+use Rattle.rv_counts.specs.Left.{left_after, passages_of_run}
 use Rattle.rv_counts.proofs.Left.{left-push, some_left-push}
 use Rattle.rv_sentences.specs.Drain.{begun, drain_in}
 use Rattle.rv_explain.specs.AtEnd.{AreAtEnd}
 use Rattle.rv_explain.specs.Explanation.{IsTallied}
-use Rattle.rv_explain.specs.Tally.{HasRoom, IsTallying, tally_after, tally_of}
+use Rattle.rv_explain.specs.Tally.{HasRoom, IsOfNoCycle, IsTallying, tally_after, tally_of}
 use Rattle.rv_counts.specs.Places.{cycle_total, places_by, places_in}
 use Rattle.rv_sentences.specs.Stay.{all_stays}
 use Rattle.rv_counts.specs.declared.run_places.CyclePlaces.{CyclePlaces}
@@ -45,15 +45,15 @@ use Rattle.rv_view.specs.Viewing.{IsNextCycle}
 use Rattle.rv_view.specs.declared.shown_cycle.ShownCycle.{ShownCycle}
 
 -- no cycle yet
-pub nothing_tallied : (values : Values) (arrivals : List Arrival) (h : GuidedHardware) (tally : Tally) (registers : List ℕ) (end : Option ℕ) (in_flight : ℕ) → tally ≡ tally_of values arrivals h.hardware [] []
+pub nothing_tallied : (values : Values) (arrivals : List Arrival) (h : GuidedHardware) (tally : Tally) (registers : List ℕ) (end : Option ℕ) (in_flight : ℕ) → IsOfNoCycle values tally
     → registers ≡ h.hardware.registers → end ≡ drain_end h.hardware → in_flight ≡ length h.hardware.rob.entries → in_flight ≤ 256 → IsTallying tally tally registers end in_flight (watched arrivals h [] h)
 nothing_tallied values arrivals h tally registers end in_flight of_no_cycle registers_are end_is in_flight_is few =
     record {
       values = values;
       some_left = omega arith;
-      of_no_cycle = of_no_cycle;
+      of_no_cycle = of_no_cycle arrivals h.hardware;
       tallied = λ by is. is;
-      few_stays = omega (arith, ap (λ (t : Tally). all_stays t.stays) of_no_cycle);
+      few_stays = omega (arith, ap (λ (t : Tally). all_stays t.stays) (of_no_cycle arrivals h.hardware));
       registers_are = registers_are;
       end_is = end_is;
       in_flight_is = in_flight_is;
@@ -158,16 +158,18 @@ module _ {arrivals : List Arrival} {old new : GuidedHardware} {moments : List Mo
 
   -- what was kept of the run
   pub tallied_to_the_end : {limit : ℕ} {values : Values} {stop : Stop} {progress : Progress} → IsEndedRun arrivals limit old moments new stop
-      → progress ≡ progress_of (reports_of moments) → first ≡ tally_of values arrivals old.hardware [] [] → (rows : List Passage) → rows ≡ (passages_of table).rows
-      → progress.cycles * new.hardware.values.dispatch_width < 2 ^ 64 → Reachable old.hardware → new.hardware.cycle ≤ 2 ^ 40 → IsTallied arrivals limit values old new stop progress (tally.work.left + length rows) tally
-  tallied_to_the_end {values = values} run counted of_no_cycle rows rows_are few reached within =
+      → progress ≡ progress_of (reports_of moments) → IsOfNoCycle values first → (rows : List Passage) → rows ≡ (passages_of table).rows
+      → progress.cycles * new.hardware.values.dispatch_width < 2 ^ 64 → Reachable old.hardware → new.hardware.cycle ≤ 2 ^ 40
+      → IsTallied arrivals limit values old new (record { stop = stop; progress = progress; fetched = tally.work.left + length rows; tally = tally })
+  tallied_to_the_end {values = values} {stop = stop} run counted of_no_cycle rows rows_are few reached within =
       let open_rows : rows ≡ (passages_after still_open old.hardware moments).rows = rows_are ∙ ap (λ (t : Passages). t.rows) kept.followed.passages in
+      let fetched_are : tally.work.left + length rows ≡ length (passages_of_run old.hardware moments) =
+      omega (arith, left_are, ap length open_rows, length-append (passages_after still_open old.hardware moments).rows (left_after old.hardware moments)) in
+      let tally_is = tallying.tallied values (of_no_cycle arrivals old.hardware) in
       record {
         moments = moments;
         run = run;
-        counted = counted;
-        fetched_are = omega (arith, left_are, ap length open_rows, length-append (passages_after still_open old.hardware moments).rows (left_after old.hardware moments));
-        kept = tallying.tallied values of_no_cycle;
+        kept = λ i. record { stop = stop; progress = counted i; fetched = fetched_are i; tally = tally_is i };
         places_add_up = tallying.places_add_up;
         places_are_lost_for = lost_for reached run.passes within;
         stays_add_up = stays_add_up old.hardware moments;

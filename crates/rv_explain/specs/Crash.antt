@@ -17,14 +17,16 @@ is_past_code listing address = is_some (line_at listing (address - 4)) && is_non
 -- a program came to an address that stands there
 unfoldable pub passed_text : Listed → ℕ → List ℕ
 passed_text listing address =
-    if is_past_code listing address then codes "The program ran past its last line, at " ++ place_text listing (address - 4) else []
+    if is_past_code listing address
+    then codes "The program ran past its last line, at " ++ place_text listing (address - 4) else []
 
 -- where the first exception of a run came, if there was one
 unfoldable pub first_passed_text : Listed → Option (Series Exception) → List ℕ
 first_passed_text listing None = []
 first_passed_text listing (Some all) = passed_text listing all.first.pc
 
--- the first exception of a run, where no handler was set for it: the address in mtvec was 0 (Privileged Architecture 20211203, 3.1.7)
+-- the first exception of a run, where no handler was set for it: the address in mtvec was 0 (Privileged Architecture
+-- 20211203, 3.1.7)
 abbrev pub unhandled : Option (Series Exception) → Option Exception
 unhandled None = None
 unhandled (Some all) = if all.first.mtvec / 4 == 0 then Some all.first else None
@@ -41,8 +43,8 @@ abbrev pub lone_crash : Figures → Stop → Option (Series Exception) → Optio
 lone_crash Always stop all = None
 lone_crash UnlessCrashed stop all = crash_of stop all
 
--- the sentences on a crash: the line that the program ran past, if it did, the exception, and the interrupts of the run, since one that
--- found no handler is followed by an exception
+-- the sentences on a crash: the line that the program ran past, if it did, the exception, and the interrupts of the
+-- run, since one that found no handler is followed by an exception
 unfoldable pub crash_text : Listed → Exception → Interrupts → List ℕ
 crash_text listing crash interrupts =
     passed_text listing crash.pc ++ (first_text listing crash ++ interrupts_text listing interrupts)

@@ -31,11 +31,13 @@ last_store_text listing None = []
 
 -- the last store to the word at which a run ended, if that is stale
 abbrev pub stale_text : Listed → Stop → Notes (Option ℕ) → List ℕ
-stale_text listing (Stale pc) last_stores = last_store_text listing (option_and_then (λ last. last) (note_at last_stores (word_of pc)))
+stale_text listing (Stale pc) last_stores =
+    last_store_text listing (option_and_then (λ last. last) (note_at last_stores (word_of pc)))
 stale_text listing Breakpoint last_stores = []
 stale_text listing Limit last_stores = []
 stale_text listing Exhausted last_stores = []
 
 -- how a run ended, and where
 unfoldable pub ending_text : Listed → Stop → Hardware → Notes (Option ℕ) → List ℕ
-ending_text listing stop h last_stores = reason_text stop ++ (place_text listing (place_of stop h) ++ stale_text listing stop last_stores)
+ending_text listing stop h last_stores =
+    reason_text stop ++ (place_text listing (place_of stop h) ++ stale_text listing stop last_stores)

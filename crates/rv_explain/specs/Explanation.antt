@@ -1,14 +1,12 @@
 -- What a run came to, in sentences.
-use Rattle.std.specs.Prelude.{◌≡◌, ℕ, ◌+◌, ◌*◌, ◌^◌, ◌<◌, ◌≤◌, List, [], ◌++◌, codes, length, sum, Option, Some, None}
+use Rattle.std.specs.Prelude.{◌≡◌, ℕ, ◌*◌, ◌^◌, ◌<◌, ◌≤◌, List, [], ◌++◌, codes, length, sum, Option, Some, None}
 use Rattle.rv_isa.specs.declared.{lines.Arrival.Arrival, values.Values.Values}
 use Rattle.rv_isa.specs.declared.csrs.Csr.TheVariants.{Mie, Mstatus}
 use Rattle.rv_arch.specs.Csr.{value_of}
 use Rattle.rv_arch.specs.declared.outcome.Stop.{Stop}
 use Rattle.rv_watch.specs.Progress.{progress_of}
 use Rattle.rv_watch.specs.declared.progress.Progress.{Progress}
-use Rattle.rv_front.specs.Predictors.{guide_of}
-use Rattle.rv_front.specs.declared.predictors.DescribedPredictor.{DescribedPredictor}
-use Rattle.rv_hardware.specs.Guided.{GuidedHardware, guided}
+use Rattle.rv_hardware.specs.Guided.{GuidedHardware}
 use Rattle.rv_hardware.specs.Hardware.{Hardware}
 use Rattle.rv_passage.specs.EndedRun.{IsEndedRun}
 use Rattle.rv_counts.specs.Left.{passages_of_run}
@@ -35,72 +33,84 @@ use Rattle.rv_sentences.specs.StayLines.{awaited_text, greatest_waits_text, stay
 use Rattle.rv_sentences.specs.Untaken.{all_untaken_text}
 use Rattle.rv_sentences.specs.Work.{work_text}
 use Rattle.rv_sentences.specs.Worst.{worst_text}
-use Rattle.rv_explain.specs.declared.{figures.Figures.Figures, tally.Tally.Tally}
+use Rattle.rv_explain.specs.declared.{figures.Figures.Figures, running.Tallied.Tallied, tally.Tally.Tally}
 use Rattle.rv_sentences.specs.declared.exception.Exception.{Exception}
 
--- a run that ended, how many words were fetched in it or before it, and what was kept of it
-pub record IsTallied (arrivals : List Arrival) (limit : ℕ) (values : Values) (old new : GuidedHardware) (stop : Stop) (progress : Progress) (fetched : ℕ) (tally : Tally) : Type 0 where
+-- what is kept of cycles from some hardware on that ended for a reason: their counts, how many words were fetched in them or before
+-- them, and the tally
+abbrev pub tallied_of : Values → List Arrival → Hardware → List Moment → Stop → Tallied
+tallied_of values arrivals first moments stop = record {
+  stop = stop;
+  progress = progress_of (reports_of moments);
+  fetched = length (passages_of_run first moments);
+  tally = tally_of_run values arrivals first moments;
+}
+
+-- a run that ended, and what was kept of it
+pub record IsTallied (arrivals : List Arrival) (limit : ℕ) (values : Values) (old new : GuidedHardware)
+    (tallied : Tallied) : Type 0 where
   pub moments : List Moment
-  pub run : IsEndedRun arrivals limit old moments new stop
-  pub counted : progress ≡ progress_of (reports_of moments)
-  pub fetched_are : fetched ≡ length (passages_of_run old.hardware moments)
-  pub kept : tally ≡ tally_of_run values arrivals old.hardware moments
+  pub run : IsEndedRun arrivals limit old moments new tallied.stop
+  pub kept : tallied ≡ tallied_of values arrivals old.hardware moments tallied.stop
   pub places_add_up : AddUp old.hardware moments new.hardware
   pub places_are_lost_for : AreLostFor arrivals old.hardware moments
   pub stays_add_up : StaysAddUp old.hardware moments
-  pub few : progress.cycles * new.hardware.values.dispatch_width < 2 ^ 64
-  pub few_stays : all_stays tally.stays < 2 ^ 64
+  pub few : tallied.progress.cycles * new.hardware.values.dispatch_width < 2 ^ 64
+  pub few_stays : all_stays tallied.tally.stays < 2 ^ 64
 
--- the sentences on a run can be written: the cycles on account of all words are no more than there were, nor are those in which a word was
--- awaited, and no sum comes to 2^64
-pub record CanBeWritten (h : Hardware) (progress : Progress) (tally : Tally) : Type 0 where
-  pub heads : sum tally.heads.words ≤ progress.cycles
-  pub awaited : sum tally.awaited.words ≤ progress.cycles
-  pub branches : sum tally.branches.words < 2 ^ 64
-  pub mispredicted : sum tally.mispredicted.words < 2 ^ 64
-  pub stays : all_stays tally.stays < 2 ^ 64
-  pub places : progress.cycles * h.values.dispatch_width < 2 ^ 64
+-- the sentences on a run can be written: the cycles on account of all words are no more than there were, nor are those
+-- in which a word was awaited, and no sum comes to 2^64
+pub record CanBeWritten (h : Hardware) (run : Tallied) : Type 0 where
+  pub heads : sum run.tally.heads.words ≤ run.progress.cycles
+  pub awaited : sum run.tally.awaited.words ≤ run.progress.cycles
+  pub branches : sum run.tally.branches.words < 2 ^ 64
+  pub mispredicted : sum run.tally.mispredicted.words < 2 ^ 64
+  pub stays : all_stays run.tally.stays < 2 ^ 64
+  pub places : run.progress.cycles * h.values.dispatch_width < 2 ^ 64
 
 -- the cycles, and those to each instruction
 unfoldable pub cycle_text : Progress → ℕ → List ℕ
 cycle_text progress retired =
     count_text progress.cycles retired ++
-    (line_of (codes "cycles per instruction") (ratio_text progress.cycles retired) ++ stall_text progress.cycles progress.busy progress.stalls)
+    (line_of (codes "cycles per instruction") (ratio_text progress.cycles retired) ++
+    stall_text progress.cycles progress.busy progress.stalls)
 
 -- the interrupt lines that are high and were never taken
 abbrev pub untaken_lines : Hardware → Tally → List ℕ
-untaken_lines h tally = all_untaken_text tally.raised tally.interrupts (value_of h.csrs h.lines Mstatus) (value_of h.csrs h.lines Mie)
+untaken_lines h tally =
+    all_untaken_text tally.raised tally.interrupts (value_of h.csrs h.lines Mstatus) (value_of h.csrs h.lines Mie)
 
--- what instructions in flight waited for most and what became of most places for dispatch, the lines that were awaited most and stood
--- longest at the head of the reorder buffer, and what became of all places
-unfoldable pub lead_text : Listed → Hardware → Progress → Tally → List ℕ
-lead_text listing h progress tally =
-    greatest_waits_text tally.stays ++
-    (greatest_places_text progress.cycles h.values.dispatch_width (length h.rob.entries) tally.places ++
-    (awaited_text listing progress.cycles tally.outcomes tally.awaited ++
-    (longest_text listing progress.cycles tally.heads tally.outcomes tally.stores tally.branches tally.mispredicted ++
-    places_text progress.cycles h.values.dispatch_width (length h.rob.entries) tally.places)))
+-- what instructions in flight waited for most and what became of most places for dispatch, the lines that were awaited
+-- most and stood longest at the head of the reorder buffer, and what became of all places
+unfoldable pub lead_text : Listed → Hardware → Tallied → List ℕ
+lead_text listing h run =
+    greatest_waits_text run.tally.stays ++
+    (greatest_places_text run.progress.cycles h.values.dispatch_width (length h.rob.entries) run.tally.places ++
+    (awaited_text listing run.progress.cycles run.tally.outcomes run.tally.awaited ++
+    (longest_text listing run.progress.cycles run.tally.heads run.tally.outcomes run.tally.stores
+    run.tally.branches run.tally.mispredicted ++
+    places_text run.progress.cycles h.values.dispatch_width (length h.rob.entries) run.tally.places)))
 
 -- where the cycles went
-unfoldable pub cost_text : Listed → Progress → ℕ → Tally → List ℕ
-cost_text listing progress fetched tally =
-    cycle_text progress tally.retired ++ (dispatches_text progress.busy tally.dispatches.cycles ++
-    (work_text fetched tally.work ++ (worst_text listing tally.branches tally.mispredicted ++ (stays_text tally.stays ++
-    (load_text tally.loads ++ (drain_text tally.drains ++
-    hotspots_text listing progress.cycles tally.idle tally.heads tally.outcomes tally.stores))))))
+unfoldable pub cost_text : Listed → Tallied → List ℕ
+cost_text listing run =
+    cycle_text run.progress run.tally.retired ++ (dispatches_text run.progress.busy run.tally.dispatches.cycles ++
+    (work_text run.fetched run.tally.work ++ (worst_text listing run.tally.branches run.tally.mispredicted ++
+    (stays_text run.tally.stays ++ (load_text run.tally.loads ++ (drain_text run.tally.drains ++
+    hotspots_text listing run.progress.cycles run.tally.idle run.tally.heads run.tally.outcomes run.tally.stores))))))
 
--- how a run ended, its exceptions, interrupts and lines never taken, what leads to its cause, and where its cycles went, by how many words
--- were fetched among others
-unfoldable pub whole_text : Listed → Stop → Hardware → Progress → ℕ → Tally → List ℕ
-whole_text listing stop h progress fetched tally =
-    ending_text listing stop h tally.last_stores ++ (first_passed_text listing tally.exceptions.all ++
-    (exceptions_text listing tally.exceptions.all tally.exceptions.kinds ++ (interrupts_text listing tally.interrupts ++
-    (untaken_lines h tally ++ (lead_text listing h progress tally ++ cost_text listing progress fetched tally)))))
+-- how a run ended, its exceptions, interrupts and lines never taken, what leads to its cause, and where its cycles went
+unfoldable pub whole_text : Listed → Hardware → Tallied → List ℕ
+whole_text listing h run =
+    ending_text listing run.stop h run.tally.last_stores ++ (first_passed_text listing run.tally.exceptions.all ++
+    (exceptions_text listing run.tally.exceptions.all run.tally.exceptions.kinds ++
+    (interrupts_text listing run.tally.interrupts ++ (untaken_lines h run.tally ++
+    (lead_text listing h run ++ cost_text listing run)))))
 
 -- the sentences on a run, or on the crash that stands alone
-unfoldable pub run_text : Option Exception → Listed → Stop → Hardware → Progress → ℕ → Tally → List ℕ
-run_text None listing stop h progress fetched tally = whole_text listing stop h progress fetched tally
-run_text (Some crash) listing stop h progress fetched tally = crash_text listing crash tally.interrupts
+unfoldable pub run_text : Option Exception → Listed → Hardware → Tallied → List ℕ
+run_text None listing h run = whole_text listing h run
+run_text (Some crash) listing h run = crash_text listing crash run.tally.interrupts
 
 -- the sentences on a path, where one is shown
 unfoldable pub path_text : Listed → Option Accounted → List ℕ
@@ -108,30 +118,20 @@ path_text listing None = []
 path_text listing (Some path) = sentences listing path
 
 -- those on a path come first; after a crash its sentences stand alone, unless the figures are asked for
-abbrev pub explanation : Figures → Option Accounted → Listed → Stop → Hardware → Progress → ℕ → Tally → List ℕ
-explanation figures path listing stop h progress fetched tally =
-    path_text listing path ++ run_text (lone_crash figures stop tally.exceptions.all) listing stop h progress fetched tally
+abbrev pub explanation : Figures → Option Accounted → Listed → Hardware → Tallied → List ℕ
+explanation figures path listing h run =
+    path_text listing path ++ run_text (lone_crash figures run.stop run.tally.exceptions.all) listing h run
 
--- the sentences on cycles from some hardware on, that left the hardware so and ended for a reason: by the instructions that left the
--- hardware in them and those in flight at their end
-abbrev pub explanation_of : Figures → Values → List Arrival → Option Accounted → Listed → Hardware → List Moment → Hardware → Stop → List ℕ
-explanation_of figures values arrivals path listing first moments after stop =
-    explanation figures path listing stop after (progress_of (reports_of moments)) (length (passages_of_run first moments)) (tally_of_run values arrivals first moments)
-
--- a text explains a run that ended for a reason, with the sentences on a path, where one is shown; what it says of the places for dispatch
--- adds up, and each is lost for what ended the dispatch phase of its cycle; what it says of the instructions in flight adds up to all
--- cycles of each
-pub record IsExplanation (arrivals : List Arrival) (limit : ℕ) (figures : Figures) (values : Values) (path : Option Accounted) (listing : Listed) (old new : GuidedHardware) (stop : Stop) (text : List ℕ) : Type 0 where
+-- a text explains a run that ended for a reason, by the hardware that it left, the instructions that left the hardware
+-- in it and those in flight at its end, with the sentences on a path, where one is shown; what it says of the places
+-- for dispatch adds up, and each is lost for what ended the dispatch phase of its cycle; what it says of the
+-- instructions in flight adds up to all cycles of each
+pub record IsExplanation (arrivals : List Arrival) (limit : ℕ) (figures : Figures) (values : Values)
+    (path : Option Accounted) (listing : Listed) (old new : GuidedHardware) (stop : Stop) (text : List ℕ) : Type 0 where
   pub moments : List Moment
   pub run : IsEndedRun arrivals limit old moments new stop
-  pub text_is : text ≡ explanation_of figures values arrivals path listing old.hardware moments new.hardware stop
+  pub text_is : text ≡
+      explanation figures path listing new.hardware (tallied_of values arrivals old.hardware moments stop)
   pub places_add_up : AddUp old.hardware moments new.hardware
   pub places_are_lost_for : AreLostFor arrivals old.hardware moments
   pub stays_add_up : StaysAddUp old.hardware moments
-
--- of hardware that a described predictor guides there is one explanation, whatever it leaves
-abbrev pub HasOneExplanation : List Arrival → ℕ → Figures → Values → Option Accounted → Listed → Type 0
-HasOneExplanation arrivals limit figures values path listing =
-    (h : Hardware) (predictor : DescribedPredictor) (new new' : GuidedHardware) (stop stop' : Stop) (text text' : List ℕ) → h.cycle + limit ≤ 2 ^ 40 →
-    IsExplanation arrivals limit figures values path listing (guided h (guide_of predictor)) new stop text → IsExplanation arrivals limit figures values path listing (guided h (guide_of predictor)) new' stop' text' →
-    (stop ≡ stop') × (text ≡ text')

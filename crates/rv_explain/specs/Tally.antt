@@ -66,13 +66,18 @@ tally_of values arrivals h moments left = record {
   stores = store_counts values (costs_of values) (drained_of arrivals h moments);
 }
 
+-- what is kept of no cycle, whatever the arrivals and the hardware
+abbrev pub IsOfNoCycle : Values → Tally → Type 0
+IsOfNoCycle values tally = (arrivals : List Arrival) (h : Hardware) → tally ≡ tally_of values arrivals h [] []
+
 -- what is kept of a run that began with such hardware
 abbrev pub tally_of_run : Values → List Arrival → Hardware → List Moment → Tally
 tally_of_run values arrivals h moments = tally_of values arrivals h moments (left_after h moments)
 
--- what is kept with one more cycle: its number, its steps, by the registers before them, its places, the drain that began in it, the
--- levels of the lines in it, the hardware that it left, and the passages at its end
-abbrev pub tally_after : ℕ → List ℕ → List Step → CyclePlaces → Option ℕ → Lines → Hardware → List Passage → Tally → Tally
+-- what is kept with one more cycle: its number, its steps, by the registers before them, its places, the drain that
+-- began in it, the levels of the lines in it, the hardware that it left, and the passages at its end
+abbrev pub tally_after : ℕ → List ℕ → List Step → CyclePlaces → Option ℕ → Lines → Hardware → List Passage → Tally →
+    Tally
 tally_after number registers steps places drain lines after rows tally = record {
   retired = tally.retired + count_by is_retirement steps;
   exceptions = kept_after (exception_in after steps) tally.exceptions;
@@ -81,7 +86,8 @@ tally_after number registers steps places drain lines after rows tally = record 
   places = with_cycle places tally.places;
   dispatches = dispatched_after steps tally.dispatches;
   stays = with_stays (stays_among number (is_free number (at_kind Mem after.units)) true rows) tally.stays;
-  awaited = with_one (oldest_awaited (stays_among number (is_free number (at_kind Mem after.units)) true rows)) tally.awaited;
+  awaited = with_one (oldest_awaited (stays_among number (is_free number (at_kind Mem after.units)) true rows))
+      tally.awaited;
   work = both_work tally.work (work_of (filter has_left rows));
   costs = tally.costs;
   loads = both tally.loads (loads_of tally.costs rows);
@@ -94,16 +100,19 @@ tally_after number registers steps places drain lines after rows tally = record 
   mispredicted = with_all (word_in Mispredicted) rows tally.mispredicted;
   outcomes = with_passages tally.costs (filter has_left rows) tally.outcomes;
   waiting = still_waiting drain (with_waiting (stores_in registers steps) tally.waiting);
-  stores = with_drained tally.costs (oldest_drained drain (with_waiting (stores_in registers steps) tally.waiting)) tally.stores;
+  stores = with_drained tally.costs
+      (oldest_drained drain (with_waiting (stores_in registers steps) tally.waiting)) tally.stores;
 }
 
 -- what is kept of the cycles that were seen, of those values by which nothing was kept at first; with the registers, the end of
 -- the drain under way, and how many instructions are in the reorder buffer after them
-pub record IsTallying (first tally : Tally) (registers : List ℕ) (end : Option ℕ) (in_flight : ℕ) (seen : Watched) : Type 0 where
+pub record IsTallying (first tally : Tally) (registers : List ℕ) (end : Option ℕ) (in_flight : ℕ)
+    (seen : Watched) : Type 0 where
   pub values : Values
   pub some_left : length (left_after seen.first.hardware seen.moments) ≤ 576 * seen.now.hardware.cycle
   pub of_no_cycle : first ≡ tally_of_run values seen.arrivals seen.first.hardware []
-  pub tallied : (by : Values) → first ≡ tally_of_run by seen.arrivals seen.first.hardware [] → tally ≡ tally_of_run by seen.arrivals seen.first.hardware seen.moments
+  pub tallied : (by : Values) → first ≡ tally_of_run by seen.arrivals seen.first.hardware [] →
+      tally ≡ tally_of_run by seen.arrivals seen.first.hardware seen.moments
   pub few_stays : all_stays tally.stays ≤ 576 * seen.now.hardware.cycle
   pub registers_are : registers ≡ seen.now.hardware.registers
   pub end_is : end ≡ drain_end seen.now.hardware

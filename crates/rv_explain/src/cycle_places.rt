@@ -10,9 +10,7 @@ pub(crate) fn in_flight(hardware: &ShownHardware<'_>) -> usize
     ensures counted { result ≡ length hardware.now.rob.entries }
     ensures few { result ≤ 256 }
 {
-    // Of hardware that a reset and cycles lead to, the buffers are as long as described.
-    let _ = hardware.cycles_done();
-    hardware.reorder_buffer().len()
+    hardware.rob.len()
 }
 
 /// The places of a cycle, by its number, how many instructions were in the reorder buffer before it, its steps, and the

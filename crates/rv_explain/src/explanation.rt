@@ -1,10 +1,9 @@
-ghost use Rattle.std.specs.Prelude.{◌≡◌, ◌++◌, ◌≤◌, ◌<◌, ◌^◌, Err, List, [], sum, IfOk, option_copied};
-ghost use Rattle.rv_explain.specs.Explanation.{CanBeWritten, HasOneExplanation, IsExplanation, cost_text, cycle_text, explanation, lead_text, path_text, run_text, untaken_lines, whole_text};
+ghost use Rattle.std.specs.Prelude.{◌≡◌, ◌≤◌, ◌<◌, ◌^◌, Err, sum, IfOk, option_copied};
+ghost use Rattle.rv_explain.specs.Explanation.{CanBeWritten, IsExplanation, cost_text, cycle_text, explanation, lead_text, path_text, run_text, untaken_lines, whole_text};
 ghost use Rattle.rv_hardware.specs.Guided.{guided};
-ghost use Rattle.rv_hardware.specs.Hardware.{Hardware};
-ghost use Rattle.rv_isa.specs.declared.lines.Arrival.{Arrival};
-ghost use Rattle.rv_explain.specs.Tally.{tally_of};
+ghost use Rattle.rv_explain.specs.Tally.{IsOfNoCycle};
 ghost use Rattle.rv_view.specs.Following.{FollowsFrom};
+ghost use Rattle.rv_view.specs.Run.{HasOneText};
 ghost use Rattle.rv_sentences.specs.Stay.{all_stays};
 ghost use Rattle.rv_text.specs.IsText.{IsText};
 ghost use Rattle.rv_text.specs.Said.{Says};
@@ -14,7 +13,7 @@ use crate::crash::{lone_crash, write_crash, write_first_passed};
 use crate::cycle_places::in_flight;
 use crate::ending::{csr, write_ending};
 use crate::figures::Figures;
-use crate::running::run_tallied;
+use crate::running::{Tallied, run_tallied};
 use crate::tally::Tally;
 use rv_arch::Stop;
 use rv_counts::Places;
@@ -47,7 +46,7 @@ fn begin<S: Simulated>(
     description: &Description,
 ) -> Result<Beginning, AllocError>
     ensures follows { IfOk result (λ beginning. FollowsFrom (S.hardware pipeline.now) beginning.following) }
-    ensures of_no_cycle { IfOk result (λ beginning. (arrivals : List Arrival) (h : Hardware) → beginning.tally ≡ tally_of description.now arrivals h [] []) }
+    ensures of_no_cycle { IfOk result (λ beginning. IsOfNoCycle description.now beginning.tally) }
 {
     let following = Following::begin(alloc, pipeline)?;
     let tally = Tally::new(alloc, description)?;
@@ -84,13 +83,13 @@ fn write_lead<W: Write>(
     out: &mut Sink<'_, W>,
     listing: &Listing,
     hardware: &ShownHardware<'_>,
-    progress: &Progress,
-    tally: &Tally,
+    run: &Tallied,
 )
-    requires { CanBeWritten hardware.now progress.now tally.now }
-    ensures { Says W.contents out.old out.new (lead_text listing.now hardware.now progress.now tally.now) }
+    requires { CanBeWritten hardware.now run.now }
+    ensures { Says W.contents out.old out.new (lead_text listing.now hardware.now run.now) }
 {
-    let cycles = progress.cycles;
+    let cycles = run.progress.cycles;
+    let tally = &run.tally;
     let width = u64::from(hardware.values().dispatch_width);
     let left = in_flight(hardware);
     write_greatest_waits(out, &tally.stays);
@@ -110,22 +109,17 @@ fn write_lead<W: Write>(
 }
 
 // Where the cycles went.
-fn write_costs<W: Write>(
-    out: &mut Sink<'_, W>,
-    listing: &Listing,
-    progress: &Progress,
-    fetched: u64,
-    tally: &Tally,
-)
-    requires heads { sum tally.now.heads.words ≤ progress.now.cycles }
-    requires branches { sum tally.now.branches.words < 2 ^ 64 }
-    requires mispredicted { sum tally.now.mispredicted.words < 2 ^ 64 }
-    requires stays { all_stays tally.now.stays < 2 ^ 64 }
-    ensures { Says W.contents out.old out.new (cost_text listing.now progress.now fetched tally.now) }
+fn write_costs<W: Write>(out: &mut Sink<'_, W>, listing: &Listing, run: &Tallied)
+    requires heads { sum run.now.tally.heads.words ≤ run.now.progress.cycles }
+    requires branches { sum run.now.tally.branches.words < 2 ^ 64 }
+    requires mispredicted { sum run.now.tally.mispredicted.words < 2 ^ 64 }
+    requires stays { all_stays run.now.tally.stays < 2 ^ 64 }
+    ensures { Says W.contents out.old out.new (cost_text listing.now run.now) }
 {
-    write_cycles(out, progress, tally.retired);
-    write_dispatches(out, progress.busy, &tally.dispatches);
-    write_work(out, fetched, &tally.work);
+    let tally = &run.tally;
+    write_cycles(out, &run.progress, tally.retired);
+    write_dispatches(out, run.progress.busy, &tally.dispatches);
+    write_work(out, run.fetched, &tally.work);
     write_worst(out, listing, &tally.branches, &tally.mispredicted);
     write_stays(out, &tally.stays);
     write_loads(out, &tally.loads);
@@ -133,7 +127,7 @@ fn write_costs<W: Write>(
     write_hotspots(
         out,
         listing,
-        progress.cycles,
+        run.progress.cycles,
         tally.idle,
         &tally.outcomes,
         &tally.stores,
@@ -145,22 +139,20 @@ fn write_costs<W: Write>(
 fn write_whole<W: Write>(
     out: &mut Sink<'_, W>,
     listing: &Listing,
-    stop: Stop,
     hardware: &ShownHardware<'_>,
-    progress: &Progress,
-    fetched: u64,
-    tally: &Tally,
+    run: &Tallied,
 )
-    requires { CanBeWritten hardware.now progress.now tally.now }
-    ensures { Says W.contents out.old out.new (whole_text listing.now stop hardware.now progress.now fetched tally.now) }
+    requires { CanBeWritten hardware.now run.now }
+    ensures { Says W.contents out.old out.new (whole_text listing.now hardware.now run.now) }
 {
-    write_ending(out, listing, stop, hardware, &tally.last_stores);
+    let tally = &run.tally;
+    write_ending(out, listing, run.stop, hardware, &tally.last_stores);
     write_first_passed(out, listing, tally.exceptions.all());
     write_exceptions(out, listing, &tally.exceptions);
     write_interrupts(out, listing, &tally.interrupts);
     write_untaken_lines(out, hardware, tally);
-    write_lead(out, listing, hardware, progress, tally);
-    write_costs(out, listing, progress, fetched, tally);
+    write_lead(out, listing, hardware, run);
+    write_costs(out, listing, run);
 }
 
 // The sentences on a path, where one is shown.
@@ -173,50 +165,58 @@ fn write_path<W: Write>(out: &mut Sink<'_, W>, path: Option<&PathAccount>, listi
     }
 }
 
-// The sentences on a path, where one is shown, and then those on a run that ended, or on a crash that stands alone.
+// The sentences on a run that ended, or on a crash that stands alone.
 #[tactic(auto, using(rv_text::proofs::Saying::saying), unfolding(crate::specs::Explanation::run_text))]
-fn write_sentences<W: Write>(
+fn write_run<W: Write>(
     out: &mut Sink<'_, W>,
-    path: Option<&PathAccount>,
     crash: Option<Exception>,
     listing: &Listing,
-    stop: Stop,
     hardware: &ShownHardware<'_>,
-    progress: &Progress,
-    fetched: u64,
-    tally: &Tally,
+    run: &Tallied,
 )
-    requires { CanBeWritten hardware.now progress.now tally.now }
-    ensures { Says W.contents out.old out.new (path_text listing.now (option_copied path.entry) ++ run_text crash listing.now stop hardware.now progress.now fetched tally.now) }
+    requires { CanBeWritten hardware.now run.now }
+    ensures { Says W.contents out.old out.new (run_text crash listing.now hardware.now run.now) }
 {
-    write_path(out, path, listing);
     match crash {
-        Some(crash) => write_crash(out, listing, &crash, &tally.interrupts),
-        None => write_whole(out, listing, stop, hardware, progress, fetched, tally),
+        Some(crash) => write_crash(out, listing, &crash, &run.tally.interrupts),
+        None => write_whole(out, listing, hardware, run),
     }
 }
 
-// Writes the sentences on a path, where one is shown, and on a run that ended.
+// The sentences on a path, where one is shown, and then those on a run.
+fn write_sentences<W: Write>(
+    out: &mut Sink<'_, W>,
+    figures: Figures,
+    path: Option<&PathAccount>,
+    listing: &Listing,
+    hardware: &ShownHardware<'_>,
+    run: &Tallied,
+)
+    requires { CanBeWritten hardware.now run.now }
+    ensures { Says W.contents out.old out.new
+        (explanation figures (option_copied path.entry) listing.now hardware.now run.now) }
+{
+    let crash = lone_crash(figures, run.stop, run.tally.exceptions.all());
+    write_path(out, path, listing);
+    write_run(out, crash, listing, hardware, run);
+}
+
+// Writes them as far as no write fails.
 #[tactic(auto, using(rv_text::proofs::Saying::says_written))]
 fn write_run_text<W: Write>(
     writer: &mut W,
     figures: Figures,
     path: Option<&PathAccount>,
     listing: &Listing,
-    stop: Stop,
     hardware: &ShownHardware<'_>,
-    progress: &Progress,
-    fetched: u64,
-    tally: &Tally,
+    run: &Tallied,
 ) -> Result<(), ReportError>
-    requires { CanBeWritten hardware.now progress.now tally.now }
-    ensures { IsWritten result (W.contents writer.old) (W.contents writer.new) (explanation figures (option_copied path.entry) listing.now stop hardware.now progress.now fetched tally.now) }
+    requires { CanBeWritten hardware.now run.now }
+    ensures { IsWritten result (W.contents writer.old) (W.contents writer.new)
+        (explanation figures (option_copied path.entry) listing.now hardware.now run.now) }
 {
-    let crash = lone_crash(figures, stop, tally.exceptions.all());
     let mut out = Sink::new(writer);
-    write_sentences(
-        &mut out, path, crash, listing, stop, hardware, progress, fetched, tally,
-    );
+    write_sentences(&mut out, figures, path, listing, hardware, run);
     out.outcome()
 }
 
@@ -249,12 +249,13 @@ pub fn write_explanation<S: Simulated, W: Write>(
     listing: &Listing,
     writer: &mut W,
 ) -> Result<Stop, TextError>
-    ensures written { IsText (IsExplanation arrivals.now limit figures description.now (option_copied path.entry) listing.now
-        (guided (S.hardware pipeline.old) (known predictor.old))
+    ensures written { IsText (IsExplanation arrivals.now limit figures description.now (option_copied path.entry)
+        listing.now (guided (S.hardware pipeline.old) (known predictor.old))
         (guided (S.hardware pipeline.new) (known predictor.new)))
         result (W.contents writer.old) (W.contents writer.new) }
     // With a described predictor the sentences are a function of what they explain.
-    ensures one_explanation { HasOneExplanation arrivals.now limit figures description.now (option_copied path.entry) listing.now }
+    ensures one_explanation { HasOneText limit
+        (IsExplanation arrivals.now limit figures description.now (option_copied path.entry) listing.now) }
     ensures not_run { result ≡ Err TextError.Memory →
         (S.hardware pipeline.new ≡ S.hardware pipeline.old) × (known predictor.new ≡ known predictor.old) }
 {
@@ -270,22 +271,12 @@ pub fn write_explanation<S: Simulated, W: Write>(
         beginning.following,
         beginning.tally,
     );
-    let tally = tallied.tally;
-    let written = write_run_text(
-        writer,
-        figures,
-        path,
-        listing,
-        tallied.stop,
-        &pipeline.shown(),
-        &tallied.progress,
-        tallied.fetched,
-        &tally,
-    );
+    let stop = tallied.stop;
+    let written = write_run_text(writer, figures, path, listing, &pipeline.shown(), &tallied);
     // By one call: at each end of its scope a tally is dropped field by field.
-    drop(tally);
+    drop(tallied);
     match written {
-        Ok(()) => Ok(tallied.stop),
+        Ok(()) => Ok(stop),
         Err(ReportError::WriteFailed) => Err(TextError::WriteFailed),
     }
 }

@@ -13,8 +13,8 @@ fn head_word(hardware: &ShownHardware<'_>) -> Option<u32>
     Some(head.pc / 4)
 }
 
-/// The word that the last cycle is on account of, and what had flushed the buffer if it is empty after it; by the passages at the cycle's
-/// end and by what had flushed the buffer before.
+/// The word that the last cycle is on account of, and what had flushed the buffer if it is empty after it; by the
+/// passages at the cycle's end and by what had flushed the buffer before.
 pub(crate) fn accounts_of(
     hardware: &ShownHardware<'_>,
     rows: &[Passage],

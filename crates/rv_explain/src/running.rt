@@ -1,6 +1,5 @@
-ghost use Rattle.std.specs.Prelude.{◌≡◌, []};
 ghost use Rattle.rv_explain.specs.Explanation.{IsTallied};
-ghost use Rattle.rv_explain.specs.Tally.{tally_of};
+ghost use Rattle.rv_explain.specs.Tally.{IsOfNoCycle};
 ghost use Rattle.rv_hardware.specs.Guided.{guided};
 ghost use Rattle.rv_view.specs.Following.{FollowsFrom};
 
@@ -27,7 +26,8 @@ pub(crate) struct Tallied {
     pub(crate) tally: Tally,
 }
 
-// The view that keeps a tally, and says nothing: what it kept so far, and what it has to know of the hardware before the next cycle.
+// The view that keeps a tally, and says nothing: what it kept so far, and what it has to know of the hardware before the
+// next cycle.
 #[derive(Drop)]
 struct Explainer {
     tally: Tally,
@@ -43,7 +43,8 @@ impl View for Explainer {
 
     type Refusal = Infallible;
 
-    ghost has_seen = { λ start explainer seen. IsTallying start.tally explainer.tally explainer.registers explainer.drain_end explainer.in_flight seen };
+    ghost has_seen = { λ start explainer seen. IsTallying start.tally explainer.tally explainer.registers
+        explainer.drain_end explainer.in_flight seen };
 
     ghost text = { λ _ _ _. [] };
 
@@ -89,18 +90,15 @@ pub(crate) fn run_tallied<S: Simulated>(
     tally: Tally,
 ) -> Tallied
     requires follows { FollowsFrom (S.hardware pipeline.old) following }
-    requires of_no_cycle { tally ≡ tally_of description.now arrivals.now (S.hardware pipeline.old) [] [] }
+    requires of_no_cycle { IsOfNoCycle description.now tally }
     ensures { IsTallied arrivals.now limit description.now
         (guided (S.hardware pipeline.old) (known predictor.old))
-        (guided (S.hardware pipeline.new) (known predictor.new))
-        result.stop result.progress result.fetched result.tally }
+        (guided (S.hardware pipeline.new) (known predictor.new)) result }
 {
-    // What is in the pipeline a reset and cycles led to.
-    let _ = pipeline.cycles_done();
-    let shown = pipeline.shown();
-    let registers = shown.observe().regs;
-    let drain_end = shown.drain_end();
-    let in_flight = in_flight(&shown);
+    let hardware = pipeline.shown();
+    let registers = *hardware.registers;
+    let drain_end = hardware.drain_end();
+    let in_flight = in_flight(&hardware);
     let explainer = Explainer {
         tally,
         registers,
@@ -125,8 +123,6 @@ pub(crate) fn run_tallied<S: Simulated>(
     );
     // It counts so many cycles at most, and so what was fetched is counted.
     let _ = pipeline.is_exhausted();
-    // Of hardware that a reset and cycles lead to, the dispatch width is as described.
-    let _ = pipeline.cycles_done();
     let Explainer { tally, .. } = view;
     let fetched = tally.work.left + table.rows().len() as u64;
     match stop {

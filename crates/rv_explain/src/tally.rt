@@ -1,8 +1,6 @@
-ghost use Rattle.std.specs.Prelude.{◌≡◌, ◌≤◌, List, [], length, IfOk};
-ghost use Rattle.rv_hardware.specs.Hardware.{Hardware};
-ghost use Rattle.rv_isa.specs.declared.lines.Arrival.{Arrival};
+ghost use Rattle.std.specs.Prelude.{◌≡◌, ◌≤◌, length, IfOk};
 ghost use Rattle.rv_explain.specs.AtEnd.{AreAtEnd};
-ghost use Rattle.rv_explain.specs.Tally.{HasRoom, tally_after, tally_of};
+ghost use Rattle.rv_explain.specs.Tally.{HasRoom, IsOfNoCycle, tally_after};
 ghost use Rattle.rv_counts.specs.Places.{cycle_total};
 
 use crate::at_end::{left_among, without_waiting};
@@ -42,7 +40,8 @@ pub(crate) struct Tally {
     pub(crate) drains: Accesses,
     /// The address of the last store to each word that retired.
     pub(crate) last_stores: WordNotes<Option<u32>>,
-    /// The cycles that left the instruction in each word at the head of the reorder buffer, or left it empty after that had flushed it.
+    /// The cycles that left the instruction in each word at the head of the reorder buffer, or left that empty after the
+    /// instruction had flushed it.
     pub(crate) heads: WordNotes<u64>,
     /// The cycles that are on account of none.
     pub(crate) idle: u64,
@@ -63,7 +62,7 @@ pub(crate) struct Tally {
 impl Tally {
     /// What is kept of no cycle. The only error is out of memory.
     pub(crate) fn new(alloc: Global, description: &Description) -> Result<Tally, AllocError>
-        ensures { IfOk result (λ tally. (arrivals : List Arrival) (h : Hardware) → tally ≡ tally_of description.now arrivals h [] []) }
+        ensures { IfOk result (IsOfNoCycle description.now) }
     {
         Ok(Tally {
             retired: 0,
@@ -90,8 +89,8 @@ impl Tally {
         })
     }
 
-    /// Keeps what the core's last cycle shows, by its number, its steps, the registers before them, its places, what the drain costs
-    /// that began in it, the levels of the lines in it, and the passages at its end.
+    /// Keeps what the core's last cycle shows, by its number, its steps, the registers before them, its places, what the
+    /// drain costs that began in it, the levels of the lines in it, and the passages at its end.
     pub(crate) fn add(
         &mut self,
         cycle: u64,
@@ -106,7 +105,8 @@ impl Tally {
         requires room { HasRoom self.old (length steps.now) (length rows.now) }
         requires few { cycle_total places.now ≤ 264 }
         requires end { AreAtEnd cycle hardware.now rows.now }
-        ensures { self.new ≡ tally_after cycle registers.old steps.now places.now drain lines hardware.now rows.now self.old }
+        ensures { self.new ≡
+            tally_after cycle registers.old steps.now places.now drain lines hardware.now rows.now self.old }
     {
         let has_unit = hardware.units().free(Kind::Mem, cycle);
         add_stays(

@@ -63,8 +63,8 @@ fn first_exception(steps: &[Step], hardware: &ShownHardware<'_>) -> Option<Excep
     }
 }
 
-/// Keeps the first trap among the steps of the core's last cycle that is no breakpoint, and the first interrupt, if there are any; and returns
-/// how many of the steps are retirements.
+/// Keeps the first trap among the steps of the core's last cycle that is no breakpoint, and the first interrupt, if
+/// there are any; and returns how many of the steps are retirements.
 pub(crate) fn note_steps(
     exceptions: &mut Exceptions,
     interrupts: &mut Interrupts,

@@ -9,6 +9,7 @@ pub none-said : (before : List ℕ) (w : Wait) → cycles_of w ≡ 0 → [] ≡ 
 unfolding one_text
 none-said before w none = sym (ap (λ (b : Bool). if b then [] else wait_text before w) (eq-eqb (cycles_of w) 0 none))
 
+-- after a wait of no cycle the same words go before the next
 pub none-after : (before : List ℕ) (w : Wait) → cycles_of w ≡ 0 → before ≡ words_after before w
 unfolding words_after
 none-after before w none = sym (ap (λ (b : Bool). if b then before else codes ", ") (eq-eqb (cycles_of w) 0 none))
@@ -18,6 +19,7 @@ pub some-said : (before : List ℕ) (w : Wait) → (cycles_of w ≡ 0 → ⊥) �
 unfolding one_text
 some-said before w some = sym (ap (λ (b : Bool). if b then [] else wait_text before w) (ne_eqb (cycles_of w) 0 some))
 
+-- after a longer one a comma does
 pub some-after : (before : List ℕ) (w : Wait) → (cycles_of w ≡ 0 → ⊥) → codes ", " ≡ words_after before w
 unfolding words_after
 some-after before w some = sym (ap (λ (b : Bool). if b then before else codes ", ") (ne_eqb (cycles_of w) 0 some))

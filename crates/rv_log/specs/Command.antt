@@ -1,5 +1,5 @@
--- The lines of a log in Konata's format: fields after tabs, the first of which says what the line says. An instruction is reported by
--- its number in order of fetch.
+-- The lines of a log in Konata's format: fields after tabs, the first of which says what the line says. An instruction
+-- is reported by its number in order of fetch.
 use Rattle.std.specs.Prelude.{ℕ, List, ◌++◌, codes, decimal}
 use Rattle.rv_passage.specs.declared.passage.Passage.{Passage}
 use Rattle.rv_source.specs.Listing.{Listed}
@@ -11,7 +11,8 @@ use Rattle.rv_log.specs.declared.stage.Stage.TheVariants.{Fetch, Dispatch, Execu
 -- an instruction appears (I), and its label (L) begins with its address
 unfoldable pub introduction_text : ℕ → ℕ → List ℕ
 introduction_text number pc =
-    codes "I\t" ++ (decimal number ++ (codes "\t" ++ (decimal number ++ (codes "\t0\nL\t" ++ (decimal number ++ (codes "\t0\t" ++
+    codes "I\t" ++ (decimal number
+    ++ (codes "\t" ++ (decimal number ++ (codes "\t0\nL\t" ++ (decimal number ++ (codes "\t0\t" ++
     (word_text pc ++ codes ": ")))))))
 
 -- it appears, with its label: its address and its statement

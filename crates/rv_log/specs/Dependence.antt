@@ -20,7 +20,8 @@ dependence_at cycle number (Some producer) = woken_at cycle number producer
 -- those of both operands
 unfoldable pub dependences_at : ℕ → Passage → List ℕ
 dependences_at cycle passage =
-    dependence_at cycle passage.number passage.producers.first ++ dependence_at cycle passage.number passage.producers.second
+    dependence_at cycle passage.number passage.producers.first
+    ++ dependence_at cycle passage.number passage.producers.second
 
 -- all that a log says of an instruction in a cycle in which it was in the hardware
 unfoldable pub row_at : Listed → ℕ → Passage → List ℕ

@@ -15,7 +15,8 @@ use Rattle.rv_log.specs.Waited.{waited_text}
 unfoldable pub written_text : Option (ℕ × ℕ) → List ℕ
 written_text None = codes "retired"
 written_text (Some written) =
-    codes "retired, x" ++ (decimal written.0 ++ (codes " (" ++ (register_name written.0 ++ (codes ") = " ++ word_text written.1))))
+    codes "retired, x"
+    ++ (decimal written.0 ++ (codes " (" ++ (register_name written.0 ++ (codes ") = " ++ word_text written.1))))
 
 -- the cause of its trap
 unfoldable pub cause_text : Cause → List ℕ

@@ -1,4 +1,5 @@
--- What a log says of the fetched words that wait for room: what the oldest of them waits for, from the first cycle on in which it does.
+-- What a log says of the fetched words that wait for room: what the oldest of them waits for, from the first cycle on
+-- in which it does.
 use Rattle.std.specs.Prelude.{ℕ, ◌&&◌, not, Bool, true, false, if◌then◌else◌, is_none, List, [], ◌++◌, codes, decimal, Option, Some, None}
 use Rattle.std.specs.{List.find, Option.option_map}
 use Rattle.rv_hardware.specs.Report.{is_same_stall}
@@ -30,7 +31,8 @@ is_as_before reason (Some before) = is_same_stall reason before
 -- the label (L) of the pane of details; more text may come after it there
 unfoldable pub room_line : ℕ → Stall → ℕ → List ℕ
 room_line cycle reason number =
-    codes "L\t" ++ (decimal number ++ (codes "\t1\t" ++ (room_text (Some reason) ++ (codes " from cycle " ++ (decimal cycle ++ codes "; \n")))))
+    codes "L\t" ++ (decimal number
+    ++ (codes "\t1\t" ++ (room_text (Some reason) ++ (codes " from cycle " ++ (decimal cycle ++ codes "; \n")))))
 
 -- that of the oldest fetched word, where there is one
 unfoldable pub room_of : ℕ → Stall → Option ℕ → List ℕ

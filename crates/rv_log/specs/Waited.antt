@@ -1,4 +1,5 @@
--- What an instruction waited for until it left the hardware, and in how many cycles: those in which a picture of it has a `.` or a `~`.
+-- What an instruction waited for until it left the hardware, and in how many cycles: those in which a picture of it has
+-- a `.` or a `~`.
 use Rattle.std.specs.Prelude.{ℕ, ◌+◌, ◌-◌, ◌==◌, Bool, true, false, if◌then◌else◌, nat_lt, List, [], ◌∷◌, ◌++◌, codes, decimal, Option, Some, None}
 use Rattle.rv_isa.specs.Instruction.{kind_of_word}
 use Rattle.rv_drawing.specs.{Cell.is_past, Wait.result_text, Wait.unit_text}
@@ -42,13 +43,14 @@ abbrev pub operand_wait : ℕ → ℕ → Option Producer → Wait
 operand_wait from left None = wait from from awaited.Unknown
 operand_wait from left (Some producer) = wait from (after_or_left left producer.broadcast) (awaited.Operand producer)
 
--- after that until its issue it waits for a unit, or where it uses none for the head; of one that was dispatched before a log began it is
--- not known what for
+-- after that until its issue it waits for a unit, or where it uses none for the head; of one that was dispatched before
+-- a log began it is not known what for
 abbrev pub issue_awaited : ℕ → Passage → Awaited
-issue_awaited first p = if is_past first p.dispatched then awaited.Unknown else awaited.Unit (kind_of_word p.instruction)
+issue_awaited first p =
+    if is_past first p.dispatched then awaited.Unknown else awaited.Unit (kind_of_word p.instruction)
 
--- the waits of an instruction that left in a cycle: between fetch and dispatch, from there for its operands, until its issue, from the
--- cycle in which its result is ready until the broadcast, and from there to its end
+-- the waits of an instruction that left in a cycle: between fetch and dispatch, from there for its operands, until its
+-- issue, from the cycle in which its result is ready until the broadcast, and from there to its end
 abbrev pub waits_of : ℕ → ℕ → Passage → List Wait
 waits_of first left p =
     let operand = operand_wait (after_or_left left p.dispatched) left (last_of p.producers.first p.producers.second) in
@@ -84,7 +86,8 @@ wait_text before w = (before ++ (decimal (cycles_of w) ++ codes " ")) ++ awaited
 -- waits one after another, the first of them after these words; one of no cycles is left out
 unfoldable pub waits_text : List ℕ → List Wait → List ℕ
 waits_text before [] = []
-waits_text before (w ∷ ws) = if cycles_of w == 0 then waits_text before ws else wait_text before w ++ waits_text (codes ", ") ws
+waits_text before (w ∷ ws) =
+    if cycles_of w == 0 then waits_text before ws else wait_text before w ++ waits_text (codes ", ") ws
 
 -- the first of them
 unfoldable pub one_text : List ℕ → Wait → List ℕ

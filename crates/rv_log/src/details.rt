@@ -1,4 +1,4 @@
-ghost use Rattle.std.specs.Prelude.{◌≤◌, ◌++◌, Some, None, codes, decimal, length};
+ghost use Rattle.std.specs.Prelude.{◌≤◌, ◌++◌, Some, codes, decimal, length};
 ghost use Rattle.rv_drawing.specs.Title.{correction_text};
 ghost use Rattle.rv_log.specs.Details.{written_text, cause_text, ending_text, cost_text, details_text, predicted_text, prediction_text};
 ghost use Rattle.rv_text.specs.Line.{word_text};
@@ -121,7 +121,8 @@ fn write_begin<W: Write>(out: &mut Sink<'_, W>, number: u64)
     write_numbered(out, b"L\t", number, b"\t1\t")
 }
 
-/// Writes the label of the pane of details of an instruction that left the hardware, in a log from a cycle on, but for the end of its line.
+/// Writes the label of the pane of details of an instruction that left the hardware, in a log from a cycle on, but for
+/// the end of its line.
 pub(crate) fn write_details<W: Write>(out: &mut Sink<'_, W>, first: u64, row: &Passage)
     ensures { Says W.contents out.old out.new (details_text first row.now) }
 {

@@ -40,7 +40,8 @@ impl View for Logger<'_> {
 
     type Refusal = Infallible;
 
-    ghost has_seen = { λ start logger seen. IsLogging start.listing.now logger.listing.now logger.first logger.stall seen };
+    ghost has_seen = { λ start logger seen.
+        IsLogging start.listing.now logger.listing.now logger.first logger.stall seen };
 
     ghost text = { λ logger first cycles. cycles_text logger.listing.now first.cycle None cycles };
 
@@ -71,7 +72,8 @@ impl View for Logger<'_> {
 
 // Writes the begin of a log. Answers whether a write failed.
 fn begin<W: Write>(writer: &mut W, listing: &Listing, first: u64, rows: &[Passage]) -> bool
-    ensures { Extends false result (W.contents writer.old) (W.contents writer.new) (begin_text listing.now first rows.now) }
+    ensures { Extends false result (W.contents writer.old) (W.contents writer.new)
+        (begin_text listing.now first rows.now) }
 {
     let mut out = Sink::new(writer);
     write_begin(&mut out, listing, first, rows);

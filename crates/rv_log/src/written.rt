@@ -1,6 +1,7 @@
 ghost use Rattle.std.specs.Prelude.{◌≡◌, Err};
 ghost use Rattle.rv_hardware.specs.Guided.{guided};
-ghost use Rattle.rv_log.specs.Log.{HasOneLog, IsLog};
+ghost use Rattle.rv_log.specs.Log.{IsLog};
+ghost use Rattle.rv_view.specs.Run.{HasOneText};
 ghost use Rattle.rv_text.specs.IsText.{IsText};
 
 use crate::running::run_logged;
@@ -41,7 +42,7 @@ pub fn write_log<S: Simulated, W: Write>(
         (guided (S.hardware pipeline.new) (known predictor.new)))
         result (W.contents writer.old) (W.contents writer.new) }
     // With a described predictor a log is a function of what it is a log of.
-    ensures one_log { HasOneLog arrivals.now limit listing.now }
+    ensures one_log { HasOneText limit (IsLog arrivals.now limit listing.now) }
     ensures not_run { result ≡ Err TextError.Memory →
         (S.hardware pipeline.new ≡ S.hardware pipeline.old) × (known predictor.new ≡ known predictor.old) }
 {

@@ -29,6 +29,7 @@ is_by_limit stop.Breakpoint is = absurd (false≢true is)
 is_by_limit (stop.Stale pc) is = absurd (false≢true is)
 is_by_limit stop.Exhausted is = absurd (false≢true is)
 
+-- another reason than the limit
 pub is_not_by_limit : (reason : Stop) → is_limit reason ≡ false → reason ≢ stop.Limit
 is_not_by_limit reason is same = false≢true (sym is ∙ ap is_limit same)
 

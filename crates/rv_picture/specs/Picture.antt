@@ -1,10 +1,7 @@
 -- The picture of a window of a run.
-use Rattle.std.specs.Prelude.{◌≡◌, ℕ, ◌+◌, ◌^◌, ◌≤◌, List, Option}
+use Rattle.std.specs.Prelude.{◌≡◌, ℕ, ◌+◌, List, Option}
 use Rattle.rv_isa.specs.declared.lines.Arrival.{Arrival}
-use Rattle.rv_front.specs.Predictors.{guide_of}
-use Rattle.rv_front.specs.declared.predictors.DescribedPredictor.{DescribedPredictor}
-use Rattle.rv_hardware.specs.Guided.{GuidedHardware, guided}
-use Rattle.rv_hardware.specs.Hardware.{Hardware}
+use Rattle.rv_hardware.specs.Guided.{GuidedHardware}
 use Rattle.rv_hardware.specs.History.{Moment}
 use Rattle.rv_hardware.specs.declared.report.Stall.{Stall}
 use Rattle.rv_passage.specs.EndedRun.{IsEndedRun}
@@ -31,18 +28,13 @@ picture_of Svg table stalls marks listing window = svg_picture table.rows table.
 
 -- the picture of a view, by what was recorded
 abbrev pub view_text : View → Option (List Mark) → Listed → Recorded → List ℕ
-view_text view marks listing kept = picture_of view.form (with_rows view.rows kept.table) kept.stalls marks listing kept.window
+view_text view marks listing kept =
+    picture_of view.form (with_rows view.rows kept.table) kept.stalls marks listing kept.window
 
 -- a text is the picture of the cycles in view of a run that ended so, which may have been before them
-pub record IsPicture (arrivals : List Arrival) (view : View) (marks : Option (List Mark)) (listing : Listed) (old new : GuidedHardware) (end : RunEnd) (text : List ℕ) : Type 0 where
+pub record IsPicture (arrivals : List Arrival) (view : View) (marks : Option (List Mark)) (listing : Listed)
+    (old new : GuidedHardware) (end : RunEnd) (text : List ℕ) : Type 0 where
   pub moments : List Moment
   pub run : IsEndedRun arrivals (view.from + view.cycles) old moments new end.stop
   pub over_is : end.over ≡ over_of (recorded_after view.from old.hardware moments end.stop).window
   pub text_is : text ≡ view_text view marks listing (recorded_after view.from old.hardware moments end.stop)
-
--- of hardware that a described predictor guides there is one picture of a view with its marks, whatever it leaves
-abbrev pub HasOnePicture : List Arrival → View → Option (List Mark) → Listed → Type 0
-HasOnePicture arrivals view marks listing =
-    (h : Hardware) (predictor : DescribedPredictor) (new new' : GuidedHardware) (end end' : RunEnd) (text text' : List ℕ) → h.cycle + (view.from + view.cycles) ≤ 2 ^ 40 →
-    IsPicture arrivals view marks listing (guided h (guide_of predictor)) new end text → IsPicture arrivals view marks listing (guided h (guide_of predictor)) new' end' text' →
-    (end ≡ end') × (text ≡ text')

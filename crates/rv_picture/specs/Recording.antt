@@ -51,11 +51,13 @@ pub record Recorded : Type 0 where
 
 -- what a recording holds
 abbrev pub held_by : Recording → Recorded
-held_by recording = record { table = passages_of recording.table; window = recording.window; stalls = recording.stalls.items }
+held_by recording =
+    record { table = passages_of recording.table; window = recording.window; stalls = recording.stalls.items }
 
 -- a window of all of some cycles from some hardware on, after which a run ended for a reason
 abbrev pub window_of : Hardware → List Moment → Stop → Passages → Window
-window_of first moments reason table = record { first = first.cycle; cycles = length moments; stopped = stopped_at reason table.rows }
+window_of first moments reason table =
+    record { first = first.cycle; cycles = length moments; stopped = stopped_at reason table.rows }
 
 -- of these cycles
 abbrev pub recorded_from : Hardware → List Moment → Stop → Recorded
@@ -67,10 +69,12 @@ recorded_from first moments reason = record {
 
 -- of a run but its first cycles, so many; where it ended before, of no cycle
 abbrev pub recorded_after : ℕ → Hardware → List Moment → Stop → Recorded
-recorded_after from first moments reason = recorded_from (hardware_after first (take from moments)) (drop from moments) reason
+recorded_after from first moments reason =
+    recorded_from (hardware_after first (take from moments)) (drop from moments) reason
 
 -- a run of at most so many cycles, of which those after the first `from` were recorded
-pub record IsRecorded (arrivals : List Arrival) (from limit : ℕ) (old new : GuidedHardware) (reason : Stop) (kept : Recorded) : Type 0 where
+pub record IsRecorded (arrivals : List Arrival) (from limit : ℕ) (old new : GuidedHardware) (reason : Stop)
+    (kept : Recorded) : Type 0 where
   pub moments : List Moment
   pub run : IsEndedRun arrivals limit old moments new reason
   pub kept_is : kept ≡ recorded_after from old.hardware moments reason

@@ -76,7 +76,8 @@ impl Watcher for Follower {
 
     ghost has_seen = { λ _ follower seen _ _. IsRecording (passages_of follower.table) follower.stalls.items seen };
 
-    ghost has_room = { λ follower. HasRoom follower.table × (length follower.stalls.items < vec_capacity follower.stalls) };
+    ghost has_room = { λ follower. HasRoom follower.table ×
+        (length follower.stalls.items < vec_capacity follower.stalls) };
 
     fn make_room(&mut self) -> Result<(), AllocError> {
         self.table.make_room()?;
@@ -113,7 +114,9 @@ fn run_on<S: Simulated>(
     steps: Vec<Step>,
 ) -> Stop
     requires { 8 ≤ vec_capacity steps }
-    ensures { (moments : List Moment) × IsEndedRun arrivals.now limit (guided (S.hardware pipeline.old) (known predictor.old)) moments (guided (S.hardware pipeline.new) (known predictor.new)) result }
+    ensures { (moments : List Moment)
+        × IsEndedRun arrivals.now limit (guided (S.hardware pipeline.old) (known predictor.old)) moments
+        (guided (S.hardware pipeline.new) (known predictor.new)) result }
 {
     let ended = pipeline.watch(
         predictor,
@@ -187,7 +190,12 @@ fn recorded(
     stalls: Vec<Option<Stall>>,
     stop: Stop,
 ) -> Recording
-    ensures { result ≡ record { table = table; window = record { first = first; cycles = cycles; stopped = stopped_at stop (passages_of table).rows }; stalls = stalls; stop = stop } }
+    ensures { result ≡ record {
+      table = table;
+      window = record { first = first; cycles = cycles; stopped = stopped_at stop (passages_of table).rows };
+      stalls = stalls;
+      stop = stop;
+    } }
 {
     let stopped = stopped_at(stop, table.rows());
     Recording {
@@ -214,7 +222,8 @@ fn nothing_shown<S: Simulated>(
     pipeline: &S,
     stop: Stop,
 ) -> Result<Recording, AllocError>
-    ensures { IfOk result (λ recording. (held_by recording ≡ recorded_from (S.hardware pipeline.now) [] stop) × (recording.stop ≡ stop)) }
+    ensures { IfOk result (λ recording. (held_by recording ≡ recorded_from (S.hardware pipeline.now) [] stop)
+        × (recording.stop ≡ stop)) }
 {
     let table = begin_table(alloc, pipeline)?;
     let first = pipeline.cycles_done();

@@ -2,10 +2,10 @@ ghost use Rattle.std.specs.Prelude.{◌≡◌, ◌+◌, ◌<◌, ◌^◌, Err, o
 ghost use Rattle.rv_hardware.specs.Guided.{guided};
 ghost use Rattle.rv_passage.specs.Table.{passages_of};
 ghost use Rattle.rv_drawing.specs.Over.{over_of};
-ghost use Rattle.rv_picture.specs.Picture.{HasOnePicture, IsPicture, picture_of, with_rows};
+ghost use Rattle.rv_picture.specs.Picture.{IsPicture, picture_of, with_rows};
 ghost use Rattle.rv_text.specs.IsText.{IsText};
 ghost use Rattle.rv_text.specs.Written.{IsWritten};
-ghost use Rattle.rv_view.specs.Run.{HasRun};
+ghost use Rattle.rv_view.specs.Run.{HasOneText, HasRun};
 
 use crate::picture::{Form, Rows, RunEnd, View};
 use crate::recording::{Recording, record_window};
@@ -43,7 +43,8 @@ pub fn write_picture<S: Simulated, W: Write>(
         (guided (S.hardware pipeline.new) (known predictor.new)))
         result (W.contents writer.old) (W.contents writer.new) }
     // With a described predictor a picture is a function of what it is a picture of.
-    ensures one_picture { HasOnePicture arrivals.now view (option_copied marks.entry) listing.now }
+    ensures one_picture { HasOneText (view.from + view.cycles)
+        (IsPicture arrivals.now view (option_copied marks.entry) listing.now) }
     ensures run { result ≡ Err TextError.Memory → HasRun arrivals.now
         (guided (S.hardware pipeline.old) (known predictor.old))
         (guided (S.hardware pipeline.new) (known predictor.new)) }
@@ -89,7 +90,9 @@ fn write_recording<W: Write>(
     writer: &mut W,
 ) -> Result<(), ReportError>
     requires { recording.now.window.first + recording.now.window.cycles < 2 ^ 64 }
-    ensures { IsWritten result (W.contents writer.old) (W.contents writer.new) (picture_of form (passages_of recording.now.table) recording.now.stalls.items (option_copied marks.entry) listing.now recording.now.window) }
+    ensures { IsWritten result (W.contents writer.old) (W.contents writer.new)
+        (picture_of form (passages_of recording.now.table) recording.now.stalls.items
+        (option_copied marks.entry) listing.now recording.now.window) }
 {
     let rows = recording.table.rows();
     let interrupts = recording.table.interrupts();

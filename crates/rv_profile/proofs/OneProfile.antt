@@ -10,10 +10,12 @@ use Rattle.rv_counts.specs.Left.{passages_of_run}
 use Rattle.rv_counts.specs.Load.{costs_of}
 use Rattle.rv_counts.specs.Profile.{IsProfileOf}
 use Rattle.rv_counts.proofs.OneProfile.{counted_once}
-use Rattle.rv_profile.specs.Run.{HasOneProfile}
+use Rattle.rv_profile.specs.Run.{IsProfile}
 use Rattle.rv_profile.specs.Text.{table_text}
+use Rattle.rv_view.specs.Run.{HasOneText}
 
-pub one_profile : (arrivals : List Arrival) (limit : ℕ) (values : Values) (path : Option Accounted) (listing : Listed) → HasOneProfile arrivals limit values path listing
+pub one_profile : (arrivals : List Arrival) (limit : ℕ) (values : Values) (path : Option Accounted) (listing : Listed) →
+    HasOneText limit (IsProfile arrivals limit values path listing)
 one_profile arrivals limit values path listing h predictor new new' stop stop' text text' within is is' =
     let same = one_run within is.counts.run is'.counts.run in
     let counted = subst (λ (moments : List Moment). IsProfileOf (costs_of values) (passages_of_run h moments) (heads_of moments) is.words) same.moments_are is.counts.counted in

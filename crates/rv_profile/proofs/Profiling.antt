@@ -48,12 +48,14 @@ profiling_nothing arrivals h profile none = record {
 
 -- one more cycle
 module _ {seen : Watched} {cycle : ShownCycle} (next : IsNextCycle seen cycle) {costs : LoadCosts} {profile : Profiled} (profiling : IsProfiling costs profile seen) where
+  -- its passages and its head can be counted
   pub room_now : length profile.words + 577 ≤ profile.capacity → HasRoom profile (length cycle.rows.now + 1)
   room_now capacity = record {
     capacity = omega (arith, capacity, next.few);
     counts = record { most = 577 * seen.now.hardware.cycle; counts = profiling.within; countable = omega (arith, next.few, next.shown.number, next.shown.counted) };
   }
 
+  -- and are
   pub profiling_on : (profile' : Profiled) (head : Option ℕ) → head ≡ head_of cycle.hardware.now → profile'.costs ≡ profile.costs → profile'.words ≡ with_cycle profile.costs cycle.rows.now head profile.words
       → IsProfiling costs profile' (with_shown seen next.shown)
   profiling_on profile' head head_is same words =

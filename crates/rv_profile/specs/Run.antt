@@ -1,11 +1,8 @@
 -- The profile of a run.
-use Rattle.std.specs.Prelude.{◌≡◌, ℕ, ◌+◌, ◌^◌, ◌≤◌, List, Option}
+use Rattle.std.specs.Prelude.{◌≡◌, ℕ, List, Option}
 use Rattle.rv_isa.specs.declared.{lines.Arrival.Arrival, values.Values.Values}
 use Rattle.rv_arch.specs.declared.outcome.Stop.{Stop}
-use Rattle.rv_front.specs.Predictors.{guide_of}
-use Rattle.rv_front.specs.declared.predictors.DescribedPredictor.{DescribedPredictor}
-use Rattle.rv_hardware.specs.Guided.{GuidedHardware, guided}
-use Rattle.rv_hardware.specs.Hardware.{Hardware}
+use Rattle.rv_hardware.specs.Guided.{GuidedHardware}
 use Rattle.rv_hardware.specs.History.{Moment}
 use Rattle.rv_passage.specs.EndedRun.{IsEndedRun}
 use Rattle.rv_causes.specs.Account.{Accounted}
@@ -19,20 +16,15 @@ use Rattle.rv_counts.specs.declared.counts.WordCounts.{WordCounts}
 
 -- counts are those of a run that ended for a reason: of the instructions that left the hardware in it, and of those in flight
 -- at its end
-pub record IsCounted (arrivals : List Arrival) (limit : ℕ) (values : Values) (old new : GuidedHardware) (stop : Stop) (words : List WordCounts) : Type 0 where
+pub record IsCounted (arrivals : List Arrival) (limit : ℕ) (values : Values) (old new : GuidedHardware) (stop : Stop)
+    (words : List WordCounts) : Type 0 where
   pub moments : List Moment
   pub run : IsEndedRun arrivals limit old moments new stop
   pub counted : IsProfileOf (costs_of values) (passages_of_run old.hardware moments) (heads_of moments) words
 
 -- a text is the profile of a run that ended for a reason, with the cycles on a path, where one is shown
-pub record IsProfile (arrivals : List Arrival) (limit : ℕ) (values : Values) (path : Option Accounted) (listing : Listed) (old new : GuidedHardware) (stop : Stop) (text : List ℕ) : Type 0 where
+pub record IsProfile (arrivals : List Arrival) (limit : ℕ) (values : Values) (path : Option Accounted)
+    (listing : Listed) (old new : GuidedHardware) (stop : Stop) (text : List ℕ) : Type 0 where
   pub words : List WordCounts
   pub counts : IsCounted arrivals limit values old new stop words
   pub text_is : text ≡ table_text listing path words
-
--- of hardware that a described predictor guides there is one profile, whatever it leaves
-abbrev pub HasOneProfile : List Arrival → ℕ → Values → Option Accounted → Listed → Type 0
-HasOneProfile arrivals limit values path listing =
-    (h : Hardware) (predictor : DescribedPredictor) (new new' : GuidedHardware) (stop stop' : Stop) (text text' : List ℕ) → h.cycle + limit ≤ 2 ^ 40 →
-    IsProfile arrivals limit values path listing (guided h (guide_of predictor)) new stop text → IsProfile arrivals limit values path listing (guided h (guide_of predictor)) new' stop' text' →
-    (stop ≡ stop') × (text ≡ text')

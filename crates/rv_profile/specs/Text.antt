@@ -68,7 +68,8 @@ last_cells path word =
 
 -- the line of an address
 unfoldable pub word_line : Listed → Option Accounted → WordCounts → List ℕ
-word_line listing path word = place_cells listing word.address ++ (ended_cells word ++ (waits_cells word ++ last_cells path word))
+word_line listing path word =
+    place_cells listing word.address ++ (ended_cells word ++ (waits_cells word ++ last_cells path word))
 
 -- the table
 unfoldable pub table_text : Listed → Option Accounted → List WordCounts → List ℕ

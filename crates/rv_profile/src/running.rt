@@ -70,7 +70,8 @@ pub(crate) fn run_profiled<S: Simulated>(
     limit: u64,
 ) -> Result<Counted, AllocError>
     ensures counted { IfOk result (λ counted. IsCounted arrivals.now limit description.now
-        (guided (S.hardware pipeline.old) (known predictor.old)) (guided (S.hardware pipeline.new) (known predictor.new))
+        (guided (S.hardware pipeline.old) (known predictor.old))
+        (guided (S.hardware pipeline.new) (known predictor.new))
         counted.stop counted.profile.words) }
     ensures run { OnErr result (HasRun arrivals.now (guided (S.hardware pipeline.old) (known predictor.old))
         (guided (S.hardware pipeline.new) (known predictor.new))) }

@@ -239,7 +239,8 @@ pub fn write_table<W: Write>(
     path: Option<&PathAccount>,
     words: &[WordCounts],
 ) -> Result<(), ReportError>
-    ensures { IsWritten result (W.contents writer.old) (W.contents writer.new) (table_text listing.now (option_copied path.entry) words.now) }
+    ensures { IsWritten result (W.contents writer.old) (W.contents writer.new)
+        (table_text listing.now (option_copied path.entry) words.now) }
 {
     let mut out = Sink::new(writer);
     write_lines(&mut out, listing, path, words);

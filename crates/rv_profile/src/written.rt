@@ -1,8 +1,8 @@
 ghost use Rattle.std.specs.Prelude.{◌≡◌, Err, option_copied};
 ghost use Rattle.rv_hardware.specs.Guided.{guided};
-ghost use Rattle.rv_profile.specs.Run.{HasOneProfile, IsProfile};
+ghost use Rattle.rv_profile.specs.Run.{IsProfile};
 ghost use Rattle.rv_text.specs.IsText.{IsText};
-ghost use Rattle.rv_view.specs.Run.{HasRun};
+ghost use Rattle.rv_view.specs.Run.{HasOneText, HasRun};
 
 use crate::running::run_profiled;
 use crate::text::write_table;
@@ -46,7 +46,8 @@ pub fn write_profile<S: Simulated, W: Write>(
         (guided (S.hardware pipeline.new) (known predictor.new)))
         result (W.contents writer.old) (W.contents writer.new) }
     // With a described predictor a profile is a function of what it is a profile of.
-    ensures one_profile { HasOneProfile arrivals.now limit description.now (option_copied path.entry) listing.now }
+    ensures one_profile { HasOneText limit
+        (IsProfile arrivals.now limit description.now (option_copied path.entry) listing.now) }
     ensures run { result ≡ Err TextError.Memory → HasRun arrivals.now
         (guided (S.hardware pipeline.old) (known predictor.old))
         (guided (S.hardware pipeline.new) (known predictor.new)) }

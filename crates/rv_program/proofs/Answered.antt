@@ -9,17 +9,17 @@ use Rattle.rv_text.specs.declared.output.TextError.{TextError}
 use Rattle.rv_text.specs.declared.output.TextError.TheVariants.{Memory, WriteFailed}
 use Rattle.rv_program.specs.Answer.{IsAnswer, answered}
 
--- a text is answered by the program's errors, and tells of the job what it tells of the run
-told : {T : Type 0} (Is IsOfJob : T → List ℕ → Type 0) (written : Result T TextError) (old new : Option (List ℕ))
+-- what is written of a run is answered of its job, by the program's errors
+of_job : {T : Type 0} (Is IsOfJob : T → List ℕ → Type 0) (written : Result T TextError) (old new : Option (List ℕ))
     → ((answer : T) (text : List ℕ) → Is answer text → IsOfJob answer text) → IsText Is written old new → IsAnswer IsOfJob (answered written) old new
-told Is IsOfJob (Ok answer) old new means (text, is, appended) = (text, means answer text is, appended)
-told Is IsOfJob (Err WriteFailed) old new means (answer, text, is, beginning) = (answer, text, means answer text is, beginning)
-told Is IsOfJob (Err Memory) old new means nothing = nothing
+of_job Is IsOfJob (Ok answer) old new means (text, is, appended) = (text, means answer text is, appended)
+of_job Is IsOfJob (Err WriteFailed) old new means (answer, text, is, beginning) = (answer, text, means answer text is, beginning)
+of_job Is IsOfJob (Err Memory) old new means nothing = nothing
 
 answered_by : {T : Type 0} (Is IsOfJob : T → List ℕ → Type 0) (written : Result T TextError) (result : Result T SimError) (old new : Option (List ℕ))
     → result ≡ answered written → ((answer : T) (text : List ℕ) → Is answer text → IsOfJob answer text) → IsText Is written old new → IsAnswer IsOfJob result old new
 answered_by Is IsOfJob written result old new is means writes =
-    subst (λ r. IsAnswer IsOfJob r old new) (sym is) (told Is IsOfJob written old new means writes)
+    subst (λ r. IsAnswer IsOfJob r old new) (sym is) (of_job Is IsOfJob written old new means writes)
 
 -- the same, where the text comes first
 pub answered_from : {T : Type 0} {Is : T → List ℕ → Type 0} (IsOfJob : T → List ℕ → Type 0) (written : Result T TextError) {result : Result T SimError} (old new : Option (List ℕ))
@@ -35,5 +35,6 @@ Keeps-itself : (known : Option (List ℕ)) → Keeps known known
 Keeps-itself None = tt
 Keeps-itself (Some bytes) = refl
 
+-- what is the same is kept
 pub Keeps-same : (before after : Option (List ℕ)) → after ≡ before → Keeps before after
 Keeps-same before after same = subst (Keeps before) (sym same) (Keeps-itself before)

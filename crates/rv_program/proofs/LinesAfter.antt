@@ -33,9 +33,9 @@ executed_lines lines h has =
       accesses = λ g older younger e address same split ready by. same;
       starts = λ g older younger e cost message same split waits of_kind result costs. same;
     }) (drain h) drained in
-    let told : Has lines (broadcast (issue (drain h))) =
+    let broadcasts : Has lines (broadcast (issue (drain h))) =
     broadcast-keeps {P = Has lines} (record { broadcasts = λ g older younger e message same split gives. same; mends = λ g older younger e next same split. same }) (issue (drain h)) issued in
-    dispatch-keeps {P = Has lines} (record { dispatches = λ g fetched rest same first none. same }) (broadcast (issue (drain h))) told
+    dispatch-keeps {P = Has lines} (record { dispatches = λ g fetched rest same first none. same }) (broadcast (issue (drain h))) broadcasts
 
 cycle_lines : {lines : Lines} {old new : Hardware} {report : Report} → IsCycle any_prediction lines old report new → new.lines ≡ lines
 cycle_lines {lines} {old} {new} cycle =

@@ -62,6 +62,7 @@ module _ (options : TableOptions) where
       let rest = runs_once within jobs runs runs' each.1 each'.1 in
       λ i. first i ∷ rest i
 
+-- there is one table of a comparison
 pub one_table_of : (comparison : Comparison) (options : TableOptions) → options.limit ≤ 2 ^ 40 → IsAtMostOneText (IsComparisonTable comparison options)
 one_table_of comparison options within text text' is is' =
     let runs = runs_once options within comparison.jobs.items is.runs is'.runs (each_run options is.done) (each_run options is'.done) in

@@ -15,7 +15,8 @@ own_core job = core_of job (untaught_of job.description.predictor)
 
 -- marks are those of the path of its run up to the end of the cycles in view
 abbrev pub AreMarksOf : Job → View → List Mark → Type 0
-AreMarksOf job view marks = (end : GuidedHardware) × IsMarked job.arrivals view.from view.cycles (own_core job) end marks
+AreMarksOf job view marks =
+    (end : GuidedHardware) × IsMarked job.arrivals view.from view.cycles (own_core job) end marks
 
 -- an account is that of the path of its run of at most so many cycles
 abbrev pub IsAccountOf : Job → ℕ → Accounted → Type 0

@@ -10,7 +10,8 @@ use Rattle.rv_program.specs.CoreReport.{hardware_on, untaught_of}
 
 -- a run of a machine, with the predictor that it describes, from reset with a job's image, came to this
 abbrev pub IsRunOn : TableOptions → Job → Values → ComparedRun → Type 0
-IsRunOn options job machine run = RunsTo job.arrivals options (guided (hardware_on machine job) (untaught_of machine.predictor)) run
+IsRunOn options job machine run =
+    RunsTo job.arrivals options (guided (hardware_on machine job) (untaught_of machine.predictor)) run
 
 -- a run of the machine that a job describes
 abbrev pub IsRun : TableOptions → Job → ComparedRun → Type 0

@@ -36,10 +36,11 @@ untaught_of values = guide_of (described values.kind values.entries)
 -- the report of some cycles of a job, that left the hardware so
 abbrev pub text_of : Job → Options → Stop → List Report → Hardware → List ℕ
 text_of job options stop reports new =
-    run_report (steps_of reports) (totals_at reports stop) (layout_of job.description) (seen new) new.lines (shown job.description.report options)
+    run_report (steps_of reports) (totals_at reports stop) (layout_of job.description) (seen new) new.lines
+    (shown job.description.report options)
 
--- A text is the report of cycles of the described hardware that a predictor guides, from reset with the job's image, that ended for a
--- reason.
+-- A text is the report of cycles of the described hardware that a predictor guides, from reset with the job's image,
+-- that ended for a reason.
 pub record IsCoreReport (job : Job) (predictor : Guide) (options : Options) (stop : Stop) (text : List ℕ) : Type 0 where
   pub reports : List Report
   pub end : GuidedHardware
@@ -54,4 +55,5 @@ pub record IsSimulation (job : Job) (predictor : Guide) (options : Options) (sto
 
 -- at most one text is one, and its run ended in one way
 abbrev pub IsAtMostOne : {T : Type 0} → (T → List ℕ → Type 0) → Type 0
-IsAtMostOne {T} Is = (ended ended' : T) (text text' : List ℕ) → Is ended text → Is ended' text' → (ended ≡ ended') × (text ≡ text')
+IsAtMostOne {T} Is = (ended ended' : T) (text text' : List ℕ) → Is ended text → Is ended' text' →
+    (ended ≡ ended') × (text ≡ text')

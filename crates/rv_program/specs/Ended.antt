@@ -7,7 +7,8 @@ use Rattle.rv_program.specs.declared.ended.Ended.{Ended}
 
 -- the line of a run that ended after so many cycles, before those of its picture
 unfoldable pub over_line : ℕ → List ℕ
-over_line cycles = codes "note: the run ended after " ++ (decimal cycles ++ codes " cycles, before those of the picture\n")
+over_line cycles =
+    codes "note: the run ended after " ++ (decimal cycles ++ codes " cycles, before those of the picture\n")
 
 -- that line is reported, where a run ended so, and else nothing
 abbrev pub ReportsOver : FaultStream → FaultStream → Option ℕ → Type 0

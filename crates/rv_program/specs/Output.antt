@@ -11,8 +11,8 @@ HoldsBeginning None new text = ⊤
 HoldsBeginning (Some before) None text = ⊥
 HoldsBeginning (Some before) (Some after) text = (rest : List ℕ) × (after ++ rest ≡ before ++ text)
 
--- Something ended so, and then so with what was held before an output: the output got all of that, or a beginning where a write failed or
--- something had failed before.
+-- Something ended so, and then so with what was held before an output: the output got all of that, or a beginning where
+-- a write failed or something had failed before.
 abbrev pub PassesOn : Result Ended SimError → Result Ended SimError → Option (List ℕ) → Option (List ℕ) → Type 0
 PassesOn (Ok ended) (Ok same) held new = (same ≡ ended) × Keeps held new
 PassesOn (Ok ended) (Err WriteFailed) held new = HoldsBeginning held new []

@@ -18,29 +18,37 @@ use Rattle.rv_program.specs.declared.{ended.Ended.Ended, task.Task.Task}
 
 -- the input could not be read, which is reported
 abbrev pub IsUnread : FaultStream → FaultStream → ℕ → Type 0
-IsUnread old new status = (error : InputError) × Reports old new (input_fault_line error) × (status ≡ input_fault_status error)
+IsUnread old new status =
+    (error : InputError) × Reports old new (input_fault_line error) × (status ≡ input_fault_status error)
 
--- the input was refused, which is reported, and the output, whose known bytes are its contents, was handed back, with whether it has got why
-abbrev pub IsRefused : {W : Type 0} → (W → Option (List ℕ)) → Command → List ℕ → W → Option W → Result Unit TextError → FaultStream → FaultStream → ℕ → Type 0
+-- the input was refused, which is reported, and the output, whose known bytes are its contents, was handed back, with
+-- whether it has got why
+abbrev pub IsRefused : {W : Type 0} → (W → Option (List ℕ)) → Command → List ℕ → W → Option W → Result Unit TextError →
+    FaultStream → FaultStream → ℕ → Type 0
 IsRefused contents command input given handed refusal old new status =
     (error : SimError) × Refuses command input error × Reports old new (fault_line error) × (status ≡ fault_status error)
     × HandsBack contents command input error given handed refusal
 
--- A task ended so, with a predictor, and its output was handed back by the buffer before it. The output has got the text whole. Where a
--- write failed it holds a beginning of what it held and of the text; when out of memory, of what it held.
+-- A task ended so, with a predictor, and its output was handed back by the buffer before it. The output has got the
+-- text whole. Where a write failed it holds a beginning of what it held and of the text; when out of memory, of what it
+-- held.
 abbrev pub EndsPassedOn : Task → Guide → Option (List ℕ) → Option (List ℕ) → Result Ended SimError → Type 0
-EndsPassedOn task predictor old new (Ok ended) = (text : List ℕ) × Shows task predictor text ended × Appends old new text
-EndsPassedOn task predictor old new (Err WriteFailed) = (text : List ℕ) × (ended : Ended) × Shows task predictor text ended × HoldsBeginning old new text
+EndsPassedOn task predictor old new (Ok ended) =
+    (text : List ℕ) × Shows task predictor text ended × Appends old new text
+EndsPassedOn task predictor old new (Err WriteFailed) =
+    (text : List ℕ) × (ended : Ended) × Shows task predictor text ended × HoldsBeginning old new text
 EndsPassedOn task predictor old new (Err Memory) = AsksForMemory task × HoldsBeginning old new []
 EndsPassedOn task predictor old new (Err _) = ⊥
 
--- memory for a box or a buffer was refused, which is reported: the output was handed back as it was given, or let go with the buffer
+-- memory for a box or a buffer was refused, which is reported: the output was handed back as it was given, or let go
+-- with the buffer
 abbrev pub IsUnbegun : {W : Type 0} → W → Option W → FaultStream → FaultStream → ℕ → Type 0
 IsUnbegun given handed old new status = ((handed ≡ Some given) ⊎ (handed ≡ None)) × ReportsError Memory old new status
 
--- A task was done with the predictor of its machine, or failed. How it ended is reported, and its output was handed back, whose known bytes are its
--- contents; or memory was refused before it.
-abbrev pub EndsWithin : {W : Type 0} → (W → Option (List ℕ)) → Task → W → Option W → FaultStream → FaultStream → ℕ → Type 0
+-- A task was done with the predictor of its machine, or failed. How it ended is reported, and its output was handed
+-- back, whose known bytes are its contents; or memory was refused before it.
+abbrev pub EndsWithin : {W : Type 0} → (W → Option (List ℕ)) → Task → W → Option W → FaultStream →
+    FaultStream → ℕ → Type 0
 EndsWithin {W} contents task given handed old new status =
     IsUnbegun given handed old new status
     ⊎ ((output : W) × (handed ≡ Some output) × (outcome : Result Ended SimError)
@@ -48,7 +56,8 @@ EndsWithin {W} contents task given handed old new status =
     × ReportsEnding old new outcome × (status ≡ exit_status outcome))
 
 -- what the command asks of the input was done, or failed
-abbrev pub IsEnded : {W : Type 0} → (W → Option (List ℕ)) → Command → List ℕ → W → Option W → FaultStream → FaultStream → ℕ → Type 0
+abbrev pub IsEnded : {W : Type 0} → (W → Option (List ℕ)) → Command → List ℕ → W → Option W → FaultStream →
+    FaultStream → ℕ → Type 0
 IsEnded contents command input given handed old new status =
     (task : Task) × Asks command input task × EndsWithin contents task given handed old new status
 

@@ -24,22 +24,27 @@ abbrev pub whole_run : Result Stop TextError → Result RunEnd TextError
 whole_run (Ok stop) = Ok (record { stop = stop; over = None })
 whole_run (Err error) = Err error
 
--- A text is what a view shows of a run of guided hardware from one state to another, with the lines of the job's program, and the critical
--- path where it is asked for; and that is how the run ended.
+-- A text is what a view shows of a run of guided hardware from one state to another, with the lines of the job's
+-- program, and the critical path where it is asked for; and that is how the run ended.
 abbrev pub IsShown : RunView → ListedJob → GuidedHardware → GuidedHardware → RunEnd → List ℕ → Type 0
 IsShown (Picture view path) listed old new ended text =
-    (marks : Option (List Mark)) × IsAskedFor path (AreMarksOf listed.job view) marks × IsPicture listed.job.arrivals view marks listed.listing old new ended text
+    (marks : Option (List Mark)) × IsAskedFor path (AreMarksOf listed.job view) marks
+    × IsPicture listed.job.arrivals view marks listed.listing old new ended text
 IsShown (Log limit) listed old new ended text =
     IsLog listed.job.arrivals limit listed.listing old new ended.stop text × (ended.over ≡ None)
 IsShown (States stretch) listed old new ended text =
-    IsStates listed.job.arrivals stretch.from stretch.limit stretch.form listed.listing old new ended.stop text × (ended.over ≡ None)
+    IsStates listed.job.arrivals stretch.from stretch.limit stretch.form listed.listing old new ended.stop text
+    × (ended.over ≡ None)
 IsShown (Explanation figures path limit) listed old new ended text =
     (account : Option Accounted) × IsAskedFor path (IsAccountOf listed.job limit) account
-    × IsExplanation listed.job.arrivals limit figures listed.job.description account listed.listing old new ended.stop text × (ended.over ≡ None)
+    × IsExplanation listed.job.arrivals limit figures listed.job.description account listed.listing
+    old new ended.stop text × (ended.over ≡ None)
 IsShown (Profile path limit) listed old new ended text =
     (account : Option Accounted) × IsAskedFor path (IsAccountOf listed.job limit) account
-    × IsProfile listed.job.arrivals limit listed.job.description account listed.listing old new ended.stop text × (ended.over ≡ None)
-IsShown (Path limit) listed old new ended text = IsPath listed.job.arrivals limit listed.listing old new ended.stop text × (ended.over ≡ None)
+    × IsProfile listed.job.arrivals limit listed.job.description account listed.listing
+    old new ended.stop text × (ended.over ≡ None)
+IsShown (Path limit) listed old new ended text =
+    IsPath listed.job.arrivals limit listed.listing old new ended.stop text × (ended.over ≡ None)
 
 -- the most cycles of a view's run
 abbrev pub limit_of : RunView → ℕ
@@ -50,8 +55,9 @@ limit_of (Explanation figures path limit) = limit
 limit_of (Profile path limit) = limit
 limit_of (Path limit) = limit
 
--- A text is what a view shows of the run of the described hardware that a predictor guides, from reset with the job's image; and that is
--- how the run ended.
-pub record IsViewOf (listed : ListedJob) (predictor : Guide) (view : RunView) (ended : RunEnd) (text : List ℕ) : Type 0 where
+-- A text is what a view shows of the run of the described hardware that a predictor guides, from reset with the job's
+-- image; and that is how the run ended.
+pub record IsViewOf (listed : ListedJob) (predictor : Guide) (view : RunView) (ended : RunEnd)
+    (text : List ℕ) : Type 0 where
   pub end : GuidedHardware
   pub shows : IsShown view listed (core_of listed.job predictor) end ended text

@@ -10,7 +10,8 @@ use Rattle.rv_program.specs.Comparison.{IsRun, IsRunOn}
 
 -- the run of a job on a neighbour of its machine came to this
 abbrev pub IsTried : TableOptions → Job → Neighbour → TriedRun → Type 0
-IsTried options job neighbour tried = (run : ComparedRun) × IsRunOn options job neighbour.machine run × (tried ≡ tried_run neighbour run)
+IsTried options job neighbour tried =
+    (run : ComparedRun) × IsRunOn options job neighbour.machine run × (tried ≡ tried_run neighbour run)
 
 -- rows are what the runs of a job on its machine's neighbours came to, each once, in the order of their cycles
 pub record AreRows (options : TableOptions) (job : Job) (own : List Change) (rows : List TriedRun) : Type 0 where

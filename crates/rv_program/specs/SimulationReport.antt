@@ -40,7 +40,8 @@ pub record IsSimulationReport (job : Job) (options : Options) (stop : Stop) (tex
   pub totals : Totals
   pub end : State
   -- of the cycles from reset with the job's image all is true that is promised of a run
-  pub promised : IsPromised job.description job.arrivals 0 totals.cycles (state_at_reset job) (reported_by steps totals) end
+  pub promised : IsPromised job.description job.arrivals 0 totals.cycles (state_at_reset job)
+      (reported_by steps totals) end
   -- they ended at a breakpoint, a stale word, or the limit of cycles
   pub stopped : totals.stop ≡ stop
   pub ends : IsTrueStop (layout_of job.description) job.arrivals options.limit 0 totals.cycles steps end stop
@@ -48,4 +49,5 @@ pub record IsSimulationReport (job : Job) (options : Options) (stop : Stop) (tex
   pub counts : totals.steps ≡ counts_of steps
   -- the text shows the steps, where a trace is asked for, these totals, the state, and the words of memory that the
   -- description asks for
-  pub text_is : text ≡ run_report steps totals (layout_of job.description) end (lines_after job.arrivals totals.cycles) (shown job.description.report options)
+  pub text_is : text ≡ run_report steps totals (layout_of job.description) end (lines_after job.arrivals totals.cycles)
+      (shown job.description.report options)

@@ -80,16 +80,24 @@ column_of (Some asked) = Some (shown_word asked)
 abbrev pub table_options : ShownColumns → ℕ → TableOptions
 table_options asked limit = record {
   limit = limit;
-  shown = record { first = column_of asked.first; second = column_of asked.second; third = column_of asked.third; fourth = column_of asked.fourth };
+  shown =
+      record {
+        first = column_of asked.first;
+        second = column_of asked.second;
+        third = column_of asked.third;
+        fourth = column_of asked.fourth;
+      };
 }
 
 -- the options of a table that shows nothing of the states at the ends
 abbrev pub plain_options : ℕ → TableOptions
-plain_options limit = record { limit = limit; shown = record { first = None; second = None; third = None; fourth = None } }
+plain_options limit =
+    record { limit = limit; shown = record { first = None; second = None; third = None; fourth = None } }
 
 -- a task tries the neighbours of the machine of an input's job, among them those of settings of a user's own
 abbrev pub AsksForNeighbours : Settings → ℕ → List ℕ → Task → Type 0
-AsksForNeighbours also limit input (Sensitivity job own options) = IsJobOf input job × (own.items ≡ changes_of also) × (options ≡ plain_options limit)
+AsksForNeighbours also limit input (Sensitivity job own options) =
+    IsJobOf input job × (own.items ≡ changes_of also) × (options ≡ plain_options limit)
 AsksForNeighbours also limit input _ = ⊥
 
 -- a task shows a view of the run of an input's job
@@ -102,14 +110,17 @@ abbrev pub Asks : Command → List ℕ → Task → Type 0
 Asks (command.Run trace limit) input (Run job options) = IsJobOf input job × (options ≡ asked trace limit)
 Asks (command.Reference limit) input (Reference job options) = IsJobOf input job × (options ≡ asked false limit)
 Asks command.Check input (Check made) = IsDescribedImageOf input made
-Asks (command.Picture text retired path from cycles) input task = AsksForView (view.Picture (viewed text retired from cycles) path) input task
+Asks (command.Picture text retired path from cycles) input task =
+    AsksForView (view.Picture (viewed text retired from cycles) path) input task
 Asks (command.Log limit) input task = AsksForView (view.Log limit) input task
 Asks (command.States from limit) input task = AsksForView (view.States (stretch_of Lines from limit)) input task
 Asks (command.Page from limit) input task = AsksForView (view.States (stretch_of Page from limit)) input task
-Asks (command.Explain figures path limit) input task = AsksForView (view.Explanation (figures_of figures) path limit) input task
+Asks (command.Explain figures path limit) input task =
+    AsksForView (view.Explanation (figures_of figures) path limit) input task
 Asks (command.Profile path limit) input task = AsksForView (view.Profile path limit) input task
 Asks (command.Path limit) input task = AsksForView (view.Path limit) input task
-Asks (command.Compare shown limit) input (Compare comparison options) = IsComparisonOf input comparison × (options ≡ table_options shown limit)
+Asks (command.Compare shown limit) input (Compare comparison options) =
+    IsComparisonOf input comparison × (options ≡ table_options shown limit)
 Asks (command.Sensitivity also limit) input task = AsksForNeighbours also limit input task
 Asks _ input _ = ⊥
 
@@ -161,11 +172,13 @@ Shows (Run job options) predictor text ended =
     (stop : Stop) × IsSimulation job predictor options stop text × (ended ≡ ended_by stop None)
 Shows (Reference job options) predictor text ended =
     (stop : Stop) × IsReferenceReport job options stop text × (ended ≡ ended_by stop None)
-Shows (Check made) predictor text ended = (text ≡ image_line (length made.image.bytes) made.image.start) × (ended ≡ done)
+Shows (Check made) predictor text ended =
+    (text ≡ image_line (length made.image.bytes) made.image.start) × (ended ≡ done)
 Shows (Show listed view) predictor text ended =
     (end : RunEnd) × IsViewOf listed predictor view end text × (ended ≡ ended_by end.stop end.over)
 Shows (Compare comparison options) predictor text ended = IsComparisonTable comparison options text × (ended ≡ done)
-Shows (Sensitivity job own options) predictor text ended = IsSensitivityTable job own.items options text × (ended ≡ done)
+Shows (Sensitivity job own options) predictor text ended =
+    IsSensitivityTable job own.items options text × (ended ≡ done)
 
 -- a task asks for memory, but for one that only says which image a job makes
 abbrev pub AsksForMemory : Task → Type 0
@@ -175,6 +188,7 @@ AsksForMemory _ = ⊤
 -- A task ended so, with a predictor: with its text whole, or by an error. The known bytes of its output go from old to new.
 abbrev pub Ends : Task → Guide → Option (List ℕ) → Option (List ℕ) → Result Ended SimError → Type 0
 Ends task predictor old new (Ok ended) = (text : List ℕ) × Shows task predictor text ended × Appends old new text
-Ends task predictor old new (Err WriteFailed) = (text : List ℕ) × (ended : Ended) × Shows task predictor text ended × AppendsBeginning old new text
+Ends task predictor old new (Err WriteFailed) =
+    (text : List ℕ) × (ended : Ended) × Shows task predictor text ended × AppendsBeginning old new text
 Ends task predictor old new (Err Memory) = AsksForMemory task × Keeps old new
 Ends task predictor old new (Err _) = ⊥

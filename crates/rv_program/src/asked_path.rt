@@ -47,7 +47,8 @@ pub(crate) fn asked_marks(
     path: bool,
     view: View,
 ) -> Result<Option<Vec<Mark>>, AllocError>
-    ensures { IfOk result (λ marks. IsAskedFor path (AreMarksOf job.now view) (option_map (λ found. found.items) marks)) }
+    ensures { IfOk result (λ marks. IsAskedFor path (AreMarksOf job.now view)
+        (option_map (λ found. found.items) marks)) }
 {
     if !path {
         return Ok(None);

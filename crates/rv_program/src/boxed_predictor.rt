@@ -10,6 +10,7 @@ use std::alloc::{AllocError, Global};
 /// A branch predictor of any kind, of which nothing is asked but that its calls return.
 #[derive(Drop)]
 pub struct BoxedPredictor {
+    /// The predictor.
     pub predictor: Box<dyn Predictor>,
 }
 

@@ -102,7 +102,8 @@ pub fn compare<W: Write>(
     options: &TableOptions,
     writer: &mut W,
 ) -> Result<(), SimError>
-    ensures table { IsAnswer (λ _ text. IsComparisonTable comparison.now options.now text) result (W.contents writer.old) (W.contents writer.new) }
+    ensures table { IsAnswer (λ _ text. IsComparisonTable comparison.now options.now text) result
+        (W.contents writer.old) (W.contents writer.new) }
     // The table is a function of the comparison: each machine has the predictor that it describes.
     ensures one_table { options.now.limit ≤ 2 ^ 40 → IsAtMostOneText (IsComparisonTable comparison.now options.now) }
 {

@@ -1,5 +1,6 @@
-//! The program as a library: `run` is one call of it over any streams, from the bytes of the input to those of the output, the fault
-//! lines and the exit status. Beside it stand the calls that it is made of. The program passes its words and streams on to `run`.
+//! The program as a library: `run` is one call of it over any streams, from the bytes of the input to those of the
+//! output, the fault lines and the exit status. Beside it stand the calls that it is made of. The program passes its
+//! words and streams on to `run`.
 #![tactic(auto)]
 
 mod answer;

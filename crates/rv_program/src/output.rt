@@ -7,7 +7,7 @@ use crate::ended::Ended;
 use rv_job::SimError;
 use std::io::{BufWriter, Write};
 
-// The output behind a buffer that is let go, of which nothing more is written.
+// The output that a buffer wrote to, where the buffer is let go and nothing more of it is written.
 fn cut_off<W: Write + Drop>(buffer: BufWriter<W>) -> W
     ensures { result ≡ writer_inner buffer }
 {
@@ -25,9 +25,9 @@ fn flush<W: Write>(ended: Ended, output: &mut W) -> Result<Ended, SimError>
     }
 }
 
-/// Hands back the output behind a buffer into which something was written that ended so. Where that ended well, the output
-/// gets all that the buffer holds, and is flushed; a write that fails then is answered. Else it gets nothing more, since
-/// what a failed write left in the buffer is not to follow after the line that reports it.
+/// Hands back the output that a buffer writes to, into which something was written that ended so. Where that ended well,
+/// the output gets all that the buffer holds, and is flushed; a write that fails then is answered. Else it gets nothing
+/// more, since what a failed write left in the buffer is not to follow after the line that reports it.
 pub(crate) fn pass_on<W: Write + Drop>(
     ended: Result<Ended, SimError>,
     buffer: BufWriter<W>,

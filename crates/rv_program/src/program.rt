@@ -115,11 +115,12 @@ fn finish_task<W: Write + Drop, E: Write>(
     }
 }
 
-/// Does what a command asks of an input: reads it from `reader`, and writes the report, picture, log, sentences or table, or
-/// the line that says which image it makes, to `output`, in blocks, and flushes it. A fault is reported on `errors`, and that the run of a
-/// picture ended before the cycles of the picture; where a job was
-/// to be explained and is refused, `output` gets why, and is flushed, unless memory or a write failed, which `refusal` says. The exit status is 0 for what was done, 1 for a refused job, 3 for a run that a stale word ended, 4 where input or output failed, 5
-/// when out of memory.
+/// Does what a command asks of an input: reads it from `reader`, and writes the report, picture, log, sentences or
+/// table, or the line that says which image it makes, to `output`, in blocks, and flushes it. A fault is reported on
+/// `errors`, and that the run of a picture ended before the cycles of the picture; where a job was
+/// to be explained and is refused, `output` gets why, and is flushed, unless memory or a write failed, which `refusal`
+/// says. The exit status is 0 for what was done, 1 for a refused job, 3 for a run that a stale word ended, 4 where
+/// input or output failed, 5 when out of memory.
 pub fn run<R: Read, W: Write + Drop, E: Write>(
     alloc: Global,
     command: &Command,

@@ -1,5 +1,5 @@
 //! What the output gets of an input that is refused.
-ghost use Rattle.std.specs.Prelude.{◌≡◌, Some};
+ghost use Rattle.std.specs.Prelude.{Some};
 ghost use Rattle.rv_refusal.specs.Refusal.{refusal_text};
 ghost use Rattle.rv_program.specs.Refused.{HandsBack, IsFlushed};
 

@@ -103,7 +103,8 @@ fn draw<W: Write>(
     path: bool,
     writer: &mut W,
 ) -> Result<RunEnd, TextError>
-    ensures { IsText (IsShown (RunView.Picture view path) listed.now (guided pipeline.old (known predictor.old)) (guided pipeline.new (known predictor.new))) result (W.contents writer.old) (W.contents writer.new) }
+    ensures { IsText (IsShown (RunView.Picture view path) listed.now (guided pipeline.old (known predictor.old))
+        (guided pipeline.new (known predictor.new))) result (W.contents writer.old) (W.contents writer.new) }
 {
     let Ok(marks) = asked_marks(alloc, &listed.job, path, view) else {
         return Err(TextError::Memory);
@@ -132,7 +133,9 @@ fn explain<W: Write>(
     limit: u64,
     writer: &mut W,
 ) -> Result<RunEnd, TextError>
-    ensures { IsText (IsShown (RunView.Explanation figures path limit) listed.now (guided pipeline.old (known predictor.old)) (guided pipeline.new (known predictor.new))) result (W.contents writer.old) (W.contents writer.new) }
+    ensures { IsText (IsShown (RunView.Explanation figures path limit) listed.now
+        (guided pipeline.old (known predictor.old)) (guided pipeline.new (known predictor.new))) result
+        (W.contents writer.old) (W.contents writer.new) }
 {
     let Ok(account) = asked_account(alloc, &listed.job, path, limit) else {
         return Err(TextError::Memory);
@@ -162,7 +165,8 @@ fn profile<W: Write>(
     limit: u64,
     writer: &mut W,
 ) -> Result<RunEnd, TextError>
-    ensures { IsText (IsShown (RunView.Profile path limit) listed.now (guided pipeline.old (known predictor.old)) (guided pipeline.new (known predictor.new))) result (W.contents writer.old) (W.contents writer.new) }
+    ensures { IsText (IsShown (RunView.Profile path limit) listed.now (guided pipeline.old (known predictor.old))
+        (guided pipeline.new (known predictor.new))) result (W.contents writer.old) (W.contents writer.new) }
 {
     let Ok(account) = asked_account(alloc, &listed.job, path, limit) else {
         return Err(TextError::Memory);
@@ -189,7 +193,8 @@ fn write_view<W: Write>(
     view: &RunView,
     writer: &mut W,
 ) -> Result<RunEnd, TextError>
-    ensures { IsText (IsShown view.now listed.now (guided pipeline.old (known predictor.old)) (guided pipeline.new (known predictor.new))) result (W.contents writer.old) (W.contents writer.new) }
+    ensures { IsText (IsShown view.now listed.now (guided pipeline.old (known predictor.old))
+        (guided pipeline.new (known predictor.new))) result (W.contents writer.old) (W.contents writer.new) }
 {
     let arrivals = &listed.job.arrivals;
     let listing = &listed.listing;
@@ -227,9 +232,10 @@ fn write_view<W: Write>(
     }
 }
 
-/// Simulates a job on the core that it describes, with the job's arrivals at the numbers of the cycles, and writes a view of
-/// the run. Where the view shows the critical path, that is found by a run of its own before, which the predictor that the job
-/// describes guides. Answers how the run ended. A log and states are written as the cycles come, and ask for no memory once they are begun.
+/// Simulates a job on the core that it describes, with the job's arrivals at the numbers of the cycles, and writes a
+/// view of the run. Where the view shows the critical path, that is found by a run of its own before, which the
+/// predictor that the job describes guides. Answers how the run ended. A log and states are written as the cycles come,
+/// and ask for no memory once they are begun.
 ///
 /// Fails by `Memory`, and has written nothing then, or by `WriteFailed`, and has written a beginning of the view.
 pub fn show<W: Write>(
@@ -239,9 +245,11 @@ pub fn show<W: Write>(
     view: &RunView,
     writer: &mut W,
 ) -> Result<RunEnd, SimError>
-    ensures view { IsAnswer (IsViewOf listed.now (known predictor.predictor) view.now) result (W.contents writer.old) (W.contents writer.new) }
+    ensures view { IsAnswer (IsViewOf listed.now (known predictor.predictor) view.now) result (W.contents writer.old)
+        (W.contents writer.new) }
     // With a described predictor a view is a function of the job.
-    ensures one_view { (p : DescribedPredictor) → limit_of view.now ≤ 2 ^ 40 → IsAtMostOne (IsViewOf listed.now (guide_of p) view.now) }
+    ensures one_view { (p : DescribedPredictor) → limit_of view.now ≤ 2 ^ 40 →
+        IsAtMostOne (IsViewOf listed.now (guide_of p) view.now) }
 {
     let mut predictor = predictor;
     // The image of a job fits, so that memory alone can be wanting.

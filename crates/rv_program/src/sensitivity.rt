@@ -83,7 +83,8 @@ fn write_tried<W: Write>(
     options: &TableOptions,
     writer: &mut W,
 ) -> Result<(), SimError>
-    ensures { IsAnswer (λ _ text. IsSensitivityTable job.now own.now options.now text) result (W.contents writer.old) (W.contents writer.new) }
+    ensures { IsAnswer (λ _ text. IsSensitivityTable job.now own.now options.now text) result (W.contents writer.old)
+        (W.contents writer.new) }
 {
     let Ok(ended) = run_on(alloc, job, &job.description, options) else {
         return Err(SimError::Memory);
@@ -109,7 +110,8 @@ pub fn sensitivity<W: Write>(
     options: &TableOptions,
     writer: &mut W,
 ) -> Result<(), SimError>
-    ensures table { IsAnswer (λ _ text. IsSensitivityTable job.now own.now options.now text) result (W.contents writer.old) (W.contents writer.new) }
+    ensures table { IsAnswer (λ _ text. IsSensitivityTable job.now own.now options.now text) result
+        (W.contents writer.old) (W.contents writer.new) }
     // The table is a function of the job and the changes: each machine has the predictor that it describes.
     ensures one_table { options.now.limit ≤ 2 ^ 40 → IsAtMostOneText (IsSensitivityTable job.now own.now options.now) }
 {

@@ -27,9 +27,11 @@ pub fn simulate<W: Write>(
     options: &Options,
     writer: &mut W,
 ) -> Result<Stop, SimError>
-    ensures report { IsAnswer (IsSimulation job.now (known predictor.predictor) options.now) result (W.contents writer.old) (W.contents writer.new) }
+    ensures report { IsAnswer (IsSimulation job.now (known predictor.predictor) options.now) result
+        (W.contents writer.old) (W.contents writer.new) }
     // With a described predictor the report is a function of the job.
-    ensures one_report { (p : DescribedPredictor) → options.now.limit ≤ 2 ^ 40 → IsAtMostOne (IsSimulation job.now (guide_of p) options.now) }
+    ensures one_report { (p : DescribedPredictor) → options.now.limit ≤ 2 ^ 40 →
+        IsAtMostOne (IsSimulation job.now (guide_of p) options.now) }
 {
     let options = with_dump(&job.description.values().report, options);
     // The image of a job fits, so that memory alone can be wanting.

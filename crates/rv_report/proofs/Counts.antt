@@ -10,5 +10,6 @@ count_by-more p xs place other here = go (p (get_or xs place other)) refl
     go true is = count_by_more_yes p xs place other here is
     go false is = count_by_more_no p xs place other here is ∙ omega arith
 
+-- no more of the first ones pass a test than there are
 pub count_by-few : {X : Type 0} (p : X → Bool) (xs : List X) (place count : ℕ) → place ≤ length xs → count ≡ count_by p (take place xs) → count ≤ place
 count_by-few p xs place count within is = omega (arith, is, count_by-le-length p (take place xs), length-take-le place xs within)

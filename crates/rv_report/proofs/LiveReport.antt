@@ -65,6 +65,7 @@ traced_report {options = options} {new = new} traced = record {
 pub said_in_part : {was failed : Bool} (before : Option (List ℕ)) {mid now : Option (List ℕ)} (first : List ℕ) {text : List ℕ} → failed ≡ true → IsSaid was before mid first → Extends was failed mid now text → AppendsBeginning before now (first ++ text)
 said_in_part before first is said extended = rw is at (extended.extends before first said)
 
+-- a text and one that extends it are appended whole where no write failed
 pub said_to_the_end : {was failed : Bool} (before : Option (List ℕ)) {mid now : Option (List ℕ)} (first : List ℕ) {text : List ℕ} → failed ≡ false → IsSaid was before mid first → Extends was failed mid now text → Appends before now (first ++ text)
 said_to_the_end before first is said extended = rw is at (extended.extends before first said)
 

@@ -21,9 +21,10 @@ use Rattle.rv_text.specs.ReadField.{cell_text}
 use Rattle.rv_text.specs.declared.fields.Value.{Value}
 use Rattle.rv_text.specs.declared.fields.Value.TheVariants.{Count, Ratio}
 
--- a run of some hardware that a predictor guides, up to a limit of cycles, came to this; what it says of the places for dispatch adds up,
--- and each is lost for what ended the dispatch phase of its cycle
-pub record RunsTo (arrivals : List Arrival) (options : TableOptions) (old : GuidedHardware) (run : ComparedRun) : Type 0 where
+-- a run of some hardware that a predictor guides, up to a limit of cycles, came to this; what it says of the places for
+-- dispatch adds up, and each is lost for what ended the dispatch phase of its cycle
+pub record RunsTo (arrivals : List Arrival) (options : TableOptions) (old : GuidedHardware)
+    (run : ComparedRun) : Type 0 where
   pub moments : List Moment
   pub new : GuidedHardware
   pub cycles : History arrivals old moments new
@@ -95,7 +96,8 @@ last_cells shown run = decimal run.events.write_backs ++ (cells_text shown run.w
 unfoldable pub table_row : Columns (Option Shown) → ℕ → List ℕ → ComparedRun → List ℕ
 table_row shown number name run =
     flat_map cell_text (count_values number run.totals) ++ (flat_map (stall_cell run.totals.stalls) all_stalls ++
-    (flat_map cell_text (loss_values run) ++ (name_and_stop name run.totals.stop ++ (flat_map cell_text (event_values run) ++ last_cells shown run))))
+    (flat_map cell_text (loss_values run)
+    ++ (name_and_stop name run.totals.stop ++ (flat_map cell_text (event_values run) ++ last_cells shown run))))
 
 -- the line of a run with a number, where the machines from the first on have these names
 abbrev pub row_of : Columns (Option Shown) → List (List ℕ) → ℕ × ComparedRun → List ℕ

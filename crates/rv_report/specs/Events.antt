@@ -1,5 +1,5 @@
--- What a run did that a table counts beside its cycles: branches and jumps, loads, and the accesses of retired stores to the data cache.
--- What became of an access in the cache is told from its cost.
+-- What a run did that a table counts beside its cycles: branches and jumps, loads, and the accesses of retired stores
+-- to the data cache. What became of an access to the cache is read from its cost.
 use Rattle.std.specs.Prelude.{ℕ, ◌+◌, ◌-◌, ◌≤◌, ◌==◌, ◌&&◌, Bool, false, not, nat_lt, if◌then◌else◌, List, [], ◌∷◌, count_by, Option, Some, None}
 use Rattle.rv_counts.specs.Load.{costs_of, is_quick, is_slow}
 use Rattle.rv_counts.specs.declared.loads.LoadCosts.{LoadCosts}
@@ -97,7 +97,8 @@ events_of_drain costs (Some cost) = record {
 
 -- what a cycle did
 abbrev pub events_by : LoadCosts → ℕ → List Step → Option ℕ → Option ℕ → Events
-events_by costs cycle steps before after = both_events (events_of_steps costs steps) (events_of_drain costs (begun cycle before after))
+events_by costs cycle steps before after =
+    both_events (events_of_steps costs steps) (events_of_drain costs (begun cycle before after))
 
 -- one that led from some hardware to other
 abbrev pub events_between : Values → Hardware → Moment → Events
@@ -107,7 +108,8 @@ events_between values before moment =
 -- cycles one after another that began with such hardware
 abbrev pub events_in : Values → Hardware → List Moment → Events
 events_in values h [] = no_events
-events_in values h (moment ∷ moments) = both_events (events_between values h moment) (events_in values moment.after moments)
+events_in values h (moment ∷ moments) =
+    both_events (events_between values h moment) (events_in values moment.after moments)
 
 -- what is kept of them
 abbrev pub events_so_far : Values → Option ℕ → Events → EventCounter
@@ -115,4 +117,5 @@ events_so_far values end counts = record { costs = costs_of values; drain_end = 
 
 -- with one more cycle
 abbrev pub counted_after : ℕ → List Step → Option ℕ → EventCounter → EventCounter
-counted_after cycle steps end e = record e { drain_end = end; counts = both_events e.counts (events_by e.costs cycle steps e.drain_end end) }
+counted_after cycle steps end e =
+    record e { drain_end = end; counts = both_events e.counts (events_by e.costs cycle steps e.drain_end end) }

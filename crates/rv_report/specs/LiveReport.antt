@@ -16,12 +16,14 @@ use Rattle.rv_text.specs.Written.{AppendsBeginning}
 use Rattle.rv_report.specs.declared.{options.Options.Options, totals.StepCounts.StepCounts, totals.Totals.Totals}
 
 -- the steps of the cycles so far are counted, and their lines are said
-pub record HasTraced (counts : StepCounts) (failed : Bool) (moments : List Moment) (before now : Option (List ℕ)) : Type 0 where
+pub record HasTraced (counts : StepCounts) (failed : Bool) (moments : List Moment)
+    (before now : Option (List ℕ)) : Type 0 where
   pub counted : counts ≡ counts_of (steps_of (reports_of moments))
   pub trace : IsSaid failed before now (trace_lines (steps_of (reports_of moments)))
 
 -- cycles that ended, with what they came to, and with their trace, where it is asked for, written
-pub record IsTraced (arrivals : List Arrival) (options : Options) (old new : GuidedHardware) (totals : Totals) (failed : Bool) (before after : Option (List ℕ)) : Type 0 where
+pub record IsTraced (arrivals : List Arrival) (options : Options) (old new : GuidedHardware) (totals : Totals)
+    (failed : Bool) (before after : Option (List ℕ)) : Type 0 where
   pub reports : List Report
   pub cycles : GuidedCycles arrivals old reports new
   pub stops : IsStop options.limit reports new.hardware totals.stop
@@ -29,14 +31,18 @@ pub record IsTraced (arrivals : List Arrival) (options : Options) (old new : Gui
   pub trace : IsSaid failed before after (trace_of options.trace (steps_of reports))
 
 -- A text is the report of a run that ended for a reason.
-pub record IsRunReport (arrivals : List Arrival) (options : Options) (old : GuidedHardware) (stop : Stop) (text : List ℕ) : Type 0 where
+pub record IsRunReport (arrivals : List Arrival) (options : Options) (old : GuidedHardware) (stop : Stop)
+    (text : List ℕ) : Type 0 where
   pub reports : List Report
   pub new : GuidedHardware
   pub cycles : GuidedCycles arrivals old reports new
   pub stops : IsStop options.limit reports new.hardware stop
-  pub text_is : text ≡ run_report (steps_of reports) (totals_at reports stop) (layout_of new.hardware.values) (seen new.hardware) new.hardware.lines options
+  pub text_is : text ≡ run_report (steps_of reports) (totals_at reports stop) (layout_of new.hardware.values)
+      (seen new.hardware) new.hardware.lines options
 
 -- One of the reports that may come is written, and why its run ended is answered, or a beginning of one is written.
-abbrev pub Reports : {E : Type 0} → (Stop → List ℕ → Type 0) → Result Stop E → Option (List ℕ) → Option (List ℕ) → Type 0
+abbrev pub Reports : {E : Type 0} → (Stop → List ℕ → Type 0) → Result Stop E → Option (List ℕ) →
+    Option (List ℕ) → Type 0
 Reports IsReport (Ok stop) old new = (text : List ℕ) × IsReport stop text × Appends old new text
-Reports IsReport (Err error) old new = (stop : Stop) × (text : List ℕ) × IsReport stop text × AppendsBeginning old new text
+Reports IsReport (Err error) old new =
+    (stop : Stop) × (text : List ℕ) × IsReport stop text × AppendsBeginning old new text

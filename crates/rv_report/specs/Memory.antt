@@ -25,10 +25,12 @@ word_of _ _ _ _ = None
 -- the word of the bytes from an address on; none outside RAM
 unfoldable pub word_seen : Layout → List ℕ → ℕ → Option ℕ
 word_seen layout ram address =
-    word_of (byte_seen layout ram address) (byte_seen layout ram ((address + 1) % 2 ^ 32)) (byte_seen layout ram ((address + 2) % 2 ^ 32))
+    word_of (byte_seen layout ram address) (byte_seen layout ram ((address + 1) % 2 ^ 32))
+    (byte_seen layout ram ((address + 2) % 2 ^ 32))
     (byte_seen layout ram ((address + 3) % 2 ^ 32))
 
 -- so many words of memory from an address on
 unfoldable pub seen_memory_lines : Layout → List ℕ → ℕ → ℕ → List ℕ
 seen_memory_lines layout ram address words =
-    flat_map (λ number. memory_line (place_of address number) (word_seen layout ram (place_of address number))) (range_with_len 0 words)
+    flat_map (λ number. memory_line (place_of address number) (word_seen layout ram (place_of address number)))
+    (range_with_len 0 words)

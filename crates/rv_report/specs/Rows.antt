@@ -49,7 +49,11 @@ row_line row = passage_text row ++ written_text row.written
 
 -- a trap: pc, cause, value and cycle
 unfoldable pub trap_line : ℕ → Cause → ℕ → ℕ → List ℕ
-trap_line pc cause value cycle = codes "T " ++ (word_text pc ++ (codes " " ++ (word_text (code_of cause) ++ (codes " " ++ (word_text value ++ (codes " C" ++ (decimal cycle ++ codes "\n")))))))
+trap_line pc cause value cycle =
+    codes "T " ++ (word_text pc
+    ++ (codes " "
+    ++ (word_text (code_of cause)
+    ++ (codes " " ++ (word_text value ++ (codes " C" ++ (decimal cycle ++ codes "\n")))))))
 
 -- an interrupt: pc, cause and cycle
 unfoldable pub interrupt_line : ℕ → ℕ → ℕ → List ℕ

@@ -1,4 +1,5 @@
--- What a table shows besides its counts: registers and words of memory as a run left them, and what became of its places for dispatch.
+-- What a table shows besides its counts: registers and words of memory as a run left them, and what became of its
+-- places for dispatch.
 use Rattle.std.specs.Prelude.{ℕ, Bool, true, false, ◌||◌, if◌then◌else◌, List, [], ◌++◌, codes, decimal, slice_index, Option, Some, None}
 use Rattle.std.specs.List.{flat_map}
 use Rattle.rv_counts.specs.Places.{place_counts, run_places}
@@ -35,7 +36,8 @@ is_places _ = false
 
 -- one of the columns has them
 abbrev pub shows_places : Columns (Option Shown) → Bool
-shows_places shown = is_places shown.first || (is_places shown.second || (is_places shown.third || is_places shown.fourth))
+shows_places shown =
+    is_places shown.first || (is_places shown.second || (is_places shown.third || is_places shown.fourth))
 
 -- what became of the places of a run, where a table shows it
 abbrev pub places_shown : Columns (Option Shown) → Hardware → List Moment → Hardware → Option RunPlaces
@@ -61,7 +63,8 @@ head_text (Some shown) = name_text shown
 
 -- those of all columns
 unfoldable pub heads_text : Columns (Option Shown) → List ℕ
-heads_text shown = head_text shown.first ++ (head_text shown.second ++ (head_text shown.third ++ head_text shown.fourth))
+heads_text shown =
+    head_text shown.first ++ (head_text shown.second ++ (head_text shown.third ++ head_text shown.fourth))
 
 -- a count, after a tab
 abbrev pub count_cell : ℕ → List ℕ

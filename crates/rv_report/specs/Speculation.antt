@@ -65,21 +65,24 @@ without_all (step ∷ steps) predictions = without_all steps (without_ended step
 abbrev pub wrong_in : List Step → ℕ → List (Option ℕ) → ℕ
 wrong_in [] next predictions = 0
 wrong_in (step ∷ steps) next predictions =
-    wrong_in steps next (without_ended step predictions) + (if is_wrong step (first_pc steps next) predictions then 1 else 0)
+    wrong_in steps next (without_ended step predictions)
+    + (if is_wrong step (first_pc steps next) predictions then 1 else 0)
 
 -- One more cycle, with these steps, which led to these buffers and to a pc. Of what did not end the oldest are still in flight,
 -- as many as were not fetched in the cycle; all others were squashed.
 abbrev pub speculated_after : ℕ → List Step → ReorderBuffer → FetchBuffer → ℕ → Speculated → Speculated
 speculated_after cycle steps rob front pc s = record {
   predictions =
-      take (in_flight rob front - length (fetched_by cycle front)) (without_all steps s.predictions) ++ map prediction_of_word (fetched_by cycle front);
+      take (in_flight rob front - length (fetched_by cycle front)) (without_all steps s.predictions)
+      ++ map prediction_of_word (fetched_by cycle front);
   fetched = s.fetched + length (fetched_by cycle front);
   mispredicted = s.mispredicted + wrong_in steps pc s.predictions;
 }
 
 -- one more cycle of a run
 abbrev pub speculated_by : Moment → Speculated → Speculated
-speculated_by moment = speculated_after (moment.after.cycle - 1) moment.report.steps moment.after.rob moment.after.front moment.after.pc
+speculated_by moment =
+    speculated_after (moment.after.cycle - 1) moment.report.steps moment.after.rob moment.after.front moment.after.pc
 
 -- cycles one after another
 abbrev pub speculated_in : Speculated → List Moment → Speculated

@@ -26,7 +26,8 @@ register_line number word = codes "x" ++ word_line (decimal number) word
 
 -- x0 to x31
 unfoldable pub register_lines : List ℕ → List ℕ
-register_lines registers = flat_map (λ number. register_line number (slice_index registers number)) (range_with_len 0 32)
+register_lines registers =
+    flat_map (λ number. register_line number (slice_index registers number)) (range_with_len 0 32)
 
 -- the CSRs that are shown, by the manuals' names
 unfoldable pub csr_lines : Kept → Lines → List ℕ

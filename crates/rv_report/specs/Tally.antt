@@ -23,13 +23,15 @@ losses_with s counts left = record {
 -- what cycles lost that led from some hardware to other
 abbrev pub losses_of : Hardware → List Moment → Hardware → Losses
 losses_of old moments new =
-    losses_with (speculated_in (speculated_at old) moments) (counts_of (steps_of (reports_of moments))) (in_flight new.rob new.front)
+    losses_with (speculated_in (speculated_at old) moments) (counts_of (steps_of (reports_of moments)))
+    (in_flight new.rob new.front)
 
 -- the cycles so far are counted, and no count is greater than they can make it
 pub record IsTallied (counts : StepCounts) (s : Speculated) (events : EventCounter) (seen : Watched) : Type 0 where
   pub counted : counts ≡ counts_of (steps_of (reports_of seen.moments))
   pub speculated : s ≡ speculated_in (speculated_at seen.first.hardware) seen.moments
-  pub happened : events ≡ events_so_far seen.first.hardware.values (drain_end seen.now.hardware) (events_in seen.first.hardware.values seen.first.hardware seen.moments)
+  pub happened : events ≡ events_so_far seen.first.hardware.values (drain_end seen.now.hardware)
+      (events_in seen.first.hardware.values seen.first.hardware seen.moments)
   pub fetched : s.fetched ≤ 32 * seen.now.hardware.cycle + 288
   pub mispredicted : s.mispredicted ≤ 8 * seen.now.hardware.cycle
   pub events_few : AreAtMost (9 * seen.now.hardware.cycle) events.counts

@@ -5,7 +5,7 @@ ghost use Rattle.rv_hardware.specs.Guided.{guided};
 ghost use Rattle.rv_report.specs.Comparison.{RunsTo};
 ghost use Rattle.rv_report.specs.Learned.{IsTaughtByRun};
 ghost use Rattle.rv_report.specs.Shown.{places_shown};
-ghost use Rattle.rv_report.specs.Speculation.{in_flight, speculated_at};
+ghost use Rattle.rv_report.specs.Speculation.{in_flight};
 ghost use Rattle.rv_report.specs.Tally.{losses_with};
 
 use crate::events::EventCounter;
@@ -40,7 +40,8 @@ impl Watcher for Tally {
 
     type Refusal = Infallible;
 
-    ghost has_seen = { λ start tally seen _ _. IsTallied tally.counts tally.speculation tally.events seen × HasPlaced start.places tally.places seen };
+    ghost has_seen = { λ start tally seen _ _. IsTallied tally.counts tally.speculation tally.events seen ×
+        HasPlaced start.places tally.places seen };
 
     ghost has_room = { λ _. Unit {0} };
 
@@ -56,17 +57,20 @@ impl Watcher for Tally {
         _: &Progress,
         _: &mut W,
     ) {
-        // Of hardware that a reset and cycles lead to, the buffers are as long as described.
-        let _ = hardware.cycles_done();
+        // No more are in the reorder buffer than it may hold.
         let _ = in_buffer(hardware);
-        let values = hardware.values();
-        let buffer = hardware.reorder_buffer();
-        let front = hardware.front();
-        let pc = hardware.observe().pc;
         self.counts.count_all(steps);
         self.events.follow(cycle, steps, hardware.drain_end());
-        self.speculation.follow(cycle, steps, buffer, front, pc);
-        self.places = placed(self.places, values, cycle, steps, buffer, front);
+        self.speculation
+            .follow(cycle, steps, hardware.rob, hardware.front, hardware.pc);
+        self.places = placed(
+            self.places,
+            hardware.values,
+            cycle,
+            steps,
+            hardware.rob,
+            hardware.front,
+        );
     }
 }
 
@@ -93,9 +97,7 @@ fn in_buffer(hardware: &ShownHardware<'_>) -> usize
     ensures counted { result ≡ length hardware.now.rob.entries }
     ensures few { result ≤ 256 }
 {
-    // Of hardware that a reset and cycles lead to, the buffers are as long as described.
-    let _ = hardware.cycles_done();
-    hardware.reorder_buffer().len()
+    hardware.rob.len()
 }
 
 // What became of the places of no cycle.
@@ -121,19 +123,7 @@ fn count_in_flight(hardware: &ShownHardware<'_>) -> u64
     ensures count { result ≡ in_flight hardware.now.rob hardware.now.front }
     ensures few { result ≤ 288 }
 {
-    // Of hardware that a reset and cycles lead to, the buffers are as long as described.
-    let _ = hardware.cycles_done();
-    (hardware.reorder_buffer().len() + hardware.front().len()) as u64
-}
-
-// Nothing but what is in flight in hardware.
-fn begin(alloc: Global, hardware: &ShownHardware<'_>) -> Result<Speculation, AllocError>
-    ensures speculated { IfOk result (λ s. s ≡ speculated_at hardware.now) }
-    ensures few { IfOk result (λ s. s.fetched ≤ 288) }
-{
-    // Of hardware that a reset and cycles lead to, the buffers are as long as described.
-    let _ = hardware.cycles_done();
-    Speculation::begin(alloc, hardware.reorder_buffer(), hardware.front())
+    (hardware.rob.len() + hardware.front.len()) as u64
 }
 
 // What a run lost that left so many instructions in flight.
@@ -164,12 +154,11 @@ pub fn run_totals(
         (guided pipeline (known predictor.old)) (known predictor.new)) }
     ensures not_run { IfErr result (λ _. known predictor.new ≡ known predictor.old) }
 {
-    // Of hardware that a reset and cycles lead to, what it does is known.
-    let _ = pipeline.cycles_done();
     let mut pipeline = pipeline;
     let hardware = pipeline.shown();
+    // No more are in the reorder buffer than it may hold.
     let _ = in_buffer(&hardware);
-    let speculation = begin(alloc, &hardware)?;
+    let speculation = Speculation::begin(alloc, hardware.rob, hardware.front)?;
     let steps = Vec::with_capacity(alloc, 8)?;
     let mut tally = Tally {
         counts: StepCounts::default(),

@@ -1,4 +1,4 @@
-ghost use Rattle.std.specs.Prelude.{◌≡◌, ◌+◌, [], get_or, map};
+ghost use Rattle.std.specs.Prelude.{◌≡◌, [], get_or, map};
 ghost use Rattle.std.specs.List.{enumerate_from, flat_map};
 ghost use Rattle.rv_hardware.specs.Report.{all_stalls};
 ghost use Rattle.rv_report.specs.Comparison.{count_values, event_values, last_cells, loss_values, name_and_stop, name_text, row_of, stall_cell, stall_head, table_head, table_of, table_row};
@@ -178,7 +178,8 @@ fn write_rows<W: Write>(
     names: &[Vec<u8>],
     runs: &[ComparedRun],
 )
-    ensures { Says W.contents out.old out.new (flat_map (row_of shown.now (map (λ name. name.items) names.now)) (enumerate_from 1 runs.now)) }
+    ensures { Says W.contents out.old out.new
+        (flat_map (row_of shown.now (map (λ name. name.items) names.now)) (enumerate_from 1 runs.now)) }
 {
     for place in 0..runs.len() {
         let run = runs[place];
@@ -213,7 +214,8 @@ pub fn write_table<W: Write>(
     runs: &[ComparedRun],
     writer: &mut W,
 ) -> Result<(), ReportError>
-    ensures { IsWritten result (W.contents writer.old) (W.contents writer.new) (table_of shown.now (map (λ name. name.items) names.now) runs.now) }
+    ensures { IsWritten result (W.contents writer.old) (W.contents writer.new)
+        (table_of shown.now (map (λ name. name.items) names.now) runs.now) }
 {
     let mut out = Sink::new(writer);
     say_table(shown, names, runs, &mut out);

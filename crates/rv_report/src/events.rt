@@ -1,4 +1,4 @@
-ghost use Rattle.std.specs.Prelude.{◌≡◌, ◌+◌, ◌≤◌, ◌<◌, ◌^◌, count_by, length};
+ghost use Rattle.std.specs.Prelude.{◌≡◌, ◌≤◌, ◌^◌, count_by, length};
 ghost use Rattle.rv_decode.specs.Decodes.{instruction_of};
 ghost use Rattle.rv_hardware.specs.Draining.{drain_end};
 ghost use Rattle.rv_isa.specs.Instruction.{is_branch_or_jump, is_load};
@@ -10,7 +10,8 @@ use rv_hardware::{Execution, Row, Step};
 use rv_isa::Instr;
 use rv_watch::ShownHardware;
 
-/// What a run of the core did, as a table counts it beside its cycles. An access to the data cache is told from others by its cost.
+/// What a run of the core did, as a table counts it beside its cycles. What became of an access to the data cache is read
+/// from its cost.
 #[derive(Clone, Copy, PartialEq, Eq)]
 pub struct Events {
     /// Branches and jumps that retired.
@@ -91,13 +92,8 @@ impl EventCounter {
     pub(crate) fn begin(hardware: &ShownHardware<'_>) -> EventCounter
         ensures { result ≡ events_so_far hardware.now.values (drain_end hardware.now) no_events }
     {
-        let values = hardware.values();
         EventCounter {
-            costs: LoadCosts {
-                hit: values.cache.hit,
-                forward: values.forward,
-                clean_miss: u64::from(values.cache.hit) + u64::from(values.cache.miss),
-            },
+            costs: LoadCosts::of(hardware.values()),
             drain_end: hardware.drain_end(),
             counts: Events::NONE,
         }

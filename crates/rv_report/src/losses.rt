@@ -15,8 +15,11 @@ pub struct Losses {
 /// A run of the core, as a table compares it with others.
 #[derive(Clone, Copy)]
 pub struct ComparedRun {
+    /// Its counts, and why it ended.
     pub totals: Totals,
+    /// What it lost cycles to.
     pub losses: Losses,
+    /// What it did besides.
     pub events: Events,
     /// The words that the table shows of the state at its end.
     pub words: Columns<Option<u32>>,

@@ -65,7 +65,8 @@ pub(crate) fn write_memory<W: Write>(
     address: u32,
     words: u32,
 )
-    ensures { Says W.contents out.old out.new (seen_memory_lines (layout_of hardware.now.values) (seen hardware.now).ram address words) }
+    ensures { Says W.contents out.old out.new
+        (seen_memory_lines (layout_of hardware.now.values) (seen hardware.now).ram address words) }
 {
     for number in 0..words {
         let place = address.wrapping_add(number.wrapping_mul(4));

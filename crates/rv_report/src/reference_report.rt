@@ -56,7 +56,8 @@ fn write_seen_memory<W: Write>(
     address: u32,
     words: u32,
 )
-    ensures { Says W.contents out.old out.new (seen_memory_lines reference.now.layout reference.now.state.ram address words) }
+    ensures { Says W.contents out.old out.new
+        (seen_memory_lines reference.now.layout reference.now.state.ram address words) }
 {
     for number in 0..words {
         let place = address.wrapping_add(number.wrapping_mul(4));
@@ -89,7 +90,8 @@ pub fn write_reference<W: Write>(
     options: &Options,
     writer: &mut W,
 ) -> Result<(), ReportError>
-    ensures { IsWritten result (W.contents writer.old) (W.contents writer.new) (reference_report outcome.now reference.now options.now) }
+    ensures { IsWritten result (W.contents writer.old) (W.contents writer.new)
+        (reference_report outcome.now reference.now options.now) }
 {
     let mut out = Sink::new(writer);
     say_reference(outcome, reference, options, &mut out);

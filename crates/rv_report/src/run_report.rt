@@ -117,7 +117,8 @@ pub fn write_totals<W: Write>(
     options: &Options,
     writer: &mut W,
 ) -> Result<(), ReportError>
-    ensures { IsWritten result (W.contents writer.old) (W.contents writer.new) (end_of totals.now hardware.now options.now) }
+    ensures { IsWritten result (W.contents writer.old) (W.contents writer.new)
+        (end_of totals.now hardware.now options.now) }
 {
     let mut out = Sink::new(writer);
     say_totals(totals, hardware, options, &mut out);
@@ -167,7 +168,8 @@ pub fn write_report<W: Write>(
     options: &Options,
     writer: &mut W,
 ) -> Result<(), ReportError>
-    ensures { IsWritten result (W.contents writer.old) (W.contents writer.new) (report_of outcome.now hardware.now options.now) }
+    ensures { IsWritten result (W.contents writer.old) (W.contents writer.new)
+        (report_of outcome.now hardware.now options.now) }
 {
     let mut out = Sink::new(writer);
     say_report(outcome, hardware, options, &mut out);

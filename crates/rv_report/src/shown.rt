@@ -29,9 +29,13 @@ pub enum Shown {
 /// What stands in the further columns of a table, in their order.
 #[derive(Clone, Copy)]
 pub struct Columns<T> {
+    /// In the first one.
     pub first: T,
+    /// In the second.
     pub second: T,
+    /// In the third.
     pub third: T,
+    /// In the fourth.
     pub fourth: T,
 }
 
@@ -40,6 +44,7 @@ pub struct Columns<T> {
 pub struct TableOptions {
     /// The most cycles.
     pub limit: u64,
+    /// What is shown of an end in each further column.
     pub shown: Columns<Option<Shown>>,
 }
 

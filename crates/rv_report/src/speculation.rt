@@ -35,7 +35,11 @@ impl Model for Speculation {
 
     ghost Value = { Speculated };
 
-    ghost view = { λ s. record { predictions = s.predictions.items; fetched = s.fetched; mispredicted = s.mispredicted } };
+    ghost view = { λ s. record {
+      predictions = s.predictions.items;
+      fetched = s.fetched;
+      mispredicted = s.mispredicted;
+    } };
 
     ghost use Rattle.std.specs.Prelude.{◌≡◌, ◌≤◌, vec_capacity};
 
@@ -128,7 +132,8 @@ fn prediction_of(word: &Fetched) -> Option<u32>
 // Notes what was predicted of a word, if it was fetched in a cycle.
 fn note_word(latest: &mut Vec<Option<u32>>, word: &Fetched, cycle: u64)
     requires room { length latest.old.items < vec_capacity latest.old }
-    ensures items { latest.new.items ≡ latest.old.items ++ (if word.now.cycle == cycle then prediction_of_word word.now ∷ [] else []) }
+    ensures items { latest.new.items
+        ≡ latest.old.items ++ (if word.now.cycle == cycle then prediction_of_word word.now ∷ [] else []) }
     ensures capacity { vec_capacity latest.old ≤ vec_capacity latest.new }
 {
     if word.cycle == cycle {

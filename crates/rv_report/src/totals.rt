@@ -10,9 +10,11 @@ use rv_watch::Progress;
 /// How many steps there were of each sort.
 #[derive(Clone, Copy, Default)]
 pub struct StepCounts {
+    /// Retirements.
     pub retired: u64,
-    /// Breakpoints included.
+    /// Traps, breakpoints included.
     pub traps: u64,
+    /// Interrupts that were taken.
     pub interrupts: u64,
 }
 

@@ -43,12 +43,14 @@ module _ {arrivals : List Arrival} {old now : GuidedHardware} {moments : List Mo
       ∙ accounts_from-push None (walk still_open old.hardware moments) (last_cycle still_open passes moment)
       ∙ ap (λ ps. accounts_of old.hardware moments ++ account_of moment.after ps (flusher_of old.hardware moments) ∷ []) (sym rows_are)
 
+  -- the words that the cycles are on account of
   pub heads-push : (values : Values) → with_one (account_of moment.after rows (flusher_of old.hardware moments)) (notes_of values (count_at itself (accounts_of old.hardware moments)))
       ≡ notes_of values (count_at itself (accounts_of old.hardware (moments ++ moment ∷ [])))
   heads-push values =
       with_last_at values itself (accounts_of old.hardware moments) (account_of moment.after rows (flusher_of old.hardware moments))
       ∙ ap (λ all. notes_of values (count_at itself all)) (sym accounts-push)
 
+  -- the cycles that are on account of none
   pub idle-push : one_more (is_idle (account_of moment.after rows (flusher_of old.hardware moments))) (count_by is_idle (accounts_of old.hardware moments))
       ≡ count_by is_idle (accounts_of old.hardware (moments ++ moment ∷ []))
   idle-push =
@@ -69,9 +71,11 @@ length-accounts_from : (before : Option ℕ) (cycles : List FollowedCycle) → l
 length-accounts_from before [] = refl
 length-accounts_from before (cycle ∷ cycles) = ap suc (length-accounts_from (flusher_in cycle.after cycle.passages.rows before) cycles)
 
+-- a walk has a cycle for each
 pub length-walk_from : (standing : Standing) (moments : List Moment) → length (walk_from still_open standing moments) ≡ length moments
 length-walk_from standing [] = refl
 length-walk_from standing (moment ∷ moments) = ap suc (length-walk_from (standing_after still_open (next_cycle standing moment)) moments)
 
+-- and each is on one account
 pub length-accounts : (h : Hardware) (moments : List Moment) → length (accounts_of h moments) ≡ length moments
 length-accounts h moments = length-accounts_from None (walk still_open h moments) ∙ length-walk_from (standing_at h) moments

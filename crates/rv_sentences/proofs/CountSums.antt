@@ -98,6 +98,7 @@ sum_at counts word true is got got_is = rw is (omega arith)
 sum_at counts word false is None got_is = rw (is, got_is) (omega arith)
 sum_at counts word false is (Some n) got_is = rw (is, got_is, is) (omega (arith, sum_set counts.words (word - counts.first) n got_is))
 
+-- one thing more is counted once at most
 pub sum_with_one : (place : Option ℕ) (counts : Notes ℕ) → sum (with_one place counts).words ≤ sum counts.words + 1
 sum_with_one None counts = omega arith
 sum_with_one (Some word) counts = sum_at counts word (nat_lt word counts.first) refl (slice_get counts.words (word - counts.first)) refl

@@ -17,6 +17,7 @@ drains_of-push {arrivals = arrivals} {old = old} moment (cycled {moment = first}
     ap (λ drains. option_to_list (drain_in arrivals old.hardware) ++ drains) (drains_of-push moment rest) ∙
     sym (append_assoc (option_to_list (drain_in arrivals old.hardware)) _ _)
 
+-- some drains and others
 pub drains_by-append : (hit : ℕ) (some more : List ℕ) → drains_by hit (some ++ more) ≡ both (drains_by hit some) (drains_by hit more)
 drains_by-append hit some more = λ i. record {
   all = length-append some more i;

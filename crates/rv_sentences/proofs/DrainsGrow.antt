@@ -35,6 +35,7 @@ module _ {arrivals : List Arrival} {old now : GuidedHardware} {moments : List Mo
   pub waiting-push : still_waiting (drain_in arrivals now.hardware) waiting_now ≡ waiting_of arrivals old.hardware (moments ++ moment ∷ [])
   waiting-push = sym (waiting_from-push [] moment passes)
 
+  -- the drains of the stores in each word
   pub store_counts-push : (values : Values) (costs : LoadCosts) → with_drained costs drained_now (store_counts values costs (drained_of arrivals old.hardware moments)) ≡ store_counts values costs (drained_of arrivals old.hardware (moments ++ moment ∷ []))
   store_counts-push values costs =
       let before = drained_of arrivals old.hardware moments in

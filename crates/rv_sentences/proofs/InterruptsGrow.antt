@@ -30,6 +30,7 @@ cause_counted : (cause : ℕ) (interruptions : List Interruption) → length int
 cause_counted cause interruptions little =
     series_counted (filter (λ (i : Interruption). i.cause == cause) interruptions) (omega (arith, length-filter (λ (i : Interruption). i.cause == cause) interruptions, count_by-le-length (λ (i : Interruption). i.cause == cause) interruptions, little))
 
+-- the counts of few interrupts can go on by one
 pub lines_counted : (interruptions : List Interruption) → length interruptions + 1 < 2 ^ 64 → AreCountable (by_line interruptions)
 lines_counted interruptions little = record {
   software = cause_counted (interrupt_cause 3) interruptions little;

@@ -61,6 +61,7 @@ module _ (costs : LoadCosts) (ps : List Passage) (p : Passage) (notes : Notes Ou
   by_left false is =
       rw is (ap (with_passages costs (filter has_left ps)) (sym (no_load costs p notes (word_of p.pc) (retired_load_cost p) refl (rw (unretired p is) refl))) ∙ ap (λ l. with_passages costs l notes) (sym (append-nil (filter has_left ps))))
 
+  -- the loads in each word, with the last instruction
   pub outcomes-last : with_passages costs (filter has_left ps) (with_change (outcomes_with costs p) notes (word_of p.pc)) ≡ with_passages costs (filter has_left (ps ++ p ∷ [])) notes
   outcomes-last =
       by_left (has_left p) refl ∙ ap (λ l. with_passages costs l notes) (sym (filter-append has_left ps (p ∷ [])))
@@ -99,6 +100,7 @@ counts_with costs p counts = record {
 abbrev pub CanCount : Counts → ℕ → Type 0
 CanCount counts more = CanAdd counts.work counts.loads counts.branches counts.mispredicted counts.outcomes more
 
+-- room for more is room for fewer
 pub can_add_fewer : (counts : Counts) (fewer more : ℕ) → fewer ≤ more → CanCount counts more → CanCount counts fewer
 can_add_fewer counts fewer more under can = record {
   left = omega (arith, under, can.left);
@@ -114,6 +116,7 @@ can_add_fewer counts fewer more under can = record {
 
 -- with one more by so many fewer
 module _ (costs : LoadCosts) (p : Passage) (counts : Counts) (fewer more : ℕ) (under : fewer + 1 ≤ more) (can : CanCount counts more) where
+  -- after one instruction there is room for the others
   pub can_add_others : CanCount (counts_with costs p counts) fewer
   can_add_others = record {
     left = omega (arith, under, can.left, one_more-within (has_left p) counts.work.left);

@@ -7,13 +7,13 @@ pub mod DrainsGrow
 pub mod LastStores
 pub mod InterruptsGrow
 mod LineCounts
-mod LineSpots
+mod LinesCounted
 mod LargestFirst
 pub mod LeftGrows
 pub mod KindsGrow
 mod Options
 mod SeriesGrows
-mod Spots
+mod CountedLines
 mod StoreWords
 mod WordTable
 pub mod Works

@@ -2,9 +2,10 @@
 use Rattle.std.proofs.Common.{◌≡◌, ◌∙◌, ℕ, zero, suc, ◌+◌, ◌-◌, ◌≤◌, ◌<◌, Bool, true, false, if◌then◌else◌, List, [], ◌∷◌, length, drop, refl, ap, sym, arith, le-ltb, lt-ltb}
 use Rattle.std.specs.Prelude.{get_or, sum}
 use Rattle.std.specs.List.{slice_get}
+use Rattle.std.proofs.lemmas.List.{drop_all}
 use Rattle.std.proofs.lemmas.List.Sums.{sum_by-cons}
 use Rattle.rv_source.specs.Listing.{Listed}
-use Rattle.rv_sentences.specs.Spot.{by_line, goes_on, line_count, line_counts, with_next}
+use Rattle.rv_sentences.specs.GreatestLines.{by_line, goes_on, line_count, line_counts, with_next}
 use Rattle.rv_sentences.specs.WordCount.{count_in, or_nothing}
 use Rattle.rv_sentences.specs.WordNotes.{Notes}
 
@@ -39,12 +40,6 @@ pub drop_at : (place : ℕ) (counts : List ℕ) → place < length counts
 drop_at place [] within = absurd (omega (arith, within))
 drop_at zero (count ∷ counts) within = refl
 drop_at (suc place) (count ∷ counts) within = drop_at place counts (omega (arith, within))
-
-pub drop_all : (place : ℕ) (counts : List ℕ) → length counts ≤ place → drop place counts ≡ []
-drop_all zero [] past = refl
-drop_all (suc place) [] past = refl
-drop_all zero (count ∷ counts) past = absurd (omega (arith, past))
-drop_all (suc place) (count ∷ counts) past = drop_all place counts (omega (arith, past))
 
 -- ---- the counts line by line
 
@@ -122,6 +117,7 @@ line_joined listing first (suc place) counts some within on =
     sym (by_line_later listing first place counts within
     ∙ ap (λ (on : Bool). if on then 0 else line_count listing (first + place + 1) (drop (suc place) counts)) same)
 
+-- what is counted from a place on at its line
 pub line_begun : (listing : Listed) (first place : ℕ) (counts : List ℕ) → place < length counts
     → (0 < place → goes_on listing (first + (place - 1)) ≡ false)
     → line_count listing (first + place) (drop place counts) ≡ get_or (by_line listing first counts) place 0

@@ -85,6 +85,7 @@ can_take_others costs p old new word fewer more new_is under can = record {
   countable = omega (arith, under, can.countable);
 }
 
+-- room for more is room for fewer
 pub can_take_fewer : (notes : Notes Outcomes) (fewer more : ℕ) → fewer ≤ more → CanTake notes more → CanTake notes fewer
 can_take_fewer notes fewer more under can = record { most = can.most; within = can.within; countable = omega (arith, can.countable, under) }
 
@@ -96,6 +97,7 @@ counts_within costs ps more few = record {
   write_backs = omega (arith, few, count_by-le-length (λ p. is_write_back costs (retired_load_cost p)) ps);
 }
 
+-- few instructions leave room for more
 pub can_take : (values : Values) (costs : LoadCosts) (left : List Passage) (more : ℕ) → length left + more < 2 ^ 62 → CanTake (notes_of values (outcomes_at costs left)) more
 can_take values costs left more few = record {
   most = length left;
@@ -122,6 +124,7 @@ changed_same change notes word false is None got_is same = rw (is, got_is) refl
 changed_same change notes word false is (Some x) got_is same =
     rw (is, got_is, is) (λ i. record notes { words = (ap (slice_set notes.words (word - notes.first)) (same x) ∙ set_got notes.words (word - notes.first) x got_is) i })
 
+-- an instruction that is no load that retired changes nothing
 pub no_load : (costs : LoadCosts) (p : Passage) (notes : Notes Outcomes) (word : ℕ) (cost : Option ℕ) → cost ≡ retired_load_cost p → cost ≡ None → notes ≡ with_change (outcomes_with costs p) notes word
 no_load costs p notes word cost cost_is is =
     let none : retired_load_cost p ≡ None = sym cost_is ∙ is in
@@ -155,6 +158,7 @@ outcomes-other costs p ps word other =
     let past : filter (is_in word) (p ∷ ps) ≡ filter (is_in word) ps = rw (ne_eqb (word_of p.pc) word (λ is. other (sym is))) refl in
     sym (ap (outcomes_of costs) past)
 
+-- some instructions before others
 pub outcomes-left : (values : Values) (costs : LoadCosts) (ps left : List Passage) → with_passages costs ps (notes_of values (outcomes_at costs left)) ≡ notes_of values (outcomes_at costs (ps ++ left))
 outcomes-left values costs [] left = refl
 outcomes-left values costs (p ∷ ps) left =

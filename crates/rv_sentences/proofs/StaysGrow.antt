@@ -49,6 +49,7 @@ one_at_most false = omega arith
 pub one_more_stay : (o : Option Stay) (t : Stays) → all_stays (with_stay o t) ≤ all_stays t + 1
 one_more_stay o t = omega (arith, counted_once o t, one_at_most (is_some o))
 
+-- a stay is counted once at most
 pub stay_counted : (o : Option Stay) (old new : Stays) → new ≡ with_stay o old → all_stays new ≤ all_stays old + 1
 stay_counted o old new is = omega (arith, ap (λ (s : Stays). all_stays s) is, one_more_stay o old)
 
@@ -74,6 +75,7 @@ module _ {arrivals : List Arrival} {old now : GuidedHardware} {moments : List Mo
       ∙ ap (λ more. stays_of old.hardware moments ++ more) (append-nil (stays_in (last_cycle still_open passes moment)))
       ∙ ap (λ ps. stays_of old.hardware moments ++ stays_among now.hardware.cycle (is_free now.hardware.cycle (at_kind Mem moment.after.units)) true ps) (sym rows_are)
 
+  -- why instructions stay, with one cycle more
   pub stays-push : with_stays more_stays (with_stays (stays_of old.hardware moments) no_stays) ≡ with_stays (stays_of old.hardware (moments ++ moment ∷ [])) no_stays
   stays-push =
       sym (ap (λ os. with_stays os no_stays) stays_of-push ∙ with_stays-append (stays_of old.hardware moments) more_stays no_stays)
@@ -84,6 +86,7 @@ module _ {arrivals : List Arrival} {old now : GuidedHardware} {moments : List Mo
       ∙ map-append awaited_in (walk still_open old.hardware moments) (last_cycle still_open passes moment ∷ [])
       ∙ ap (λ ps. awaited_of old.hardware moments ++ oldest_awaited (stays_among now.hardware.cycle (is_free now.hardware.cycle (at_kind Mem moment.after.units)) true ps) ∷ []) (sym rows_are)
 
+  -- the words that are awaited, with one cycle more
   pub awaited-push : (values : Values) → with_one (oldest_awaited more_stays) (notes_of values (count_at itself (awaited_of old.hardware moments)))
       ≡ notes_of values (count_at itself (awaited_of old.hardware (moments ++ moment ∷ [])))
   awaited-push values =
@@ -102,6 +105,7 @@ few_stays : (os : List (Option Stay)) (t : Stays) → all_stays (with_stays os t
 few_stays [] t = omega arith
 few_stays (o ∷ os) t = omega (arith, few_stays os (with_stay o t), one_more_stay o t)
 
+-- no more stay than there are
 pub few_more_stays : (cycle : ℕ) (has_unit has_addresses : Bool) (rows : List Passage) (t : Stays) → all_stays (with_stays (stays_among cycle has_unit has_addresses rows) t) ≤ all_stays t + length rows
 few_more_stays cycle has_unit has_addresses rows t =
     omega (arith, few_stays (stays_among cycle has_unit has_addresses rows) t, length-stays_among cycle has_unit has_addresses rows)
@@ -135,6 +139,7 @@ staying_of (cycle ∷ cycles) =
       staying_of cycles,
     )
 
+-- the stays of a run add up
 pub stays_add_up : (h : Hardware) (moments : List Moment) → StaysAddUp h moments
 stays_add_up h moments =
     omega (arith, all_counted (stays_of h moments) no_stays, staying_of (walk still_open h moments))

@@ -110,6 +110,7 @@ all_alike : {X : Type 0} (note : X) (a n : ℕ) → replicate n note ≡ map (λ
 all_alike note a zero = refl
 all_alike note a (suc n) = ap (λ words. note ∷ words) (all_alike note (a + 1) n)
 
+-- the same note at each word of RAM
 pub notes_alike : {X : Type 0} (values : Values) (note : X) (notes : Notes X) → notes.first ≡ word_of values.ram_base → notes.words ≡ replicate (word_of values.ram_size) note → notes ≡ notes_of values (λ _. note)
 notes_alike values note notes first words =
     let all = words ∙ all_alike note (word_of values.ram_base) (word_of values.ram_size) in

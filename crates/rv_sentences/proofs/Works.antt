@@ -49,12 +49,15 @@ module _ (test : Passage → Bool) (none : (p : Passage) → has_left p ≡ fals
   count-left [] = refl
   count-left (p ∷ ps) = by_left p ps (has_left p) refl (count-left ps)
 
+-- those that were squashed left the hardware
 pub squashed_left : (ps : List Passage) → count_by (λ (p : Passage). is_squash p.ending) (filter has_left ps) ≡ count_by (λ (p : Passage). is_squash p.ending) ps
 squashed_left ps = count-left (λ p. is_squash p.ending) unsquashed ps
 
+-- so did the branches and jumps that retired
 pub branches_left : (ps : List Passage) → count_by is_retired_branch (filter has_left ps) ≡ count_by is_retired_branch ps
 branches_left ps = count-left is_retired_branch (λ p is. rw (unretired p is) refl) ps
 
+-- and those that were mispredicted
 pub mispredicted_left : (ps : List Passage) → count_by is_mispredicted_branch (filter has_left ps) ≡ count_by is_mispredicted_branch ps
 mispredicted_left ps = count-left is_mispredicted_branch (λ p is. rw (unretired p is) refl) ps
 
@@ -70,6 +73,7 @@ count-appended test new old =
     let apart : count_by test (new ++ old) ≡ count_by test new + count_by test old = sum_by-append (λ (p : Passage). cond (test p) 1 0) new old in
     omega (arith, apart)
 
+-- what became of some and of others
 pub work-left : (new old : List Passage) → both_work (work_of old) (work_of new) ≡ work_of (new ++ old)
 work-left new old =
     let left : length old + length new ≡ length (new ++ old) = omega (arith, length-append new old) in
@@ -78,6 +82,7 @@ work-left new old =
     let mispredicted = count-appended is_mispredicted_branch new old in
     λ i. record { left = left i; squashed = squashed i; branches = branches i; mispredicted = mispredicted i }
 
+-- the loads
 pub loads-left : (costs : LoadCosts) (rows old : List Passage) → both (loads_of costs old) (loads_of costs rows) ≡ loads_of costs (filter has_left rows ++ old)
 loads-left costs rows old =
     let all = count-appended (λ p. is_some (retired_load_cost p)) (filter has_left rows) old in
@@ -91,10 +96,12 @@ words-left class none rows old word =
     let test : Passage → Bool = λ p. is_word word (word_in class p) in
     sym (count-appended test (filter has_left rows) old) ∙ ap (λ n. count_at (word_in class) old word + n) (count-left test (λ p is. rw (none p is) refl) rows)
 
+-- the branches and jumps at a word
 pub branch_words-left : (rows old : List Passage) (word : ℕ)
     → count_at (word_in Branch) (filter has_left rows ++ old) word ≡ count_at (word_in Branch) old word + count_at (word_in Branch) rows word
 branch_words-left = words-left Branch (λ p is. rw (unretired p is) refl)
 
+-- those that were mispredicted there
 pub mispredicted_words-left : (rows old : List Passage) (word : ℕ)
     → count_at (word_in Mispredicted) (filter has_left rows ++ old) word ≡ count_at (word_in Mispredicted) old word + count_at (word_in Mispredicted) rows word
 mispredicted_words-left = words-left Mispredicted (λ p is. rw (unretired p is) refl)

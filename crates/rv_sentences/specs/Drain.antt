@@ -18,7 +18,8 @@ drain_in arrivals h = drain_cost (commit_with set.contains (lines_at arrivals h.
 -- what the accesses cost that begin in some cycles
 abbrev pub drains_of : List Arrival → Hardware → List Moment → List ℕ
 drains_of arrivals h [] = []
-drains_of arrivals h (moment ∷ moments) = option_to_list (drain_in arrivals h) ++ drains_of arrivals moment.after moments
+drains_of arrivals h (moment ∷ moments) =
+    option_to_list (drain_in arrivals h) ++ drains_of arrivals moment.after moments
 
 -- an access ends then
 abbrev pub ends_at : ℕ → Option ℕ → Bool

@@ -51,7 +51,9 @@ cause_name EnvironmentCall = codes "Environment call from M-mode"
 
 -- when something was taken, and what
 unfoldable pub cause_text : Exception → List ℕ
-cause_text e = decimal e.cycle ++ (codes ": " ++ (cause_name e.cause ++ (codes ", mtval " ++ (word_text e.value ++ codes ", at "))))
+cause_text e =
+    decimal e.cycle
+    ++ (codes ": " ++ (cause_name e.cause ++ (codes ", mtval " ++ (word_text e.value ++ codes ", at "))))
 
 -- how the program went on, by the address in mtvec, whose last two bits are its mode (Privileged Architecture 20211203, 3.1.7)
 unfoldable pub went_on : ℕ → List ℕ
@@ -88,7 +90,8 @@ cycles_text first last cause =
 -- how many exceptions of a kind there were, in which cycles, their cause and their place
 unfoldable pub kind_text : Listed → Series Exception → List ℕ
 kind_text listing kind =
-    counted_text kind.count [] ++ (cycles_text kind.first.cycle kind.last.cycle kind.first.cause ++ place_text listing kind.first.pc)
+    counted_text kind.count []
+    ++ (cycles_text kind.first.cycle kind.last.cycle kind.first.cause ++ place_text listing kind.first.pc)
 
 -- those that are of none of some kinds
 unfoldable pub others_text : ℕ → List ℕ

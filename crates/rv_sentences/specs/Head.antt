@@ -1,5 +1,5 @@
--- The instruction that a cycle of a run is on account of, by the head of the reorder buffer: the one there; where the buffer is empty since a
--- flush, the one that flushed it.
+-- The instruction that a cycle of a run is on account of, by the head of the reorder buffer: the one there; where the
+-- buffer is empty since a flush, the one that flushed it.
 use Rattle.std.specs.Prelude.{ℕ, ◌||◌, Bool, if◌then◌else◌, List, [], ◌∷◌, is_none, is_some, Option, Some, None}
 use Rattle.std.specs.List.{slice_get}
 use Rattle.std.specs.Option.{option_map, option_or}
@@ -51,7 +51,8 @@ last_flusher before (cycle ∷ cycles) = last_flusher (flusher_in cycle.after cy
 abbrev pub accounts_from : Option ℕ → List FollowedCycle → List (Option ℕ)
 accounts_from before [] = []
 accounts_from before (cycle ∷ cycles) =
-    account_of cycle.after cycle.passages.rows before ∷ accounts_from (flusher_in cycle.after cycle.passages.rows before) cycles
+    account_of cycle.after cycle.passages.rows before
+    ∷ accounts_from (flusher_in cycle.after cycle.passages.rows before) cycles
 
 -- those of a run
 abbrev pub accounts_of : Hardware → List Moment → List (Option ℕ)

@@ -71,11 +71,14 @@ last_cycle cycle = codes "The last came in cycle " ++ (decimal cycle ++ codes ",
 
 -- the last of several interrupts
 unfoldable pub last_text : Listed → Series Interruption → List ℕ
-last_text listing series = if series.count == 1 then [] else last_cycle series.last.cycle ++ place_text listing series.last.pc
+last_text listing series =
+    if series.count == 1 then [] else last_cycle series.last.cycle ++ place_text listing series.last.pc
 
--- what some interrupts are called, how many there were, and the cycle of the first, after which the instruction stands that it came before
+-- what some interrupts are called, how many there were, and the cycle of the first, after which the instruction stands
+-- that it came before
 unfoldable pub first_text : List ℕ → ℕ → ℕ → List ℕ
-first_text name count cycle = name ++ (decimal count ++ (codes ", the first in cycle " ++ (decimal cycle ++ codes ", before ")))
+first_text name count cycle =
+    name ++ (decimal count ++ (codes ", the first in cycle " ++ (decimal cycle ++ codes ", before ")))
 
 -- some interrupts
 unfoldable pub series_text : List ℕ → Listed → Series Interruption → List ℕ
@@ -91,4 +94,5 @@ line_text name listing (Some series) = series_text name listing series
 unfoldable pub interrupts_text : Listed → Interrupts → List ℕ
 interrupts_text listing interrupts =
     line_text (codes "Software interrupts: ") listing interrupts.software ++
-    (line_text (codes "Timer interrupts: ") listing interrupts.timer ++ line_text (codes "External interrupts: ") listing interrupts.external)
+    (line_text (codes "Timer interrupts: ") listing interrupts.timer
+    ++ line_text (codes "External interrupts: ") listing interrupts.external)

@@ -45,7 +45,8 @@ store_of registers (Interrupt pc cause cycle) = None
 -- the stores that retired in some steps, by the registers before them
 abbrev pub stores_in : List ℕ → List Step → List Stored
 stores_in registers [] = []
-stores_in registers (step ∷ steps) = option_to_list (store_of registers step) ++ stores_in (registers_after registers step) steps
+stores_in registers (step ∷ steps) =
+    option_to_list (store_of registers step) ++ stores_in (registers_after registers step) steps
 
 -- the stores that retired in some cycles
 abbrev pub stores_of : Hardware → List Moment → List Stored
@@ -64,4 +65,5 @@ last_store_to (store ∷ stores) word = option_or (last_store_to stores word) (s
 -- the last store to each word once some stores retired
 abbrev pub with_stores : List Stored → Notes (Option ℕ) → Notes (Option ℕ)
 with_stores [] last_stores = last_stores
-with_stores (store ∷ stores) last_stores = with_stores stores (with_note last_stores (word_of store.address) (Some store.pc))
+with_stores (store ∷ stores) last_stores =
+    with_stores stores (with_note last_stores (word_of store.address) (Some store.pc))

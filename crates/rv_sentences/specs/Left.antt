@@ -5,7 +5,8 @@ use Rattle.rv_sentences.specs.WordNotes.{Notes}
 use Rattle.rv_sentences.specs.declared.{accesses.Accesses.Accesses, outcomes.Outcomes.Outcomes, work.Work.Work}
 
 -- no count comes to 2^64 with so many instructions more
-pub record CanAdd (work : Work) (accesses : Accesses) (jumps wrong : Notes ℕ) (loaded : Notes Outcomes) (more : ℕ) : Type 0 where
+pub record CanAdd (work : Work) (accesses : Accesses) (jumps wrong : Notes ℕ) (loaded : Notes Outcomes)
+    (more : ℕ) : Type 0 where
   pub left : work.left + more < 2 ^ 64
   pub squashed : work.squashed + more < 2 ^ 64
   pub branches : work.branches + more < 2 ^ 64

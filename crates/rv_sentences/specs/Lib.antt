@@ -11,7 +11,7 @@ pub mod Work
 pub mod Outcome
 pub mod Left
 pub mod OutcomeText
-pub mod Spot
+pub mod GreatestLines
 pub mod Hotspot
 pub mod Worst
 pub mod Longest

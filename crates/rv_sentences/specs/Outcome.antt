@@ -37,10 +37,6 @@ is_in word p = word_of p.pc == word
 abbrev pub outcomes_at : LoadCosts → List Passage → ℕ → Outcomes
 outcomes_at costs passages word = outcomes_of costs (filter (is_in word) passages)
 
--- of no instruction
-abbrev pub nothing_came : Outcomes
-nothing_came = record { hits = 0; forwarded = 0; misses = 0; write_backs = 0 }
-
 -- with one more
 abbrev pub outcomes_with : LoadCosts → Passage → Outcomes → Outcomes
 outcomes_with costs p outcomes = record {

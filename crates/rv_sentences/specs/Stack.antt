@@ -1,5 +1,5 @@
 -- Where the cycles of a run went.
-use Rattle.std.specs.Prelude.{ℕ, ◌+◌, ◌*◌, ◌/◌, ◌%◌, ◌==◌, if◌then◌else◌, List, [], ◌∷◌, ◌++◌, codes, decimal, length, take, drop}
+use Rattle.std.specs.Prelude.{ℕ, ◌+◌, ◌*◌, ◌/◌, ◌%◌, ◌==◌, if◌then◌else◌, List, [], ◌++◌, codes, decimal, length, take, drop}
 use Rattle.std.specs.List.{flat_map}
 use Rattle.rv_hardware.specs.Report.{all_stalls, count_of, stall_name}
 use Rattle.rv_hardware.specs.declared.report.{Stall.Stall, StallCounts.StallCounts}
@@ -33,7 +33,8 @@ share_line name count all = row_text name (decimal count) (parts_of 1000 count a
 
 -- cycles, and retired instructions
 unfoldable pub count_text : ℕ → ℕ → List ℕ
-count_text cycles retired = codes "cycles " ++ (decimal cycles ++ (codes ", retired instructions " ++ (decimal retired ++ codes "\n")))
+count_text cycles retired =
+    codes "cycles " ++ (decimal cycles ++ (codes ", retired instructions " ++ (decimal retired ++ codes "\n")))
 
 -- the same of a part, unless it is none
 unfoldable pub part_line : List ℕ → ℕ → ℕ → List ℕ

@@ -1,9 +1,10 @@
--- Why the instructions in flight stay there, cycle by cycle. One that was dispatched before a cycle and is in flight at its end stays in
--- it for one reason, of these the first that the machine meets: its operands, for a load the addresses of the older stores, a unit of its
--- kind, for a load the port of the cache; then its execution, the common data bus, and its retirement. By its stamps and the units alone:
--- as nothing waits that has what it needs, an instruction that has its operands and was not issued waits for a unit, and a load that has a
--- unit besides, and the addresses, waits for the port.
-use Rattle.std.specs.Prelude.{◌≡◌, ℕ, ◌+◌, ◌&&◌, nat_lt, Bool, true, false, not, if◌then◌else◌, List, [], ◌∷◌, count_by, map, Option, Some, None, is_some}
+-- Why the instructions in flight stay there, cycle by cycle. One that was dispatched before a cycle and is in flight at
+-- its end stays in it for one reason, of these the first that the machine meets: its operands, for a load the addresses
+-- of the older stores, a unit of its kind, for a load the port of the cache; then its execution, the common data bus,
+-- and its retirement. By its stamps and the units alone: as nothing waits that has what it needs, an instruction that
+-- has its operands and was not issued waits for a unit, and a load that has a unit besides, and the addresses, waits
+-- for the port.
+use Rattle.std.specs.Prelude.{◌≡◌, ℕ, ◌+◌, ◌&&◌, nat_lt, Bool, true, false, not, if◌then◌else◌, List, [], ◌∷◌, count_by, drop, map, take, Option, Some, None, is_some}
 use Rattle.std.specs.List.{flat_map}
 use Rattle.std.specs.Option.{option_or}
 use Rattle.rv_isa.specs.Instruction.{is_load, is_store, kind_of_word}
@@ -38,11 +39,13 @@ first_awaited cycle producers = option_or (awaited cycle producers.first) (await
 
 -- what a load with its operands waits for: whether a unit is free for it, and all older stores have their addresses
 abbrev pub load_stay : Bool → Bool → Stay
-load_stay has_unit has_addresses = if has_addresses then (if has_unit then stay.Port else stay.Unit Mem) else stay.Address
+load_stay has_unit has_addresses =
+    if has_addresses then (if has_unit then stay.Port else stay.Unit Mem) else stay.Address
 
 -- what an instruction of a kind with its operands waits for
 abbrev pub ready_stay : Bool → Bool → Kind → Passage → Stay
-ready_stay has_unit has_addresses kind p = if is_load p.instruction then load_stay has_unit has_addresses else stay.Unit kind
+ready_stay has_unit has_addresses kind p =
+    if is_load p.instruction then load_stay has_unit has_addresses else stay.Unit kind
 
 -- and one that may lack an operand
 abbrev pub operand_stay : Stay → Option ℕ → Stay
@@ -89,7 +92,17 @@ have_addresses cycle before (p ∷ ps) = not (lacks_address cycle p) && have_add
 abbrev pub stays_among : ℕ → Bool → Bool → List Passage → List (Option Stay)
 stays_among cycle has_unit has_addresses [] = []
 stays_among cycle has_unit has_addresses (p ∷ ps) =
-    stay_in cycle has_unit has_addresses p ∷ stays_among cycle has_unit (has_addresses && not (lacks_address cycle p)) ps
+    stay_in cycle has_unit has_addresses p
+    ∷ stays_among cycle has_unit (has_addresses && not (lacks_address cycle p)) ps
+
+-- why one stays after some older ones
+abbrev pub stay_after : ℕ → Bool → Bool → List Passage → Passage → Option Stay
+stay_after cycle has_unit has_addresses older p = stay_in cycle has_unit (have_addresses cycle has_addresses older) p
+
+-- why each from a place on stays
+abbrev pub stays_from : ℕ → Bool → Bool → ℕ → List Passage → List (Option Stay)
+stays_from cycle has_unit has_addresses place ps =
+    stays_among cycle has_unit (have_addresses cycle has_addresses (take place ps)) (drop place ps)
 
 -- those of a cycle
 abbrev pub stays_in : FollowedCycle → List (Option Stay)
@@ -136,7 +149,8 @@ abbrev pub awaited_word : Option Stay → Option ℕ
 awaited_word (Some (stay.Operand pc)) = Some (word_of pc)
 awaited_word _ = None
 
--- the word that the oldest of those awaits that wait for an operand, if one does: its producer is older, and so waits for none itself
+-- the word that the oldest of those awaits that wait for an operand, if one does: its producer is older, and so waits
+-- for none itself
 abbrev pub oldest_awaited : List (Option Stay) → Option ℕ
 oldest_awaited [] = None
 oldest_awaited (o ∷ os) = option_or (awaited_word o) (oldest_awaited os)
@@ -152,7 +166,8 @@ awaited_of h moments = map awaited_in (walk still_open h moments)
 -- how many cycles there are
 abbrev pub all_stays : Stays → ℕ
 all_stays s =
-    s.operands + s.addresses + (s.units.alu + s.units.mul + s.units.div + s.units.mem) + s.port + s.execution + s.bus + s.retirement
+    s.operands + s.addresses + (s.units.alu + s.units.mul + s.units.div + s.units.mem) + s.port + s.execution
+    + s.bus + s.retirement
 
 -- how many instructions stay in some cycles
 abbrev pub staying_in : List FollowedCycle → ℕ

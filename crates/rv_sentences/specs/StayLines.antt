@@ -5,11 +5,11 @@ use Rattle.rv_memory.specs.Memory.{word_of}
 use Rattle.rv_source.specs.Listing.{Listed}
 use Rattle.rv_sentences.specs.OutcomeText.{loads_aside}
 use Rattle.rv_source.specs.PlaceText.{place_text}
-use Rattle.rv_sentences.specs.Spot.{first_greatest, greatest_lines}
+use Rattle.rv_sentences.specs.GreatestLines.{first_greatest, greatest_lines}
 use Rattle.rv_sentences.specs.Stack.{part_line, parts_of, share_text}
 use Rattle.rv_sentences.specs.Stay.{all_stays}
 use Rattle.rv_sentences.specs.WordNotes.{Notes, note_at}
-use Rattle.rv_sentences.specs.declared.{outcomes.Outcomes.Outcomes, spot.Greatest.Greatest, spot.Spot.Spot, stays.Stays.Stays}
+use Rattle.rv_sentences.specs.declared.{outcomes.Outcomes.Outcomes, counted_line.Greatest.Greatest, counted_line.CountedLine.CountedLine, stays.Stays.Stays}
 
 -- what instructions in flight wait for
 unfoldable pub wait_names : List (List ℕ)
@@ -28,7 +28,8 @@ wait_names =
 -- and for how many cycles
 abbrev pub wait_counts : Stays → List ℕ
 wait_counts s =
-    s.operands ∷ s.addresses ∷ s.units.alu ∷ s.units.mul ∷ s.units.div ∷ s.units.mem ∷ s.port ∷ s.bus ∷ s.retirement ∷ []
+    s.operands ∷ s.addresses ∷ s.units.alu ∷ s.units.mul ∷ s.units.div ∷ s.units.mem ∷ s.port ∷ s.bus
+    ∷ s.retirement ∷ []
 
 -- a wait by its place among them, with its cycles, and what part of all that is
 unfoldable pub wait_text : ℕ → Greatest → List ℕ
@@ -37,12 +38,14 @@ wait_text all wait =
 
 -- the second wait, and the end of the line
 unfoldable pub second_wait_text : ℕ → Greatest → List ℕ
-second_wait_text all second = if second.count == 0 then codes "\n" else codes ", " ++ (wait_text all second ++ codes "\n")
+second_wait_text all second =
+    if second.count == 0 then codes "\n" else codes ", " ++ (wait_text all second ++ codes "\n")
 
 -- the line on two waits
 unfoldable pub waits_text : ℕ → Greatest → Greatest → List ℕ
 waits_text all first second =
-    codes "cycles of instructions in flight: " ++ (decimal all ++ (codes ", of them " ++ (wait_text all first ++ second_wait_text all second)))
+    codes "cycles of instructions in flight: "
+    ++ (decimal all ++ (codes ", of them " ++ (wait_text all first ++ second_wait_text all second)))
 
 -- the same, if there was one
 unfoldable pub two_waits_text : ℕ → Greatest → Greatest → List ℕ
@@ -74,11 +77,13 @@ abbrev pub stays_text : Stays → List ℕ
 stays_text s = some_parts_text (all_stays s) s
 
 -- a line whose result was awaited: in how many of all cycles, its loads, and where it is
-unfoldable pub awaited_line : Listed → ℕ → Notes Outcomes → Spot → List ℕ
-awaited_line listing all outcomes spot =
-    codes "Awaited most, for " ++ (decimal spot.count ++ (codes " of " ++ (decimal all ++ (codes " cycles" ++
-    (loads_aside (note_at outcomes (word_of spot.address)) ++ (codes ": " ++ place_text listing spot.address))))))
+unfoldable pub awaited_line : Listed → ℕ → Notes Outcomes → CountedLine → List ℕ
+awaited_line listing all outcomes line =
+    codes "Awaited most, for " ++ (decimal line.count ++ (codes " of " ++ (decimal all ++ (codes " cycles" ++
+    (loads_aside (note_at outcomes (word_of line.address)) ++ (codes ": " ++ place_text listing line.address))))))
 
--- the line whose result was awaited most, if any operand was awaited, by the word that the oldest one awaited in each of so many cycles
+-- the line whose result was awaited most, if any operand was awaited, by the word that the oldest one awaited in each
+-- of so many cycles
 unfoldable pub awaited_text : Listed → ℕ → Notes Outcomes → Notes ℕ → List ℕ
-awaited_text listing all outcomes awaited = flat_map (awaited_line listing all outcomes) (greatest_lines listing 1 awaited)
+awaited_text listing all outcomes awaited =
+    flat_map (awaited_line listing all outcomes) (greatest_lines listing 1 awaited)

@@ -26,7 +26,8 @@ none_raised = record { software = None; timer = None; external = None }
 -- after some cycles more, from some hardware on
 abbrev pub raised_from : Raised → Hardware → List Moment → Raised
 raised_from raised h [] = raised
-raised_from raised h (moment ∷ moments) = raised_from (raised_with h.cycle moment.after.lines raised) moment.after moments
+raised_from raised h (moment ∷ moments) =
+    raised_from (raised_with h.cycle moment.after.lines raised) moment.after moments
 
 -- after all cycles of a run
 abbrev pub raised_of : Hardware → List Moment → Raised
@@ -42,24 +43,32 @@ came_from (Some cycle) (Some series) = nat_le cycle series.last.cycle
 unfoldable pub hindrance_text : Bool → Bool → Bool → List ℕ → List ℕ
 hindrance_text passed enabled global bit =
     if enabled
-    then (if passed then codes "a higher one was taken each time\n" else (if global then codes "it is due\n" else codes "mstatus.MIE is 0\n"))
-    else (if global then codes "mie." ++ (bit ++ codes " is 0\n") else codes "mstatus.MIE and mie." ++ (bit ++ codes " are 0\n"))
+    then (if passed then codes "a higher one was taken each time\n"
+    else (if global then codes "it is due\n" else codes "mstatus.MIE is 0\n"))
+    else (if global then codes "mie." ++ (bit ++ codes " is 0\n")
+    else codes "mstatus.MIE and mie." ++ (bit ++ codes " are 0\n"))
 
 -- a line that is high from a cycle on
 unfoldable pub high_text : List ℕ → ℕ → List ℕ
-high_text name cycle = codes "The " ++ (name ++ (codes " line is high from cycle " ++ (decimal cycle ++ codes " on, and was never taken: ")))
+high_text name cycle =
+    codes "The "
+    ++ (name ++ (codes " line is high from cycle " ++ (decimal cycle ++ codes " on, and was never taken: ")))
 
 -- a line, by the cycle from which it is high, unless it is low or was taken
 unfoldable pub untaken_text : List ℕ → List ℕ → Option ℕ → Option (Series Interruption) → Bool → Bool → Bool → List ℕ
 untaken_text name bit None taken passed enabled global = []
 untaken_text name bit (Some cycle) (Some series) passed enabled global = []
-untaken_text name bit (Some cycle) None passed enabled global = high_text name cycle ++ hindrance_text passed enabled global bit
+untaken_text name bit (Some cycle) None passed enabled global =
+    high_text name cycle ++ hindrance_text passed enabled global bit
 
--- Privileged Architecture 20211203, 3.1.9: the three lines by what is in mstatus and in mie, the one that comes first before the others
+-- Privileged Architecture 20211203, 3.1.9: the three lines by what is in mstatus and in mie, the one that comes first
+-- before the others
 unfoldable pub all_untaken_text : Raised → Interrupts → ℕ → ℕ → List ℕ
 all_untaken_text raised interrupts mstatus mie =
-    untaken_text (codes "external") (codes "MEIE") raised.external interrupts.external false (has_bit mie 11) (has_bit mstatus 3) ++
+    untaken_text (codes "external") (codes "MEIE") raised.external interrupts.external false (has_bit mie 11)
+    (has_bit mstatus 3) ++
     (untaken_text (codes "software") (codes "MSIE") raised.software interrupts.software
     (came_from raised.software interrupts.external) (has_bit mie 3) (has_bit mstatus 3) ++
     untaken_text (codes "timer") (codes "MTIE") raised.timer interrupts.timer
-    (came_from raised.timer interrupts.external || came_from raised.timer interrupts.software) (has_bit mie 7) (has_bit mstatus 3))
+    (came_from raised.timer interrupts.external || came_from raised.timer interrupts.software) (has_bit mie 7)
+    (has_bit mstatus 3))

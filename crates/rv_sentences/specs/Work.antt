@@ -72,4 +72,5 @@ branches_text work =
 
 -- the lines on the fetched words, of which there were so many, and on the branches and jumps
 unfoldable pub work_text : ℕ → Work → List ℕ
-work_text fetched work = part_text (codes "fetched words: ") fetched (codes " squashed") work.squashed ++ branches_text work
+work_text fetched work =
+    part_text (codes "fetched words: ") fetched (codes " squashed") work.squashed ++ branches_text work

@@ -8,6 +8,7 @@ use std::io::Write;
 /// How many accesses to memory there were.
 #[derive(Clone, Copy)]
 pub struct Accesses {
+    /// All.
     pub all: u64,
     /// Those that did not miss.
     pub quick: u64,

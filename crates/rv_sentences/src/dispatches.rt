@@ -1,4 +1,4 @@
-ghost use Rattle.std.specs.Prelude.{◌≡◌, ◌+◌, ◌-◌, ◌<◌, ◌^◌, length};
+ghost use Rattle.std.specs.Prelude.{◌≡◌, ◌+◌, ◌<◌, ◌^◌, length};
 ghost use Rattle.rv_sentences.specs.Dispatch.{dispatched_after, dispatched_with, dispatches_text, is_last};
 ghost use Rattle.rv_text.specs.Said.{Says};
 

@@ -5,6 +5,7 @@ use rv_isa::Cause;
 pub struct Exception {
     /// The address of the instruction that trapped, or whose fetch did.
     pub pc: u32,
+    /// Its cause.
     pub cause: Cause,
     /// What `mtval` got.
     pub value: u32,

@@ -3,10 +3,10 @@ ghost use Rattle.std.specs.List.{flat_map};
 ghost use Rattle.rv_sentences.specs.Hotspot.{empty_text, hotspot_text, hotspots_text, idle_text, loads_there, outcomes_line, stores_there};
 ghost use Rattle.rv_text.specs.Said.{Says};
 
+use crate::counted_line::CountedLine;
 use crate::greatest_lines::greatest_lines;
 use crate::outcome_text::{has_any, write_outcomes};
 use crate::outcomes::Outcomes;
-use crate::spot::Spot;
 use crate::stack::write_share;
 use crate::store_counts::StoreCounts;
 use crate::word_notes::WordNotes;
@@ -49,7 +49,7 @@ fn write_hotspot<W: Write>(
     all: u64,
     outcomes: &WordNotes<Outcomes>,
     stores: &StoreCounts,
-    hotspot: &Spot,
+    hotspot: &CountedLine,
 )
     ensures { Says W.contents out.old out.new (hotspot_text listing.now all outcomes.now stores.now hotspot.now) }
 {
@@ -66,9 +66,10 @@ fn write_each<W: Write>(
     all: u64,
     outcomes: &WordNotes<Outcomes>,
     stores: &StoreCounts,
-    hotspots: &[Spot],
+    hotspots: &[CountedLine],
 )
-    ensures { Says W.contents out.old out.new (flat_map (hotspot_text listing.now all outcomes.now stores.now) hotspots.now) }
+    ensures { Says W.contents out.old out.new
+        (flat_map (hotspot_text listing.now all outcomes.now stores.now) hotspots.now) }
 {
     for hotspot in hotspots {
         write_hotspot(out, listing, all, outcomes, stores, hotspot);

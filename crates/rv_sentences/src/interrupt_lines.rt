@@ -1,4 +1,3 @@
-ghost use Rattle.std.specs.Prelude.{Some};
 ghost use Rattle.rv_sentences.specs.Interrupt.{first_text, interrupts_text, last_cycle, last_text, line_text, series_text};
 ghost use Rattle.rv_text.specs.Said.{Says};
 

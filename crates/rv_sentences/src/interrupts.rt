@@ -17,8 +17,11 @@ const MACHINE_EXTERNAL: u32 = 0x8000_000b;
 /// What is kept of a run's interrupts: those of each line.
 #[derive(Clone, Copy)]
 pub struct Interrupts {
+    /// Software interrupts, if there were any.
     pub software: Option<Series<Interruption>>,
+    /// Timer interrupts, if there were any.
     pub timer: Option<Series<Interruption>>,
+    /// External interrupts, if there were any.
     pub external: Option<Series<Interruption>>,
 }
 

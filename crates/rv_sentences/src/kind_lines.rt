@@ -1,4 +1,4 @@
-ghost use Rattle.std.specs.Prelude.{◌≡◌, ◌-◌, None, Some};
+ghost use Rattle.std.specs.Prelude.{◌≡◌, Some};
 ghost use Rattle.std.specs.List.{flat_map};
 ghost use Rattle.rv_sentences.specs.Exception.{counted_text, cycles_text, exceptions_text, kind_text, kinds_text, others_text, several_text};
 ghost use Rattle.rv_sentences.specs.Kinds.{others};

@@ -1,4 +1,4 @@
-ghost use Rattle.std.specs.Prelude.{◌≡◌, ◌+◌, ◌<◌, ◌^◌, None, [], IfOk, map};
+ghost use Rattle.std.specs.Prelude.{◌≡◌, ◌+◌, ◌<◌, ◌^◌, [], IfOk, map};
 ghost use Rattle.std.specs.List.{All, list_any};
 ghost use Rattle.rv_sentences.specs.Kinds.{IsCountable, belongs, kept_after, kept_of, kept_with, kind_with};
 

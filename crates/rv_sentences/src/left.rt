@@ -43,8 +43,8 @@ fn add_row(
     count_in(outcomes, costs, row.pc / 4, row);
 }
 
-/// Adds those of some instructions that left the hardware: what became of them, the loads that retired, the branches and jumps that did
-/// and those of them that were mispredicted, each at its word of RAM, and the loads in each word.
+/// Adds those of some instructions that left the hardware: what became of them, the loads that retired, the branches
+/// and jumps that did and those of them that were mispredicted, each at its word of RAM, and the loads in each word.
 pub fn add_left(
     work: &mut Work,
     loads: &mut Accesses,

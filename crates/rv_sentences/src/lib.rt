@@ -1,10 +1,11 @@
-//! What `explain` counts of a run and how it is written in plain sentences, but for the run itself: exceptions and interrupts, what became
-//! of the places for dispatch, where the cycles went, what became of the fetched words and of the predictions, why instructions stayed in
-//! flight, what loads and drains cost, and the lines that cost the most. Each text is a function of the counts and of the listing of the
-//! program.
+//! What `explain` counts of a run and how it is written in plain sentences, but for the run itself: exceptions and
+//! interrupts, what became of the places for dispatch, where the cycles went, what became of the fetched words and of
+//! the predictions, why instructions stayed in flight, what loads and drains cost, and the lines that cost the most.
+//! Each text is a function of the counts and of the listing of the program.
 #![tactic(auto)]
 
 mod accesses;
+mod counted_line;
 mod dispatches;
 mod drained;
 mod drains;
@@ -27,7 +28,6 @@ mod outcomes;
 mod place_lines;
 mod raised;
 mod series;
-mod spot;
 mod stack;
 mod stay;
 mod stay_lines;

@@ -1,5 +1,5 @@
 ghost use Rattle.std.specs.Prelude.{◌≡◌, ◌+◌, ◌≤◌, ◌<◌, ◌^◌, drop, get_or, length, sum};
-ghost use Rattle.rv_sentences.specs.Spot.{by_line, goes_on, line_count};
+ghost use Rattle.rv_sentences.specs.GreatestLines.{by_line, goes_on, line_count};
 
 use rv_source::Listing;
 

@@ -3,10 +3,10 @@ ghost use Rattle.std.specs.List.{flat_map};
 ghost use Rattle.rv_sentences.specs.Longest.{branches_aside, counted_branches, longest_line, longest_text};
 ghost use Rattle.rv_text.specs.Said.{Says};
 
+use crate::counted_line::CountedLine;
 use crate::greatest_lines::greatest_lines;
 use crate::outcome_text::{write_loads_aside, write_stores_aside};
 use crate::outcomes::Outcomes;
-use crate::spot::Spot;
 use crate::store_counts::StoreCounts;
 use crate::word_notes::{WordNotes, count_in_line};
 use rv_source::{Listing, write_place};
@@ -43,16 +43,16 @@ fn write_line<W: Write>(
     stores: &StoreCounts,
     branches: &WordNotes<u64>,
     mispredicted: &WordNotes<u64>,
-    spot: &Spot,
+    counted_line: &CountedLine,
 )
     requires branches { sum branches.now.words < 2 ^ 64 }
     requires mispredicted { sum mispredicted.now.words < 2 ^ 64 }
     ensures { Says W.contents out.old out.new
-        (longest_line listing.now all outcomes.now stores.now branches.now mispredicted.now spot.now) }
+        (longest_line listing.now all outcomes.now stores.now branches.now mispredicted.now counted_line.now) }
 {
-    let word = spot.address / 4;
+    let word = counted_line.address / 4;
     out.put(b"Longest at the head of the reorder buffer, or had flushed it, for ");
-    out.put_decimal(spot.count);
+    out.put_decimal(counted_line.count);
     out.put(b" of ");
     out.put_decimal(all);
     out.put(b" cycles");
@@ -62,7 +62,7 @@ fn write_line<W: Write>(
     let wrong = count_in_line(mispredicted, listing, word);
     write_branches_aside(out, retired, wrong);
     out.put(b": ");
-    write_place(out, listing, spot.address);
+    write_place(out, listing, counted_line.address);
 }
 
 #[tactic(auto, using(rv_text::proofs::Saying::saying))]
@@ -74,14 +74,15 @@ fn write_each<W: Write>(
     stores: &StoreCounts,
     branches: &WordNotes<u64>,
     mispredicted: &WordNotes<u64>,
-    spots: &[Spot],
+    counted_lines: &[CountedLine],
 )
     requires branches { sum branches.now.words < 2 ^ 64 }
     requires mispredicted { sum mispredicted.now.words < 2 ^ 64 }
     ensures { Says W.contents out.old out.new
-        (flat_map (longest_line listing.now all outcomes.now stores.now branches.now mispredicted.now) spots.now) }
+        (flat_map (longest_line listing.now all outcomes.now stores.now branches.now mispredicted.now)
+        counted_lines.now) }
 {
-    for spot in spots {
+    for counted_line in counted_lines {
         write_line(
             out,
             listing,
@@ -90,7 +91,7 @@ fn write_each<W: Write>(
             stores,
             branches,
             mispredicted,
-            spot,
+            counted_line,
         );
     }
 }
@@ -114,7 +115,7 @@ pub fn write_longest<W: Write>(
     ensures { Says W.contents out.old out.new
         (longest_text listing.now all heads.now outcomes.now stores.now branches.now mispredicted.now) }
 {
-    let spots = greatest_lines(heads, listing, 1);
+    let counted_lines = greatest_lines(heads, listing, 1);
     write_each(
         out,
         listing,
@@ -123,6 +124,6 @@ pub fn write_longest<W: Write>(
         stores,
         branches,
         mispredicted,
-        spots.as_slice(),
+        counted_lines.as_slice(),
     );
 }

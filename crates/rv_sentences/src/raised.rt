@@ -6,8 +6,11 @@ use rv_isa::Lines;
 /// The cycle from which each interrupt line is high without a break, `None` where it is low.
 #[derive(Clone, Copy)]
 pub struct Raised {
+    /// The line of software interrupts.
     pub software: Option<u64>,
+    /// That of the timer.
     pub timer: Option<u64>,
+    /// That of external interrupts.
     pub external: Option<u64>,
 }
 

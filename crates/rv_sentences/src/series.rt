@@ -6,7 +6,9 @@ ghost use Rattle.rv_sentences.specs.Series.{continued, series_from, series_with}
 pub struct Series<E> {
     /// How many there were, one at least.
     pub count: u64,
+    /// The first.
     pub first: E,
+    /// The last.
     pub last: E,
 }
 

@@ -119,7 +119,9 @@ pub fn write_counts<W: Write>(out: &mut Sink<'_, W>, cycles: u64, retired: u64)
 /// A part of all.
 #[derive(Clone, Copy)]
 pub struct Share<'a> {
+    /// What it is called.
     pub name: &'a str,
+    /// How much it is.
     pub count: u64,
 }
 
@@ -137,7 +139,8 @@ fn write_part<W: Write>(out: &mut Sink<'_, W>, name: &str, count: u64, all: u64)
 /// Writes the parts that there are.
 #[tactic(auto, using(rv_text::proofs::Saying::saying))]
 pub fn write_shares<W: Write>(out: &mut Sink<'_, W>, shares: &[Share<'_>], all: u64)
-    ensures { Says W.contents out.old out.new (flat_map (λ share. part_line share.name.now share.count all) shares.now) }
+    ensures { Says W.contents out.old out.new
+        (flat_map (λ share. part_line share.name.now share.count all) shares.now) }
 {
     for share in shares {
         write_part(out, share.name, share.count, all);

@@ -171,8 +171,9 @@ fn dispatched_stay(
     }
 }
 
-/// Why an instruction stays in flight in a cycle, by what became of it by its end: whether a unit of loads and stores is free in it,
-/// and all stores before the older ones have their addresses. `None` where it was not dispatched before, or left.
+/// Why an instruction stays in flight in a cycle, by what became of it by its end: whether a unit of loads and stores
+/// is free in it, and all stores before the older ones have their addresses. `None` where it was not dispatched before,
+/// or left.
 pub(crate) fn stay_in(
     cycle: u64,
     has_unit: bool,

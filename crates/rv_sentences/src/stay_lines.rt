@@ -4,10 +4,10 @@ ghost use Rattle.rv_sentences.specs.Stay.{all_stays};
 ghost use Rattle.rv_sentences.specs.StayLines.{awaited_line, awaited_text, greatest_waits_text, parts_text, second_wait_text, some_parts_text, stays_text, two_waits_text, wait_counts, wait_names, wait_text, waits_text};
 ghost use Rattle.rv_text.specs.Said.{Says};
 
+use crate::counted_line::{CountedLine, Greatest};
 use crate::greatest_lines::greatest_lines;
 use crate::outcome_text::write_loads_aside;
 use crate::outcomes::Outcomes;
-use crate::spot::{Greatest, Spot};
 use crate::stack::{Share, name_at, parts_of, write_share_of, write_shares};
 use crate::stays::Stays;
 use crate::word_notes::{WordNotes, clear, first_greatest};
@@ -186,18 +186,18 @@ fn write_awaited_line<W: Write>(
     listing: &Listing,
     all: u64,
     outcomes: &WordNotes<Outcomes>,
-    spot: &Spot,
+    counted_line: &CountedLine,
 )
-    ensures { Says W.contents out.old out.new (awaited_line listing.now all outcomes.now spot.now) }
+    ensures { Says W.contents out.old out.new (awaited_line listing.now all outcomes.now counted_line.now) }
 {
     out.put(b"Awaited most, for ");
-    out.put_decimal(spot.count);
+    out.put_decimal(counted_line.count);
     out.put(b" of ");
     out.put_decimal(all);
     out.put(b" cycles");
-    write_loads_aside(out, outcomes.at(spot.address / 4));
+    write_loads_aside(out, outcomes.at(counted_line.address / 4));
     out.put(b": ");
-    write_place(out, listing, spot.address);
+    write_place(out, listing, counted_line.address);
 }
 
 #[tactic(auto, using(rv_text::proofs::Saying::saying))]
@@ -206,17 +206,17 @@ fn write_each<W: Write>(
     listing: &Listing,
     all: u64,
     outcomes: &WordNotes<Outcomes>,
-    spots: &[Spot],
+    counted_lines: &[CountedLine],
 )
-    ensures { Says W.contents out.old out.new (flat_map (awaited_line listing.now all outcomes.now) spots.now) }
+    ensures { Says W.contents out.old out.new (flat_map (awaited_line listing.now all outcomes.now) counted_lines.now) }
 {
-    for spot in spots {
-        write_awaited_line(out, listing, all, outcomes, spot);
+    for counted_line in counted_lines {
+        write_awaited_line(out, listing, all, outcomes, counted_line);
     }
 }
 
-/// Writes the line of the program whose result was awaited most, if any was, with its loads, by how often each word was the one that
-/// the oldest instruction in wait for an operand awaited: once at most in each of so many cycles.
+/// Writes the line of the program whose result was awaited most, if any was, with its loads, by how often each word was
+/// the one that the oldest instruction in wait for an operand awaited: once at most in each of so many cycles.
 #[tactic(auto, unfolding(crate::specs::StayLines::awaited_text))]
 pub fn write_awaited<W: Write>(
     out: &mut Sink<'_, W>,
@@ -228,6 +228,6 @@ pub fn write_awaited<W: Write>(
     requires awaited { sum awaited.now.words ≤ all }
     ensures { Says W.contents out.old out.new (awaited_text listing.now all outcomes.now awaited.now) }
 {
-    let spots = greatest_lines(awaited, listing, 1);
-    write_each(out, listing, all, outcomes, spots.as_slice());
+    let counted_lines = greatest_lines(awaited, listing, 1);
+    write_each(out, listing, all, outcomes, counted_lines.as_slice());
 }

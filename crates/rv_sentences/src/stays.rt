@@ -1,6 +1,6 @@
-ghost use Rattle.std.specs.Prelude.{◌≡◌, ◌+◌, ◌-◌, ◌<◌, ◌^◌, drop, length, sum, take};
+ghost use Rattle.std.specs.Prelude.{◌≡◌, ◌+◌, ◌-◌, ◌<◌, ◌^◌, length, sum};
 ghost use Rattle.std.specs.Option.{option_or};
-ghost use Rattle.rv_sentences.specs.Stay.{all_stays, awaited_word, have_addresses, oldest_awaited, stay_in, stays_among, with_reason, with_stay, with_stays};
+ghost use Rattle.rv_sentences.specs.Stay.{all_stays, awaited_word, oldest_awaited, stay_after, stays_among, stays_from, with_reason, with_stay, with_stays};
 ghost use Rattle.rv_sentences.specs.WordCount.{with_one};
 
 use crate::stay::{Stay, awaited_word, stay_in};
@@ -101,7 +101,8 @@ fn note_awaited(oldest: &mut Option<u32>, word: Option<u32>)
     }
 }
 
-// Adds why an instruction stays in flight in a cycle, if it does, after the older ones. What it awaits is the oldest wait, if none was before.
+// Adds why an instruction stays in flight in a cycle, if it does, after the older ones. What it awaits is the oldest
+// wait, if none was before.
 fn add_stay(
     stays: &mut Stays,
     oldest: &mut Option<u32>,
@@ -112,8 +113,9 @@ fn add_stay(
     row: &Passage,
 )
     requires room { all_stays stays.old + 1 < 2 ^ 64 }
-    ensures stays { stays.new ≡ with_stay (stay_in cycle has_unit (have_addresses cycle has_addresses older.now) row.now) stays.old }
-    ensures oldest { oldest.new ≡ option_or oldest.old (awaited_word (stay_in cycle has_unit (have_addresses cycle has_addresses older.now) row.now)) }
+    ensures stays { stays.new ≡ with_stay (stay_after cycle has_unit has_addresses older.now row.now) stays.old }
+    ensures oldest { oldest.new ≡
+        option_or oldest.old (awaited_word (stay_after cycle has_unit has_addresses older.now row.now)) }
 {
     let stay = stay_in(cycle, has_unit, has_addresses, older, row);
     stays.add(stay);
@@ -131,8 +133,9 @@ fn add_stays_from(
     place: usize,
 )
     requires room { all_stays stays.old + (length rows.now - place) < 2 ^ 64 }
-    ensures stays { stays.new ≡ with_stays (stays_among cycle has_unit (have_addresses cycle has_addresses (take place rows.now)) (drop place rows.now)) stays.old }
-    ensures oldest { oldest.new ≡ option_or oldest.old (oldest_awaited (stays_among cycle has_unit (have_addresses cycle has_addresses (take place rows.now)) (drop place rows.now))) }
+    ensures stays { stays.new ≡ with_stays (stays_from cycle has_unit has_addresses place rows.now) stays.old }
+    ensures oldest { oldest.new ≡
+        option_or oldest.old (oldest_awaited (stays_from cycle has_unit has_addresses place rows.now)) }
 {
     if place < rows.len() {
         add_stay(
@@ -156,9 +159,9 @@ fn add_stays_from(
     }
 }
 
-/// Adds why some instructions stay in flight in a cycle, in order of fetch, and counts the cycle at the word that the oldest of them
-/// awaits that wait for an operand, if one does: whether a unit of loads and stores is free in the cycle, and all stores before them
-/// have their addresses.
+/// Adds why some instructions stay in flight in a cycle, in order of fetch, and counts the cycle at the word that the
+/// oldest of them awaits that wait for an operand, if one does: whether a unit of loads and stores is free in the
+/// cycle, and all stores before them have their addresses.
 #[inline(never)]
 pub fn add_stays(
     stays: &mut Stays,
@@ -171,7 +174,8 @@ pub fn add_stays(
     requires room { all_stays stays.old + length rows.now < 2 ^ 64 }
     requires words { sum awaited.old.words + 1 < 2 ^ 64 }
     ensures stays { stays.new ≡ with_stays (stays_among cycle has_unit has_addresses rows.now) stays.old }
-    ensures awaited { awaited.new ≡ with_one (oldest_awaited (stays_among cycle has_unit has_addresses rows.now)) awaited.old }
+    ensures awaited { awaited.new ≡ with_one
+        (oldest_awaited (stays_among cycle has_unit has_addresses rows.now)) awaited.old }
 {
     let mut oldest = None;
     add_stays_from(stays, &mut oldest, cycle, has_unit, has_addresses, rows, 0);

@@ -18,7 +18,8 @@ const STORE: u32 = 0b010_0011;
 
 // The value of the first register that an instruction reads, or 0 where its first operand is none.
 fn first_value(registers: &[u32; 32], instruction: &Instr) -> u32
-    ensures read { (register : ℕ) → slice_get (sources_of instruction.now) 0 ≡ Some (Some register) → result ≡ slice_index registers.now register }
+    ensures read { (register : ℕ) → slice_get (sources_of instruction.now) 0 ≡ Some (Some register) →
+        result ≡ slice_index registers.now register }
     ensures none { slice_get (sources_of instruction.now) 0 ≡ Some None → result ≡ 0 }
 {
     match sources(instruction)[0] {
@@ -99,8 +100,8 @@ fn note_store(
     }
 }
 
-/// Keeps the stores that retired in some steps, by the registers before them: the last to each word, and those that wait for their drains.
-/// Leaves the registers after those steps.
+/// Keeps the stores that retired in some steps, by the registers before them: the last to each word, and those that
+/// wait for their drains. Leaves the registers after those steps.
 pub fn note_stores(
     last_stores: &mut WordNotes<Option<u32>>,
     waiting: &mut WaitingStores,

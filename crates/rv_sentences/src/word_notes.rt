@@ -1,10 +1,10 @@
 ghost use Rattle.std.specs.Prelude.{◌≡◌, ◌+◌, ◌≤◌, ◌<◌, ◌^◌, IfOk, Some, length, slice_set, sum};
-ghost use Rattle.rv_sentences.specs.Spot.{first_greatest, line_counts};
+ghost use Rattle.rv_sentences.specs.GreatestLines.{first_greatest, line_counts};
 ghost use Rattle.rv_sentences.specs.WordCount.{count_in, with_one};
 ghost use Rattle.rv_sentences.specs.WordNotes.{note_at, notes_of, with_note};
 
+use crate::counted_line::Greatest;
 use crate::lines::count_of_line;
-use crate::spot::Greatest;
 use rv_isa::Description;
 use rv_source::Listing;
 use std::alloc::{AllocError, Global};

@@ -1,10 +1,10 @@
-ghost use Rattle.std.specs.Prelude.{◌≡◌, ◌<◌, ◌^◌, sum};
+ghost use Rattle.std.specs.Prelude.{◌<◌, ◌^◌, sum};
 ghost use Rattle.std.specs.List.{flat_map};
 ghost use Rattle.rv_sentences.specs.Worst.{worst_line, worst_lines, worst_text};
 ghost use Rattle.rv_text.specs.Said.{Says};
 
+use crate::counted_line::CountedLine;
 use crate::greatest_lines::greatest_lines;
-use crate::spot::Spot;
 use crate::word_notes::{WordNotes, count_in_line};
 use crate::work::write_part;
 use rv_source::{Listing, write_place};
@@ -16,7 +16,7 @@ fn write_line<W: Write>(
     out: &mut Sink<'_, W>,
     listing: &Listing,
     branches: &WordNotes<u64>,
-    worst: &Spot,
+    worst: &CountedLine,
 )
     requires branches { sum branches.now.words < 2 ^ 64 }
     ensures { Says W.contents out.old out.new (worst_line listing.now branches.now worst.now) }
@@ -36,13 +36,13 @@ fn write_each<W: Write>(
     out: &mut Sink<'_, W>,
     listing: &Listing,
     branches: &WordNotes<u64>,
-    worst: &[Spot],
+    worst: &[CountedLine],
 )
     requires branches { sum branches.now.words < 2 ^ 64 }
     ensures { Says W.contents out.old out.new (flat_map (worst_line listing.now branches.now) worst.now) }
 {
-    for spot in worst {
-        write_line(out, listing, branches, spot);
+    for counted_line in worst {
+        write_line(out, listing, branches, counted_line);
     }
 }
 
@@ -52,7 +52,7 @@ fn write_lines<W: Write>(
     out: &mut Sink<'_, W>,
     listing: &Listing,
     branches: &WordNotes<u64>,
-    worst: &[Spot],
+    worst: &[CountedLine],
 )
     requires branches { sum branches.now.words < 2 ^ 64 }
     ensures { Says W.contents out.old out.new (worst_lines listing.now branches.now worst.now) }
@@ -64,8 +64,8 @@ fn write_lines<W: Write>(
     write_each(out, listing, branches, worst);
 }
 
-/// Writes the three lines with the most wrong predictions, if there were any, by how often a branch or jump in each word retired, and
-/// how often one was mispredicted.
+/// Writes the three lines with the most wrong predictions, if there were any, by how often a branch or jump in each
+/// word retired, and how often one was mispredicted.
 #[tactic(auto, using(rv_text::proofs::Saying::saying), unfolding(crate::specs::Worst::worst_text))]
 pub fn write_worst<W: Write>(
     out: &mut Sink<'_, W>,

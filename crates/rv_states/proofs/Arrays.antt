@@ -22,9 +22,6 @@ module _ (items : List Json) (place : ℕ) (here : place < length items) where
   so_many : length (take place items) ≡ place
   so_many = length-take-le place items (omega (arith, here))
 
-  and_one : length (take (place + 1) items) ≡ place + 1
-  and_one = length-take-le (place + 1) items (omega (arith, here))
-
   values-more : values_from 0 (take (place + 1) items) ≡ values_from 0 (take place items) ++ (comma_at place ++ get_or items place [])
   values-more =
       let at : 0 + length (take place items) ≡ place = omega (arith, so_many) in

@@ -4,10 +4,12 @@ use Rattle.rv_isa.specs.declared.lines.Arrival.{Arrival}
 use Rattle.rv_passage.proofs.OneRun.{one_run}
 use Rattle.rv_source.specs.Listing.{Listed}
 use Rattle.rv_states.specs.Page.{after_lines, before_lines}
-use Rattle.rv_states.specs.States.{HasOneText, states_text}
+use Rattle.rv_states.specs.States.{IsStates, states_text}
 use Rattle.rv_states.specs.declared.form.Form.{Form}
+use Rattle.rv_view.specs.Run.{HasOneText}
 
-pub one_text : (arrivals : List Arrival) (from limit : ℕ) (form : Form) (listing : Listed) → HasOneText arrivals from limit form listing
+pub one_text : (arrivals : List Arrival) (from limit : ℕ) (form : Form) (listing : Listed) →
+    HasOneText limit (IsStates arrivals from limit form listing)
 one_text arrivals from limit form listing h predictor new new' stop stop' text text' within is is' =
     let same = one_run within is.run is'.run in (
       same.reasons,

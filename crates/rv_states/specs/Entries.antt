@@ -14,7 +14,8 @@ entry_json status number e = entry_text number e ++ (operands_text status e.stag
 -- the instructions, the oldest first, where the registers give the first of them this
 abbrev pub entries_json : RegisterStatus → ℕ → List Entry → List Json
 entries_json status number [] = []
-entries_json status number (e ∷ es) = entry_json status number e ∷ entries_json (status_with status number e) (number + 1) es
+entries_json status number (e ∷ es) =
+    entry_json status number e ∷ entries_json (status_with status number e) (number + 1) es
 
 -- the instructions of a reorder buffer, over these registers
 abbrev pub buffer_json : List ℕ → ReorderBuffer → List Json

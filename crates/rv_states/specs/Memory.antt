@@ -12,7 +12,8 @@ use Rattle.rv_states.specs.Word.{word_text}
 -- the word of four bytes from an address on, the lowest first; none outside RAM
 unfoldable pub word_seen : Layout → List ℕ → ℕ → Option ℕ
 word_seen layout ram address =
-    option_and_then (λ a. option_and_then (λ b. option_and_then (λ c. option_map (λ d. a + 256 * b + 65536 * c + 16777216 * d)
+    option_and_then
+    (λ a. option_and_then (λ b. option_and_then (λ c. option_map (λ d. a + 256 * b + 65536 * c + 16777216 * d)
     (byte_seen layout ram ((address + 3) % 2 ^ 32)))
     (byte_seen layout ram ((address + 2) % 2 ^ 32)))
     (byte_seen layout ram ((address + 1) % 2 ^ 32)))

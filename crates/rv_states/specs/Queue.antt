@@ -31,7 +31,8 @@ filling_text (Filled access phase) = access_text access
 
 -- the sequence number of a store, and how far it has come
 unfoldable pub head_text : Store → List ℕ
-head_text store = begins (codes "sequence") (numeral store.seq) ++ also (codes "state") (quoted (state_name store.state))
+head_text store =
+    begins (codes "sequence") (numeral store.seq) ++ also (codes "state") (quoted (state_name store.state))
 
 -- a store
 unfoldable pub store_json : Store → Json

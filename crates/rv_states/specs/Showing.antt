@@ -16,8 +16,8 @@ use Rattle.rv_view.specs.Viewing.{cycles_seen}
 abbrev pub kept_of : Watched → Passages
 kept_of seen = passages_after still_open seen.first.hardware seen.moments
 
--- A table knows by their numbers which instructions are in flight after the cycles so far, and once the window has begun all else of them but
--- what was predicted and whose results they wait for, of which nothing is shown.
+-- A table knows by their numbers which instructions are in flight after the cycles so far, and once the window has
+-- begun all else of them but what was predicted and whose results they wait for, of which nothing is shown.
 pub record IsFollowing (from : ℕ) (table : Table) (seen : Watched) : Type 0 where
   pub numbers : numbers_of (passages_of table) ≡ numbers_of (kept_of seen)
   pub others : from ≤ length seen.moments → plainly (passages_of table) ≡ plainly (kept_of seen)
@@ -26,9 +26,10 @@ pub record IsFollowing (from : ℕ) (table : Table) (seen : Watched) : Type 0 wh
   pub few : length (passages_of table).rows ≤ 288
   pub room : IsRoomy table
 
--- How many cycles come before the window, as at first; the predictor that was untaught at first, after the cycles so far; a table that follows
--- them; and their text, which is said after what was said before.
-pub record IsShowing (from from' : ℕ) (untaught predictor : DescribedPredictor) (table : Table) (was failed : Bool) (seen : Watched) (before now : Option (List ℕ)) : Type 0 where
+-- How many cycles come before the window, as at first; the predictor that was untaught at first, after the cycles so
+-- far; a table that follows them; and their text, which is said after what was said before.
+pub record IsShowing (from from' : ℕ) (untaught predictor : DescribedPredictor) (table : Table) (was failed : Bool)
+    (seen : Watched) (before now : Option (List ℕ)) : Type 0 where
   pub same : from' ≡ from
   pub known : predictor ≡ fold taught_by untaught (cycles_seen seen)
   pub followed : IsFollowing from table seen

@@ -1,12 +1,11 @@
 -- The states of a run, line by line.
-use Rattle.std.specs.Prelude.{◌≡◌, ℕ, ◌+◌, ◌^◌, ◌≤◌, ◌==◌, Bool, if◌then◌else◌, nat_lt, List, [], ◌∷◌, ◌++◌, length, Option}
+use Rattle.std.specs.Prelude.{◌≡◌, ℕ, ◌==◌, Bool, if◌then◌else◌, nat_lt, List, [], ◌∷◌, ◌++◌, length, Option}
 use Rattle.rv_isa.specs.declared.{lines.Arrival.Arrival, values.Values.Values}
 use Rattle.rv_arch.specs.declared.outcome.Stop.{Stop}
 use Rattle.rv_watch.specs.Progress.{progress_of}
 use Rattle.rv_watch.specs.declared.progress.Progress.{Progress}
-use Rattle.rv_front.specs.Predictors.{guide_of}
 use Rattle.rv_front.specs.declared.predictors.DescribedPredictor.{DescribedPredictor}
-use Rattle.rv_hardware.specs.Guided.{GuidedHardware, guided}
+use Rattle.rv_hardware.specs.Guided.{GuidedHardware}
 use Rattle.rv_hardware.specs.Hardware.{Hardware}
 use Rattle.rv_hardware.specs.History.{Moment}
 use Rattle.rv_hardware.specs.Lessons.{lessons_of}
@@ -44,12 +43,14 @@ shown_text from cycle rows steps after progress predictor =
 
 -- the lines before the window, after the last of the cycles before it
 abbrev pub begun_text : ℕ → List Passage → Hardware → Progress → DescribedPredictor → List ℕ
-begun_text from rows h progress predictor = if progress.cycles == from then window_text rows h progress predictor else []
+begun_text from rows h progress predictor =
+    if progress.cycles == from then window_text rows h progress predictor else []
 
 -- what is shown of a cycle, after which the predictor is such, with the counts of the cycles so far
 unfoldable pub cycle_text : ℕ → FollowedCycle → DescribedPredictor → List ℕ
 cycle_text from cycle predictor =
-    shown_text from cycle.number cycle.passages.rows cycle.report.steps cycle.after (progress_of cycle.reports) predictor ++
+    shown_text from cycle.number cycle.passages.rows cycle.report.steps cycle.after
+    (progress_of cycle.reports) predictor ++
     begun_text from cycle.passages.rows cycle.after (progress_of cycle.reports) predictor
 
 -- the predictor after a cycle
@@ -66,7 +67,8 @@ cycles_text from predictor (cycle ∷ cycles) =
 unfoldable pub opening_text : ℕ → Listed → Values → List ℕ
 opening_text from listing values = header_line from values ++ listing_lines listing values
 
--- what is shown before the first cycle of a run: the machine and the program, and what stands before the window where it begins here
+-- what is shown before the first cycle of a run: the machine and the program, and what stands before the window where
+-- it begins here
 unfoldable pub head_text : ℕ → Listed → List Passage → Hardware → DescribedPredictor → List ℕ
 head_text from listing rows first predictor =
     opening_text from listing first.values ++ begun_text from rows first (progress_of []) predictor
@@ -75,15 +77,17 @@ head_text from listing rows first predictor =
 unfoldable pub lines_text : ℕ → Listed → Hardware → List Moment → List ℕ
 lines_text from listing first moments =
     let predictor = untaught_predictor first.values in
-    head_text from listing (table_at first).rows first predictor ++ cycles_text from predictor (walk still_open first moments)
+    head_text from listing (table_at first).rows first predictor
+    ++ cycles_text from predictor (walk still_open first moments)
 
 -- the lines of a run, whose last one says after how many cycles it ended and why
 unfoldable pub states_text : ℕ → Listed → Hardware → List Moment → Stop → List ℕ
 states_text from listing first moments stop = lines_text from listing first moments ++ stop_line (length moments) stop
 
--- A text has, in a form, the states of the cycles after the first `from` of a run that ended for a reason. Each line is JSON, and no byte of
--- the lines is one that HTML gives a meaning.
-pub record IsStates (arrivals : List Arrival) (from limit : ℕ) (form : Form) (listing : Listed) (old new : GuidedHardware) (stop : Stop) (text : List ℕ) : Type 0 where
+-- A text has, in a form, the states of the cycles after the first `from` of a run that ended for a reason. Each line is
+-- JSON, and no byte of the lines is one that HTML gives a meaning.
+pub record IsStates (arrivals : List Arrival) (from limit : ℕ) (form : Form) (listing : Listed)
+    (old new : GuidedHardware) (stop : Stop) (text : List ℕ) : Type 0 where
   pub moments : List Moment
   pub run : IsEndedRun arrivals limit old moments new stop
   pub json : AreLines (states_text from listing old.hardware moments stop)
@@ -91,13 +95,7 @@ pub record IsStates (arrivals : List Arrival) (from limit : ℕ) (form : Form) (
   pub text_is : text ≡ before_lines form ++ (states_text from listing old.hardware moments stop ++ after_lines form)
 
 -- that text is written, or a beginning of it where a write failed
-abbrev pub WritesStates : List Arrival → ℕ → ℕ → Form → Listed → GuidedHardware → GuidedHardware → Stop → Bool → Option (List ℕ) → Option (List ℕ) → Type 0
+abbrev pub WritesStates : List Arrival → ℕ → ℕ → Form → Listed → GuidedHardware → GuidedHardware → Stop → Bool →
+    Option (List ℕ) → Option (List ℕ) → Type 0
 WritesStates arrivals from limit form listing old new stop failed before after =
     (text : List ℕ) × IsStates arrivals from limit form listing old new stop text × IsSaid failed before after text
-
--- of hardware that a described predictor guides there is one text of its states in a form, whatever it leaves
-abbrev pub HasOneText : List Arrival → ℕ → ℕ → Form → Listed → Type 0
-HasOneText arrivals from limit form listing =
-    (h : Hardware) (predictor : DescribedPredictor) (new new' : GuidedHardware) (stop stop' : Stop) (text text' : List ℕ) → h.cycle + limit ≤ 2 ^ 40 →
-    IsStates arrivals from limit form listing (guided h (guide_of predictor)) new stop text → IsStates arrivals from limit form listing (guided h (guide_of predictor)) new' stop' text' →
-    (stop ≡ stop') × (text ≡ text')

@@ -6,7 +6,8 @@ use Rattle.rv_states.specs.Json.{Json, also, array, begins, numeral}
 
 -- a start: its cycle, and for how many cycles it holds its unit
 unfoldable pub start_json : Issue → Json
-start_json start = begins (codes "since") (numeral start.cycle) ++ (also (codes "cycles") (numeral start.cost) ++ codes "}")
+start_json start =
+    begins (codes "since") (numeral start.cycle) ++ (also (codes "cycles") (numeral start.cost) ++ codes "}")
 
 -- the starts of each kind
 unfoldable pub units_json : PerKind Pool → Json

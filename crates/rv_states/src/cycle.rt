@@ -55,7 +55,8 @@ pub fn write_cycle<W: Write>(
     progress: &Progress,
     predictor: &DescribedPredictor,
 )
-    ensures { Says W.contents out.old out.new (cycle_line cycle rows.now steps.now hardware.now progress.now predictor.now) }
+    ensures { Says W.contents out.old out.new
+        (cycle_line cycle rows.now steps.now hardware.now progress.now predictor.now) }
 {
     write_begin(out, "cycle", cycle);
     write_array_member(out, "instructions", &Instructions { rows });

@@ -53,7 +53,8 @@ impl Values for FetchedWords<'_> {
 /// Writes the members that have the fetch buffer, where the fetch goes on, and whether it is halted.
 #[tactic(auto, using(rv_text::proofs::Saying::says_both), unfolding(crate::specs::Fetched::next_fetch_text))]
 pub fn write_fetch_buffer<W: Write>(out: &mut Sink<'_, W>, front: &Front)
-    ensures { Says W.contents out.old out.new (also (codes "fetch_buffer") (array (map fetched_json front.now.entries)) ++ next_fetch_text front.now) }
+    ensures { Says W.contents out.old out.new
+        (also (codes "fetch_buffer") (array (map fetched_json front.now.entries)) ++ next_fetch_text front.now) }
 {
     write_array_member(out, "fetch_buffer", &FetchedWords { front });
     write_members(

@@ -185,7 +185,8 @@ pub(crate) fn write_object<W: Write>(
     number: u64,
     members: &[Member],
 )
-    ensures { Says W.contents out.old out.new (begins name.now (numeral number) ++ (flat_map member_text members.now ++ codes "}")) }
+    ensures { Says W.contents out.old out.new
+        (begins name.now (numeral number) ++ (flat_map member_text members.now ++ codes "}")) }
 {
     write_begin(out, name, number);
     write_members(out, members);
@@ -201,7 +202,8 @@ pub(crate) fn write_object_member<W: Write>(
     number: u64,
     members: &[Member],
 )
-    ensures { Says W.contents out.old out.new (also object.now (begins name.now (numeral number) ++ (flat_map member_text members.now ++ codes "}"))) }
+    ensures { Says W.contents out.old out.new
+        (also object.now (begins name.now (numeral number) ++ (flat_map member_text members.now ++ codes "}"))) }
 {
     write_key(out, object);
     write_object(out, name, number, members)

@@ -28,7 +28,8 @@ fn write_line<W: Write>(
     number: usize,
     text: &[u8],
 )
-    ensures { Says W.contents out.old out.new (line_text is_first address (record { number = number; text = text.now })) }
+    ensures { Says W.contents out.old out.new
+        (line_text is_first address (record { number = number; text = text.now })) }
 {
     write_front(
         out,
@@ -83,8 +84,8 @@ fn write_numbered<W: Write>(out: &mut Sink<'_, W>, listing: &Listing, base: u32,
     write_listing_line(out, listing, before, word_address(base, number));
 }
 
-/// Writes a line for each word of RAM that comes from a source line: its address and the number of the line, and at the first word of
-/// a line its text.
+/// Writes a line for each word of RAM that comes from a source line: its address and the number of the line, and at the
+/// first word of a line its text.
 pub fn write_listing<W: Write>(out: &mut Sink<'_, W>, listing: &Listing, values: &Values)
     ensures { Says W.contents out.old out.new (listing_lines listing.now values.now) }
 {

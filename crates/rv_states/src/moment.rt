@@ -1,4 +1,4 @@
-ghost use Rattle.std.specs.Prelude.{◌≡◌, [], ◌++◌};
+ghost use Rattle.std.specs.Prelude.{◌++◌};
 ghost use Rattle.rv_states.specs.Page.{after_lines, before_lines};
 ghost use Rattle.rv_states.specs.States.{begun_text, head_text, opening_text, shown_text, window_text};
 ghost use Rattle.rv_states.specs.Stop.{stop_line};
@@ -69,7 +69,8 @@ pub(crate) fn write_shown<W: Write>(
     progress: &Progress,
     predictor: &DescribedPredictor,
 )
-    ensures { Says W.contents out.old out.new (shown_text from cycle rows.now steps.now hardware.now progress.now predictor.now) }
+    ensures { Says W.contents out.old out.new
+        (shown_text from cycle rows.now steps.now hardware.now progress.now predictor.now) }
 {
     if from < progress.cycles {
         write_cycle(out, cycle, rows, steps, hardware, progress, predictor)
@@ -96,7 +97,8 @@ pub(crate) fn write_head<W: Write>(
     hardware: &ShownHardware<'_>,
     predictor: &DescribedPredictor,
 )
-    ensures { Says W.contents out.old out.new (before_lines form ++ head_text from listing.now rows.now hardware.now predictor.now) }
+    ensures { Says W.contents out.old out.new
+        (before_lines form ++ head_text from listing.now rows.now hardware.now predictor.now) }
 {
     write_before(out, form);
     write_opening(out, from, listing, hardware.values());

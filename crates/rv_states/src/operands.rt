@@ -62,7 +62,8 @@ fn given(number: u64, entry: &Entry) -> Operand
 
 // What a register gives once one more instruction is older, where it gave this before.
 fn given_with(before: Operand, number: u64, entry: &Entry, register: Reg) -> Operand
-    ensures { result ≡ (if writes entry.now register then operand_by number (broadcast_of entry.now.stage) else before) }
+    ensures { result ≡ (if writes entry.now register
+        then operand_by number (broadcast_of entry.now.stage) else before) }
 {
     if writes(entry, register) {
         given(number, entry)
@@ -94,7 +95,8 @@ fn write_operand_member<W: Write>(
     register: Option<Reg>,
 )
     requires { count ≤ length buffer.now.entries }
-    ensures { Says W.contents out.old out.new (operand_text name.now (status_at registers.now buffer.now count) register) }
+    ensures { Says W.contents out.old out.new
+        (operand_text name.now (status_at registers.now buffer.now count) register) }
 {
     match register {
         Some(register) => {
@@ -145,7 +147,8 @@ pub(crate) fn write_operands<W: Write>(
     entry: &Entry,
 )
     requires { count ≤ length buffer.now.entries }
-    ensures { Says W.contents out.old out.new (operands_text (status_at registers.now buffer.now count) entry.now.stage entry.now.instruction) }
+    ensures { Says W.contents out.old out.new
+        (operands_text (status_at registers.now buffer.now count) entry.now.stage entry.now.instruction) }
 {
     match (&entry.stage, entry.instruction.instruction()) {
         (Stage::Waiting, Some(instruction)) => {

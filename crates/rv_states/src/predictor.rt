@@ -1,4 +1,4 @@
-ghost use Rattle.std.specs.Prelude.{◌≡◌, ◌+◌, ◌<◌, ◌≤◌, [], get_or, length, map, None};
+ghost use Rattle.std.specs.Prelude.{◌≡◌, ◌+◌, ◌<◌, ◌≤◌, [], get_or, length, map};
 ghost use Rattle.std.specs.List.{flat_map};
 ghost use Rattle.rv_hardware.specs.Lessons.{lesson_of, lessons_of};
 ghost use Rattle.rv_states.specs.Json.{values_from};
@@ -144,7 +144,8 @@ fn place_in(predictor: &DescribedPredictor, pc: u32) -> Option<u64>
     }
 }
 
-// Writes what a predictor answers of a fetched word after so many values of an array, if a cycle fetched it. Answers how many there are then.
+// Writes what a predictor answers of a fetched word after so many values of an array, if a cycle fetched it. Answers
+// how many there are then.
 fn write_asked_of<W: Write>(
     out: &mut Sink<'_, W>,
     predictor: &DescribedPredictor,
@@ -181,7 +182,8 @@ fn write_asked_at<W: Write>(
     written: usize,
 ) -> usize
     requires { written < usize.MAX }
-    ensures said { Says W.contents out.old out.new (values_from written (get_or (map (asked_in predictor.now cycle) front.now.entries) place [])) }
+    ensures said { Says W.contents out.old out.new
+        (values_from written (get_or (map (asked_in predictor.now cycle) front.now.entries) place [])) }
     ensures count { result ≡ written + length (get_or (map (asked_in predictor.now cycle) front.now.entries) place []) }
     ensures few { result ≤ written + 1 }
 {
@@ -197,7 +199,8 @@ fn write_all_asked<W: Write>(
     cycle: u64,
     front: &Front,
 )
-    ensures { Says W.contents out.old out.new (values_from 0 (flat_map (asked_in predictor.now cycle) front.now.entries)) }
+    ensures { Says W.contents out.old out.new
+        (values_from 0 (flat_map (asked_in predictor.now cycle) front.now.entries)) }
 {
     let mut written = 0;
     for place in 0..front.len() {
@@ -220,7 +223,8 @@ fn write_asked_words<W: Write>(
     out.put(b"]")
 }
 
-/// Writes the members that have what a cycle with some steps taught a predictor, and what it answered of the words that the cycle fetched.
+/// Writes the members that have what a cycle with some steps taught a predictor, and what it answered of the words that
+/// the cycle fetched.
 pub(crate) fn write_predictor<W: Write>(
     out: &mut Sink<'_, W>,
     predictor: &DescribedPredictor,
@@ -228,7 +232,8 @@ pub(crate) fn write_predictor<W: Write>(
     steps: &[Step],
     hardware: &ShownHardware<'_>,
 )
-    ensures { Says W.contents out.old out.new (predictor_text predictor.now cycle steps.now hardware.now.front.entries) }
+    ensures { Says W.contents out.old out.new
+        (predictor_text predictor.now cycle steps.now hardware.now.front.entries) }
 {
     write_learned(out, predictor, steps);
     write_asked_words(out, predictor, cycle, hardware.front())

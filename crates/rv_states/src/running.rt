@@ -29,10 +29,10 @@ pub(crate) struct Shown {
     pub(crate) has_failed: bool,
 }
 
-// The watcher that writes the states after the first `from` cycles. Before these it follows no more than which instructions are in
-// flight.
+// The watcher that writes the states after the first `from` cycles. Before these it follows no more than which
+// instructions are in flight.
 #[derive(Drop)]
-struct Shower {
+struct StateWriter {
     from: u64,
     // What the predictor knows.
     predictor: DescribedPredictor,
@@ -40,12 +40,13 @@ struct Shower {
     has_failed: bool,
 }
 
-impl Watcher for Shower {
+impl Watcher for StateWriter {
     ghost use Rattle.rv_states.specs.Showing.{IsShowing};
 
     type Refusal = Infallible;
 
-    ghost has_seen = { λ start shower seen before now. IsShowing start.from shower.from start.predictor shower.predictor shower.table start.has_failed shower.has_failed seen before now };
+    ghost has_seen = { λ start states seen before now. IsShowing start.from states.from start.predictor states.predictor
+        states.table start.has_failed states.has_failed seen before now };
 
     ghost has_room = { λ _. Unit {0} };
 
@@ -97,7 +98,8 @@ fn begin<S: Simulated, W: Write>(
     pipeline: &S,
     predictor: &DescribedPredictor,
 ) -> bool
-    ensures { Extends false result (W.contents writer.old) (W.contents writer.new) (before_lines form ++ head_text from listing.now rows.now (S.hardware pipeline.now) predictor.now) }
+    ensures { Extends false result (W.contents writer.old) (W.contents writer.new)
+        (before_lines form ++ head_text from listing.now rows.now (S.hardware pipeline.now) predictor.now) }
 {
     let mut out = Sink::new(writer);
     write_head(
@@ -114,7 +116,8 @@ fn begin<S: Simulated, W: Write>(
 
 // Writes the end after what was written before. Answers whether a write failed.
 fn end<W: Write>(writer: &mut W, has_failed: bool, form: Form, cycles: u64, stop: Stop) -> bool
-    ensures { Extends has_failed result (W.contents writer.old) (W.contents writer.new) (stop_line cycles stop ++ after_lines form) }
+    ensures { Extends has_failed result (W.contents writer.old) (W.contents writer.new)
+        (stop_line cycles stop ++ after_lines form) }
 {
     let mut out = Sink::after(writer, has_failed);
     write_end(&mut out, form, cycles, stop);
@@ -153,17 +156,17 @@ pub(crate) fn run_shown<S: Simulated, W: Write>(
         pipeline,
         &untaught,
     );
-    let mut shower = Shower {
+    let mut states = StateWriter {
         from,
         predictor: untaught,
         table,
         has_failed,
     };
-    let ended = pipeline.watch(predictor, arrivals, limit, steps, &mut shower, writer);
+    let ended = pipeline.watch(predictor, arrivals, limit, steps, &mut states, writer);
     match ended.stop {
         Ok(stop) => Shown {
             stop,
-            has_failed: end(writer, shower.has_failed, form, ended.progress.cycles, stop),
+            has_failed: end(writer, states.has_failed, form, ended.progress.cycles, stop),
         },
     }
 }

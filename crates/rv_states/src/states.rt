@@ -1,6 +1,7 @@
 ghost use Rattle.std.specs.Prelude.{◌≡◌, Err};
 ghost use Rattle.rv_hardware.specs.Guided.{guided};
-ghost use Rattle.rv_states.specs.States.{HasOneText, IsStates};
+ghost use Rattle.rv_states.specs.States.{IsStates};
+ghost use Rattle.rv_view.specs.Run.{HasOneText};
 ghost use Rattle.rv_text.specs.IsText.{IsText};
 
 use crate::form::Form;
@@ -42,7 +43,7 @@ pub fn write_states<S: Simulated, W: Write>(
         (guided (S.hardware pipeline.new) (known predictor.new)))
         result (W.contents writer.old) (W.contents writer.new) }
     // With a described predictor the states are a function of what they are the states of.
-    ensures one_text { HasOneText arrivals.now from limit form listing.now }
+    ensures one_text { HasOneText limit (IsStates arrivals.now from limit form listing.now) }
     ensures not_run { result ≡ Err TextError.Memory →
         (S.hardware pipeline.new ≡ S.hardware pipeline.old) × (known predictor.new ≡ known predictor.old) }
 {
@@ -54,8 +55,7 @@ pub fn write_states<S: Simulated, W: Write>(
     };
     // Of hardware that a reset and cycles lead to, the predictor is one that a description can say.
     let hardware = pipeline.shown();
-    let _ = hardware.cycles_done();
-    let described = hardware.values().predictor;
+    let described = hardware.values.predictor;
     let Ok(untaught) = DescribedPredictor::new(alloc, described.kind, described.entries) else {
         return Err(TextError::Memory);
     };

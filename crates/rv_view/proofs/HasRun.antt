@@ -9,10 +9,12 @@ use Rattle.rv_view.specs.Run.{HasRun}
 pub has_not_run : (arrivals : List Arrival) (h : GuidedHardware) → HasRun arrivals h h
 has_not_run arrivals h = ([], ended)
 
+-- the cycles of a history
 pub has_run : {arrivals : List Arrival} {old new : GuidedHardware} {moments : List Moment}
     → History arrivals old moments new → HasRun arrivals old new
 has_run {moments = moments} goes = (moments, goes)
 
+-- one run, and one that goes on from its end
 pub has_run_on : {arrivals : List Arrival} {old middle new : GuidedHardware}
     → HasRun arrivals old middle → HasRun arrivals middle new → HasRun arrivals old new
 has_run_on (moments, goes) (more, after) = (moments ++ more, History-append goes after)

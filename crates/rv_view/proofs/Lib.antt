@@ -2,3 +2,4 @@ mod Begun
 mod Viewing
 pub mod EndedView
 pub mod HasRun
+pub mod Reached

@@ -65,16 +65,18 @@ module _ {V : Type 0} (has_seen : Seeing V) (text : Saying V) where
     next = cycle_shown seen shown
 
     -- its text of cycles
-    abbrev told_of : List FollowedCycle → List ℕ
-    told_of = text start seen.first.hardware
+    abbrev text_of : List FollowedCycle → List ℕ
+    text_of = text start seen.first.hardware
 
     -- one more cycle, which the table follows
     module _ {full : Table} (on : IsFollowedOn cycle steps after table full) where
+      -- its rows are those of the next cycle
       pub rows_now : (rows : List Passage) → rows ≡ (passages_of full).rows → rows ≡ next.passages.rows
       rows_now rows are =
           let full = full_is shown.passes viewing.kept.followed last shown.number shown.steps_are on.followed in
           are ∙ ap (λ (t : Passages). t.rows) full
 
+      -- and are few
       pub few_now : (rows : List Passage) → rows ≡ (passages_of full).rows → length rows ≤ 576
       few_now rows are =
           let few = few_rows viewing.kept cycle steps after full on.followed on.fetched in
@@ -85,9 +87,9 @@ module _ {V : Type 0} (has_seen : Seeing V) (text : Saying V) where
           passages_of kept ≡ still_open (passages_of full) → vec_capacity full.rows ≤ vec_capacity kept.rows →
           vec_capacity full.interrupts ≤ vec_capacity kept.interrupts → has_seen start view' (with_shown seen shown) →
           Extends failed failed' mid now more →
-          told_of (cycles_seen seen ++ next ∷ []) ≡ told_of (cycles_seen seen) ++ more →
+          text_of (cycles_seen seen ++ next ∷ []) ≡ text_of (cycles_seen seen) ++ more →
           Viewing start view' was failed' kept (with_shown seen shown) before now
-      viewing_on {kept = kept} opened rows interrupts sees extends told =
+      viewing_on {kept = kept} opened rows interrupts sees extends text_is =
           let one_more = cycle_counts shown.cycled in
           let room = viewing.kept.room in
           record {
@@ -95,6 +97,6 @@ module _ {V : Type 0} (has_seen : Seeing V) (text : Saying V) where
             kept = open_on shown.passes viewing.kept last shown.number shown.steps_are full on.followed one_more kept
                 opened on.fetched on.retired on.few (omega (arith, room.rows, on.rows, rows))
                 (omega (arith, room.interrupts, on.interrupts, interrupts));
-            said = extends_same (sym told ∙ ap told_of (sym (walk-push still_open shown.passes last)))
+            said = extends_same (sym text_is ∙ ap text_of (sym (walk-push still_open shown.passes last)))
                 (extends_both viewing.said extends);
           }

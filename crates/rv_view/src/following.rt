@@ -40,9 +40,7 @@ pub fn begin_table<S: Simulated>(alloc: Global, pipeline: &S) -> Result<Table, A
     ensures { IfOk result (BeginsAt (S.hardware pipeline.now)) }
 {
     let hardware = pipeline.shown();
-    // Of hardware that a reset and cycles lead to, the buffers are as long as described.
-    let _ = hardware.cycles_done();
-    Table::begin(alloc, hardware.reorder_buffer(), hardware.front())
+    Table::begin(alloc, hardware.rob, hardware.front)
 }
 
 /// Follows instructions through a cycle that had these steps, and left the hardware. Asks for no memory.
@@ -52,16 +50,7 @@ pub fn follow(table: &mut Table, cycle: u64, steps: &[Step], hardware: &ShownHar
     requires few { length steps.now ≤ 8 }
     ensures { IsFollowedOn cycle steps.now hardware.now table.old table.new }
 {
-    // Of hardware that a reset and cycles lead to, the buffers are as long as described.
-    let _ = hardware.cycles_done();
-    let pc = hardware.observe().pc;
-    table.follow(
-        cycle,
-        steps,
-        hardware.reorder_buffer(),
-        hardware.front(),
-        pc,
-    );
+    table.follow(cycle, steps, hardware.rob, hardware.front, hardware.pc);
 }
 
 /// The same of a table whose rows show what was in flight before the cycle.
@@ -73,16 +62,7 @@ pub fn follow_on(table: &mut Table, cycle: u64, steps: &[Step], hardware: &Shown
         (in_flight hardware.now) }
     ensures { IsFollowedOn cycle steps.now hardware.now table.old table.new }
 {
-    // Of hardware that a reset and cycles lead to, the buffers are as long as described.
-    let _ = hardware.cycles_done();
-    let pc = hardware.observe().pc;
-    table.follow_on(
-        cycle,
-        steps,
-        hardware.reorder_buffer(),
-        hardware.front(),
-        pc,
-    );
+    table.follow_on(cycle, steps, hardware.rob, hardware.front, hardware.pc);
 }
 
 /// Notes of such a cycle by their numbers alone which instructions are in flight at its end, for cycles that are not
@@ -94,14 +74,5 @@ pub fn follow_numbers(table: &mut Table, cycle: u64, steps: &[Step], hardware: &
     requires few { length steps.now ≤ 8 }
     ensures { IsNumberedOn cycle steps.now hardware.now table.old table.new }
 {
-    // Of hardware that a reset and cycles lead to, the buffers are as long as described.
-    let _ = hardware.cycles_done();
-    let pc = hardware.observe().pc;
-    table.follow_numbers(
-        cycle,
-        steps,
-        hardware.reorder_buffer(),
-        hardware.front(),
-        pc,
-    );
+    table.follow_numbers(cycle, steps, hardware.rob, hardware.front, hardware.pc);
 }

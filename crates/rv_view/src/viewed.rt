@@ -92,10 +92,12 @@ pub fn run_view<S: Simulated, V: View, W: Write>(
     writer: &mut W,
 ) -> Viewed<V, V::Refusal>
     requires follows { FollowsFrom (S.hardware pipeline.old) following }
-    requires ready { V.has_seen view view (watched arrivals.now (guided (S.hardware pipeline.old) (known predictor.old)) []
+    requires ready { V.has_seen view view
+        (watched arrivals.now (guided (S.hardware pipeline.old) (known predictor.old)) []
         (guided (S.hardware pipeline.old) (known predictor.old))) }
     ensures { IsViewedRun V.has_seen V.text arrivals.now limit (guided (S.hardware pipeline.old) (known predictor.old))
-        (guided (S.hardware pipeline.new) (known predictor.new)) view result.view result.table result.progress result.stop
+        (guided (S.hardware pipeline.new) (known predictor.new)) view result.view result.table
+        result.progress result.stop
         has_failed result.has_failed (W.contents writer.old) (W.contents writer.new) }
 {
     let Following { table, steps } = following;

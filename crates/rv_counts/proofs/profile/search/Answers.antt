@@ -1,6 +1,7 @@
-use Rattle.std.proofs.Common.{◌+◌, ◌-◌, ◌/◌, ◌<◌, ℕ, length, ap, arith}
+use Rattle.std.proofs.Common.{◌+◌, ◌-◌, ◌/◌, ◌<◌, ℕ, length, ap, arith, sym}
+use Rattle.std.proofs.Math.Numerals.{lt_of_le_of_ne}
 use Rattle.rv_counts.specs.declared.counts.WordCounts.{WordCounts}
-use Rattle.rv_counts.proofs.ProfilePlaces.{in_order-le, in_order-lt, over}
+use Rattle.rv_counts.proofs.ProfilePlaces.{in_order-le, in_order-lt}
 use Rattle.rv_counts.proofs.profile.search.Goals as goal
 
 pub returns-then-here-address-clause-found : goal.returns-then-here-address-clause-found
@@ -33,7 +34,7 @@ loop-low-preserved c =
     let so_far = c.loop-low.invariant in
     let middle : ℕ = c.loop-low.low + (c.loop-low.high - c.loop-low.low) / 2 in
     let here = ap (λ (w : WordCounts). w.address) c.index-words-middle.is in
-    let above = over _ c.args.address c.if-here-address.false c.if-here-address-2.false in (
+    let above = lt_of_le_of_ne c.if-here-address-2.false (λ is. c.if-here-address.false (sym is)) in (
       omega arith,
       omega (arith, so_far.1, c.loop-low-test.true),
       so_far.2,

@@ -1,9 +1,8 @@
-use Rattle.std.proofs.Common.{ap, arith}
-use Rattle.rv_rob.specs.ReorderBuffer.{ReorderBuffer}
+use Rattle.std.proofs.Common.{arith}
 use Rattle.rv_hardware.proofs.Always.Sound.{sound}
 use Rattle.rv_explain.proofs.cycle_places.in_flight.Goals as goal
 
 pub returns-clause-few : goal.returns-clause-few
 returns-clause-few c =
-    let sizes = (sound c.cycles_done.ensures.reached).sizes in
-    omega (arith, c.len.ensures.within, ap (λ (r : ReorderBuffer). r.capacity) c.reorder_buffer.ensures, sizes.buffer, sizes.legal.pipeline.rob.1)
+    let sizes = (sound c.hardware.invariant.reached).sizes in
+    omega (arith, c.len.ensures.within, sizes.buffer, sizes.legal.pipeline.rob.1)

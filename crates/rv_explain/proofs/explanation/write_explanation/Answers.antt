@@ -4,29 +4,27 @@ use Rattle.rv_explain.proofs.OneExplanation.{one_explanation}
 use Rattle.rv_explain.proofs.explanation.write_explanation.Goals as goal
 
 pub run_tallied-tallied-requires-clause-of_no_cycle : goal.run_tallied-tallied-requires-clause-of_no_cycle
-run_tallied-tallied-requires-clause-of_no_cycle g c = c.in-Ok.ensures.of_no_cycle c.args.arrivals.now (g.S.Simulated.hardware c.args.pipeline.now)
+run_tallied-tallied-requires-clause-of_no_cycle g c = c.in-Ok.ensures.of_no_cycle
 
 pub write_run_text-written-requires : goal.write_run_text-written-requires
 write_run_text-written-requires g c =
-    let tallied = c.run_tallied-tallied.result in
+    let tallied = c.run_tallied-tallied.ensures in
     record {
-      heads = heads_counted _ c.args.limit c.args.description.now _ _ tallied.stop tallied.progress tallied.fetched tallied.tally c.run_tallied-tallied.ensures;
-      branches = omega (arith, branches_counted _ c.args.limit c.args.description.now _ _ tallied.stop tallied.progress tallied.fetched tallied.tally c.run_tallied-tallied.ensures);
-      mispredicted = omega (arith, mispredicted_counted _ c.args.limit c.args.description.now _ _ tallied.stop tallied.progress tallied.fetched tallied.tally c.run_tallied-tallied.ensures);
-      places = rw c.shown.ensures c.run_tallied-tallied.ensures.few;
-      stays = c.run_tallied-tallied.ensures.few_stays;
-      awaited = awaited_counted _ c.args.limit c.args.description.now _ _ tallied.stop tallied.progress tallied.fetched tallied.tally c.run_tallied-tallied.ensures;
+      heads = heads_counted tallied;
+      branches = omega (arith, branches_counted tallied);
+      mispredicted = omega (arith, mispredicted_counted tallied);
+      places = rw c.shown.ensures tallied.few;
+      stays = tallied.few_stays;
+      awaited = awaited_counted tallied;
     }
 
 pub returns-in-Ok-written-clause-written : goal.returns-in-Ok-written-clause-written
 returns-in-Ok-written-clause-written g c =
-    let tallied = c.run_tallied-tallied.result in
-    (_, explained _ c.args.limit c.args.figures c.args.description.now _ c.args.listing.now _ _ tallied.stop tallied.progress tallied.fetched tallied.tally c.run_tallied-tallied.ensures, rw c.shown.ensures at c.in-Ok-written.ensures)
+    (_, explained c.run_tallied-tallied.ensures c.args.figures _ c.args.listing.now, rw c.shown.ensures at c.in-Ok-written.ensures)
 
 pub returns-in-Err-WriteFailed-clause-written : goal.returns-in-Err-WriteFailed-clause-written
 returns-in-Err-WriteFailed-clause-written g c =
-    let tallied = c.run_tallied-tallied.result in
-    (tallied.stop, _, explained _ c.args.limit c.args.figures c.args.description.now _ c.args.listing.now _ _ tallied.stop tallied.progress tallied.fetched tallied.tally c.run_tallied-tallied.ensures, rw c.shown.ensures at c.in-Err-WriteFailed.ensures)
+    (_, _, explained c.run_tallied-tallied.ensures c.args.figures _ c.args.listing.now, rw c.shown.ensures at c.in-Err-WriteFailed.ensures)
 
 -- whatever was written
 pub returns-in_default-clause-one_explanation : goal.returns-in_default-clause-one_explanation

@@ -9,8 +9,8 @@ pub returns : goal.returns
 unfolding lead_text
 returns g c =
     let width = c.from-width.ensures ∙ ap (λ (v : Values). v.dispatch_width) c.values.ensures in
-    let cycles = c.args.progress.now.cycles in
-    let places = c.args.tally.now.places in
+    let cycles = c.args.run.now.progress.cycles in
+    let places = c.args.run.now.tally.places in
     says_both c.write_greatest_waits.ensures
     (says_both (says_same (λ i. greatest_places_text cycles (width i) (c.in_flight-left.ensures.counted i) places) c.write_greatest_places.ensures)
     (says_both c.write_awaited.ensures (says_both c.write_longest.ensures

@@ -1,4 +1,4 @@
-use Rattle.std.proofs.Common.{refl, sym}
+use Rattle.std.proofs.Common.{sym}
 use Rattle.rv_watch.proofs.Shown.{stops_by}
 use Rattle.rv_report.proofs.LiveReport.{traced_nothing, traced_to_the_end}
 use Rattle.rv_report.proofs.live_report.run_traced.Goals as goal

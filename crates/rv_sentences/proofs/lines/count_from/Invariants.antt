@@ -1,5 +1,5 @@
 use Rattle.std.proofs.Common.{◌≡◌, ◌+◌, ◌-◌, ◌<◌, drop, length}
-use Rattle.rv_sentences.specs.Spot.{line_count}
+use Rattle.rv_sentences.specs.GreatestLines.{line_count}
 use Rattle.rv_sentences.proofs.LineCounts.{count_beyond}
 use Rattle.rv_sentences.proofs.lines.count_from.Given as goal
 

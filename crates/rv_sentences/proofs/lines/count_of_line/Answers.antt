@@ -1,5 +1,5 @@
 use Rattle.std.proofs.Common.{◌≡◌, ◌∙◌, ◌+◌, ◌-◌, ◌<◌, arith, false, sym}
-use Rattle.rv_sentences.specs.Spot.{goes_on}
+use Rattle.rv_sentences.specs.GreatestLines.{goes_on}
 use Rattle.rv_sentences.proofs.LineCounts.{line_begun, line_joined}
 use Rattle.rv_sentences.proofs.lines.count_of_line.Goals as goal
 use Rattle.rv_sentences.proofs.lines.count_of_line.Goals.{else-place-gt0-via-then-place-gt0+else-goes_on, else-place-gt0-via-else-place-gt0}

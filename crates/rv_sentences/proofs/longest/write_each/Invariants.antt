@@ -5,7 +5,7 @@ use Rattle.rv_sentences.specs.Longest.{longest_line}
 use Rattle.rv_sentences.proofs.longest.write_each.Given as goal
 
 -- the lines so far are written
-abbrev pub invariant-loop-spot : goal.invariant-loop-spot
-invariant-loop-spot g l =
+abbrev pub invariant-loop-counted_line : goal.invariant-loop-counted_line
+invariant-loop-counted_line g l =
     Says g.W.Write.contents l.initial.out l.out
-    (flat_map (longest_line l.listing l.all l.outcomes l.stores l.branches l.mispredicted) (take l.spot-index l.spots))
+    (flat_map (longest_line l.listing l.all l.outcomes l.stores l.branches l.mispredicted) (take l.counted_line-index l.counted_lines))

@@ -1,7 +1,7 @@
 use Rattle.std.proofs.Common.{◌∙◌, ap}
 use Rattle.std.specs.Prelude.{slice_set}
 use Rattle.rv_text.proofs.Saying.{says_same}
-use Rattle.rv_sentences.specs.Spot.{first_greatest}
+use Rattle.rv_sentences.specs.GreatestLines.{first_greatest}
 use Rattle.rv_sentences.specs.StayLines.{two_waits_text}
 use Rattle.rv_sentences.proofs.stay_lines.write_greatest_waits.Goals as goal
 

@@ -1,6 +1,6 @@
 use Rattle.std.proofs.Common.{◌∙◌, ◌-◌, ◌≤◌, ◌<◌, ap, arith, length, sym}
 use Rattle.std.specs.Prelude.{get_or}
-use Rattle.rv_sentences.specs.Spot.{by_line}
+use Rattle.rv_sentences.specs.GreatestLines.{by_line}
 use Rattle.rv_sentences.proofs.LineCounts.{by_place, none_above, none_below}
 use Rattle.rv_sentences.proofs.word_notes.count_in_line.Goals as goal
 

@@ -1,5 +1,5 @@
 use Rattle.std.proofs.Common.{◌≡◌, ◌+◌, ◌≤◌, length, drop}
-use Rattle.rv_sentences.specs.Spot.{first_greatest}
+use Rattle.rv_sentences.specs.GreatestLines.{first_greatest}
 use Rattle.rv_sentences.proofs.word_notes.first_greatest.Given as goal
 
 -- the greatest of the words after the front is known

@@ -5,5 +5,5 @@ use Rattle.rv_sentences.specs.Worst.{worst_line}
 use Rattle.rv_sentences.proofs.worst.write_each.Given as goal
 
 -- the lines so far are written
-abbrev pub invariant-loop-spot : goal.invariant-loop-spot
-invariant-loop-spot g l = Says g.W.Write.contents l.initial.out l.out (flat_map (worst_line l.listing l.branches) (take l.spot-index l.worst))
+abbrev pub invariant-loop-counted_line : goal.invariant-loop-counted_line
+invariant-loop-counted_line g l = Says g.W.Write.contents l.initial.out l.out (flat_map (worst_line l.listing l.branches) (take l.counted_line-index l.worst))

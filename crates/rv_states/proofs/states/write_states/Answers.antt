@@ -1,5 +1,4 @@
 use Rattle.std.proofs.Common.{◌∙◌, ap, arith}
-use Rattle.rv_isa.specs.declared.values.Values.{Values}
 use Rattle.rv_hardware.specs.Hardware.{Hardware}
 use Rattle.rv_hardware.proofs.Always.Sound.{sound}
 use Rattle.rv_states.specs.Predictor.{untaught_predictor}
@@ -8,13 +7,11 @@ use Rattle.rv_states.proofs.states.write_states.Goals as goal
 
 pub new-requires : goal.new-requires
 new-requires g c =
-    let legal = (sound c.cycles_done.ensures.reached).sizes.legal.predictor in
-    let entries = ap (λ (v : Values). v.predictor.entries) c.values.ensures in
-    (omega (arith, legal.0, entries), omega (arith, legal.1, entries))
+    let legal = (sound c.hardware.invariant.reached).sizes.legal.predictor in (omega (arith, legal.0), omega (arith, legal.1))
 
 pub run_shown-shown-requires-clause-untaught : goal.run_shown-shown-requires-clause-untaught
-run_shown-shown-requires-clause-untaught g c = c.in-Ok-new.ensures ∙ ap untaught_predictor c.values.ensures
-    ∙ ap (λ (h : Hardware). untaught_predictor h.values) c.shown-hardware.ensures
+run_shown-shown-requires-clause-untaught g c = c.in-Ok-new.ensures
+    ∙ ap (λ (h : Hardware). untaught_predictor h.values) (c.hardware.view_is ∙ c.shown-hardware.ensures)
 
 pub returns-then-shown-clause-written : goal.returns-then-shown-clause-written
 returns-then-shown-clause-written g c =

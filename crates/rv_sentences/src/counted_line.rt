@@ -3,13 +3,15 @@
 pub struct Greatest {
     /// Of the first count it is 0.
     pub place: usize,
+    /// The count.
     pub count: u64,
 }
 
-/// A place in a program, and how much is counted there.
+/// A line of a program, or a word that comes from none, and how much is counted there.
 #[derive(Clone, Copy, Default)]
-pub struct Spot {
-    /// The address of its word, or of the first word of its line.
+pub struct CountedLine {
+    /// The address of its first word.
     pub address: u32,
+    /// How much is counted there.
     pub count: u64,
 }

@@ -1,7 +1,7 @@
 use Rattle.std.proofs.Common.{rules}
 use Rattle.rv_text.proofs.Saying.{says_both, says_extends}
 use Rattle.rv_states.proofs.Showing.{can_count_on, showing_early, showing_on}
-use Rattle.rv_states.proofs.running.ShowerWatcher.see.Goals as goal
+use Rattle.rv_states.proofs.running.StateWriterWatcher.see.Goals as goal
 
 pub follow_numbers-requires-clause-room : goal.follow_numbers-requires-clause-room
 follow_numbers-requires-clause-room g c = let (start, seen, before, shown, showing) = c.requires.shown in showing.followed.room.room
