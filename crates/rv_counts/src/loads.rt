@@ -30,7 +30,7 @@ impl LoadCosts {
     pub fn new(description: &Description) -> LoadCosts
         ensures { result ≡ costs_of description.now }
     {
-        LoadCosts::of(description.values())
+        LoadCosts::of(&description.values())
     }
 
     /// Those of the machine with these values.
