@@ -30,6 +30,9 @@ MOST_MACHINES = 64
 TEXTS = {"statement", "name", "stop", "kind"}
 HEXADECIMAL = {"address", "pc", "word", "value", "cause"}
 MOST_SHOWN = 4
+# What the output of a command begins with.
+BEGINNINGS = {"run": ("R ", "T ", "N ", "stop "), "check": ("ok ",), "explain": ("",), "profile": ("address\t",), "path": ("cycles ",),
+              "compare": ("number\t",), "sensitivity": ("key\t",), "states": ("{",)}
 
 
 class Failed(Exception):
@@ -110,9 +113,16 @@ def frame(rows, hexadecimal=False, columns=None):
             table[name] = table[name].map(lambda it: pandas.NA if pandas.isna(it) else f"{int(it):08x}").astype("string")
         elif name in ("cpi", "ipc") or name.endswith("_mean"):
             table[name] = table[name].astype("Float64")
-        else:
-            table[name] = table[name].astype("string" if name in TEXTS else "Int64")
+        elif name in TEXTS or holds(table[name], str):
+            table[name] = table[name].astype("string")
+        elif not holds(table[name], (dict, list)):
+            table[name] = table[name].astype("Int64")
     return table
+
+
+def holds(column, kinds):
+    """Whether a column has a value of one of these kinds."""
+    return any(isinstance(it, kinds) for it in column)
 
 
 def program():
@@ -157,7 +167,10 @@ def call(words, text):
     if done.returncode not in (0, 3):
         shown = refusal(text) if done.returncode == 1 and words[0] != "compare" else []
         raise Failed(fault_line(done.stderr), done.returncode, shown)
-    return done.stdout.decode(errors="replace")
+    text = done.stdout.decode(errors="replace")
+    if not text or not text.startswith(BEGINNINGS.get(words[0], "")):
+        raise Failed(f"error: {program()} prints what rv_sim does not: is it another program?", 1)
+    return text
 
 
 def fault_line(said):

@@ -8,8 +8,9 @@ use Rattle.clap.specs.Kinds.{or_else}
 use Rattle.clap.specs.Words.{Kinds, Row, Text, fault_of, one_of, subcommand_of}
 use Rattle.clap.specs.declared.error.kind.ErrorKind.TheVariants.{ValueValidation}
 use Rattle.rv_command.specs.Also.{also_in}
-use Rattle.rv_command.specs.AlsoLine.{line_in}
+use Rattle.rv_command.specs.AlsoLine as also
 use Rattle.rv_command.specs.Arguments.{last_cycle, most_cycles_shown, most_cycles_told, most_steps, program_arguments}
+use Rattle.rv_command.specs.ShowLine as show
 use Rattle.rv_command.specs.Shown.{columns_in}
 use Rattle.rv_command.specs.declared.command.Command.{Command}
 use Rattle.rv_command.specs.declared.command.Command.TheVariants.{Run, Reference, Check, Picture, Log, States, Page, Explain, Profile, Path, Compare, Sensitivity}
@@ -135,13 +136,9 @@ command_named given =
     else (if bytes_eq given.0 (codes "compare") then compare_in given.1
     else (if bytes_eq given.0 (codes "sensitivity") then sensitivity_in given.1 else None)))))))))))
 
--- what `--show` takes
-unfoldable pub what_is_shown : Text
-what_is_shown = codes "WHAT is a register, as a0 or x10, the address of a word, as 0x80001000, or places; --show may be given four times"
-
 -- what is said of a subcommand whose matches name no command: only a value of `--show` or of `--also` can be at fault
 abbrev pub said_of : Text × List Row → Text
-said_of given = if bytes_eq given.0 (codes "sensitivity") then line_in given.1 else what_is_shown
+said_of given = if bytes_eq given.0 (codes "sensitivity") then also.line_in given.1 else show.line_in given.1
 
 -- the command that the words ask for, where they fit the program's arguments
 abbrev pub command_of : List Text → Option Command

@@ -4,3 +4,4 @@ pub mod Shown
 pub mod Also
 pub mod AlsoFault
 pub mod AlsoLine
+pub mod ShowLine

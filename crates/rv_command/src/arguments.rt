@@ -141,7 +141,8 @@ fn show_argument<'a>(alloc: Global) -> Arg<'a>
         .action(ArgAction::Append)
 }
 
-fn compare_command<'a>(alloc: Global) -> Result<Command<'a>, AllocError>
+/// The command `compare` with its options.
+pub(crate) fn compare_command<'a>(alloc: Global) -> Result<Command<'a>, AllocError>
     ensures arguments { IfOk result (IsParserOf compare_arguments) }
 {
     with_argument(
@@ -162,7 +163,8 @@ fn also_argument<'a>(alloc: Global) -> Arg<'a>
         .action(ArgAction::Append)
 }
 
-fn sensitivity_command<'a>(alloc: Global) -> Result<Command<'a>, AllocError>
+/// The command `sensitivity` with its options.
+pub(crate) fn sensitivity_command<'a>(alloc: Global) -> Result<Command<'a>, AllocError>
     ensures arguments { IfOk result (IsParserOf sensitivity_arguments) }
 {
     with_argument(

@@ -1,14 +1,14 @@
-ghost use Rattle.std.specs.Prelude.{◌≡◌, ◌≤◌, ◌⊎◌, ◌∷◌, [], None, Some, IfErr, IfOk, IfSome, map, option_and_then};
+ghost use Rattle.std.specs.Prelude.{◌≡◌, ◌≤◌, ◌⊎◌, [], None, Some, IfErr, IfOk, IfSome, map, option_and_then};
 ghost use Rattle.std.specs.Option.{option_map_or};
 ghost use Rattle.std.specs.Result.{result_ok};
 ghost use Rattle.clap.specs.Words.{FailsBy, HasKind, app_of, fault_of, found_of, kind_of, rows_of, subcommand_rows_of};
 ghost use Rattle.rv_command.specs.Arguments.{program_arguments};
 ghost use Rattle.rv_command.specs.Command.{HasLegalNumbers, IsLegalLimit, IsLegalStretch, command_named, command_of, flag_in, limit_in, limited_named, number_in};
-ghost use Rattle.rv_command.specs.Command.{compare_in, explain_in, page_in, picture_in, profile_in, refused_kinds, run_in, said_of, said_of_words, sensitivity_in, states_in, stretch_in, what_is_shown};
+ghost use Rattle.rv_command.specs.Command.{compare_in, explain_in, page_in, picture_in, profile_in, refused_kinds, run_in, said_of, said_of_words, sensitivity_in, states_in, stretch_in};
 
 use crate::also::also_given;
-use crate::also_line::line_given;
 use crate::arguments::parser;
+use crate::refused::{Judged, Refused, refusal, said_of};
 use crate::shown::{ShownColumns, columns_given};
 use clap::error::ErrorKind;
 use clap::{ArgMatches, Command as Parser, Error};
@@ -26,9 +26,6 @@ pub const MOST_CYCLES_SHOWN: u64 = 1_000;
 
 /// The most cycles of which the states may be written.
 pub const MOST_CYCLES_TOLD: u64 = 10_000;
-
-const WHAT_IS_SHOWN: &str =
-    "WHAT is a register, as a0 or x10, the address of a word, as 0x80001000, or places; --show may be given four times";
 
 /// What the program is asked to do.
 #[derive(Clone, Copy, PartialEq, Eq)]
@@ -254,40 +251,22 @@ fn command_given(matches: &ArgMatches) -> Option<Command>
     }
 }
 
-// What is said of words whose matches name no command: only a value of `--show` or of `--also` can be at fault.
-#[tactic(auto, unfolding(crate::specs::Command::what_is_shown))]
-fn said_of(alloc: Global, name: &str, given: &ArgMatches) -> Result<String, AllocError>
-    ensures { IfOk result (λ line. line.bytes.items ≡ said_of (name.now, rows_of (found_of given.now))) }
-{
-    match name {
-        "sensitivity" => line_given(alloc, given),
-        _ => String::from_str(alloc, WHAT_IS_SHOWN),
-    }
-}
-
 // What the matches ask for, or else what is said of them.
-fn asked(alloc: Global, matches: &ArgMatches) -> Result<Result<Command, String>, AllocError>
+fn asked(alloc: Global, matches: &ArgMatches) -> Result<Result<Command, Refused>, AllocError>
     ensures command { IfOk result (λ r. option_and_then command_named (subcommand_rows_of matches.now) ≡ result_ok r) }
     ensures legal { IfOk result (λ r. IfOk r HasLegalNumbers) }
-    ensures said { IfOk result (λ r. IfErr r (λ line.
-        line.bytes.items ≡ option_map_or said_of (subcommand_rows_of matches.now) [])) }
+    ensures said { IfOk result (λ r. IfErr r (λ refused.
+        refused.line.bytes.items ≡ option_map_or said_of (subcommand_rows_of matches.now) [])) }
 {
     if let Some(command) = command_given(matches) {
         return Ok(Ok(command));
     }
     match matches.subcommand() {
         Some((name, given)) => Ok(Err(said_of(alloc, name, given)?)),
-        None => Ok(Err(String::new(alloc))),
-    }
-}
-
-// The error of words that name no command with numbers in their ranges, or nothing that a table can show or a machine can have.
-fn refusal(parser: &mut Parser<'_>, expected: &str) -> Error
-    ensures kind { HasKind (ErrorKind.ValueValidation ∷ []) result }
-{
-    match parser.error(ErrorKind::ValueValidation, expected) {
-        Ok(error) => error,
-        Err(error) => Error::from(error),
+        None => Ok(Err(Refused {
+            option: Judged::Show,
+            line: String::new(alloc),
+        })),
     }
 }
 
@@ -296,11 +275,11 @@ fn matched<'a>(
     alloc: Global,
     parser: &mut Parser<'a>,
     words: &'a [String],
-) -> Result<Result<Command, String>, Error>
+) -> Result<Result<Command, Refused>, Error>
     requires program { app_of parser.old ≡ program_arguments }
     ensures command { IfOk result (λ r. command_of (map (λ w. w.bytes.items) words.entry.now) ≡ result_ok r) }
-    ensures said { IfOk result (λ r. IfErr r (λ line.
-        line.bytes.items ≡ said_of_words (map (λ w. w.bytes.items) words.entry.now))) }
+    ensures said { IfOk result (λ r. IfErr r (λ refused.
+        refused.line.bytes.items ≡ said_of_words (map (λ w. w.bytes.items) words.entry.now))) }
     ensures kinds { FailsBy (fault_of program_arguments (map (λ w. w.bytes.items) words.entry.now)) result }
     ensures ranges { IfOk result (λ r. IfOk r HasLegalNumbers) }
 {
@@ -328,7 +307,7 @@ fn parse_by<'a>(
     match matched(alloc, parser, words)? {
         Ok(command) => Ok(command),
         // A number out of its range is none of these: `clap` has refused it before; see TOOLCHAIN.
-        Err(line) => Err(refusal(parser, line.as_str())),
+        Err(refused) => Err(refusal(alloc, &refused)),
     }
 }
 

@@ -8,6 +8,8 @@ mod also_line;
 mod arguments;
 mod command;
 mod help;
+mod refused;
+mod show_line;
 mod shown;
 
 pub use command::{Command, parse_words};

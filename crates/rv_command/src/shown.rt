@@ -28,7 +28,7 @@ pub struct ShownColumns {
 }
 
 /// The most further columns of a table.
-const MOST_SHOWN: usize = 4;
+pub(crate) const MOST_SHOWN: usize = 4;
 
 // What a name stands for.
 fn name_shown(name: &[u8]) -> Option<Shown>
@@ -58,8 +58,8 @@ fn shown_by(token: Token<'_>) -> Option<Shown>
     }
 }
 
-// What a text names.
-fn named(text: &str) -> Option<Shown>
+/// What a text names.
+pub(crate) fn named(text: &str) -> Option<Shown>
     ensures { result ≡ shown_of text.now }
 {
     let bytes = text.as_bytes();

@@ -17,6 +17,7 @@ use Rattle.rv_asm.specs.declared.{fault.AsmFault.AsmFault, operation.Form.Form, 
 use Rattle.rv_asm.specs.declared.fault.AsmFault.TheVariants as fault
 use Rattle.rv_asm.specs.declared.operation.Form.TheVariants as form
 use Rattle.rv_asm.specs.declared.operation.Place.TheVariants as place
+use Rattle.rv_refusal.specs.Definition.{definition_on}
 
 -- the tokens from each operand on that stands after a comma
 abbrev pub later_operands : List Token → List (List Token)
@@ -156,25 +157,13 @@ operand_of_fault fault (token.Name name ∷ rest) =
     else None
 operand_of_fault fault _ = None
 
--- the tokens begin with a label, or with a directive that defines a symbol
-abbrev pub defines : List Token → Bool
-defines (token.Name label ∷ token.Colon ∷ rest) = true
-defines (token.Name directive ∷ rest) = bytes_eq directive (codes ".equ")
-defines _ = false
-
--- from the symbol on that a line defines, if it defines one alone
-unfoldable pub definition_on : List Token → Option (List Token)
-definition_on (token.Name label ∷ token.Colon ∷ rest) = if defines rest then None else Some (token.Name label ∷ token.Colon ∷ rest)
-definition_on (token.Name directive ∷ rest) = Some rest
-definition_on _ = None
-
 -- the first one, where it has tokens, else the other one
 abbrev pub unless_empty : List Token → List Token → List Token
 unless_empty [] other = other
 unless_empty (first ∷ rest) other = first ∷ rest
 
 -- The tokens of a line from the one at fault on: a symbol that was defined before; an operand; or the statement, and in a line without
--- one its label. Where a line defines several symbols, none is named.
+-- one its label.
 unfoldable pub culprit_on : AsmFault → List Token → Option (List Token)
 culprit_on fault.DuplicateSymbol tokens = definition_on tokens
 culprit_on fault tokens = Some (unwrap_or (operand_of_fault fault (body_of tokens)) (unless_empty (body_of tokens) tokens))

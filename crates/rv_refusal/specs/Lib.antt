@@ -1,6 +1,7 @@
 pub mod Arrivals
 pub mod Caret
 pub mod Culprit
+pub mod Definition
 pub mod Described
 pub mod EntryLine
 pub mod Expected

@@ -23,7 +23,7 @@ toml_line text = line_feeds (take (toml_up_to text (length text)) text) + 1
 unfoldable pub toml_expected : List ℕ → List ℕ → List ℕ
 toml_expected example line =
     if is_toml line then codes "expected: a key or a table that does not stand above\n"
-    else codes "expected: TOML, as in " ++ (example ++ codes ": a value for each key, strings and brackets closed\n")
+    else codes "expected: TOML, as in " ++ (example ++ codes ": a value for each key, strings in quotes, brackets closed, whole numbers up to 9223372036854775807\n")
 
 -- the line of a part of the job, which has this name and so many lines before it, with which it ceases to be TOML
 unfoldable pub toml_lines : List ℕ → ℕ → List ℕ → List ℕ → List ℕ

@@ -4,8 +4,9 @@ ghost use Rattle.rv_asm.specs.Layout.{body_of};
 ghost use Rattle.rv_asm.specs.Meaning.{fits_width};
 ghost use Rattle.rv_asm.specs.Read.{operand_of, tokens_in};
 ghost use Rattle.rv_asm.specs.Statement.{is_implied};
-ghost use Rattle.rv_refusal.specs.Culprit.{culprit_among, culprit_of, culprit_on, definition_on, defines, fixed_places, has_unknown_register, holds_register, holds_value, is_culprit, is_last, is_misfit, is_of_operands, is_past_csrs, is_too_wide, is_wrong_value, marked, may_be_out_of_range, operand_of_fault, operands_left, operands_on, unless_empty, wrong_value};
+ghost use Rattle.rv_refusal.specs.Culprit.{culprit_among, culprit_of, culprit_on, fixed_places, has_unknown_register, holds_register, holds_value, is_culprit, is_last, is_misfit, is_of_operands, is_past_csrs, is_too_wide, is_wrong_value, marked, may_be_out_of_range, operand_of_fault, operands_left, operands_on, unless_empty, wrong_value};
 
+use crate::definition::definition_on;
 use crate::operand_tokens::{after_operand, from_register, operand_at, operands_on};
 use crate::statement::after_labels;
 use rv_asm::{
@@ -264,31 +265,6 @@ pub(crate) fn operand_of_fault<'t, 'a>(
     let form = form_named(name)?;
     let operand = culprit_of(fault, form, rest)?;
     Some(marked(fault, operand))
-}
-
-// Whether tokens begin with a label, or with a directive that defines a symbol.
-fn defines(tokens: &[Token<'_>]) -> bool
-    ensures { result ≡ defines (tokens_in tokens.now) }
-{
-    match tokens {
-        [Token::Name(_), Token::Colon, ..] => true,
-        [Token::Name(directive), ..] => *directive == b".equ".as_slice(),
-        _ => false,
-    }
-}
-
-// From the symbol on that a line defines, if it defines one alone.
-#[tactic(auto, unfolding(crate::specs::Culprit::definition_on))]
-fn definition_on<'t, 'a>(tokens: &'t [Token<'a>]) -> Option<&'t [Token<'a>]>
-    ensures { option_map (λ from. tokens_in from.now) result ≡ definition_on (tokens_in tokens.entry.now) }
-{
-    match tokens {
-        [Token::Name(_), Token::Colon, rest @ ..] => {
-            if defines(rest) { None } else { Some(tokens) }
-        }
-        [Token::Name(_), rest @ ..] => Some(rest),
-        _ => None,
-    }
 }
 
 // The first tokens, where there are some, else the other ones.

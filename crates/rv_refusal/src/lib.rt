@@ -7,6 +7,7 @@ mod arrivals;
 mod assembly;
 mod caret;
 mod culprit;
+mod definition;
 mod described;
 mod entry_line;
 mod expected;

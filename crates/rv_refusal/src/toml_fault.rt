@@ -71,7 +71,7 @@ fn add_toml_expected(
         &[
             b"expected: TOML, as in ",
             example,
-            b": a value for each key, strings and brackets closed\n",
+            b": a value for each key, strings in quotes, brackets closed, whole numbers up to 9223372036854775807\n",
         ],
     )
 }

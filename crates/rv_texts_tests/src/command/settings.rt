@@ -1,13 +1,19 @@
 use super::usage::each_is_shown;
 use std::test::Fail;
 
-// What is said of words of which one is no value.
-macro_rules! said {
-    ($line:literal) => {
+// What is said of a value of an option of a command.
+macro_rules! refused {
+    ($command:literal, $option:literal, $text:literal, $why:literal) => {
         concat!(
-            "error: ",
-            $line,
-            "\n\nUsage: rv_sim <COMMAND>\n\nFor more information, try '--help'.\n"
+            "error: invalid value '",
+            $text,
+            "' for '",
+            $option,
+            "': ",
+            $why,
+            "\n\nUsage: rv_sim ",
+            $command,
+            " [OPTIONS]\n\nFor more information, try '--help'.\n"
         )
     };
 }
@@ -15,12 +21,26 @@ macro_rules! said {
 // What is said of a value of `--also`.
 macro_rules! wrong {
     ($text:literal, $why:literal) => {
-        concat!(
-            "error: invalid value '",
-            $text,
-            "' for '--also <KEY=VALUE>': ",
-            $why,
-            "\n\nUsage: rv_sim <COMMAND>\n\nFor more information, try '--help'.\n"
+        refused!("sensitivity", "--also <KEY=VALUE>", $text, $why)
+    };
+}
+
+// What is said of a value of `--show`.
+macro_rules! not_shown {
+    ($text:literal, $why:literal) => {
+        refused!("compare", "--show <WHAT>", $text, $why)
+    };
+}
+
+// A value of `--show` that names nothing, and what is said of it.
+macro_rules! names_nothing {
+    ($text:literal) => {
+        (
+            &["rv_sim", "compare", "--show", $text],
+            not_shown!(
+                $text,
+                "WHAT is a register, as a0 or x10, the address of a word, as 0x80001000, or places"
+            ),
         )
     };
 }
@@ -37,7 +57,7 @@ macro_rules! wrong_alone {
 
 #[test]
 fn a_wrong_value_of_a_users_own_is_told_what_its_key_takes(rt: HostRuntime) -> Result<(), Fail> {
-    static CASES: [(&[&str], &str); 22] = [
+    static CASES: [(&[&str], &str); 21] = [
         wrong_alone!("rob=9999", "rob is a number from 1 to 256"),
         wrong_alone!("rob=", "rob is a number from 1 to 256"),
         wrong_alone!(
@@ -142,11 +162,37 @@ fn a_wrong_value_of_a_users_own_is_told_what_its_key_takes(rt: HostRuntime) -> R
             ],
             wrong!("store_queue=1", "--also may be given four times"),
         ),
+    ];
+    each_is_shown(&rt, rt.alloc(), &CASES, 2)
+}
+
+#[test]
+fn a_wrong_value_of_a_column_is_told_what_a_table_shows(rt: HostRuntime) -> Result<(), Fail> {
+    static CASES: [(&[&str], &str); 7] = [
+        names_nothing!("x32"),
+        names_nothing!("0x80001002"),
+        names_nothing!("2k"),
+        names_nothing!("a0 "),
+        names_nothing!(""),
         (
-            &["rv_sim", "compare", "--show", "x32"],
-            said!(
-                "WHAT is a register, as a0 or x10, the address of a word, as 0x80001000, or places; --show may be given four times"
+            &["rv_sim", "compare", "--show=a0", "--show=q", "--show=r"],
+            not_shown!(
+                "q",
+                "WHAT is a register, as a0 or x10, the address of a word, as 0x80001000, or places"
             ),
+        ),
+        (
+            &[
+                "rv_sim",
+                "compare",
+                "--show=q",
+                "--show=a1",
+                "--show=a2",
+                "--show=a3",
+                "--show=a4",
+                "--show=a5",
+            ],
+            not_shown!("a4", "--show may be given four times"),
         ),
     ];
     each_is_shown(&rt, rt.alloc(), &CASES, 2)

@@ -135,7 +135,7 @@ expected: the heading of each entry is [[arrival]]
 line 3 of the job, line 2 of its arrivals
     cycle 5
     ^
-expected: TOML, as in '[[arrival]]': a value for each key, strings and brackets closed
+expected: TOML, as in '[[arrival]]': a value for each key, strings in quotes, brackets closed, whole numbers up to 9223372036854775807
 ",
     },
 ];

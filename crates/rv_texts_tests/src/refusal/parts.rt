@@ -179,7 +179,7 @@ static NO_TOML: [Refused; 7] = [
 line 1 of the job, line 1 of its description
     rob 8
     ^
-expected: TOML, as in 'rob = 8': a value for each key, strings and brackets closed
+expected: TOML, as in 'rob = 8': a value for each key, strings in quotes, brackets closed, whole numbers up to 9223372036854775807
 ",
     },
     Refused {
@@ -188,7 +188,7 @@ expected: TOML, as in 'rob = 8': a value for each key, strings and brackets clos
 line 3 of the job, line 3 of its description
       rob =
       ^
-expected: TOML, as in 'rob = 8': a value for each key, strings and brackets closed
+expected: TOML, as in 'rob = 8': a value for each key, strings in quotes, brackets closed, whole numbers up to 9223372036854775807
 ",
     },
     Refused {
@@ -215,7 +215,7 @@ expected: a key or a table that does not stand above
 line 2 of the job, line 2 of its description
     predictor.kind = \"bimodal
     ^
-expected: TOML, as in 'rob = 8': a value for each key, strings and brackets closed
+expected: TOML, as in 'rob = 8': a value for each key, strings in quotes, brackets closed, whole numbers up to 9223372036854775807
 ",
     },
     Refused {
@@ -224,7 +224,7 @@ expected: TOML, as in 'rob = 8': a value for each key, strings and brackets clos
 line 4 of the job, line 4 of its description
     latency = [
     ^
-expected: TOML, as in 'rob = 8': a value for each key, strings and brackets closed
+expected: TOML, as in 'rob = 8': a value for each key, strings in quotes, brackets closed, whole numbers up to 9223372036854775807
 ",
     },
     Refused {
@@ -233,7 +233,7 @@ expected: TOML, as in 'rob = 8': a value for each key, strings and brackets clos
 line 2 of the job, line 2 of its description
     # ?
     ^
-expected: TOML, as in 'rob = 8': a value for each key, strings and brackets closed
+expected: TOML, as in 'rob = 8': a value for each key, strings in quotes, brackets closed, whole numbers up to 9223372036854775807
 ",
     },
 ];

@@ -1,7 +1,7 @@
 use Rattle.std.proofs.Common.{arith}
 use Rattle.std.proofs.lemmas.Grind.{common_steps}
-use Rattle.rv_refusal.specs.Culprit.{definition_on}
-use Rattle.rv_refusal.proofs.culprit.definition_on.Goals as goal
+use Rattle.rv_refusal.specs.Definition.{definition_on}
+use Rattle.rv_refusal.proofs.definition.definition_on.Goals as goal
 
 pub returns-then-defines : goal.returns-then-defines
 unfolding definition_on
