@@ -1,5 +1,6 @@
 addEventListener("keydown", (event) => {
-  if ((event.ctrlKey && event.key === "Enter") || (event.altKey && /^[0-9jJ]$/.test(event.key))) { event.preventDefault(); parent.postMessage({ key: event.key }, "*"); }
+  const key = event.ctrlKey && event.key === "Enter" ? event.key : keyWithAlt(event);
+  if (key) { event.preventDefault(); parent.postMessage({ key }, "*"); }
 });
 let told = "";
 setInterval(() => {
