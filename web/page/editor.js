@@ -1,6 +1,6 @@
 // An editor: a textarea, and behind it the lines that are seen, with their colours, numbers and faults. Only those are drawn, so that a text
 // may be long; where a line is too long for that, the textarea shows its own text.
-const LINE = 20;          // pixels, as in editor.css
+const LINE = 20;          // pixels, as in editor.css; more where the browser enlarges text alone
 const LONGEST_LINE = 2000;
 
 class Editor {
@@ -9,7 +9,8 @@ class Editor {
     this.area = root.querySelector("textarea");
     this.wordsOf = wordsOf;
     this.numbers = element("div");
-    this.gutter = element("div", { className: "numbers", "aria-hidden": "true" }, this.numbers);
+    this.probe = element("div", { className: "probe", textContent: "0" });
+    this.gutter = element("div", { className: "numbers", "aria-hidden": "true" }, this.probe, this.numbers);
     this.behind = element("div", { className: "behind", "aria-hidden": "true" });
     this.faults = new Map();
     root.prepend(this.gutter);
@@ -38,6 +39,8 @@ class Editor {
     refuse("A text was refused: " + why + ".");
   }
 
+  get lineHeight() { return this.probe.getBoundingClientRect().height || LINE; }
+
   read() {
     this.lines = this.area.value.split("\n");
     this.mark([]);
@@ -52,14 +55,14 @@ class Editor {
   }
 
   draw() {
-    const { scrollTop, scrollLeft, clientHeight } = this.area;
-    const first = Math.floor(scrollTop / LINE), last = Math.min(this.lines.length, first + Math.ceil(clientHeight / LINE) + 1);
+    const { scrollTop, scrollLeft, clientHeight } = this.area, high = this.lineHeight;
+    const first = Math.floor(scrollTop / high), last = Math.min(this.lines.length, first + Math.ceil(clientHeight / high) + 1);
     const seen = this.lines.slice(first, last);
     this.root.classList.toggle("plain", seen.some((line) => line.length > LONGEST_LINE));
     this.gutter.style.width = String(this.lines.length).length + 1 + "ch";
     this.numbers.replaceChildren(...seen.map((_, k) => this.number(first + k + 1)));
     this.behind.replaceChildren(...seen.map((line, k) => this.line(line, first + k + 1)));
-    this.numbers.style.top = this.behind.style.top = first * LINE - scrollTop + "px";
+    this.numbers.style.top = this.behind.style.top = first * high - scrollTop + "px";
     this.behind.style.left = -scrollLeft + "px";
   }
 
@@ -67,6 +70,7 @@ class Editor {
 
   line(text, line) {
     const fault = this.faults.get(line), made = element("div", { className: fault ? "bad" : "" });
+    made.append("\u200b"); // (an empty line is as high as another)
     if (text.length > LONGEST_LINE) return made;
     let at = 0;
     for (const [kind, word] of this.wordsOf(text.replace(/\r$/, ""))) {
@@ -84,6 +88,6 @@ class Editor {
     for (let k = 0; k < line - 1 && k < this.lines.length; k += 1) at += this.lines[k].length + 1;
     this.area.focus();
     this.area.setSelectionRange(at, at);
-    this.area.scrollTop = Math.max(0, (line - 1) * LINE - this.area.clientHeight / 3);
+    this.area.scrollTop = Math.max(0, (line - 1) * this.lineHeight - this.area.clientHeight / 3);
   }
 }

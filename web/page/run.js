@@ -6,7 +6,7 @@ let runner, checker, turn = 0, results = new Map(), isStale = false;
 // are scrolled to it.
 function fillBox(box, text) {
   const [pointed] = /^ {4}.*\n +\^\n?/m.exec(text) || [""], [before, ...after] = pointed ? text.split(pointed) : [text];
-  const lines = element("span", { className: "pointed", textContent: pointed }), [line, caret] = pointed.split("\n");
+  const lines = element("span", { className: "pointed", tabIndex: 0, role: "group", "aria-label": "the line at fault", textContent: pointed }), [line, caret] = pointed.split("\n");
   box.replaceChildren(before, ...(pointed ? [lines, after.join(pointed)] : []));
   if (pointed) lines.scrollLeft = (lines.scrollWidth * caret.length) / Math.max(line.length, caret.length) - lines.clientWidth / 2;
 }
@@ -80,8 +80,8 @@ function showSummary(report, ms) {
   const counts = countsOf(report), stop = counts.get("stop");
   const why = stop === "breakpoint" ? "" : stop === "limit" ? "cut off at " + counted(Number(counts.get("cycles")), "cycle") + ", see Explain" : "stop " + stop;
   byId("summary").replaceChildren(
-    element("b", { textContent: grouped(counts.get("cycles")) }), " cycles", element("b", { textContent: grouped(counts.get("retired")) }), " retired",
-    element("b", { textContent: counts.get("cpi") }), " CPI", ...(why ? [element("em", { textContent: why })] : []));
+    element("b", { textContent: grouped(counts.get("cycles")) }), " cycles ", element("b", { textContent: grouped(counts.get("retired")) }), " retired ",
+    element("b", { textContent: counts.get("cpi") }), " CPI", ...(why ? [" ", element("em", { textContent: why })] : []));
   byId("changed").textContent = changeText();
   say("Done in " + Math.max(1, Math.round(ms)) + " ms.");
 }

@@ -76,6 +76,13 @@ FAINT = """(() => {
   return faint.join("; ");
 })()"""
 
+# What scrolls, and cannot be scrolled by keys: nothing in it takes the focus. (Chromium and Firefox give it to such a box, WebKit does not.)
+UNREACHED = """[...document.querySelectorAll("body *")].filter((each) => {
+  const { overflowX, overflowY } = getComputedStyle(each), scrolls = (way) => way === "auto" || way === "scroll";
+  const isCut = (scrolls(overflowX) && each.scrollWidth > each.clientWidth + 1) || (scrolls(overflowY) && each.scrollHeight > each.clientHeight + 1);
+  return isCut && each.getClientRects().length > 0 && ![each, ...each.querySelectorAll("*")].some((inner) => inner.tabIndex >= 0);
+}).map((each) => each.id || each.className || each.tagName).join()"""
+
 # for how many milliseconds at most the page did nothing, in one second and a half
 STANDSTILL = """new Promise((tell) => {
   let last = performance.now(), worst = 0;

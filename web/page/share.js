@@ -29,18 +29,33 @@ const writeAddress = later(400, async () => {
   const address = await addressOf();
   // (an address that was changed by hand is read, and not written over)
   if (address === addressed || location.hash !== addressed) return;
-  addressed = address.length <= KEPT_ADDRESS ? address : "#too-long";
-  try { history.replaceState(null, "", addressed); } catch { /* a browser that allows no change of a file's address */ }
+  if (!putAddress(address.length <= KEPT_ADDRESS ? address : "#too-long")) setTimeout(writeAddress, 10000);
 });
 
-async function copyLink() {
-  const address = await addressOf();
-  if (address.length > MOST_ADDRESS) return refuse("The job is too long for a link (" + counted(address.length, "character") + "): save it as a file.");
+// Answers whether the browser took the address: one that was asked too often refuses for a while (WebKit after 100 times in 10 seconds).
+function putAddress(address) {
+  try { history.replaceState(null, "", address); } catch { return false; }
   addressed = address;
-  history.replaceState(null, "", address);
-  const size = counted(location.href.length, "character");
-  try { await navigator.clipboard.writeText(location.href); say("The link is copied, " + size + ": the job stands in it."); }
-  catch { say("The link stands in the address of the page, " + size + ": the job stands in it."); }
+  return true;
+}
+
+// WebKit lets a page write to the clipboard in the click alone, and takes there what comes later.
+async function copyLater(link) {
+  if (typeof ClipboardItem === "undefined") return navigator.clipboard.writeText(await link);
+  const text = link.then((made) => new Blob([made], { type: "text/plain" }));
+  return navigator.clipboard.write([new ClipboardItem({ "text/plain": text })]);
+}
+
+async function copyLink() {
+  const made = addressOf(), copying = copyLater(made.then((address) => {
+    if (address.length > MOST_ADDRESS) throw new TooMuch(address.length);
+    return location.href.split("#")[0] + address;
+  })).then(() => true, () => false);
+  const address = await made, size = counted(address.length, "character");
+  if (address.length > MOST_ADDRESS) return refuse("The job is too long for a link (" + size + "): save it as a file.");
+  const isThere = putAddress(address), holds = ": the job stands in it, in " + size + ".";
+  if (await copying) return say("The link is copied" + holds);
+  say(isThere ? "The link stands in the address of the page" + holds : "The browser took no link; try again in ten seconds.", !isThere);
 }
 
 // Reads the address: answers whether a job stood there. What is no job is refused, and said.

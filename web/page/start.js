@@ -107,6 +107,11 @@ function stop() {
   say("Stopped; nothing of the run is left.");
 }
 
+function goToFault(part) {
+  const [fault] = editors[part].faults.values();
+  if (fault) editors[part].goTo(fault.line, fault.from);
+}
+
 // An editor draws the lines that are seen: on paper each part stands whole.
 function printParts() {
   for (const part of PARTS) editors[part].root.after(element("pre", { className: "printed", textContent: editors[part].text }));
@@ -127,14 +132,17 @@ function listen() {
   byId("as-text").onclick = () => setForm(false);
   byId("help").onclick = () => byId("about").showModal();
   byId("close").onclick = () => byId("about").close();
-  for (const part of PARTS) byId("fault-" + part).onclick = () => { const [fault] = editors[part].faults.values(); if (fault) editors[part].goTo(fault.line, fault.from); };
+  for (const part of PARTS) {
+    byId("fault-" + part).onclick = () => goToFault(part);
+    byId("fault-" + part).onkeydown = (event) => { if (event.key === "Enter" && !event.ctrlKey) { event.preventDefault(); goToFault(part); } };
+  }
   byId("arrivals").addEventListener("toggle", () => editors.arrivals.draw());
   addEventListener("beforeprint", printParts);
   addEventListener("afterprint", () => document.querySelectorAll("pre.printed").forEach((each) => each.remove()));
   addEventListener("hashchange", () => { if (location.hash !== addressed) readAddress(); });
   addEventListener("keydown", (event) => {
-    if (event.ctrlKey && event.key === "Enter") { event.preventDefault(); shortcut("Enter"); }
-    else if (event.altKey && !event.ctrlKey && /^[\djJ]$/.test(event.key)) { event.preventDefault(); shortcut(event.key); }
+    const key = event.ctrlKey && event.key === "Enter" ? event.key : keyWithAlt(event);
+    if (key) { event.preventDefault(); shortcut(key); }
   });
   addEventListener("dragover", (event) => { if ([...event.dataTransfer.types].includes("Files")) event.preventDefault(); });
   addEventListener("drop", (event) => { if (event.dataTransfer.files.length > 0) { event.preventDefault(); openFile(event.dataTransfer.files[0]); } });

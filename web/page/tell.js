@@ -1,5 +1,12 @@
 addEventListener("keydown", (event) => {
-  if ((event.ctrlKey && event.key === "Enter") || (event.altKey && /^[0-9jJ]$/.test(event.key))) { event.preventDefault(); parent.postMessage({ key: event.key }, "*"); }
+  const key = event.ctrlKey && event.key === "Enter" ? event.key : keyWithAlt(event);
+  if (key) { event.preventDefault(); parent.postMessage({ key }, "*"); }
+});
+// (a file that is dropped here is the page's, as anywhere in it)
+addEventListener("dragover", (event) => { if ([...event.dataTransfer.types].includes("Files")) event.preventDefault(); });
+addEventListener("drop", (event) => {
+  const [file] = event.dataTransfer.files;
+  if (file) { event.preventDefault(); parent.postMessage({ file }, "*"); }
 });
 let told = "";
 setInterval(() => {

@@ -5,7 +5,7 @@ pub(crate) const BEFORE: &[u8] = br#"<!DOCTYPE html>
 <html lang="en">
 <head>
 <meta charset="utf-8">
-<meta http-equiv="Content-Security-Policy" content="default-src 'none'; script-src 'sha256-APy8XTn8gl0gfgje9Z+OC6386nR5PYZ9CTFlD+wUaNQ='; style-src 'sha256-OE7LlOLY1KaAs9SzxI14XBYjQwxoJqU1AMeaS/ojdME='; img-src data:; frame-src 'self' file:; base-uri 'none'; form-action 'none'">
+<meta http-equiv="Content-Security-Policy" content="default-src 'none'; script-src 'sha256-UiGCAxSRtHkSh2cYUdcMy3ZGsm0XP/fsERholZV4kbw='; style-src 'sha256-X+nUqAhUw+vtWP6m1C4DgGO+9ykT4W+yJnN2clUTuyQ='; img-src data:; frame-src 'self' file:; base-uri 'none'; form-action 'none'">
 <meta name="viewport" content="width=device-width, initial-scale=1">
 <title>rv_sim: a run, cycle by cycle</title>
 <style>
@@ -93,7 +93,8 @@ td.wide { width: 99%; max-width: 0; text-overflow: ellipsis; }
 .stops .mark { color: var(--fault); font-weight: bold; }
 .list .tags { flex: none; min-width: 1.9rem; display: flex; gap: 0.1rem; }
 .flying { background: var(--title); font-weight: bold; }
-.stale { text-decoration: underline dotted; }
+/* (WebKit takes the line and its style apart alone) */
+.stale { text-decoration-line: underline; text-decoration-style: dotted; }
 .changed { background: var(--mark); font-weight: bold; }
 .touched { outline: 2px solid var(--accent); outline-offset: -2px; font-weight: bold; }
 .dirty { font-style: italic; }
@@ -103,8 +104,9 @@ td.wide { width: 99%; max-width: 0; text-overflow: ellipsis; }
 .producing { outline: 1px dashed var(--accent); outline-offset: -1px; }
 .consuming { outline: 1px dotted var(--accent); outline-offset: -1px; }
 .tag.followed { box-shadow: none; font-weight: bold; text-decoration: underline; }
-.tag.producing, .tag.consuming { outline: none; text-decoration: underline dashed; }
+.tag.producing, .tag.consuming { outline: none; text-decoration-line: underline; text-decoration-style: dashed; }
 .tag.consuming { text-decoration-style: dotted; }
+#letters { position: absolute; visibility: hidden; }
 #picture-space { position: relative; min-width: 100%; min-height: 100%; }
 #picture-heads { position: sticky; top: 0; height: 1.25rem; background: var(--panel); z-index: 3; }
 .head { position: absolute; top: 0; color: var(--quiet); cursor: pointer; font-size: 0.85rem; }
@@ -186,6 +188,7 @@ body.pair > header, body.pair > main { display: none; }
 </style>
 </head>
 <body>
+<noscript>This page needs JavaScript.</noscript>
 <header>
 <h1>rv_sim</h1>
 <div role="toolbar" aria-label="Cursor" id="tools">
@@ -211,7 +214,7 @@ body.pair > header, body.pair > main { display: none; }
 <button type="button" id="panels" aria-expanded="false" aria-controls="switches" title="which panels are shown (p)">panels</button>
 <button type="button" id="help" aria-expanded="false" aria-controls="keys" title="keys (?)" aria-label="keys">?</button>
 </div>
-<p id="machine"></p>
+<p id="machine" tabindex="0" role="region" aria-label="machine"></p>
 <div id="switches" role="group" aria-label="Panels" hidden></div>
 <p id="keys" hidden>Arrow left and right: a cycle back and on. Page up and down: ten. Home, End: first and last. Space: play; + and -: its speed.
 r, w, t, i, s: the next retirement, wrong prediction, trap, interrupt, stall; c, m: the next access and miss of the cache; x: the next write of the
@@ -224,8 +227,8 @@ retired instructions; 3: to the other one; 1: this one alone. A click on an inst
 <p id="stop" role="status" aria-live="polite" hidden></p>
 <p id="quiz" hidden><span id="question" role="status" aria-live="polite"></span> <input type="text" id="answer" aria-labelledby="question" size="16"> <span id="verdict" role="status" aria-live="polite"></span></p>
 <p id="beside" hidden><label>The page of the other run: <input type="text" id="other" size="40"></label></p>
-<p id="happened" role="status" aria-live="polite"></p>
-<p id="following" role="status" aria-live="polite"></p>
+<p id="happened" role="status" aria-live="polite" aria-label="what happened" tabindex="0"></p>
+<p id="following" role="status" aria-live="polite" aria-label="the followed instruction" tabindex="0"></p>
 </header>
 <main>
 <div class="column" id="left">
@@ -240,7 +243,7 @@ retired instructions; 3: to the other one; 1: this one alone. A click on an inst
 </div>
 <div class="column" id="middle">
 <section class="panel grows drawing" data-panel="pipeline" aria-labelledby="h-picture"><h2 id="h-picture">Pipeline</h2><span class="note" id="picture-note"></span><p id="legend"></p>
-<div id="picture" tabindex="0" role="region" aria-labelledby="h-picture"><div id="picture-space"><div id="picture-heads"></div><div id="picture-cursor"></div><div id="picture-labels"></div><div id="picture-rows" role="table" aria-labelledby="h-picture"></div><div id="picture-path" aria-hidden="true"></div><div id="picture-arrows" aria-hidden="true"></div></div></div></section>
+<div id="picture" tabindex="0" role="region" aria-labelledby="h-picture"><span id="letters" aria-hidden="true">0000000000</span><div id="picture-space"><div id="picture-heads"></div><div id="picture-cursor"></div><div id="picture-labels"></div><div id="picture-rows" role="table" aria-labelledby="h-picture"></div><div id="picture-path" aria-hidden="true"></div><div id="picture-arrows" aria-hidden="true"></div></div></div></section>
 <section class="panel" data-panel="rob" aria-labelledby="h-rob"><h2 id="h-rob" data-phase="2" title="phase 2 of 7 of a cycle: commit">Reorder buffer</h2><span class="note" id="rob-note"></span><div class="scroll eighteen" tabindex="0" role="region" aria-labelledby="h-rob"><table aria-labelledby="h-rob">
 <thead><tr><th scope="col"></th><th scope="col">no.</th><th scope="col"><div class="placed"><span class="pc">pc</span><span>statement</span></div></th><th scope="col"></th><th scope="col" title="dispatched in cycle">D</th><th scope="col" title="issued in cycle">I</th><th scope="col" title="broadcast in cycle, or after an arrow the first in which it can be">B</th><th scope="col" title="the register and its value; after an arrow where the program is predicted to go on, where that is not the next word">result</th></tr></thead><tbody id="rob"></tbody></table></div></section>
 <section class="panel" data-panel="waits" aria-labelledby="h-waits"><h2 id="h-waits">Waits</h2><span class="note" id="waits-note"></span><div class="scroll" tabindex="0" role="region" aria-labelledby="h-waits"><table aria-labelledby="h-waits">
@@ -268,7 +271,6 @@ retired instructions; 3: to the other one; 1: this one alone. A click on an inst
 </div>
 </main>
 <div id="pair" hidden><p><label>cycle <input type="range" id="pair-slider" step="1"></label> <span id="pair-note" role="status"></span> <label title="2"><input type="checkbox" id="pair-by"> by retired instructions</label></p><div id="sides"></div></div>
-<noscript>This page needs JavaScript.</noscript>
 <script type="text/plain" id="notes"></script>
 <script type="application/json" id="run">"#;
 
@@ -1337,10 +1339,11 @@ function markChange(changed) { return changed ? { class: "changed", title: "chan
 // The layout: what is measured of it, what is scrolled into view, the size of type, and which panels are shown.
 
 // The layout is measured once a step, when the panels are filled: reading it between changes would lay the page out each time.
-const measures = { rem: 11 };
+const measures = { rem: 11, letter: 6.6 };
 const scrolled = ["source", "memory", "picture"];
 function measure() {
   measures.rem = parseFloat(getComputedStyle(document.documentElement).fontSize);
+  measures.letter = byId("letters").getBoundingClientRect().width / byId("letters").textContent.length;
   for (const id of scrolled) {
     const box = byId(id);
     measures[id] = { width: box.clientWidth, height: box.clientHeight, top: box.scrollTop, left: box.scrollLeft };
@@ -1832,12 +1835,13 @@ function drawPicture(view) {
   byId("picture-cursor").hidden = view.place === 0;
 }
 
-// What a label has room for, in characters: the address is left off where it would cut the statement.
-const labelRoom = 30;
+// What a label has room for, in characters: the address is left off where it would cut the statement. (A browser may draw letters wider.)
+const mostRoom = 30;
+function labelRoom() { return Math.min(mostRoom, Math.floor(18.5 * measures.rem / measures.letter)); }
 function labelOf(number, pc, statement) {
   const gap = "\u00a0".repeat(Math.max(1, 5 - String(number).length));
   const whole = "#" + number + gap + hex(pc) + " " + statement;
-  return whole.length <= labelRoom || statement === hex(pc) ? whole : "#" + number + gap + statement;
+  return whole.length <= labelRoom() || statement === hex(pc) ? whole : "#" + number + gap + statement;
 }
 
 // The rows as they were drawn last, by their numbers: one that is as it was is not described anew.
@@ -1848,7 +1852,7 @@ function pictureRows(view, numbers, firstRow, firstColumn, lastColumn) {
     const instruction = run.table[number], { fetched, left } = instruction;
     const end = left !== undefined && (!settings.quiz || left <= now) ? instruction.end : undefined;
     const from = Math.max(fetched, run.first + firstColumn), to = Math.min(left === undefined ? run.last : left, run.first + lastColumn);
-    const sign = [firstRow + k, from, to, end, showsPath()].join(), before = drawnBefore.get(number);
+    const sign = [firstRow + k, from, to, end, showsPath(), labelRoom()].join(), before = drawnBefore.get(number);
     drawn.set(number, before && before.sign === sign ? before : { sign, ...pictureRow(run, instruction, firstRow + k, from, to, end) });
   });
   drawnBefore = drawn;
@@ -1868,7 +1872,7 @@ function pictureRow(run, instruction, k, from, to, end) {
   const statement = run.statement(instruction).replace(/\s+/g, " "), id = "label-" + number, label = labelOf(number, pc, statement);
   return {
     label: element("div", { class: words("label", { squashed: "gone", trapped: "trap" }[end]), key: number, id, role: "rowheader", "data-number": number,
-      title: hex(pc) + " " + statement, style: "top:" + k * picture.row + "rem;" + (smaller(label, labelRoom) || "") }, label),
+      title: hex(pc) + " " + statement, style: "top:" + k * picture.row + "rem;" + (smaller(label, labelRoom()) || "") }, label),
     row: element("div", { class: "row", key: number, role: "row", "aria-owns": id, "data-number": number,
       style: "top:" + (k + headRows()) * picture.row + "rem;padding-left:" + columnAt(from - run.first) }, ...cells),
   };
@@ -2531,7 +2535,7 @@ function goToCycle(text) {
 }
 
 // The cursor's cycle, the followed instruction and what is shown stand in the page's address, so that a lecture can point to them.
-function writeAddress() {
+function addressWords() {
   const words = new URLSearchParams(location.hash.slice(1));
   for (const name of ["cycle", "follow", ...switches, "size", "without", "address"]) words.delete(name);
   words.set("cycle", run.cycleOf(view.place));
@@ -2539,14 +2543,19 @@ function writeAddress() {
   for (const name of switches) if (settings[name]) words.set(name, "");
   if (settings.size !== 1) words.set("size", settings.size);
   if (settings.without.size) words.set("without", [...settings.without].join(","));
-  history.replaceState(null, "", "#" + words.toString().replace(/=(?=&|$)/g, ""));
+  return words.toString().replace(/=(?=&|$)/g, "");
+}
+
+// A browser that was asked too often refuses for a while (WebKit after 100 times in 10 seconds): then it is asked again a second later.
+function writeAddress() {
+  clearTimeout(writing);
+  try { history.replaceState(null, "", "#" + addressWords()); } catch { writing = setTimeout(writeAddress, 1000); }
 }
 
 // Opens another run beside this one, which stays at its cursor.
 function openBeside(name) {
-  clearTimeout(writing);
   writeAddress();
-  location.hash = location.hash.slice(1) + "&beside=" + encodeURIComponent(name);
+  location.hash = addressWords() + "&beside=" + encodeURIComponent(name);
 }
 
 function readAddress() {

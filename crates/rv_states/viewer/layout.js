@@ -1,10 +1,11 @@
 // The layout: what is measured of it, what is scrolled into view, the size of type, and which panels are shown.
 
 // The layout is measured once a step, when the panels are filled: reading it between changes would lay the page out each time.
-const measures = { rem: 11 };
+const measures = { rem: 11, letter: 6.6 };
 const scrolled = ["source", "memory", "picture"];
 function measure() {
   measures.rem = parseFloat(getComputedStyle(document.documentElement).fontSize);
+  measures.letter = byId("letters").getBoundingClientRect().width / byId("letters").textContent.length;
   for (const id of scrolled) {
     const box = byId(id);
     measures[id] = { width: box.clientWidth, height: box.clientHeight, top: box.scrollTop, left: box.scrollLeft };

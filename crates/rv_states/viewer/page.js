@@ -55,7 +55,7 @@ function goToCycle(text) {
 }
 
 // The cursor's cycle, the followed instruction and what is shown stand in the page's address, so that a lecture can point to them.
-function writeAddress() {
+function addressWords() {
   const words = new URLSearchParams(location.hash.slice(1));
   for (const name of ["cycle", "follow", ...switches, "size", "without", "address"]) words.delete(name);
   words.set("cycle", run.cycleOf(view.place));
@@ -63,14 +63,19 @@ function writeAddress() {
   for (const name of switches) if (settings[name]) words.set(name, "");
   if (settings.size !== 1) words.set("size", settings.size);
   if (settings.without.size) words.set("without", [...settings.without].join(","));
-  history.replaceState(null, "", "#" + words.toString().replace(/=(?=&|$)/g, ""));
+  return words.toString().replace(/=(?=&|$)/g, "");
+}
+
+// A browser that was asked too often refuses for a while (WebKit after 100 times in 10 seconds): then it is asked again a second later.
+function writeAddress() {
+  clearTimeout(writing);
+  try { history.replaceState(null, "", "#" + addressWords()); } catch { writing = setTimeout(writeAddress, 1000); }
 }
 
 // Opens another run beside this one, which stays at its cursor.
 function openBeside(name) {
-  clearTimeout(writing);
   writeAddress();
-  location.hash = location.hash.slice(1) + "&beside=" + encodeURIComponent(name);
+  location.hash = addressWords() + "&beside=" + encodeURIComponent(name);
 }
 
 function readAddress() {

@@ -81,12 +81,13 @@ function drawPicture(view) {
   byId("picture-cursor").hidden = view.place === 0;
 }
 
-// What a label has room for, in characters: the address is left off where it would cut the statement.
-const labelRoom = 30;
+// What a label has room for, in characters: the address is left off where it would cut the statement. (A browser may draw letters wider.)
+const mostRoom = 30;
+function labelRoom() { return Math.min(mostRoom, Math.floor(18.5 * measures.rem / measures.letter)); }
 function labelOf(number, pc, statement) {
   const gap = "\u00a0".repeat(Math.max(1, 5 - String(number).length));
   const whole = "#" + number + gap + hex(pc) + " " + statement;
-  return whole.length <= labelRoom || statement === hex(pc) ? whole : "#" + number + gap + statement;
+  return whole.length <= labelRoom() || statement === hex(pc) ? whole : "#" + number + gap + statement;
 }
 
 // The rows as they were drawn last, by their numbers: one that is as it was is not described anew.
@@ -97,7 +98,7 @@ function pictureRows(view, numbers, firstRow, firstColumn, lastColumn) {
     const instruction = run.table[number], { fetched, left } = instruction;
     const end = left !== undefined && (!settings.quiz || left <= now) ? instruction.end : undefined;
     const from = Math.max(fetched, run.first + firstColumn), to = Math.min(left === undefined ? run.last : left, run.first + lastColumn);
-    const sign = [firstRow + k, from, to, end, showsPath()].join(), before = drawnBefore.get(number);
+    const sign = [firstRow + k, from, to, end, showsPath(), labelRoom()].join(), before = drawnBefore.get(number);
     drawn.set(number, before && before.sign === sign ? before : { sign, ...pictureRow(run, instruction, firstRow + k, from, to, end) });
   });
   drawnBefore = drawn;
@@ -117,7 +118,7 @@ function pictureRow(run, instruction, k, from, to, end) {
   const statement = run.statement(instruction).replace(/\s+/g, " "), id = "label-" + number, label = labelOf(number, pc, statement);
   return {
     label: element("div", { class: words("label", { squashed: "gone", trapped: "trap" }[end]), key: number, id, role: "rowheader", "data-number": number,
-      title: hex(pc) + " " + statement, style: "top:" + k * picture.row + "rem;" + (smaller(label, labelRoom) || "") }, label),
+      title: hex(pc) + " " + statement, style: "top:" + k * picture.row + "rem;" + (smaller(label, labelRoom()) || "") }, label),
     row: element("div", { class: "row", key: number, role: "row", "aria-owns": id, "data-number": number,
       style: "top:" + (k + headRows()) * picture.row + "rem;padding-left:" + columnAt(from - run.first) }, ...cells),
   };

@@ -12,7 +12,7 @@ def compare_lessons(lessons, program, folder, known):
     ran = subprocess.run([lessons / "pages", folder, program], stdout=subprocess.PIPE, stderr=subprocess.STDOUT, text=True)
     if ran.returncode:
         return [f"lessons' pages: {ran.stdout.strip()}"]
-    rows = re.findall(r'<td><a href="([\w-]+)\.html">\1</a></td><td>(\d+) cycles</td><td>CPI ([\d.-]+)</td><td>(?:(\d+) stops)?</td>', (folder / "index.html").read_text())
+    rows = re.findall(r'<th scope="row"><a href="([\w-]+)\.html">\1</a></th><td>(\d+)</td><td>([\d.-]+)</td><td>(\d*)</td>', (folder / "index.html").read_text())
     stops = stops_of(lessons / "stops")
     wrong = [f"lessons' pages: {name} is not in the index" for name in {*stops} - {row[0] for row in rows}]
     for name, cycles, cpi, count in rows:
