@@ -10,6 +10,7 @@
 The program is the one that the environment variable RV_SIM names, else `rv_sim` on the path, else the one of the repository that this
 file stands in. A description is a TOML text or a dictionary of keys; arrivals are a TOML text.
 """
+import argparse
 import errno
 import json
 import os
@@ -383,6 +384,13 @@ def interruptible(main):
             return 141
         print(f"{Path(sys.argv[0]).name}: {fault.filename or 'standard input or output'}: {fault.strerror}", file=sys.stderr)
         return 4
+
+
+def named(word):
+    """A path among a script's words. An empty word, as of a variable that is not set, names no file, and not the folder that one stands in."""
+    if not word:
+        raise argparse.ArgumentTypeError("a file's name is empty")
+    return Path(word)
 
 
 def read_job():
