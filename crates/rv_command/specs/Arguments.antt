@@ -18,8 +18,8 @@ abbrev pub most_cycles_shown : ℕ
 most_cycles_shown = 1000
 
 -- the most cycles of which the states may be written
-abbrev pub most_cycles_told : ℕ
-most_cycles_told = 10000
+abbrev pub most_cycles_of_states : ℕ
+most_cycles_of_states = 10000
 
 -- ---- the options of a command
 
@@ -50,8 +50,8 @@ abbrev pub cycles_rule : Rule
 cycles_rule = number_rule (codes "cycles") 1 most_cycles_shown (codes "60")
 
 -- `--cycles N`: of how many cycles the states are written
-abbrev pub told_cycles_rule : Rule
-told_cycles_rule = number_rule (codes "cycles") 1 most_cycles_told (codes "200")
+abbrev pub stretch_cycles_rule : Rule
+stretch_cycles_rule = number_rule (codes "cycles") 1 most_cycles_of_states (codes "200")
 
 -- `--show WHAT`: a register, a word or the places that a table shows; it may be given more than once
 abbrev pub show_rule : Rule
@@ -99,12 +99,12 @@ explain_arguments =
     with_rule (with_rule (with_rule (new_app (codes "explain")) (flag_rule (codes "figures"))) (flag_rule (codes "path"))) limit_rule
 
 -- `rv_sim NAME [--from N]`
-abbrev pub told_from_arguments : Text → App
-told_from_arguments name = with_rule (new_app name) from_rule
+abbrev pub stretch_from_arguments : Text → App
+stretch_from_arguments name = with_rule (new_app name) from_rule
 
 -- `rv_sim NAME [--from N] [--cycles N]`
-abbrev pub told_arguments : Text → App
-told_arguments name = with_rule (told_from_arguments name) told_cycles_rule
+abbrev pub stretch_arguments : Text → App
+stretch_arguments name = with_rule (stretch_from_arguments name) stretch_cycles_rule
 
 -- ---- the program
 
@@ -133,8 +133,8 @@ program_arguments = with_commands bare_arguments (
     check_arguments ∷
     picture_arguments ∷
     limited_arguments (codes "log") ∷
-    told_arguments (codes "states") ∷
-    told_arguments (codes "page") ∷
+    stretch_arguments (codes "states") ∷
+    stretch_arguments (codes "page") ∷
     explain_arguments ∷
     flagged_arguments (codes "profile") (codes "path") ∷
     limited_arguments (codes "path") ∷

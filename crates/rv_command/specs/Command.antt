@@ -9,7 +9,7 @@ use Rattle.clap.specs.Words.{Kinds, Row, Text, fault_of, one_of, subcommand_of}
 use Rattle.clap.specs.declared.error.kind.ErrorKind.TheVariants.{ValueValidation}
 use Rattle.rv_command.specs.Also.{also_in}
 use Rattle.rv_command.specs.AlsoLine as also
-use Rattle.rv_command.specs.Arguments.{last_cycle, most_cycles_shown, most_cycles_told, most_steps, program_arguments}
+use Rattle.rv_command.specs.Arguments.{last_cycle, most_cycles_shown, most_cycles_of_states, most_steps, program_arguments}
 use Rattle.rv_command.specs.ShowLine as show
 use Rattle.rv_command.specs.Shown.{columns_in}
 use Rattle.rv_command.specs.declared.command.Command.{Command}
@@ -25,7 +25,7 @@ IsLegalWindow from cycles = (from ≤ last_cycle) × (1 ≤ cycles) × (cycles �
 
 -- the states of 1 to 10,000 cycles are written, from one that a run may have on up to the limit of the run
 abbrev pub IsLegalStretch : ℕ → ℕ → Type 0
-IsLegalStretch from limit = (from ≤ last_cycle) × (from < limit) × (limit ≤ from + most_cycles_told)
+IsLegalStretch from limit = (from ≤ last_cycle) × (from < limit) × (limit ≤ from + most_cycles_of_states)
 
 -- the numbers of a command lie in their ranges
 abbrev pub HasLegalNumbers : Command → Type 0
@@ -70,12 +70,12 @@ abbrev pub cycles_in : List Row → Option ℕ
 cycles_in = number_in (codes "cycles") 1 most_cycles_shown
 
 -- the number of `--cycles` where the states are written
-abbrev pub told_cycles_in : List Row → Option ℕ
-told_cycles_in = number_in (codes "cycles") 1 most_cycles_told
+abbrev pub stretch_cycles_in : List Row → Option ℕ
+stretch_cycles_in = number_in (codes "cycles") 1 most_cycles_of_states
 
 -- the first of the cycles whose states are written, and the limit of a run that ends with the last of them
 abbrev pub stretch_in : List Row → Option (ℕ × ℕ)
-stretch_in rows = option_and_then (λ from. option_map (λ cycles. (from, from + cycles)) (told_cycles_in rows)) (from_in rows)
+stretch_in rows = option_and_then (λ from. option_map (λ cycles. (from, from + cycles)) (stretch_cycles_in rows)) (from_in rows)
 
 -- what the matches of `states` ask for
 abbrev pub states_in : List Row → Option Command

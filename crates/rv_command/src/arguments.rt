@@ -3,9 +3,9 @@ ghost use Rattle.std.specs.Prelude.{◌≡◌, false, IfOk};
 ghost use Rattle.clap.specs.Words.{App, Rule, new_app, rule_of, with_rule, with_subcommand};
 ghost use Rattle.rv_command.specs.Arguments.{IsParserOf, check_arguments, compare_arguments, flag_rule, flagged_arguments, from_rule, limit_rule};
 ghost use Rattle.rv_command.specs.Arguments.{also_rule, limited_arguments, number_rule, picture_arguments, program_arguments, sensitivity_arguments, show_rule};
-ghost use Rattle.rv_command.specs.Arguments.{bare_arguments, bare_picture_arguments, explain_arguments, told_arguments, told_from_arguments};
+ghost use Rattle.rv_command.specs.Arguments.{bare_arguments, bare_picture_arguments, explain_arguments, stretch_arguments, stretch_from_arguments};
 
-use crate::command::{LAST_CYCLE, MOST_CYCLES_SHOWN, MOST_CYCLES_TOLD, MOST_STEPS};
+use crate::command::{LAST_CYCLE, MOST_CYCLES_OF_STATES, MOST_CYCLES_SHOWN, MOST_STEPS};
 use crate::help::{self, CommandHelp, FlaggedHelp, LimitedHelp};
 use clap::builder::ValueParser;
 use clap::{Arg, ArgAction, Command};
@@ -235,31 +235,31 @@ fn explain_command<'a>(alloc: Global) -> Result<Command<'a>, AllocError>
 }
 
 // A command that takes the first of some cycles, and no number of them yet.
-fn told_from_command<'a>(
+fn stretch_from_command<'a>(
     alloc: Global,
     name: &'a str,
     texts: &'static CommandHelp,
 ) -> Result<Command<'a>, AllocError>
-    ensures arguments { IfOk result (IsParserOf (told_from_arguments name.entry.now)) }
+    ensures arguments { IfOk result (IsParserOf (stretch_from_arguments name.entry.now)) }
 {
     described(alloc, name, texts).arg(from_argument(alloc))
 }
 
 // A command that takes the first of some cycles, and how many they are.
-fn told_command<'a>(
+fn stretch_command<'a>(
     alloc: Global,
     name: &'a str,
     texts: &'static CommandHelp,
 ) -> Result<Command<'a>, AllocError>
-    ensures arguments { IfOk result (IsParserOf (told_arguments name.entry.now)) }
+    ensures arguments { IfOk result (IsParserOf (stretch_arguments name.entry.now)) }
 {
     with_argument(
-        told_from_command(alloc, name, texts),
+        stretch_from_command(alloc, name, texts),
         number_argument(
             alloc,
             "cycles",
             1,
-            MOST_CYCLES_TOLD,
+            MOST_CYCLES_OF_STATES,
             "200",
             "How many cycles, 1 to 10000",
         ),
@@ -314,8 +314,8 @@ pub(crate) fn parser<'a>(alloc: Global) -> Result<Command<'a>, AllocError>
     let program = with_command(program, Ok(check_command(alloc)));
     let program = with_command(program, picture_command(alloc));
     let program = with_command(program, limited_command(alloc, "log", &help::LOG));
-    let program = with_command(program, told_command(alloc, "states", &help::STATES));
-    let program = with_command(program, told_command(alloc, "page", &help::PAGE));
+    let program = with_command(program, stretch_command(alloc, "states", &help::STATES));
+    let program = with_command(program, stretch_command(alloc, "page", &help::PAGE));
     let program = with_command(program, explain_command(alloc));
     let program = with_command(
         program,

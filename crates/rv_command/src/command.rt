@@ -25,7 +25,7 @@ pub const LAST_CYCLE: u64 = MOST_STEPS - 1;
 pub const MOST_CYCLES_SHOWN: u64 = 1_000;
 
 /// The most cycles of which the states may be written.
-pub const MOST_CYCLES_TOLD: u64 = 10_000;
+pub const MOST_CYCLES_OF_STATES: u64 = 10_000;
 
 /// What the program is asked to do.
 #[derive(Clone, Copy, PartialEq, Eq)]
@@ -198,7 +198,7 @@ fn stretch_given(given: &ArgMatches) -> Option<(u64, u64)>
     ensures legal { IfSome result (λ s. IsLegalStretch s.0 s.1) }
 {
     let from = number_given(given, "from", 0, LAST_CYCLE)?;
-    let cycles = number_given(given, "cycles", 1, MOST_CYCLES_TOLD)?;
+    let cycles = number_given(given, "cycles", 1, MOST_CYCLES_OF_STATES)?;
     Some((from, from + cycles))
 }
 

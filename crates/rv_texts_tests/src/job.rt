@@ -4,4 +4,4 @@ mod listings;
 mod parts;
 mod reading;
 mod refusals;
-mod told;
+mod reported;

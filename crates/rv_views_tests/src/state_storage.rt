@@ -1,6 +1,6 @@
 use crate::checks::{check_bytes, check_end};
 use crate::machine::{described, narrow, pipeline};
-use crate::state_predictor::told_from;
+use crate::state_predictor::lines_from;
 use crate::state_start::counts;
 use crate::states::has_part;
 use rv_core::Pipeline;
@@ -110,7 +110,7 @@ const LOAD_OF_THE_LAST_SET: [u8; 12] = [
 // The line of 800000f0, of sixteen bytes, is the last of the first sixteen.
 #[test]
 fn the_last_set_stands_before_a_window(rt: HostRuntime) {
-    let lines = told_from(&rt, rt.alloc(), 25, &LOAD_OF_THE_LAST_SET);
+    let lines = lines_from(&rt, rt.alloc(), 25, &LOAD_OF_THE_LAST_SET);
     let set = b"{\"set\":15,\"lines\":[{\"line\":134217743,\"dirty\":false}]}\n";
     assert!(&rt; has_part(lines.as_slice(), set));
 }

@@ -9,7 +9,7 @@ use std::process::Abort;
 const BYTES: [u8; 8] = [0x93, 0x00, 0x50, 0x00, 0x73, 0x00, 0x10, 0x00];
 
 // The states of a run of three cycles, but for the first, of a program that reads so.
-fn told_of(rt: &impl Abort, alloc: Global, form: Form, program: &[&str]) -> Vec<u8> {
+fn text_of(rt: &impl Abort, alloc: Global, form: Form, program: &[&str]) -> Vec<u8> {
     let description = described(rt, narrow());
     let arrivals = no_arrivals(rt, alloc);
     let listing = listing(rt, alloc, program);
@@ -33,9 +33,9 @@ fn told_of(rt: &impl Abort, alloc: Global, form: Form, program: &[&str]) -> Vec<
 }
 
 // Those of an addition and a breakpoint.
-fn told(rt: &impl Abort, alloc: Global, form: Form) -> Vec<u8> {
+fn states_of(rt: &impl Abort, alloc: Global, form: Form) -> Vec<u8> {
     static LINES: [&str; 2] = ["addi x1,x0,5", "ebreak"];
-    told_of(rt, alloc, form, &LINES)
+    text_of(rt, alloc, form, &LINES)
 }
 
 // Whether a text has a part, which is not empty.
@@ -59,8 +59,8 @@ const HEAD: &[u8] =
     b"{\"first\":1,\"format\":\"rv_sim states 1\",\"machine\":{\"ram_base\":2147483648,";
 
 #[test]
-fn the_cycles_after_the_first_are_told_line_by_line(rt: HostRuntime) {
-    let lines = told(&rt, rt.alloc(), Form::Lines);
+fn the_cycles_after_the_first_are_shown_line_by_line(rt: HostRuntime) {
+    let lines = states_of(&rt, rt.alloc(), Form::Lines);
     assert!(&rt; lines.as_slice().starts_with(HEAD));
     check_parts(&rt, lines.as_slice(), &PARTS);
     assert!(&rt; !has_part(lines.as_slice(), b"{\"cycle\":0,"));
@@ -75,8 +75,8 @@ fn check_parts(rt: &impl Abort, text: &[u8], parts: &[&[u8]]) {
 
 #[test]
 fn a_page_has_the_same_lines_in_a_viewer(rt: HostRuntime) {
-    let lines = told(&rt, rt.alloc(), Form::Lines);
-    let page = told(&rt, rt.alloc(), Form::Page);
+    let lines = states_of(&rt, rt.alloc(), Form::Lines);
+    let page = states_of(&rt, rt.alloc(), Form::Page);
     assert!(rt; page.as_slice().starts_with(b"<!DOCTYPE html>\n"));
     assert!(rt; has_part(page.as_slice(), lines.as_slice()));
     assert!(rt; page.as_slice().ends_with(b"</html>\n"));
@@ -91,7 +91,7 @@ fn has_markup(text: &[u8]) -> bool {
 fn a_statement_with_markup_leaves_none_in_the_lines(rt: HostRuntime) {
     static PROGRAM: [&str; 2] = ["</script><b>&amp;\"'", "<!-- ebreak"];
     let text = b"\"text\":\"\\u003c/script\\u003e\\u003cb\\u003e\\u0026amp;\\u0022'\"}\n";
-    let lines = told_of(&rt, rt.alloc(), Form::Lines, &PROGRAM);
+    let lines = text_of(&rt, rt.alloc(), Form::Lines, &PROGRAM);
     assert!(&rt; has_part(lines.as_slice(), text));
     assert!(&rt; !has_markup(lines.as_slice()));
 }

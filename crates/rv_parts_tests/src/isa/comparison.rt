@@ -4,7 +4,7 @@ use rv_isa::{Condition, branch_taken};
 // Unprivileged ISA 20191213, 2.5: of -1 (or 2^32 - 1) and 1, of 1 and -1,
 // of 5 and 5, of 2 and 3, and of the least number (or 2^31) and 0.
 #[test]
-fn each_condition_tells_signed_from_unsigned(rt: HostRuntime) {
+fn each_condition_sets_signed_apart_from_unsigned(rt: HostRuntime) {
     const CASES: [(Condition, [bool; 5]); 6] = [
         (Condition::Equal, [false, false, true, false, false]),
         (Condition::NotEqual, [true, true, false, true, true]),

@@ -106,7 +106,7 @@ mret
 ";
 
 #[test]
-fn eight_kinds_of_exceptions_are_told_apart(rt: HostRuntime) {
+fn eight_kinds_of_exceptions_are_set_apart(rt: HostRuntime) {
     let command = Command::Explain {
         figures: true,
         path: false,

@@ -175,7 +175,7 @@ fn a_picture_shows_sixty_cycles_from_the_first_on_unless_others_are_asked_for(
 }
 
 #[test]
-fn states_and_page_tell_of_two_hundred_cycles_unless_others_are_asked_for(
+fn states_and_page_show_two_hundred_cycles_unless_others_are_asked_for(
     rt: HostRuntime,
 ) -> Result<(), Fail> {
     const CASES: [(&[&str], Command); 4] = [

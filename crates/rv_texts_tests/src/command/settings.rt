@@ -56,7 +56,9 @@ macro_rules! wrong_alone {
 }
 
 #[test]
-fn a_wrong_value_of_a_users_own_is_told_what_its_key_takes(rt: HostRuntime) -> Result<(), Fail> {
+fn a_wrong_value_of_a_users_own_is_reported_what_its_key_takes(
+    rt: HostRuntime,
+) -> Result<(), Fail> {
     static CASES: [(&[&str], &str); 21] = [
         wrong_alone!("rob=9999", "rob is a number from 1 to 256"),
         wrong_alone!("rob=", "rob is a number from 1 to 256"),
@@ -167,7 +169,7 @@ fn a_wrong_value_of_a_users_own_is_told_what_its_key_takes(rt: HostRuntime) -> R
 }
 
 #[test]
-fn a_wrong_value_of_a_column_is_told_what_a_table_shows(rt: HostRuntime) -> Result<(), Fail> {
+fn a_wrong_value_of_a_column_is_reported_what_a_table_shows(rt: HostRuntime) -> Result<(), Fail> {
     static CASES: [(&[&str], &str); 7] = [
         names_nothing!("x32"),
         names_nothing!("0x80001002"),

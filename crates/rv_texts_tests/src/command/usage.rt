@@ -315,20 +315,20 @@ A job comes on standard input, as in 'rv_sim run < FILE'.
 // Checks a text and an exit status that were shown, and that nothing is beside the text.
 fn check_shown(
     rt: &impl Abort,
-    (found_status, output, told): (u8, &[u8], &[u8]),
+    (found_status, output, reported): (u8, &[u8], &[u8]),
     text: &str,
     status: u8,
 ) {
     let (found, other) = if status == 0 {
-        (output, told)
+        (output, reported)
     } else {
-        (told, output)
+        (reported, output)
     };
     check_reported(rt, (found_status, found), status, text);
     check_bytes(rt, other, b"");
 }
 
-// The words are refused with this text and exit status, and no fault is told beside it.
+// The words are refused with this text and exit status, and no fault is reported beside it.
 fn is_shown(
     rt: &impl Abort,
     alloc: Global,
@@ -340,8 +340,8 @@ fn is_shown(
     let mut output = Vec::new(alloc);
     let mut errors = FaultLines::new(Vec::new(alloc));
     let found = show_usage(alloc, &error, &mut output, &mut errors);
-    let told = errors.into_writer();
-    let shown = (found, output.as_slice(), told.as_slice());
+    let reported = errors.into_writer();
+    let shown = (found, output.as_slice(), reported.as_slice());
     check_shown(rt, shown, text, status);
     Ok(())
 }

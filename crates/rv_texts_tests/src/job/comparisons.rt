@@ -100,7 +100,7 @@ fn sixty_four_machines_are_compared_and_not_one_more(rt: HostRuntime) -> Result<
 }
 
 #[test]
-fn a_fault_of_one_of_several_descriptions_is_told_with_its_number(
+fn a_fault_of_one_of_several_descriptions_is_reported_with_its_number(
     rt: HostRuntime,
 ) -> Result<(), Fail> {
     static CASES: [(&[u8], &str); 8] = [

@@ -14,7 +14,7 @@ fn line_of(alloc: Global, error: SimError) -> Result<Vec<u8>, Fail> {
     }
 }
 
-/// What is told of a text that is refused as a job.
+/// What is reported of a text that is refused as a job.
 fn job_fault(alloc: Global, text: &[u8]) -> Result<Vec<u8>, Fail> {
     match read_job(alloc, text) {
         Ok(_) => Err(Fail::from("a job was taken")),
@@ -22,7 +22,7 @@ fn job_fault(alloc: Global, text: &[u8]) -> Result<Vec<u8>, Fail> {
     }
 }
 
-/// What is told of a text that is refused where its image alone is asked for.
+/// What is reported of a text that is refused where its image alone is asked for.
 fn image_fault(alloc: Global, text: &[u8]) -> Result<Vec<u8>, Fail> {
     match read_image_text(alloc, text) {
         Ok(_) => Err(Fail::from("a text was taken")),
@@ -30,7 +30,7 @@ fn image_fault(alloc: Global, text: &[u8]) -> Result<Vec<u8>, Fail> {
     }
 }
 
-/// What is told of a text that is refused as a comparison.
+/// What is reported of a text that is refused as a comparison.
 fn comparison_fault(alloc: Global, text: &[u8]) -> Result<Vec<u8>, Fail> {
     match read_comparison(alloc, text) {
         Ok(_) => Err(Fail::from("a comparison was taken")),

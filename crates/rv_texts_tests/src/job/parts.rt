@@ -4,7 +4,7 @@ use crate::job::helpers::{
 use std::test::Fail;
 
 #[test]
-fn a_fault_of_the_description_is_told_with_its_key(rt: HostRuntime) -> Result<(), Fail> {
+fn a_fault_of_the_description_is_reported_with_its_key(rt: HostRuntime) -> Result<(), Fail> {
     static CASES: [(&[u8], &str); 10] = [
         (b"rob = \n%%\n", "error: description: NotToml\n"),
         (b"sets = 4\n%%\n", "error: description: UnknownKey\n"),
@@ -43,7 +43,7 @@ fn a_fault_of_the_description_is_told_with_its_key(rt: HostRuntime) -> Result<()
 }
 
 #[test]
-fn a_fault_of_the_arrivals_is_told_with_its_entry(rt: HostRuntime) -> Result<(), Fail> {
+fn a_fault_of_the_arrivals_is_reported_with_its_entry(rt: HostRuntime) -> Result<(), Fail> {
     static CASES: [(&[u8], &str); 6] = [
         (b"%%\narrival\n%%\n", "error: arrivals: NotToml\n"),
         (b"%%\nrob = 16\n%%\n", "error: arrivals: UnknownKey\n"),

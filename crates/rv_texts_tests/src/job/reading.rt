@@ -23,7 +23,7 @@ impl Read for Broken {
     }
 }
 
-// Whether reading is told as failed where so many zeros come before the error.
+// Whether reading is reported as failed where so many zeros come before the error.
 fn fails_after(alloc: Global, zeros: usize) -> bool {
     matches!(
         read_input(alloc, &mut Broken { zeros }),
@@ -36,7 +36,7 @@ fn check_failing(rt: &impl Abort, alloc: Global, zeros: usize) {
 }
 
 #[test]
-fn input_is_read_to_its_end_and_a_failed_read_is_told(rt: HostRuntime) -> Result<(), Fail> {
+fn input_is_read_to_its_end_and_a_failed_read_is_reported(rt: HostRuntime) -> Result<(), Fail> {
     let mut text: &[u8] = b"ebreak\n";
     let input = read_input(rt.alloc(), &mut text)?;
     check_bytes(&rt, input.as_slice(), b"ebreak\n");
@@ -46,16 +46,16 @@ fn input_is_read_to_its_end_and_a_failed_read_is_told(rt: HostRuntime) -> Result
     Ok(())
 }
 
-// Checks how an input that cannot be read is told.
+// Checks how an input that cannot be read is reported.
 fn is_reported(rt: &impl Abort, alloc: Global, error: InputError, status: u8, line: &str) {
     let mut errors = FaultLines::new(Vec::new(alloc));
     let found = errors.report_unread(error);
-    let told = errors.into_writer();
-    check_reported(rt, (found, told.as_slice()), status, line);
+    let reported = errors.into_writer();
+    check_reported(rt, (found, reported.as_slice()), status, line);
 }
 
 #[test]
-fn an_input_that_cannot_be_read_is_told_with_its_status(rt: HostRuntime) {
+fn an_input_that_cannot_be_read_is_reported_with_its_status(rt: HostRuntime) {
     is_reported(&rt, rt.alloc(), InputError::Failed, 4, "error: input\n");
     is_reported(&rt, rt.alloc(), InputError::Memory, 5, "error: memory\n");
 }

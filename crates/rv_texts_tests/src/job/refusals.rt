@@ -2,7 +2,7 @@ use crate::job::helpers::{check_faults, check_image_line, check_job_fault, check
 use std::test::Fail;
 
 #[test]
-fn the_first_fault_of_a_text_is_told_with_its_line(rt: HostRuntime) -> Result<(), Fail> {
+fn the_first_fault_of_a_text_is_reported_with_its_line(rt: HostRuntime) -> Result<(), Fail> {
     static CASES: [(&[u8], &str); 14] = [
         (b"nop\n\xff\n", "error: assembly line 2: BadToken\n"),
         (b".ascii \"abc", "error: assembly line 1: BadToken\n"),

@@ -5,16 +5,16 @@ use rv_job::{FaultLines, SimError};
 use std::alloc::Global;
 use std::process::Abort;
 
-// Checks how a fault is told.
+// Checks how a fault is reported.
 fn is_reported(rt: &impl Abort, alloc: Global, error: SimError, line: &str, status: u8) {
     let mut errors = FaultLines::new(Vec::new(alloc));
     let found = errors.report(error);
-    let told = errors.into_writer();
-    check_reported(rt, (found, told.as_slice()), status, line);
+    let reported = errors.into_writer();
+    check_reported(rt, (found, reported.as_slice()), status, line);
 }
 
 #[test]
-fn each_fault_is_told_in_its_own_words_with_its_status(rt: HostRuntime) {
+fn each_fault_is_reported_in_its_own_words_with_its_status(rt: HostRuntime) {
     static CASES: [(SimError, &str, u8); 12] = [
         (SimError::TooLong, "error: job too long\n", 1),
         (

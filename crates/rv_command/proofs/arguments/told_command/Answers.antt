@@ -1,5 +1,0 @@
-use Rattle.rv_command.proofs.arguments.told_command.Goals as goal
-
-pub returns : goal.returns
-returns c =
-    record { arguments = c.with_argument.ensures.arguments _ _ c.told_from_command.ensures.arguments c.number_argument.ensures.rule c.number_argument.ensures.local }
