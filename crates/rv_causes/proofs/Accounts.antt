@@ -10,10 +10,12 @@ use Rattle.rv_causes.specs.Walk.{AreInTime}
 use Rattle.rv_causes.specs.declared.{cause.Cause.Cause, event.Event.Event}
 use Rattle.rv_causes.specs.declared.cause.Cause.TheVariants as cause
 
+-- the account of a path in two parts is that of the older part, and then of the newer one
 pub with_path-append : (xs ys : List Event) (account : Accounted) → with_path (xs ++ ys) account ≡ with_path xs (with_path ys account)
 with_path-append [] ys account = refl
 with_path-append (x ∷ xs) ys account = ap (with_event x) (with_path-append xs ys account)
 
+-- and that of a whole path begins with its older part
 pub account-append : (xs ys : List Event) → account_of (xs ++ ys) ≡ with_path xs (account_of ys)
 account-append xs ys = with_path-append xs ys nothing_accounted
 
@@ -69,11 +71,13 @@ counts : (path : List Event) → length (account_of path).causes ≡ 35
 counts [] = refl
 counts (event ∷ older) = length-set _ _ _ ∙ counts older
 
+-- the cycles of all causes add up to those of the path
 pub adds_up : (path : List Event) → sum (account_of path).causes ≡ (account_of path).cycles
 adds_up [] = refl
 adds_up (event ∷ older) =
     let before = account_of older in
-    sum-with event.reason.cause (event.cycle - before.cycles) before.causes (counts older) ∙ ap (λ n. n + (event.cycle - before.cycles)) (adds_up older)
+    sum-with event.reason.cause (event.cycle - before.cycles) before.causes (counts older)
+    ∙ ap (λ n. n + (event.cycle - before.cycles)) (adds_up older)
 
 -- They are no more than there were before its end,
 pub cycles-within : (cycles : ℕ) (path : List Event) → AreInTime cycles path → (account_of path).cycles ≤ cycles

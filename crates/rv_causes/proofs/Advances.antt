@@ -110,6 +110,7 @@ pub record IsKnownBy (P : Event → Type 0) (s : Setting) (leaving : Leaving) (w
   pub new : AreLeavingOf (IsNew P s.elapsed) leaving
   pub ways : AreWaysOf P ws
 
+-- what is known of the events by one property is known by a weaker one
 pub known_by_implies : (P Q : Event → Type 0) → ((event : Event) → P event → Q event) → (s : Setting) (leaving : Leaving) (ws : List Way)
     → IsKnownBy P s leaving ws → IsKnownBy Q s leaving ws
 known_by_implies P Q implies s leaving ws is = record {

@@ -75,6 +75,7 @@ next-has p ps count (Some n) others is =
     let next : suc n ≡ count = omega (arith, one) in
     subst (λ (k : ℕ). HasAllThatLeft (p ∷ ps) (take k (p ∷ ps))) next (one-more p ps (take n ps) (others n refl))
 
+-- all that left are among the first so many, where so many can be forgotten
 pub all_left : (rows : List Passage) (count : ℕ) → forgotten_in rows ≡ Some count → HasAllThatLeft rows (take count rows)
 all_left [] count is = subst (λ (n : ℕ). HasAllThatLeft [] (take n [])) (same-count 0 count is) (none-of [] refl)
 all_left (p ∷ ps) count is = elim (cases_Bool (is_in_flight p)) [

@@ -24,6 +24,7 @@ any_event = record {
 pub reverse-push : {X : Type 0} (xs : List X) (x : X) → reverse (xs ++ x ∷ []) ≡ x ∷ reverse xs
 reverse-push xs x = reverse-append xs (x ∷ [])
 
+-- a list backwards is what comes after its first so many backwards, and then these backwards
 pub reverse-split : {X : Type 0} (n : ℕ) (xs : List X) → reverse xs ≡ reverse (drop n xs) ++ reverse (take n xs)
 reverse-split n xs = ap reverse (sym (take-append-drop n xs)) ∙ reverse-append (take n xs) (drop n xs)
 
@@ -49,6 +50,7 @@ module _ (events : List Event) (place : ℕ) (some : 0 < place) (within : place 
       ∙ reverse-append (event ∷ []) (drop (place - 1 + 1) events)
       ∙ ap (λ n. reverse (drop n events) ++ event ∷ []) (sym same)
 
+  -- one event further back, what is wanted past the events is still among the points that are left
   pub meet-covers : (points left : List Point) (wanted : Option Point) → left ≡ passed event points
       → IsAmong (beyond (reverse (drop place events)) wanted) points
       → IsAmong (beyond (reverse (drop (place - 1) events)) wanted) left
@@ -59,6 +61,7 @@ module _ (events : List Event) (place : ℕ) (some : 0 < place) (within : place 
       (subst (λ (ps : List Point). IsAmong (beyond (event ∷ []) (beyond (reverse (drop place events)) wanted)) ps) (sym left_is)
       (passed-covers event (beyond (reverse (drop place events)) wanted) points among))
 
+  -- one event further back, all points that are left come to the root through the older events
   pub meet-come : (points left : List Point) (root : Option Point) → left ≡ passed event points → AllComeTo root (reverse (take place events)) points
       → AllComeTo root (reverse (take (place - 1) events)) left
   meet-come points left root left_is come =

@@ -12,6 +12,7 @@ use Rattle.rv_causes.specs.Reading.{HardwareRead}
 use Rattle.rv_causes.specs.Setting.{Setting}
 use Rattle.rv_causes.specs.declared.{event.Event.Event, seeing.Seen.Seen, way.Way.Way}
 
+-- what is kept after a cycle is known by the events so far, with those of the cycle
 pub known-seen : (s : Setting) (steps : List Step) (after : HardwareRead) (old now : List Way) (seen : Seen) (events : List Event)
     → IsSeen s steps after old now seen
     → record {

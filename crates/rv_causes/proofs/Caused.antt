@@ -43,6 +43,7 @@ walk_caused standing known (moment ∷ moments) are =
     walk_caused (standing_after still_open cycle) (known_after known cycle) moments
     (cycle_keeps s IsAmong (among_kept s.elapsed) known.events known.ways cycle.report.steps (read_of cycle.after) are.holds are.before are.ways)
 
+-- each event of a run waited for an older one as its cause says
 pub causes_are_so : CausesAreSo
 causes_are_so first moments =
     let begins : IsAmong (nothing_yet ∷ []) nothing_yet = (refl, inl (refl, refl)) in

@@ -56,7 +56,9 @@ pathing_still path path' k same kept on =
 
 -- what is known after a cycle that is read
 pub followed_on : (path path' : Path) (cycle : CycleRead) (k : Known) → IsKnown path k
-    → ((events : List Event) → known_of_path path' (with_events (made_shown cycle (known_of_path path events)) events) ≡ known_shown cycle (known_of_path path events))
+    → ((events : List Event) →
+    known_of_path path' (with_events (made_shown cycle (known_of_path path events)) events)
+    ≡ known_shown cycle (known_of_path path events))
     → IsFollowed (made_shown cycle (known_of_path path [])) path.window path'.window
     → IsKnown path' (known_shown cycle (known_of_path path k.events))
 followed_on path path' cycle k on followed made_is =

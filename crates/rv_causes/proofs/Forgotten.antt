@@ -17,6 +17,7 @@ use Rattle.rv_causes.specs.declared.way.Way.{Way}
 pub drop-joined : {X : Type 0} (n : ℕ) (front back : List X) → length front ≡ n → drop n (front ++ back) ≡ back
 drop-joined n front back is = ap (λ k. drop k (front ++ back)) (sym is) ∙ drop-append_seam front back
 
+-- two counts that are found by the same search are the same
 pub same-count : (count other : ℕ) → Some count ≡ Some other → count ≡ other
 same-count count other is = ap (λ (o : Option ℕ). unwrap_or o 0) is
 

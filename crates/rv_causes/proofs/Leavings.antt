@@ -1,4 +1,5 @@
--- The events of those that leave the hardware in a cycle are new, and so are that of an interrupt and those from which the port is taken.
+-- The events of those that leave the hardware in a cycle are new, and so are that of an interrupt and those from which
+-- the port is taken.
 use Rattle.std.proofs.Common.{ℕ, List, [], ◌∷◌, ◌++◌, Option, Some, None}
 use Rattle.std.specs.Prelude.{IfSome}
 use Rattle.std.specs.Option.{option_or, option_to_list}
@@ -26,11 +27,13 @@ pub record AreLeavingOf (Q : Event → Type 0) (leaving : Leaving) : Type 0 wher
   pub last : IfSome leaving.last Q
   pub store : IfSome leaving.store Q
 
+-- what holds of all that a cycle's leaving brought holds of the list of its events
 pub left_events_have : (Q : Event → Type 0) (leaving : Leaving) → AreLeavingOf Q leaving → AllOf Q (left_events leaving)
 left_events_have Q leaving are =
     all_both Q (option_to_list leaving.first) (option_to_list leaving.store ++ option_to_list leaving.last) (all_some Q leaving.first are.first)
     (all_both Q (option_to_list leaving.store) (option_to_list leaving.last) (all_some Q leaving.store are.store) (all_some Q leaving.last are.last))
 
+-- and what holds of the list of its events holds of all that it brought
 pub left_events_are : (Q : Event → Type 0) (leaving : Leaving) → AllOf Q (left_events leaving) → AreLeavingOf Q leaving
 left_events_are Q leaving are =
     let first = option_to_list leaving.first in
@@ -43,6 +46,7 @@ left_events_are Q leaving are =
       last = some_all Q leaving.last (all_back Q store last others);
     }
 
+-- what implies another property of an event implies it of those of a leaving
 pub leaving_implies : (P Q : Event → Type 0) → ((event : Event) → P event → Q event) → (leaving : Leaving) → AreLeavingOf P leaving
     → AreLeavingOf Q leaving
 leaving_implies P Q implies leaving are =
@@ -98,9 +102,11 @@ module _ (s : Setting) (P : Event → Type 0) (holds : AreHoldsOf P s.holds) (be
   with_rows_N (p ∷ ps) [] leaving ws-are are = are
   with_rows_N (p ∷ ps) (w ∷ ws) leaving ws-are are = with_rows_N ps ws (with_row s p w leaving) ws-are.1 (with_row_N p w leaving ws-are.0 are)
 
+  -- the events by which instructions leave in a cycle are new
   pub leaving_new : (ws : List Way) → AreWaysOf P ws → AreLeavingOf N (leaving_of s ws)
   leaving_new ws ws-are = with_rows_N s.rows ws none_left ws-are (record { first = tt; last = tt; store = tt })
 
+  -- the event of an interrupt is new
   pub interrupt_new : N (interrupt_event s)
   interrupt_new =
       let at : Point = record { stage = stage.Interrupt; number = s.elapsed } in
@@ -110,6 +116,7 @@ module _ (s : Setting) (P : Event → Type 0) (holds : AreHoldsOf P s.holds) (be
   again_N at address None is = tt
   again_N at address (Some event) is = is
 
+  -- the event by which a drain begins is new
   pub drain_new : (leaving : Leaving) → AreLeavingOf N leaving → N (drain_event s leaving)
   drain_new leaving gone =
       let at : Point = record { stage = stage.Drain; number = s.elapsed } in
@@ -129,6 +136,7 @@ module _ (s : Setting) (P : Event → Type 0) (holds : AreHoldsOf P s.holds) (be
       (after_stores_V s P (VR stage.Lines p) (waits_VR stage.Lines p) holds before)
       (waits_VR stage.Lines p cause.Other (dispatched_by w) (dispatched_have P w w-is))
 
+  -- the event by which all lines begin to be written back is new
   pub lines_new : (leaving : Leaving) (p : Passage) (w : Way) → AreLeavingOf N leaving → IsWayOf P w → N (lines_event s leaving p w)
   lines_new leaving p w gone w-is =
       if_with (VR stage.Lines p) (is_just_before s.number p.dispatched)

@@ -97,11 +97,13 @@ module _ (root : Option Point) (all : List Event) where
     drain = drain_out before.drain (back (port_points before.port) (drain_points before.drain) are.1);
   }
 
+  -- where all that is known leads to the root, all points that are live do
   pub live_in : (known : Known) → AreKnown L known → A (live_points known.ways known.holds known.before)
   live_in known are =
       both (before_points known.before) (holds_points known.holds ++ ways_points known.ways) (before_in known.before are.before)
       (both (holds_points known.holds) (ways_points known.ways) (holds_in known.holds are.holds) (ways_in known.ways are.ways))
 
+  -- and where all points that are live lead to it, all that is known does
   pub live_out : (known : Known) → A (live_points known.ways known.holds known.before) → AreKnown L known
   live_out known are =
       let later = back (before_points known.before) (holds_points known.holds ++ ways_points known.ways) are in

@@ -51,7 +51,8 @@ any-has event point (x ∷ xs) same (inr later) = or-true (is_point event.at x) 
 -- What a walk among them wants past the event is among them then.
 by_found : (found : Bool) (event : Event) (point : Point) (points : List Point) → is_point event.at point ≡ false → HasPoint point points
     → HasPoint point (if found then with_before event.before (others event points) else points)
-by_found true event point points other has = has-left point (others event points) (option_to_list event.before) (has-others event point points other has)
+by_found true event point points other has =
+    has-left point (others event points) (option_to_list event.before) (has-others event point points other has)
 by_found false event point points other has = has
 
 by_test : (here : Bool) (event : Event) (point : Point) (points : List Point) → is_point event.at point ≡ here → HasPoint point points
@@ -59,6 +60,7 @@ by_test : (here : Bool) (event : Event) (point : Point) (points : List Point) �
 by_test true event point points same has = rw (any-has event point points same has) (among-before event.before (others event points))
 by_test false event point points other has = by_found (list_any (is_point event.at) points) event point points other has
 
+-- past an event, what was among the points wanted is among those that are left
 pub passed-covers : (event : Event) (wanted : Option Point) (points : List Point) → IsAmong wanted points
     → IsAmong (past event wanted) (passed event points)
 passed-covers event None points among = tt
@@ -79,7 +81,8 @@ others-by false root older event x rest comes come = (comes, come)
 others-come : (root : Option Point) (older : List Event) (event : Event) (points : List Point) → AllComeTo root (event ∷ older) points
     → AllComeTo root older (others event points)
 others-come root older event [] come = tt
-others-come root older event (x ∷ xs) come = others-by (is_point event.at x) root older event x (others event xs) come.0 (others-come root older event xs come.1)
+others-come root older event (x ∷ xs) come =
+    others-by (is_point event.at x) root older event x (others event xs) come.0 (others-come root older event xs come.1)
 
 -- and what the event waited for, where one of them wanted it
 before-by : (here found : Bool) (root : Option Point) (older : List Event) (event : Event) (x : Point)
@@ -92,7 +95,8 @@ before-comes : (root : Option Point) (older : List Event) (event : Event) (point
     → AllComeTo root (event ∷ older) points → ComesTo root older event.before
 before-comes root older event [] found come = absurd cc
 before-comes root older event (x ∷ xs) found come =
-    before-by (is_point event.at x) (list_any (is_point event.at) xs) root older event x come.0 found (λ is. before-comes root older event xs is come.1)
+    before-by (is_point event.at x) (list_any (is_point event.at) xs) root older event x come.0 found
+    (λ is. before-comes root older event xs is come.1)
 
 before-all : (root : Option Point) (older : List Event) (before : Option Point) → ComesTo root older before
     → AllComeTo root older (option_to_list before)
@@ -120,6 +124,7 @@ come-by true root older event points is come =
     (before-all root older event.before (before-comes root older event points is come))
 come-by false root older event points is come = none-come root older event points is come
 
+-- past an event, the points that are left come to the root through the older events
 pub passed-come : (root : Option Point) (older : List Event) (event : Event) (points : List Point) → AllComeTo root (event ∷ older) points
     → AllComeTo root older (passed event points)
 passed-come root older event points come = come-by (list_any (is_point event.at) points) root older event points refl come
@@ -140,6 +145,7 @@ fewer-where : (here found : Bool) (x : Point) (xs rest : List Point) → (here |
 fewer-where true found x xs rest is few fewer = omega (arith, few)
 fewer-where false found x xs rest is few fewer = omega (arith, fewer is)
 
+-- where a point is that of an event, fewer points are of other events
 pub fewer : (event : Event) (points : List Point) → list_any (is_point event.at) points ≡ true → length (others event points) < length points
 fewer event [] found = absurd cc
 fewer event (x ∷ xs) found =

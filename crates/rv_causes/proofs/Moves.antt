@@ -88,5 +88,6 @@ module _ (s : Setting) (leaving : Leaving) (place : ℕ) (ways : List Way) (j : 
   moved_here o is =
       (λ i. moved_by s leaving place (sym found i) ways) ∙ ap (λ (o : Option Move). advanced s place j o ways) (sym (comes o is))
 
+  -- what is new at a place is what its instruction's advance brings
   pub new_here : (o : Option Move) → o ≡ advance_of s leaving ways place p w → new_at s leaving place ways ≡ new_advanced s j.row o
   new_here o is = (λ i. new_at_one s leaving place (sym found i) ways) ∙ ap (new_advanced s j.row) (sym (comes o is))

@@ -15,8 +15,8 @@ pub record IsNew (P : Event → Type 0) (cycles : ℕ) (event : Event) : Type 0 
   pub before : event.before ≡ Some of.at
   pub so : IsSo of.at of.cycle event
 
--- Something holds of a new event by the list that it begins, where it held of the one that it waited for by the list before; and of all
--- others still.
+-- Something holds of a new event by the list that it begins, where it held of the one that it waited for by the list
+-- before; and of all others still.
 pub record IsKept (cycles : ℕ) (P : List Event → Event → Type 0) : Type 0 where
   pub newest : (all : List Event) (event : Event) → IsNew (P all) cycles event → P (event ∷ all) event
   pub others : (all : List Event) (event other : Event) → IsNew (P all) cycles event → P all other → P (event ∷ all) other
@@ -26,30 +26,37 @@ abbrev pub AllOf : (Event → Type 0) → List Event → Type 0
 AllOf P [] = Unit {0}
 AllOf P (event ∷ events) = P event × AllOf P events
 
+-- what holds of all of two lists holds of those of the first
 pub all_front : (P : Event → Type 0) (es fs : List Event) → AllOf P (es ++ fs) → AllOf P es
 all_front P [] fs are = tt
 all_front P (e ∷ es) fs are = (are.0, all_front P es fs are.1)
 
+-- and of those of the second
 pub all_back : (P : Event → Type 0) (es fs : List Event) → AllOf P (es ++ fs) → AllOf P fs
 all_back P [] fs are = are
 all_back P (e ∷ es) fs are = all_back P es fs are.1
 
+-- what holds of all of each of two lists holds of both together
 pub all_both : (P : Event → Type 0) (es fs : List Event) → AllOf P es → AllOf P fs → AllOf P (es ++ fs)
 all_both P [] fs es-are fs-are = fs-are
 all_both P (e ∷ es) fs es-are fs-are = (es-are.0, all_both P es fs es-are.1 fs-are)
 
+-- what holds of an event, if there is one, holds of the list of it
 pub all_some : (P : Event → Type 0) (o : Option Event) → IfSome o P → AllOf P (option_to_list o)
 all_some P None is = tt
 all_some P (Some event) is = (is, tt)
 
+-- and what holds of the list of it holds of the event
 pub some_all : (P : Event → Type 0) (o : Option Event) → AllOf P (option_to_list o) → IfSome o P
 some_all P None are = tt
 some_all P (Some event) are = are.0
 
+-- what implies another property of an event implies it of all of a list
 pub all_imply : (P Q : Event → Type 0) → ((event : Event) → P event → Q event) → (es : List Event) → AllOf P es → AllOf Q es
 all_imply P Q implies [] are = tt
 all_imply P Q implies (e ∷ es) are = (implies e are.0, all_imply P Q implies es are.1)
 
+-- and of a new one
 pub new_implies : (P Q : Event → Type 0) (cycles : ℕ) → ((event : Event) → P event → Q event) → (event : Event) → IsNew P cycles event
     → IsNew Q cycles event
 new_implies P Q cycles implies event is =
@@ -69,7 +76,9 @@ named_if false why waited first waits second is = refl
 named_so : (event : Event) (at : Point) (cycle : ℕ) (reason : Reason)
     → is_so (claim_of (named_after event at cycle reason).cause) event.at event.cycle at cycle ≡ true
 unfolding named_after
-named_so event at cycle reason = named_if (is_so (claim_of reason.cause) event.at event.cycle at cycle) reason.cause event.at event.cycle at cycle refl
+named_so event at cycle reason =
+    named_if (is_so (claim_of reason.cause) event.at event.cycle at cycle) reason.cause event.at
+    event.cycle at cycle refl
 
 -- an event that was made by a wait is new
 pub made_new : (P : Event → Type 0) (refilled : Bool) (cycles : ℕ) (at : Point) (address : Option ℕ) (why : Cause) (waited : Wait)
@@ -121,10 +130,12 @@ module _ (cycles : ℕ) (P : List Event → Event → Type 0) (kept : IsKept cyc
   by_still all refilled at address waited (Some why) is other held =
       kept.others all _ other (made_new (P all) refilled cycles at address why waited is) held
 
+  -- a property of all events so far and one holds of a new event after the one that it waited for
   pub wait_has : (all : List Event) (refilled : Bool) (at : Point) (address : Option ℕ) (waited : Wait) → P all waited.event
       → P (with_events (new_from refilled at cycles address waited) all) (event_from refilled at cycles address waited)
   wait_has all refilled at address waited is = by_have all refilled at address waited waited.cause is
 
+  -- and still holds of each other one, with the new event
   pub wait_still : (all : List Event) (refilled : Bool) (at : Point) (address : Option ℕ) (waited : Wait) → P all waited.event
       → (other : Event) → P all other → P (with_events (new_from refilled at cycles address waited) all) other
   wait_still all refilled at address waited is = by_still all refilled at address waited waited.cause is

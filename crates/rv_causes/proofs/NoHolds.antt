@@ -42,6 +42,7 @@ no-hold number values p w (Some issue) is =
     (hold_of_kind values p w issue (kind_of_word p.instruction)) is
     (none-of-kind values p w issue (kind_of_word p.instruction))
 
+-- where nothing begins to hold a unit, there is no new hold
 pub no_new_holds : (number : ℕ) (values : Values) (rows : List Passage) (ways : List Way)
     → list_any (begins_hold number values) rows ≡ false → new_holds number values rows ways ≡ []
 no_new_holds number values [] ways none = refl

@@ -1,4 +1,5 @@
--- The paths to all for which an event may wait come to one root, with each new event; and a window stands for all events with the new ones.
+-- The paths to all for which an event may wait come to one root, with each new event; and a window stands for all
+-- events with the new ones.
 use Rattle.std.proofs.Common.{◌≡◌, ◌∙◌, ℕ, List, [], ◌∷◌, ◌++◌, true, false, Option, Some, refl, ap, sym, subst, append_assoc}
 use Rattle.std.specs.Prelude.{Bool, if◌then◌else◌, reverse, ◌&&◌}
 use Rattle.std.proofs.lemmas.Bool.{eq-eqb}
@@ -29,6 +30,7 @@ before-leads : (root : Option Point) (cycles : ℕ) (all : List Event) (event : 
     → ComesTo root all event.before
 before-leads root cycles all event new = subst (ComesTo root all) (sym new.before) new.has
 
+-- that events lead to a root is kept by each new one that waited for one that does
 pub leads_kept : (cycles : ℕ) (root : Option Point) → IsKept cycles (Leads root)
 leads_kept cycles root = record {
   newest = λ all event new.
@@ -43,10 +45,12 @@ with-reverse (event ∷ made) events =
     with-reverse made (event ∷ events) ∙ sym (append_assoc (reverse made) (event ∷ []) events)
     ∙ ap (λ (es : List Event). es ++ events) (sym (reverse-append (event ∷ []) made))
 
+-- the events that a window keeps, with new ones, are those that the window after them keeps
 pub kept-followed : (made : List Event) (old new : Window) → IsFollowed made old new → with_events made (kept_events old) ≡ kept_events new
 kept-followed made old new followed =
     with-reverse made (kept_events old) ∙ sym (reverse-append old.events.items made) ∙ ap reverse (sym followed.0)
 
+-- a window after new events stands for all events with these
 pub window_followed : (made : List Event) (old new : Window) (all : List Event) → IsFollowed made old new → IsWindow old all
     → IsWindow new (with_events made all)
 window_followed made old new all followed is = record {
@@ -58,6 +62,7 @@ window_followed made old new all followed is = record {
   account_is = ap accounted followed.2 ∙ is.account_is ∙ ap (λ (r : Option Point). account_of (path_to is.older r)) (sym followed.1);
 }
 
+-- an event that leads to the root of the old window is one that the new window can be left by
 pub passes_followed : (made : List Event) (old new : Window) → IsFollowed made old new → (event : Event)
     → Leads old.root (with_events made (kept_events old)) event → Passes new (Some event.at)
 passes_followed made old new followed event leads =

@@ -10,6 +10,7 @@ after_next [] place waiting here = absurd (omega (arith, here))
 after_next (s ∷ ss) zero waiting here = refl
 after_next (s ∷ ss) (suc place) waiting here = after_next ss place waiting (omega (arith, here))
 
+-- one store of the queue more is added before those after it
 pub queued_on : (stores : List Store) (place : ℕ) (waiting : List (Option ℕ)) → place < length stores
     → with_queue (drop (place + 1) stores) (with_queued (slice_get stores place) waiting) ≡ with_queue (drop place stores) waiting
 queued_on stores place waiting here =

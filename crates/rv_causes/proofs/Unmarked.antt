@@ -85,6 +85,7 @@ has_all_same from old new all same has = record {
   unmarked = has.unmarked;
 }
 
+-- a window that has all marked events of a path has them after new events too
 pub has_all_followed : (from : ℕ) (made : List Event) (old new : Window) (all : List Event) → IsFollowed made old new → HasAllMarked from old all
     → HasAllMarked from new (with_events made all)
 has_all_followed from made old new all followed has = record {

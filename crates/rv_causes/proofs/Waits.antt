@@ -29,9 +29,11 @@ use Rattle.rv_causes.proofs.EventLists.{OJ, first_have, if_with, last_have, or_w
 pub dispatched_have : (P : Event → Type 0) (w : Way) → IsWayOf P w → P (dispatched_by w)
 dispatched_have P w is = unwrap_with P w.dispatch w.fetch is.dispatch is.fetch
 
+-- what holds of the events of an instruction holds of its issue
 pub issued_have : (P : Event → Type 0) (w : Way) → IsWayOf P w → P (issued_by w)
 issued_have P w is = unwrap_with P w.issue (dispatched_by w) is.issue (dispatched_have P w is)
 
+-- and of its broadcast
 pub broadcast_have : (P : Event → Type 0) (w : Way) → IsWayOf P w → P (broadcast_by w)
 broadcast_have P w is = unwrap_with P w.broadcast (issued_by w) is.broadcast (issued_have P w is)
 
@@ -67,6 +69,7 @@ module _ (s : Setting) (P : Event → Type 0) (V : Wait → Type 0) (waits_V : (
   after_hold_V None is = tt
   after_hold_V (Some hold) is = waits_V _ hold.event is
 
+  -- it holds of the event that freed the port, where there is one
   pub after_port_V : O (after_port s)
   after_port_V = after_hold_V (port_ended s) port_ended_V
 
@@ -85,6 +88,7 @@ module _ (s : Setting) (P : Event → Type 0) (V : Wait → Type 0) (waits_V : (
   after_drain_at_V why cycle None is = tt
   after_drain_at_V why cycle (Some drain) is = if_with O (drain.until == cycle) (waits_V why drain.event is) tt
 
+  -- it holds of the start of the drain that is waited for, where there is one
   pub after_drain_V : (why : Cause) → O (after_drain_at s why s.number s.before.drain)
   after_drain_V why = after_drain_at_V why s.number s.before.drain before.drain
 
@@ -92,6 +96,7 @@ module _ (s : Setting) (P : Event → Type 0) (V : Wait → Type 0) (waits_V : (
   after_drain_before_V None is = tt
   after_drain_before_V (Some drain) is = if_with O (drain.until + 1 == s.number) (waits_V _ drain.event is) tt
 
+  -- it holds of what an instruction that waits for all stores waits for
   pub after_stores_V : O (after_stores s)
   after_stores_V =
       let left = after_leaving (left_before s) in
@@ -110,6 +115,7 @@ module _ (s : Setting) (P : Event → Type 0) (V : Wait → Type 0) (waits_V : (
   after_left_before_V None is = tt
   after_left_before_V (Some left) is = after_left_V left is
 
+  -- it holds of what the first to leave in a cycle waits for
   pub first_to_leave_V : (p : Passage) → O (first_to_leave s p)
   first_to_leave_V p =
       if_with O (is_fence_i p.instruction)
@@ -121,6 +127,7 @@ module _ (s : Setting) (P : Event → Type 0) (V : Wait → Type 0) (waits_V : (
   left_since_V why None is = waits_V _ nothing_yet is
   left_since_V why (Some left) is = waits_V why left.event is
 
+  -- it holds of the last that left, where there is one
   pub since_left_V : (why : Cause) → V (since_left why s.before.left)
   since_left_V why = left_since_V why s.before.left before.left
 
@@ -191,6 +198,7 @@ module _ (s : Setting) (P : Event → Type 0) (V : Wait → Type 0) (waits_V : (
         (or_with V (after_stores_known s ws p) (option_or (after_units_of s ws kind) (after_port s)) (after_stores_known_V p)
         (or_with V (after_units_of s ws kind) (after_port s) (after_units_of_V kind) after_port_V))
 
+    -- it holds of what an issue waits for
     pub issue_wait_V : (p : Passage) (w : Way) → IsWayOf P w → V (issue_wait s ws p w)
     issue_wait_V p w is =
         let event = dispatched_have P w is in
@@ -203,6 +211,7 @@ module _ (s : Setting) (P : Event → Type 0) (V : Wait → Type 0) (waits_V : (
         if_with O (count_by (is_sought what) s.rows == s.values.bus_width)
         (after_broadcast_V cause.BusFull (last_of what s.rows ws) (last_J what)) tt
 
+    -- it holds of what a broadcast waits for
     pub broadcast_wait_V : (p : Passage) (w : Way) → IsWayOf P w → V (broadcast_wait s ws p w)
     broadcast_wait_V p w is =
         let event = issued_have P w is in

@@ -23,7 +23,9 @@ account_at-none wanted account older none = rw none (ap account_of (sym (path_to
 
 account_at-root : (root wanted : Option Point) (older : List Event) → wanted ≡ root
     → account_at wanted (account_of (path_to older root)) ≡ account_of (path_to older wanted)
-account_at-root root wanted older is = subst (λ (r : Option Point). account_at wanted (account_of (path_to older r)) ≡ account_of (path_to older wanted)) is (account_at-is wanted older)
+account_at-root root wanted older is =
+    subst (λ (r : Option Point). account_at wanted (account_of (path_to older r)) ≡ account_of (path_to older wanted))
+    is (account_at-is wanted older)
 
 account_at-comes : (root : Option Point) (events older : List Event) (wanted : Option Point) → ComesTo root events wanted
     → account_at (beyond events wanted) (account_of (path_to older root)) ≡ account_of (path_to older (beyond events wanted))
@@ -40,7 +42,8 @@ account_to-is root events older wanted comes =
 
 -- no event yet
 pub window_none : (window : Window) → window.events.items ≡ [] → window.root ≡ None → accounted window.account ≡ account_of [] → IsWindow window []
-window_none window events root account = record { older = []; all_are = ap (λ (es : List Event). reverse es ++ []) (sym events); account_is = account }
+window_none window events root account =
+    record { older = []; all_are = ap (λ (es : List Event). reverse es ++ []) (sym events); account_is = account }
 
 -- one event more
 pub window_push : (old new : Window) (event : Event) (all : List Event) → new.events.items ≡ old.events.items ++ event ∷ []
@@ -48,10 +51,13 @@ pub window_push : (old new : Window) (event : Event) (all : List Event) → new.
     → IsWindow old all → IsWindow new (event ∷ all)
 window_push old new event all events root account is = record {
   older = is.older;
-  all_are = ap (λ (es : List Event). event ∷ es) is.all_are ∙ ap (λ (es : List Event). es ++ is.older) (sym (ap reverse events ∙ reverse-push old.events.items event));
+  all_are =
+      ap (λ (es : List Event). event ∷ es) is.all_are
+      ∙ ap (λ (es : List Event). es ++ is.older) (sym (ap reverse events ∙ reverse-push old.events.items event));
   account_is = account ∙ is.account_is ∙ ap (λ (r : Option Point). account_of (path_to is.older r)) (sym root);
 }
 
+-- a walk that comes to the root still does with an event more whose own walk comes there
 pub come-push : (root : Option Point) (events : List Event) (event : Event) (wanted : Option Point) → ComesTo root events event.before
     → ComesTo root events wanted → ComesTo root (event ∷ events) wanted
 come-push root events event wanted before comes = by_test (is_wanted wanted event) where
@@ -63,7 +69,8 @@ pub passes_push : (old new : Window) (event : Event) (wanted : Option Point) →
     → new.root ≡ old.root → Passes old event.before → Passes old wanted → Passes new wanted
 passes_push old new event wanted events root before passes =
     subst (λ (es : List Event). ComesTo new.root es wanted) (sym (ap reverse events ∙ reverse-push old.events.items event))
-    (subst (λ (r : Option Point). ComesTo r (event ∷ kept_events old) wanted) (sym root) (come-push old.root (kept_events old) event wanted before passes))
+    (subst (λ (r : Option Point). ComesTo r (event ∷ kept_events old) wanted) (sym root)
+    (come-push old.root (kept_events old) event wanted before passes))
 
 -- as it was, but for room
 pub window_alike : (old new : Window) (all : List Event) → AreAlike old new → IsWindow old all → IsWindow new all
@@ -73,6 +80,7 @@ window_alike old new all alike is = record {
   account_is = alike.2 ∙ is.account_is ∙ ap (λ (r : Option Point). account_of (path_to is.older r)) (sym alike.1);
 }
 
+-- windows that are alike can be left by the same points
 pub pass_alike : (old new : Window) (points : List Point) → AreAlike old new → AllPass old points → AllPass new points
 pass_alike old new points alike pass =
     subst (λ (es : List Event). AllComeTo new.root (reverse es) points) (sym alike.0)
@@ -129,11 +137,15 @@ pass_moved : (place : ℕ) (left : List Point) (old new : Window) (points : List
 pass_moved place left old new points few covers moved =
     subst (λ (es : List Event). AllComeTo new.root (reverse es) points) (sym moved.0)
     (subst (λ (r : Option Point). AllComeTo r (reverse (drop place old.events.items)) points) (sym moved.1)
-    (all-root (slice_get left 0) (reverse (drop place old.events.items)) points (λ point has. only-root (reverse (drop place old.events.items)) (Some point) left few (covers (Some point) has))))
+    (all-root (slice_get left 0) (reverse (drop place old.events.items)) points
+    (λ point has. only-root (reverse (drop place old.events.items)) (Some point) left few
+    (covers (Some point) has))))
 
 -- the walks of some points met, and the only one that is left is the root
-module _ (old new : Window) (events : List Event) (place : ℕ) (root : Option Point) (left points : List Point) (events_are : events ≡ old.events.items) (root_is : root ≡ slice_get left 0)
+module _ (old new : Window) (events : List Event) (place : ℕ) (root : Option Point) (left points : List Point)
+    (events_are : events ≡ old.events.items) (root_is : root ≡ slice_get left 0)
     (moved : IsMoved place root old new) where
+  -- a window whose root moved to where all walks meet stands for the same events
   pub window_met : (all : List Event)
       → ((r : Option Point) → AllComeTo r (reverse events) points → AllComeTo r (reverse (take place events)) left) → AllPass old points
       → IsWindow old all → IsWindow new all
@@ -141,8 +153,10 @@ module _ (old new : Window) (events : List Event) (place : ℕ) (root : Option P
       let comes = come old.root (subst (λ (es : List Event). AllComeTo old.root (reverse es) points) (sym events_are) pass) in
       let met : ComesTo old.root (reverse (take place events)) (slice_get left 0) = only-comes old.root (reverse (take place events)) left comes in
       window_moved place root old new all
-      (subst (λ (es : List Event). ComesTo old.root (reverse (take place es)) root) events_are (subst (ComesTo old.root (reverse (take place events))) (sym root_is) met)) moved is
+      (subst (λ (es : List Event). ComesTo old.root (reverse (take place es)) root) events_are
+      (subst (ComesTo old.root (reverse (take place events))) (sym root_is) met)) moved is
 
+  -- and can be left by all points that it could be left by before
   pub pass_met : length left ≤ 1
       → ((wanted : Option Point) → IsAmong wanted points → IsAmong (beyond (reverse (drop place events)) wanted) left) → AllPass new points
   pass_met few covers =

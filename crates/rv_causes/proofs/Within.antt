@@ -76,6 +76,7 @@ walk_within standing known (moment ∷ moments) within =
     (fold known_after (known_after known cycle) (walk_from still_open (standing_after still_open cycle) moments)) (omega (arith, one))
     (walk_within (standing_after still_open cycle) (known_after known cycle) moments next)
 
+-- no event of a run comes before the one that it waited for
 pub comes_in_time : ComesInTime
 comes_in_time first moments =
     let so_far : 0 + length moments ≡ length moments = omega arith in

@@ -20,6 +20,7 @@ above-lower low high (w ∷ ws) under above = (omega (arith, under, above.0), ab
 later : (old new : ℕ) → old ≤ new → (word : WordCycles) → IsWithin old word → IsWithin new word
 later old new more word is = record { all = is.all; adds_up = is.adds_up; within = omega (arith, more, is.within) }
 
+-- words within so many cycles are within more
 pub within-later : (old new : ℕ) → old ≤ new → (words : List WordCycles) → AreWithin old words → AreWithin new words
 within-later old new more [] within = tt
 within-later old new more (w ∷ ws) within = (later old new more w within.0, within-later old new more ws within.1)
@@ -40,15 +41,18 @@ module _ (address : ℕ) (change : WordCycles → WordCycles) (P : List WordCycl
   by_test true is here new later = rw is (here (eqb-true w.address address is))
   by_test false is here new later = by_order (nat_lt address w.address) is refl new later
 
+  -- what holds of a change at the first word, before it and after it holds of a change
   pub by_place : (w.address ≡ address → P (change w ∷ ws)) → (address < w.address → P (change (no_cycles address) ∷ w ∷ ws))
       → (w.address < address → P (w ∷ with_change address change ws)) → P (with_change address change (w ∷ ws))
   by_place here new later = by_test (w.address == address) refl here new later
 
 module _ (address : ℕ) (change : WordCycles → WordCycles) where
+  -- a change adds one word at most
   pub length-change : (words : List WordCycles) → length (with_change address change words) ≤ length words + 1
   length-change [] = omega arith
   length-change (w ∷ ws) =
-      by_place address change (λ words. length words ≤ length (w ∷ ws) + 1) w ws (λ is. omega arith) (λ above. omega arith) (λ below. omega (arith, length-change ws))
+      by_place address change (λ words. length words ≤ length (w ∷ ws) + 1) w ws (λ is. omega arith)
+      (λ above. omega arith) (λ below. omega (arith, length-change ws))
 
   none : (cycles : ℕ) → IsWithin cycles (no_cycles address)
   none cycles = record { all = refl; adds_up = refl; within = omega arith }
@@ -88,10 +92,14 @@ module _ (address : ℕ) (change : WordCycles → WordCycles) where
         (λ below. (above-change w.address ws below order.0, in_order-change ws order.1))
 
 -- words that a change of some others makes are in order
-pub in_order-made : (address : ℕ) (change : WordCycles → WordCycles) (keeps : (w : WordCycles) → (change w).address ≡ w.address) (old new : List WordCycles) → IsInOrder old → new ≡ with_change address change old → IsInOrder new
+pub in_order-made : (address : ℕ) (change : WordCycles → WordCycles)
+    (keeps : (w : WordCycles) → (change w).address ≡ w.address) (old new : List WordCycles) → IsInOrder old →
+    new ≡ with_change address change old → IsInOrder new
 in_order-made address change keeps old new order made = subst IsInOrder (sym made) (in_order-change address change keeps old order)
 
 -- nothing changes
 pub within-begun : (address cycles : ℕ) (old new : List WordCycles) → new ≡ with_change address (λ w. w) old → AreWithin cycles old
     → AreWithin cycles new
-within-begun address cycles old new made within = subst (AreWithin cycles) (sym made) (within-change address (λ w. w) cycles cycles (omega arith) (λ w is. is) old within)
+within-begun address cycles old new made within =
+    subst (AreWithin cycles) (sym made)
+    (within-change address (λ w. w) cycles cycles (omega arith) (λ w is. is) old within)

@@ -74,7 +74,9 @@ module _ (address : ℕ) (change : WordCycles → WordCycles) where
   change-new (w ∷ ws) zero within before after = higher w ws (after 0 w (omega arith) (omega arith))
   change-new (w ∷ ws) (suc i) within before after =
       lower w ws (before 0 w (omega arith)) ∙
-      ap (λ l. w ∷ l) (change-new ws i (omega arith) (λ k v low. before (suc k) v (omega arith)) (λ k v from to. after (suc k) v (omega arith) (omega arith)))
+      ap (λ l. w ∷ l)
+      (change-new ws i (omega arith) (λ k v low. before (suc k) v (omega arith))
+      (λ k v from to. after (suc k) v (omega arith) (omega arith)))
 
 module _ (address : ℕ) where
   -- the word of the address is found at its place
@@ -116,6 +118,7 @@ module _ (address : ℕ) (words : List WordCycles) (place : ℕ) where
       → with_change address change words ≡ set words place (change (get_or words place w))
   change-at is change w = change-there address change words place w is.within is.before (is.there w)
 
+  -- a word that is there is not begun again
   pub begun-there : IsPlaceOf address place words → words ≡ with_change address (λ w. w) words
   begun-there is = sym (change-at is (λ w. w) (no_cycles address) ∙ set-get_or words place (no_cycles address))
 
@@ -124,12 +127,15 @@ module _ (address : ℕ) (words : List WordCycles) (place : ℕ) where
   begun-new is = sym (change-new address (λ w. w) words place is.within is.before is.after)
 
   change-begun : IsPlaceFor address place words → (change : WordCycles → WordCycles) (w : WordCycles)
-      → with_change address change words ≡ set (insert words place (no_cycles address)) place (change (get_or (insert words place (no_cycles address)) place w))
+      → with_change address change words
+      ≡ set (insert words place (no_cycles address)) place
+      (change (get_or (insert words place (no_cycles address)) place w))
   change-begun is change w =
       change-new address change words place is.within is.before is.after
       ∙ sym (set-insert words place (no_cycles address) (change (no_cycles address)) is.within)
       ∙ ap (λ v. set (insert words place (no_cycles address)) place (change v)) (sym (get_or-insert_at words place (no_cycles address) w is.within))
 
+  -- a change of a word that is put in first is the change at its place
   pub change-made : IsPlaceFor address place words → (made : List WordCycles) → made ≡ insert words place (no_cycles address)
       → (change : WordCycles → WordCycles) (w : WordCycles)
       → with_change address change words ≡ set made place (change (get_or made place w))

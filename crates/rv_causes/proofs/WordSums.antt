@@ -25,6 +25,7 @@ words-with : (address : Option ℕ) (why : Cause) (more : ℕ) (words : List Wor
 words-with None why more words = omega arith
 words-with (Some address) why more words = omega (arith, words-change address why more words)
 
+-- the cycles of all words are no more than those of the path
 pub words-within : (path : List Event) → words_cycles (account_of path).words ≤ (account_of path).cycles
 words-within [] = omega arith
 words-within (event ∷ older) =

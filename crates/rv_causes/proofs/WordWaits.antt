@@ -17,8 +17,12 @@ more-within cycles more why word is = record {
 pub within-word : (address : Option ℕ) (cycles more : ℕ) (why : Cause) (words : List WordCycles) → AreWithin cycles words
     → AreWithin (cycles + more) (with_word address why more words)
 within-word None cycles more why words within = within-later cycles (cycles + more) (omega arith) words within
-within-word (Some address) cycles more why words within = within-change address (with_more why more) cycles (cycles + more) (omega arith) (more-within cycles more why) words within
+within-word (Some address) cycles more why words within =
+    within-change address (with_more why more) cycles (cycles + more) (omega arith)
+    (more-within cycles more why) words within
 
+-- after a wait, the words are within the cycles of the longer path
 pub within-made : (address : Option ℕ) (cycles more : ℕ) (why : Cause) (old new : List WordCycles) → new ≡ with_word address why more old
     → AreWithin cycles old → AreWithin (cycles + more) new
-within-made address cycles more why old new made within = subst (AreWithin (cycles + more)) (sym made) (within-word address cycles more why old within)
+within-made address cycles more why old new made within =
+    subst (AreWithin (cycles + more)) (sym made) (within-word address cycles more why old within)

@@ -19,7 +19,8 @@ with_cycles cause cycles causes = slice_set causes (place_of cause) (slice_index
 
 -- of a word
 abbrev pub with_more : Cause → ℕ → WordCycles → WordCycles
-with_more cause cycles word = record word { cycles = word.cycles + cycles; causes = with_cycles cause cycles word.causes }
+with_more cause cycles word =
+    record word { cycles = word.cycles + cycles; causes = with_cycles cause cycles word.causes }
 
 -- a word that has none
 abbrev pub no_cycles : ℕ → WordCycles

@@ -34,4 +34,5 @@ AreCaused (event ∷ other ∷ older) = IsCausedBy (other ∷ older) event × Ar
 
 -- whatever cycles follow one another, that is so of all events that are known after them
 abbrev pub CausesAreSo : Type 0
-CausesAreSo = (first : Hardware) (moments : List Moment) → AreCaused (known_of first (walk still_open first moments)).events
+CausesAreSo =
+    (first : Hardware) (moments : List Moment) → AreCaused (known_of first (walk still_open first moments)).events

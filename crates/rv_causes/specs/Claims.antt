@@ -1,5 +1,6 @@
 -- What each cause says of two events: the one that waited, and the one for which it waited last.
--- Of the hardware it knows the stages of events, the cycles before them and the numbers of instructions; an older one has a smaller number.
+-- Of the hardware it knows the stages of events, the cycles before them and the numbers of instructions; an older one
+-- has a smaller number.
 use Rattle.std.specs.Prelude.{ℕ, ◌+◌, ◌==◌, ◌&&◌, ◌||◌, not, nat_lt, Bool, true, if◌then◌else◌, List, [], ◌∷◌}
 use Rattle.std.specs.List.{list_any}
 use Rattle.rv_causes.specs.Point.{stage_place}
@@ -11,11 +12,12 @@ use Rattle.rv_causes.specs.declared.claim.When.TheVariants as when
 use Rattle.rv_causes.specs.declared.claim.Whose.TheVariants as whose
 use Rattle.rv_causes.specs.declared.point.Stage.TheVariants as stage
 
--- The stages of some name. Where several instructions come to a stage in a cycle the first has an event of its own, which is the others' too;
--- and where something made room for it, that event is theirs.
+-- The stages of some name. Where several instructions come to a stage in a cycle the first has an event of its own,
+-- which is the others' too; and where something made room for it, that event is theirs.
 abbrev pub members : Stages → List Stage
 members stages.Any =
-    stage.Begin ∷ stage.Fetch ∷ stage.Dispatch ∷ stage.Issue ∷ stage.Broadcast ∷ stage.Commit ∷ stage.Drain ∷ stage.Lines ∷ stage.Interrupt ∷ stage.End ∷
+    stage.Begin ∷ stage.Fetch ∷ stage.Dispatch ∷ stage.Issue ∷ stage.Broadcast ∷ stage.Commit ∷ stage.Drain
+    ∷ stage.Lines ∷ stage.Interrupt ∷ stage.End ∷
     []
 members stages.Begin = stage.Begin ∷ []
 members stages.Fetch = stage.Fetch ∷ []
@@ -51,7 +53,8 @@ is_of whose.Same waited waits = waited.number == waits.number
 is_of whose.Another waited waits = not (waited.number == waits.number)
 is_of whose.Older waited waits = nat_lt waited.number waits.number
 is_of whose.Own waited waits =
-    waited.number == waits.number || not (stage_place waited.stage == stage_place stage.Broadcast) && nat_lt waited.number waits.number
+    waited.number == waits.number
+    || not (stage_place waited.stage == stage_place stage.Broadcast) && nat_lt waited.number waits.number
 
 -- which stages wait on account of a cause, for which, how long, and for whose
 abbrev pub claim : Stages → Stages → When → Whose → Claim
@@ -98,7 +101,8 @@ claim_of cause.Other = claim stages.Any stages.Any when.NotBefore whose.Any
 -- it is so of two events
 abbrev pub is_so : Claim → Point → ℕ → Point → ℕ → Bool
 is_so it waited first waits second =
-    has_stage it.waits waits.stage && (has_stage it.waited waited.stage && (comes it.when first second && is_of it.whose waited waits))
+    has_stage it.waits waits.stage
+    && (has_stage it.waited waited.stage && (comes it.when first second && is_of it.whose waited waits))
 
 -- a cause, if what it says is so of two events, and else none of those
 abbrev pub cause_if : Bool → Cause → Cause

@@ -43,13 +43,15 @@ named_after event at cycle reason =
 abbrev pub refill_of : Wait → Option Reason
 refill_of waited = option_or waited.anew waited.event.refill
 
--- It goes on past the event, where it began with the one that was waited for, or as long as no instruction was issued and none left the
--- hardware since fetch began anew.
+-- It goes on past the event, where it began with the one that was waited for, or as long as no instruction was issued
+-- and none left the hardware since fetch began anew.
 abbrev pub refill_past : Bool → Stage → Wait → Option Reason
-refill_past refilled at waited = if goes_on_through at && (is_some waited.anew || not refilled) then refill_of waited else None
+refill_past refilled at waited =
+    if goes_on_through at && (is_some waited.anew || not refilled) then refill_of waited else None
 
--- The event of a point after so many cycles, that waited last for another one: on account of the refill, where there is one, or of this
--- cause and address. By the end of its cycle an instruction was issued or left since fetch began anew, or none.
+-- The event of a point after so many cycles, that waited last for another one: on account of the refill, where there is
+-- one, or of this cause and address. By the end of its cycle an instruction was issued or left since fetch began anew,
+-- or none.
 abbrev pub event_after : Bool → Point → ℕ → Option ℕ → Cause → Wait → Event
 event_after refilled at cycle address why waited = record {
   at = at;
@@ -92,8 +94,8 @@ again_by (Some event) = Some (again event)
 abbrev pub anew : Reason → Event → Wait
 anew reason event = record { event = event; anew = Some reason; cause = Some reason.cause }
 
--- After a cycle: whether an instruction was issued or left since fetch began anew. Where one had, the words of a cycle are in a refill only if
--- fetch began anew with them.
+-- After a cycle: whether an instruction was issued or left since fetch began anew. Where one had, the words of a cycle
+-- are in a refill only if fetch began anew with them.
 abbrev pub refilled_after : Bool → Option Event → Bool
 refilled_after refilled None = refilled
 refilled_after refilled (Some fetch) = refilled && not (is_some fetch.refill)

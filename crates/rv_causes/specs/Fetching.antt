@@ -38,13 +38,15 @@ abbrev pub mend_of : Setting → Option Entry → Option Journey → Option Wait
 mend_of s entry None = None
 mend_of s entry (Some journey) =
     if is_mended s journey.row entry
-    then Some (anew (record { cause = cause.RefillPrediction; address = Some journey.row.pc }) (broadcast_by journey.way))
+    then Some (anew (record { cause = cause.RefillPrediction; address = Some journey.row.pc })
+    (broadcast_by journey.way))
     else None
 
 -- it began anew there
 abbrev pub after_mend : Setting → List Way → HardwareRead → Option Wait
 after_mend s ways after =
-    if mends_early s.values.recovery then mend_of s (youngest after.rob.entries) (last_of sought.Entry s.rows ways) else None
+    if mends_early s.values.recovery
+    then mend_of s (youngest after.rob.entries) (last_of sought.Entry s.rows ways) else None
 
 -- at an interrupt on account of the first word of its handler
 abbrev pub handler_wait : Event → Passage → Wait
@@ -72,7 +74,8 @@ was_fetched number (Some p) = p.fetched + 1 == number
 -- the one was that stands as many before the first word of the cycle as the fetch is wide
 abbrev pub fills_fetch : Setting → List Way → Bool
 fills_fetch s ways =
-    if nat_le s.values.fetch_width (length ways) then was_fetched s.number (slice_get s.rows (length ways - s.values.fetch_width)) else false
+    if nat_le s.values.fetch_width (length ways)
+    then was_fetched s.number (slice_get s.rows (length ways - s.values.fetch_width)) else false
 
 -- what ended the fetches of the cycle before, but for the buffer: their width, or a jump
 abbrev pub after_word : Setting → List Way → Journey → Option Wait
@@ -93,18 +96,21 @@ room_of s (Some p) (Some way) = if is_at s.number p.dispatched then Some (again 
 abbrev pub after_room : Setting → List Way → Option Wait
 after_room s ways =
     if nat_le s.values.fetch_buffer (length ways)
-    then room_of s (slice_get s.rows (length ways - s.values.fetch_buffer)) (slice_get ways (length ways - s.values.fetch_buffer))
+    then room_of s (slice_get s.rows (length ways - s.values.fetch_buffer))
+    (slice_get ways (length ways - s.values.fetch_buffer))
     else None
 
 -- the fetch goes on after the last word, or where there is none, after the last that left
 abbrev pub goes_on : Setting → List Way → Option Journey → Wait
 goes_on s ways None = since_left cause.Other s.before.left
-goes_on s ways (Some last) = unwrap_or (option_or (after_word s ways last) (after_room s ways)) (waits cause.Other last.way.fetch)
+goes_on s ways (Some last) =
+    unwrap_or (option_or (after_word s ways last) (after_room s ways)) (waits cause.Other last.way.fetch)
 
 -- What words waited for that are fetched in the cycle, after those that were in flight before it: fetch began anew, or goes on.
 abbrev pub fetch_wait : Setting → List Way → Bool → Leaving → HardwareRead → Passage → Wait
 fetch_wait s ways interrupted leaving after first =
-    unwrap_or (after_redirection s ways interrupted leaving after first) (goes_on s ways (one_before (length ways) s.rows ways))
+    unwrap_or (after_redirection s ways interrupted leaving after first)
+    (goes_on s ways (one_before (length ways) s.rows ways))
 
 -- the event of the first word of a cycle, by what it waited for
 abbrev pub fetch_of : Setting → Passage → Wait → Event
@@ -117,15 +123,19 @@ new_fetch_of s first waited = new_of s stage.Fetch first waited
 -- the event by which they are fetched, if some are: that of the first
 abbrev pub fetched_by : Setting → List Way → Bool → Leaving → HardwareRead → Option Passage → Option Event
 fetched_by s ways interrupted leaving after None = None
-fetched_by s ways interrupted leaving after (Some first) = Some (fetch_of s first (fetch_wait s ways interrupted leaving after first))
+fetched_by s ways interrupted leaving after (Some first) =
+    Some (fetch_of s first (fetch_wait s ways interrupted leaving after first))
 
 abbrev pub fetch_event : Setting → List Way → Bool → Leaving → HardwareRead → Option Event
-fetch_event s ways interrupted leaving after = fetched_by s ways interrupted leaving after (slice_get s.rows (length ways))
+fetch_event s ways interrupted leaving after =
+    fetched_by s ways interrupted leaving after (slice_get s.rows (length ways))
 
 -- it is new, or was known
 abbrev pub new_fetched : Setting → List Way → Bool → Leaving → HardwareRead → Option Passage → List Event
 new_fetched s ways interrupted leaving after None = []
-new_fetched s ways interrupted leaving after (Some first) = new_fetch_of s first (fetch_wait s ways interrupted leaving after first)
+new_fetched s ways interrupted leaving after (Some first) =
+    new_fetch_of s first (fetch_wait s ways interrupted leaving after first)
 
 abbrev pub new_fetch : Setting → List Way → Bool → Leaving → HardwareRead → List Event
-new_fetch s ways interrupted leaving after = new_fetched s ways interrupted leaving after (slice_get s.rows (length ways))
+new_fetch s ways interrupted leaving after =
+    new_fetched s ways interrupted leaving after (slice_get s.rows (length ways))

@@ -43,7 +43,8 @@ abbrev pub drain_wait : Setting → Leaving → Wait
 drain_wait s leaving =
     unwrap_or (option_or (at_its_commit s leaving) (after_port s)) (waits cause.Other (last_left s.before.left))
 
--- The event by which it begins to drain: that of its retirement in the cycle, or a new one, of the address of the oldest that waited before.
+-- The event by which it begins to drain: that of its retirement in the cycle, or a new one, of the address of the
+-- oldest that waited before.
 abbrev pub drain_event : Setting → Leaving → Event
 drain_event s leaving =
     made s (record { stage = stage.Drain; number = s.elapsed }) (oldest s.before.waiting) (drain_wait s leaving)
@@ -76,10 +77,15 @@ load_hold until (Some load) =
 abbrev pub lines_hold : Setting → Leaving → ℕ → Option Journey → Option PortHold
 lines_hold s leaving until None = None
 lines_hold s leaving until (Some head) =
-    Some (record { until = until; event = lines_event s leaving head.row head.way; holder = holder.Lines; number = head.row.number })
+    Some (record {
+      until = until;
+      event = lines_event s leaving head.row head.way;
+      holder = holder.Lines;
+      number = head.row.number;
+    })
 
--- who takes the port in the cycle, if it is taken: a drain, a load, or the lines of a FENCE.I. It is on account of no event where a load takes
--- it that early recovery squashes in the cycle of its issue, which no row shows.
+-- who takes the port in the cycle, if it is taken: a drain, a load, or the lines of a FENCE.I. It is on account of no
+-- event where a load takes it that early recovery squashes in the cycle of its issue, which no row shows.
 abbrev pub taken_by : Setting → List Way → Leaving → Facts → Option PortHold
 taken_by s ways leaving facts =
     if is_begun s facts.drain_end

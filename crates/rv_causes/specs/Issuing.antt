@@ -77,7 +77,8 @@ after_issues s ways kind =
 -- the units of a kind were held by others
 abbrev pub after_units : Setting → List Way → Kind → Option Wait
 after_units s ways kind =
-    if (at_kind kind s.values.kinds).pipelined then after_issues s ways kind else after_hold_of kind (hold_among s kind s.holds)
+    if (at_kind kind s.values.kinds).pipelined then after_issues s ways kind
+    else after_hold_of kind (hold_among s kind s.holds)
 
 abbrev pub after_units_of : Setting → List Way → Option Kind → Option Wait
 after_units_of s ways None = None
@@ -86,7 +87,9 @@ after_units_of s ways (Some kind) = after_units s ways kind
 -- what an instruction waited for after its dispatch, of these the first
 abbrev pub issue_after : Setting → List Way → Passage → Option Wait
 issue_after s ways p =
-    option_or (after_operands s ways p) (option_or (after_stores_known s ways p) (option_or (after_units_of s ways (kind_of_word p.instruction)) (after_port s)))
+    option_or (after_operands s ways p)
+    (option_or (after_stores_known s ways p)
+    (option_or (after_units_of s ways (kind_of_word p.instruction)) (after_port s)))
 
 -- what an instruction waited for that is issued
 abbrev pub issue_wait : Setting → List Way → Passage → Way → Wait
@@ -106,7 +109,8 @@ execution_cause_of s p (Some kind) = execution_of kind
 -- what kept a result from its issue on
 abbrev pub execution_cause : Setting → Passage → Cause
 execution_cause s p =
-    if is_load p.instruction then (if is_hold_of holder.Load p.number (port_ended s) then load_cause s p p.issue else cause.LoadForwarded)
+    if is_load p.instruction
+    then (if is_hold_of holder.Load p.number (port_ended s) then load_cause s p p.issue else cause.LoadForwarded)
     else execution_cause_of s p (kind_of_word p.instruction)
 
 -- as many results as the bus is wide went first

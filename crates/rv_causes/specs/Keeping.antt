@@ -25,12 +25,14 @@ ways_of path = drop path.dropped path.ways.items
 
 -- what a path has of the cycles so far, beside all events
 abbrev pub known_of_path : Path → List Event → Known
-known_of_path path events = record { ways = ways_of path; holds = path.holds.items; before = path.before; events = events }
+known_of_path path events =
+    record { ways = ways_of path; holds = path.holds.items; before = path.before; events = events }
 
 -- a path changed in nothing but the events of the instructions in flight, the holds of units, or what is known beside
 abbrev pub AreSameButWays : Path → Path → Type 0
 AreSameButWays old new =
-    (new.holds ≡ old.holds) × (new.next ≡ old.next) × (new.before ≡ old.before) × (new.window ≡ old.window) × (new.live ≡ old.live)
+    (new.holds ≡ old.holds) × (new.next ≡ old.next) × (new.before ≡ old.before) × (new.window ≡ old.window)
+    × (new.live ≡ old.live)
     × (new.seen ≡ old.seen)
 
 abbrev pub AreSameButHolds : Path → Path → Type 0
@@ -45,7 +47,8 @@ AreSameButBefore old new =
 
 abbrev pub AreSameButWindow : Path → Path → Type 0
 AreSameButWindow old new =
-    (new.ways ≡ old.ways) × (new.dropped ≡ old.dropped) × (new.next ≡ old.next) × (new.holds ≡ old.holds) × (new.before ≡ old.before)
+    (new.ways ≡ old.ways) × (new.dropped ≡ old.dropped) × (new.next ≡ old.next) × (new.holds ≡ old.holds)
+    × (new.before ≡ old.before)
 
 abbrev pub AreSameButLive : Path → Path → Type 0
 AreSameButLive old new = AreSameButWindow old new × (new.window ≡ old.window)
@@ -70,7 +73,8 @@ ArePathsKept old new =
 
 -- a window has so many events more
 abbrev pub IsFollowed : List Event → Window → Window → Type 0
-IsFollowed made old new = (new.events.items ≡ old.events.items ++ made) × (new.root ≡ old.root) × (new.account ≡ old.account)
+IsFollowed made old new =
+    (new.events.items ≡ old.events.items ++ made) × (new.root ≡ old.root) × (new.account ≡ old.account)
 
 -- what is known beside, with what a cycle brings
 abbrev pub before_with : ℕ → List Step → Seen → Before → Before
@@ -84,7 +88,8 @@ before_with number steps seen before = record {
 }
 
 -- what a cycle brings, where the events of the instructions that were in flight before it stand so after it
-pub record IsSeen (s : Setting) (steps : List Step) (after : HardwareRead) (old ways : List Way) (seen : Seen) : Type 0 where
+pub record IsSeen (s : Setting) (steps : List Step) (after : HardwareRead) (old ways : List Way)
+    (seen : Seen) : Type 0 where
   pub moved : ways ≡ all_moved s (leaving_of s old) old
   pub before : before_with s.number steps seen s.before ≡ before_next s ways steps after (leaving_of s old)
   pub fetched : seen.fetch ≡ fetch_event s ways (is_interrupted steps) (leaving_of s old) after
@@ -143,8 +148,8 @@ pub record HasRoom (path : Path) : Type 0 where
   pub ways : HasRoomForWays path
   pub events : HasRoomForEvents (length (ways_of path) + 6) path.window
 
--- The events of the instructions in flight after the cycles so far, and all else that is known then. The window stands for all events of
--- the run, for each path that an event of a later cycle may wait for.
+-- The events of the instructions in flight after the cycles so far, and all else that is known then. The window stands
+-- for all events of the run, for each path that an event of a later cycle may wait for.
 pub record IsKnown (path : Path) (k : Known) : Type 0 where
   pub known : known_of_path path k.events ≡ k
   pub window : IsWindow path.window k.events

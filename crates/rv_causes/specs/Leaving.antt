@@ -36,16 +36,19 @@ after_own_lines s p = if is_hold_of holder.Lines p.number (port_ended s) then ow
 -- the first to leave in a cycle, where others left in the cycle before
 abbrev pub after_left : Setting → Left → Wait
 after_left s left =
-    if left.count == s.values.commit_width then waits cause.CommitWidth left.event else waits cause.CommitInOrder left.event
+    if left.count == s.values.commit_width then waits cause.CommitWidth left.event
+    else waits cause.CommitInOrder left.event
 
 abbrev pub after_left_before : Setting → Option Left → Option Wait
 after_left_before s None = None
 after_left_before s (Some left) = Some (after_left s left)
 
--- what the first to leave in a cycle waited for last: a FENCE.I for its lines and the older stores, any other for the older instructions
+-- what the first to leave in a cycle waited for last: a FENCE.I for its lines and the older stores, any other for the
+-- older instructions
 abbrev pub first_to_leave : Setting → Passage → Option Wait
 first_to_leave s p =
-    if is_fence_i p.instruction then option_or (after_own_lines s p) (after_stores s) else after_left_before s (left_before s)
+    if is_fence_i p.instruction then option_or (after_own_lines s p) (after_stores s)
+    else after_left_before s (left_before s)
 
 -- one leaves after others of the same cycle, or is the first
 abbrev pub leaves_after : Setting → Option Event → Passage → Way → Wait
@@ -116,12 +119,14 @@ leaving_of s ways = with_rows s s.rows ways none_left
 
 -- some of the instructions of a cycle, among which are all that left the hardware in it
 pub record HasAllThatLeft (rows some : List Passage) : Type 0 where
-  pub leaving : (s : Setting) (ways : List Way) (leaving : Leaving) → with_rows s some ways leaving ≡ with_rows s rows ways leaving
+  pub leaving : (s : Setting) (ways : List Way) (leaving : Leaving) →
+      with_rows s some ways leaving ≡ with_rows s rows ways leaving
   pub count : count_by (is_sought sought.Ended) some ≡ count_by (is_sought sought.Ended) rows
 
 -- an interrupt came so long after the last step
 abbrev pub interrupt_event : Setting → Event
-interrupt_event s = made s (record { stage = stage.Interrupt; number = s.elapsed }) None (since_left cause.UntilInterrupt s.before.left)
+interrupt_event s =
+    made s (record { stage = stage.Interrupt; number = s.elapsed }) None (since_left cause.UntilInterrupt s.before.left)
 
 -- an interrupt is among the steps of the cycle
 abbrev pub is_interrupted : List Step → Bool
@@ -135,7 +140,8 @@ left_by s count (Some event) = Some (record { cycle = s.number; count = count; e
 -- what left in the cycle; with an interrupt no instruction does
 abbrev pub newly_left : Setting → Bool → Leaving → Option Left
 newly_left s interrupted leaving =
-    if interrupted then left_by s 0 (Some (interrupt_event s)) else left_by s (count_by (is_sought sought.Ended) s.rows) leaving.last
+    if interrupted then left_by s 0 (Some (interrupt_event s))
+    else left_by s (count_by (is_sought sought.Ended) s.rows) leaving.last
 
 -- The oldest instruction begins to write lines back: when it is the oldest, and the older stores and the port let it.
 abbrev pub lines_after : Setting → Option Event → Way → Wait

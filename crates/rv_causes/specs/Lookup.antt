@@ -18,7 +18,8 @@ sought_of sought p w = if is_sought sought p then Some (record { row = p; way = 
 abbrev pub first_of : Sought → List Passage → List Way → Option Journey
 first_of sought [] ways = None
 first_of sought (p ∷ ps) [] = None
-first_of sought (p ∷ ps) (w ∷ ws) = if is_sought sought p then Some (record { row = p; way = w }) else first_of sought ps ws
+first_of sought (p ∷ ps) (w ∷ ws) =
+    if is_sought sought p then Some (record { row = p; way = w }) else first_of sought ps ws
 
 -- the last one
 abbrev pub last_of : Sought → List Passage → List Way → Option Journey

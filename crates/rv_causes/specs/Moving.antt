@@ -38,12 +38,14 @@ room_by_issue s ways (Some kind) =
 -- the store queue was full then: the store that had drained made room
 abbrev pub room_by_drain : Setting → Option Wait
 room_by_drain s =
-    if s.before.facts.stores == s.values.store_queue then after_drain_at s cause.StoreQueueFull s.number s.before.drain else None
+    if s.before.facts.stores == s.values.store_queue
+    then after_drain_at s cause.StoreQueueFull s.number s.before.drain else None
 
 -- what the word at a place waited for that did not come after another one, of these the first
 abbrev pub room_for : Setting → List Way → Leaving → ℕ → Passage → Option Wait
 room_for s ways leaving place p =
-    option_or (room_by_leaving s leaving place) (option_or (room_by_issue s ways (kind_of_word p.instruction)) (room_by_drain s))
+    option_or (room_by_leaving s leaving place)
+    (option_or (room_by_issue s ways (kind_of_word p.instruction)) (room_by_drain s))
 
 -- one was dispatched in the cycle before
 abbrev pub was_dispatched : ℕ → Option Passage → Bool
@@ -53,7 +55,8 @@ was_dispatched number (Some p) = is_just_before number p.dispatched
 -- the one was that stands as many before a place as the dispatch is wide
 abbrev pub fills_dispatch : Setting → ℕ → Bool
 fills_dispatch s place =
-    if nat_le s.values.dispatch_width place then was_dispatched s.number (slice_get s.rows (place - s.values.dispatch_width)) else false
+    if nat_le s.values.dispatch_width place
+    then was_dispatched s.number (slice_get s.rows (place - s.values.dispatch_width)) else false
 
 -- so was the last one before the place: all between them filled the width
 abbrev pub after_width : Setting → ℕ → Journey → Option Wait
@@ -72,7 +75,8 @@ after_previous s place (Some last) =
 abbrev pub dispatch_wait : Setting → List Way → Leaving → Passage → ℕ → Way → Wait
 dispatch_wait s ways leaving p place w =
     if p.fetched + 1 == s.number then waits cause.FrontEnd w.fetch
-    else unwrap_or (option_or (after_previous s place (one_before place s.rows ways)) (room_for s ways leaving place p)) (waits cause.Other w.fetch)
+    else unwrap_or (option_or (after_previous s place (one_before place s.rows ways)) (room_for s ways leaving place p))
+    (waits cause.Other w.fetch)
 
 -- what an instruction comes to, and what that waited for
 pub record Move : Type 0 where
@@ -94,15 +98,18 @@ advances_at s place = advances_by s.number (slice_get s.rows place)
 -- what comes of an instruction in the cycle: it is dispatched, issued or broadcast, and waited for this; or nothing of that
 abbrev pub advance_of : Setting → Leaving → List Way → ℕ → Passage → Way → Option Move
 advance_of s leaving ways place p w =
-    if is_at s.number p.dispatched then Some (record { stage = stage.Dispatch; waited = dispatch_wait s ways leaving p place w })
+    if is_at s.number p.dispatched
+    then Some (record { stage = stage.Dispatch; waited = dispatch_wait s ways leaving p place w })
     else (if is_at s.number (issued_in p) then Some (record { stage = stage.Issue; waited = issue_wait s ways p w })
-    else (if is_at s.number p.broadcast then Some (record { stage = stage.Broadcast; waited = broadcast_wait s ways p w })
+    else (if is_at s.number p.broadcast
+    then Some (record { stage = stage.Broadcast; waited = broadcast_wait s ways p w })
     else None))
 
 -- it has the event, and that is new or was known
 abbrev pub advanced : Setting → ℕ → Journey → Option Move → List Way → List Way
 advanced s place j None ways = ways
-advanced s place j (Some it) ways = slice_set ways place (with_stage it.stage (made_of s it.stage j.row it.waited) j.way)
+advanced s place j (Some it) ways =
+    slice_set ways place (with_stage it.stage (made_of s it.stage j.row it.waited) j.way)
 
 abbrev pub new_advanced : Setting → Passage → Option Move → List Event
 new_advanced s p None = []
@@ -131,7 +138,8 @@ moved_up_to s leaving (suc place) ways = moved_at s leaving place (moved_up_to s
 -- the new events of these
 abbrev pub new_up_to : Setting → Leaving → ℕ → List Way → List Event
 new_up_to s leaving zero ways = []
-new_up_to s leaving (suc place) ways = new_up_to s leaving place ways ++ new_at s leaving place (moved_up_to s leaving place ways)
+new_up_to s leaving (suc place) ways =
+    new_up_to s leaving place ways ++ new_at s leaving place (moved_up_to s leaving place ways)
 
 -- of all that were in flight before it
 abbrev pub all_moved : Setting → Leaving → List Way → List Way

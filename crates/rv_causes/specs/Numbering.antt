@@ -1,4 +1,5 @@
--- How the picture of a window numbers instructions: those that are in flight when the window begins from 0 on, and then those that are fetched.
+-- How the picture of a window numbers instructions: those that are in flight when the window begins from 0 on, and then
+-- those that are fetched.
 use Rattle.std.specs.Prelude.{◌≡◌, ℕ, ◌+◌, ◌-◌, nat_lt, List, count_by, filter, length, map}
 use Rattle.rv_passage.specs.Passage.{is_in_flight}
 use Rattle.rv_passage.specs.Table.{Passages}
@@ -20,6 +21,7 @@ abbrev pub number_in : Passages → ℕ → ℕ
 number_in kept number = number_by (row_numbers kept.rows) kept.fetched number
 
 -- these numbers of the ones in flight and this count of those fetched are such after a cycle, of which these are the rows
-pub record IsOneLater (rows : List Passage) (numbers : List ℕ) (fetched : ℕ) (numbers' : List ℕ) (fetched' : ℕ) : Type 0 where
+pub record IsOneLater (rows : List Passage) (numbers : List ℕ) (fetched : ℕ) (numbers' : List ℕ)
+    (fetched' : ℕ) : Type 0 where
   pub numbers_are : numbers' ≡ numbers_in_flight rows
   pub fetched_are : fetched' ≡ fetched + (length rows - length numbers)

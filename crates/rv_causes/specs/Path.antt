@@ -26,8 +26,8 @@ use Rattle.rv_causes.specs.declared.cause.Cause.TheVariants as cause
 use Rattle.rv_causes.specs.declared.point.Stage.TheVariants as stage
 use Rattle.rv_causes.specs.declared.{before.Before.Before, before.Facts.Facts, before.UnitHold.UnitHold, event.Event.Event, leaving.Leaving.Leaving, way.Way.Way}
 
--- the events of the instructions in flight, oldest first, who holds units that are not pipelined, and all else that is known; and all
--- events of the run so far, newest first
+-- the events of the instructions in flight, oldest first, who holds units that are not pipelined, and all else that is
+-- known; and all events of the run so far, newest first
 pub record Known : Type 0 where
   pub ways : List Way
   pub holds : List UnitHold
@@ -36,7 +36,8 @@ pub record Known : Type 0 where
 
 -- what is known beside when a run begins, where the hardware shows this and these stores are in its queue
 abbrev pub before_at : Facts → List Store → Before
-before_at facts stores = record { left = None; port = None; drain = None; facts = facts; waiting = with_queue stores []; refilled = true }
+before_at facts stores =
+    record { left = None; port = None; drain = None; facts = facts; waiting = with_queue stores []; refilled = true }
 
 -- when a run begins, all that is in flight stands at its first event
 abbrev pub known_at : Hardware → Known
@@ -106,13 +107,15 @@ new_beside s ways steps after leaving =
 
 -- all of the cycle, oldest first, where those that were in flight had these events before it, and have those after it
 abbrev pub new_events : Setting → List Way → List Way → List Step → HardwareRead → Leaving → List Event
-new_events s old ways steps after leaving = left_events leaving ++ (all_new s leaving old ++ new_beside s ways steps after leaving)
+new_events s old ways steps after leaving =
+    left_events leaving ++ (all_new s leaving old ++ new_beside s ways steps after leaving)
 
 -- the same where those had these events before it
 abbrev pub made_in : Setting → List Way → List Step → HardwareRead → List Event
 made_in s old steps after = new_events s old (all_moved s (leaving_of s old) old) steps after (leaving_of s old)
 
--- what is known after the cycle, where those that were in flight have these events before and after it, by the instructions that leave
+-- what is known after the cycle, where those that were in flight have these events before and after it, by the
+-- instructions that leave
 abbrev pub known_by : Setting → List Way → List Way → List Event → List Step → HardwareRead → Leaving → Known
 known_by s old ways events steps after leaving = record {
   ways = still_in_flight s.rows (with_fetched (fetch_event s ways (is_interrupted steps) leaving after) s.rows ways);
@@ -139,7 +142,8 @@ known_of first cycles = fold known_after (known_at first) cycles
 -- the end of a run of so many cycles, which comes after the last event
 abbrev pub end_of : ℕ → Before → Event
 end_of cycles before =
-    event_from true (record { stage = stage.End; number = 0 }) cycles None (waits cause.AfterLast (last_left before.left))
+    event_from true (record { stage = stage.End; number = 0 }) cycles None
+    (waits cause.AfterLast (last_left before.left))
 
 -- the path to it
 abbrev pub path_of : ℕ → Known → List Event

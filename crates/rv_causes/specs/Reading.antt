@@ -21,8 +21,8 @@ read_of h = record { facts = facts_of h; rob = h.rob }
 abbrev pub after_of : After → HardwareRead
 after_of after = record { facts = after.facts; rob = after.rob.now }
 
--- the number of a cycle, and how many there were before it; what the description says; the instructions as they stand at its end; its
--- steps; and what is read after it
+-- the number of a cycle, and how many there were before it; what the description says; the instructions as they stand
+-- at its end; its steps; and what is read after it
 pub record CycleRead : Type 0 where
   pub number : ℕ
   pub elapsed : ℕ

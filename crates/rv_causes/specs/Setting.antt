@@ -1,4 +1,5 @@
--- What stands when a cycle begins, with what its instructions came to by its end; and what several events of it may have waited for.
+-- What stands when a cycle begins, with what its instructions came to by its end; and what several events of it may
+-- have waited for.
 use Rattle.std.specs.Prelude.{ℕ, ◌+◌, ◌==◌, ◌&&◌, ◌||◌, not, Bool, false, if◌then◌else◌, List, Option, Some, None}
 use Rattle.std.specs.List.{list_any}
 use Rattle.std.specs.Option.{option_or}
@@ -13,9 +14,10 @@ use Rattle.rv_causes.specs.declared.{before.PortHold.PortHold, before.UnitHold.U
 use Rattle.rv_causes.specs.declared.{point.Point.Point, point.Stage.Stage, scene.Scene.Scene}
 use Rattle.rv_causes.specs.declared.cause.Cause.TheVariants as cause
 
--- The number of the cycle, and how many there were before it; what the description says; the instructions as they stand at its end; who
--- holds units that are not pipelined; all else that is known when the cycle begins; and whether by its end an instruction was issued or left
--- the hardware since fetch began anew. Their events stand beside it, as they come.
+-- The number of the cycle, and how many there were before it; what the description says; the instructions as they stand
+-- at its end; who holds units that are not pipelined; all else that is known when the cycle begins; and whether by its
+-- end an instruction was issued or left the hardware since fetch began anew. Their events stand beside it, as they
+-- come.
 pub record Setting : Type 0 where
   pub number : ℕ
   pub elapsed : ℕ
@@ -100,10 +102,11 @@ after_drain_at s cause cycle (Some drain) = if drain.until == cycle then Some (w
 -- one that drained until the cycle just before
 abbrev pub after_drain_before : Setting → Option DrainHold → Option Wait
 after_drain_before s None = None
-after_drain_before s (Some drain) = if drain.until + 1 == s.number then Some (waits cause.PortStore drain.event) else None
+after_drain_before s (Some drain) =
+    if drain.until + 1 == s.number then Some (waits cause.PortStore drain.event) else None
 
--- What a FENCE.I waits for that is the oldest: the older stores, which leave the queue after the commit of a cycle, then the port, and
--- before both to be the oldest.
+-- What a FENCE.I waits for that is the oldest: the older stores, which leave the queue after the commit of a cycle,
+-- then the port, and before both to be the oldest.
 abbrev pub after_stores : Setting → Option Wait
 after_stores s =
     option_or (after_drain_before s s.before.drain) (option_or (after_port s) (after_leaving (left_before s)))

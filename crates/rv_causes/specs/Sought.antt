@@ -43,9 +43,11 @@ is_sought sought.Entry p = is_in_flight p && is_some p.dispatched
 is_sought sought.FenceI p = is_fence_i p.instruction && (is_in_flight p && is_some p.dispatched)
 is_sought sought.Ended p = is_end p.ending
 is_sought (sought.Number number) p = p.number == number
-is_sought (sought.Stationed kind cycle) p = uses kind p && (is_before cycle p.dispatched && not (is_before cycle (issued_in p)))
+is_sought (sought.Stationed kind cycle) p =
+    uses kind p && (is_before cycle p.dispatched && not (is_before cycle (issued_in p)))
 is_sought (sought.IssuedIn kind cycle) p = uses kind p && is_at cycle (issued_in p)
 is_sought (sought.IssuedBefore kind cycle) p = uses kind p && is_just_before cycle (issued_in p)
-is_sought (sought.LoadUntil cycle end) p = is_load p.instruction && (is_at cycle (issued_in p) && is_at end (ready_in p))
+is_sought (sought.LoadUntil cycle end) p =
+    is_load p.instruction && (is_at cycle (issued_in p) && is_at end (ready_in p))
 is_sought (sought.BroadcastBefore cycle) p = is_just_before cycle p.broadcast
 is_sought (sought.StoreBefore cycle) p = is_store p.instruction && is_just_before cycle p.broadcast

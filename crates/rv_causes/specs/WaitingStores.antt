@@ -42,6 +42,7 @@ abbrev pub oldest : List (Option ℕ) → Option ℕ
 oldest [] = None
 oldest (address ∷ waiting) = address
 
--- those that wait on after a cycle with these steps, whose drain phase, in which the oldest may begin to drain, comes after its commit phase
+-- those that wait on after a cycle with these steps, whose drain phase, in which the oldest may begin to drain, comes
+-- after its commit phase
 abbrev pub still_waiting : List Step → Bool → List (Option ℕ) → List (Option ℕ)
 still_waiting steps drains waiting = if drains then drop 1 (with_steps steps waiting) else with_steps steps waiting

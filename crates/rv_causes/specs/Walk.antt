@@ -8,8 +8,8 @@ abbrev pub is_wanted : Option Point → Event → Bool
 is_wanted None event = false
 is_wanted (Some point) event = is_point event.at point
 
--- The path that leads to the event at a point: that event, then the one that it waited for last, and so on. The newest of all events is
--- the first.
+-- The path that leads to the event at a point: that event, then the one that it waited for last, and so on. The newest
+-- of all events is the first.
 abbrev pub path_to : List Event → Option Point → List Event
 path_to [] wanted = []
 path_to (event ∷ older) wanted =

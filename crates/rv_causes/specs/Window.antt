@@ -16,8 +16,8 @@ HasRoomFor more account = length account.words.words.items + more ≤ vec_capaci
 abbrev pub kept_events : Window → List Event
 kept_events window = reverse window.events.items
 
--- A window is one on all events of a run, the newest of which is the first: some older ones are not kept, and of those the path to the
--- root is accounted.
+-- A window is one on all events of a run, the newest of which is the first: some older ones are not kept, and of those
+-- the path to the root is accounted.
 pub record IsWindow (window : Window) (all : List Event) : Type 0 where
   pub older : List Event
   pub all_are : all ≡ kept_events window ++ older
@@ -49,7 +49,8 @@ abbrev pub AreSameButAccount : Window → Window → Type 0
 AreSameButAccount old new = (new.events ≡ old.events) × (new.root ≡ old.root)
 
 abbrev pub AreAlike : Window → Window → Type 0
-AreAlike old new = (new.events.items ≡ old.events.items) × (new.root ≡ old.root) × (accounted new.account ≡ accounted old.account)
+AreAlike old new =
+    (new.events.items ≡ old.events.items) × (new.root ≡ old.root) × (accounted new.account ≡ accounted old.account)
 
 -- the events before a place are dropped, and the account is that of the path to the new root
 abbrev pub IsMoved : ℕ → Option Point → Window → Window → Type 0

@@ -49,4 +49,6 @@ pub record AreWithin (cycles : ℕ) (known : Known) : Type 0 where
 
 -- whatever cycles follow one another, what is known after them comes within them
 abbrev pub ComesInTime : Type 0
-ComesInTime = (first : Hardware) (moments : List Moment) → AreWithin (length moments) (known_of first (walk still_open first moments))
+ComesInTime =
+    (first : Hardware) (moments : List Moment) →
+    AreWithin (length moments) (known_of first (walk still_open first moments))

@@ -33,9 +33,11 @@ pub record IsPlaceOf (address place : ℕ) (words : List WordCycles) : Type 0 wh
 pub record IsPlaceFor (address place : ℕ) (words : List WordCycles) : Type 0 where
   pub within : place ≤ length words
   pub before : (k : ℕ) (word : WordCycles) → k < place → (slice_index_or words k word).address < address
-  pub after : (k : ℕ) (word : WordCycles) → place ≤ k → k < length words → address < (slice_index_or words k word).address
+  pub after : (k : ℕ) (word : WordCycles) → place ≤ k → k < length words →
+      address < (slice_index_or words k word).address
 
 -- any change at a place of the new list is that change of the word of an address in the old one
 abbrev pub StandsFor : ℕ → ℕ → List WordCycles → List WordCycles → Type 0
 StandsFor address place old new =
-    (change : WordCycles → WordCycles) (word : WordCycles) → with_change address change old ≡ slice_set new place (change (slice_index_or new place word))
+    (change : WordCycles → WordCycles) (word : WordCycles) →
+    with_change address change old ≡ slice_set new place (change (slice_index_or new place word))

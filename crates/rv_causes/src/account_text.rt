@@ -79,8 +79,8 @@ fn write_both<W: Write>(
     write_most(out, listing, cycles, account.words.words.as_slice(), ranks);
 }
 
-/// Writes the account of a path of so many cycles, with room for what it ranks. Fails by `WriteFailed` alone, and what was written is
-/// then a beginning of the text.
+/// Writes the account of a path of so many cycles, with room for what it ranks. Fails by `WriteFailed` alone, and what
+/// was written is then a beginning of the text.
 #[tactic(auto, using(rv_text::proofs::Saying::says_written))]
 pub fn write_account<W: Write>(
     writer: &mut W,
@@ -90,7 +90,8 @@ pub fn write_account<W: Write>(
     ranks: &mut Ranks,
 ) -> Result<(), ReportError>
     requires empty { AreEmpty ranks.old }
-    ensures { IsWritten result (W.contents writer.old) (W.contents writer.new) (account_text listing.now cycles (accounted account.now)) }
+    ensures { IsWritten result (W.contents writer.old) (W.contents writer.new)
+        (account_text listing.now cycles (accounted account.now)) }
 {
     let mut out = Sink::new(writer);
     write_both(&mut out, listing, cycles, account, ranks);

@@ -107,8 +107,8 @@ fn waits_in(stores: &StoreQueue) -> bool
 }
 
 impl Facts {
-    /// What hardware between two cycles shows, by its store queue, the first cycle in which its port is free, and the first one in which
-    /// the drain under way is over, if one is.
+    /// What hardware between two cycles shows, by its store queue, the first cycle in which its port is free, and the
+    /// first one in which the drain under way is over, if one is.
     pub fn of(stores: &StoreQueue, port_free: u64, drain_end: Option<u64>) -> Facts
         ensures { result ≡ facts_by stores.now.stores port_free drain_end }
     {

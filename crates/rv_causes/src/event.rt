@@ -175,7 +175,8 @@ impl<'a> Waited<'a> {
         }
     }
 
-    /// The same, or the one that it is again. By the end of the cycle an instruction was issued or left since fetch began anew, or none.
+    /// The same, or the one that it is again. By the end of the cycle an instruction was issued or left since fetch
+    /// began anew, or none.
     #[inline(always)]
     pub(crate) fn event(&self, refilled: bool, at: Point, cycle: u64, address: Option<u32>) -> Event
         ensures { result ≡ event_from refilled at cycle address self.now }
@@ -196,7 +197,8 @@ impl<'a> Anew<'a> {
     }
 }
 
-/// Whether an instruction was issued or left since fetch began anew, after a cycle in which words were fetched by an event, if some were.
+/// Whether an instruction was issued or left since fetch began anew, after a cycle in which words were fetched by an
+/// event, if some were.
 pub(crate) fn refilled_after(refilled: bool, fetch: &Option<Event>) -> bool
     ensures { result ≡ refilled_after refilled fetch.now }
 {

@@ -61,7 +61,8 @@ pub(crate) fn after_redirection<'a>(
     after: &After<'_>,
     first: &Passage,
 ) -> Option<Anew<'a>>
-    ensures { result ≡ after_redirection (setting_of scene.now) ways.now false leaving.now (after_of after.now) first.now }
+    ensures { result ≡ after_redirection (setting_of scene.now) ways.now false leaving.now
+        (after_of after.now) first.now }
 {
     match after_flush(leaving) {
         Some(waited) => Some(waited),

@@ -154,7 +154,8 @@ fn goes_beyond(number: u64, hold: &UnitHold) -> bool
 fn push_hold(values: &Values, row: &Passage, way: &Way, issue: Issue, holds: &mut Vec<UnitHold>)
     requires cycles { issue.cycle < 2 ^ 40 }
     requires room { length holds.old.items < vec_capacity holds.old }
-    ensures items { holds.new.items ≡ holds.old.items ++ hold_of_kind values.now row.now way.now issue (kind_of_word row.now.instruction) }
+    ensures items { holds.new.items
+        ≡ holds.old.items ++ hold_of_kind values.now row.now way.now issue (kind_of_word row.now.instruction) }
     ensures few { length holds.new.items ≤ length holds.old.items + 1 }
     ensures capacity { vec_capacity holds.old ≤ vec_capacity holds.new }
 {
@@ -330,7 +331,8 @@ pub(crate) fn begins_drain(taken: &Option<PortHold>) -> bool
     }
 }
 
-/// The drain after a cycle in which the port is taken so: a new one, or the one before, if an event of a later cycle may wait for it.
+/// The drain after a cycle in which the port is taken so: a new one, or the one before, if an event of a later cycle
+/// may wait for it.
 pub(crate) fn take_drain(number: u64, taken: &Option<PortHold>, drain: &mut Option<DrainHold>)
     ensures { drain.new ≡ option_or (drain_of taken.now) (drain_kept number drain.old) }
 {

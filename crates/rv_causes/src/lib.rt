@@ -1,9 +1,10 @@
-//! What each event of a run waited for: a fetch, a dispatch, an issue, a broadcast, a commit, the start of a drain or of a write-back of
-//! lines, or an interrupt waited last for one other event, which it names, and so the path that is walked back from the run's end, the
-//! critical path, has each cycle of the run on account of exactly one cause. Its model is what is known between two cycles: the events for
-//! which later ones may wait, and all events of the run, of which only the last are kept, with the account of the path to where all later
-//! paths meet. It reads of a cycle what a `Cycle` has of it, and nothing of the pipeline that made it. `specs/` defines what an event waited
-//! for, and what a cycle makes of what is known.
+//! What each event of a run waited for: a fetch, a dispatch, an issue, a broadcast, a commit, the start of a drain or
+//! of a write-back of lines, or an interrupt waited last for one other event, which it names, and so the path that is
+//! walked back from the run's end, the critical path, has each cycle of the run on account of exactly one cause. Its
+//! model is what is known between two cycles: the events for which later ones may wait, and all events of the run, of
+//! which only the last are kept, with the account of the path to where all later paths meet. It reads of a cycle what a
+//! `Cycle` has of it, and nothing of the pipeline that made it. `specs/` defines what an event waited for, and what a
+//! cycle makes of what is known.
 #![tactic(auto)]
 
 mod account;

@@ -76,13 +76,15 @@ fn pass(event: &Event, wanted: &mut Vec<Point>)
     }
 }
 
-/// The place from which on several walks pass all events of some, of which the newest is the last, until at most one is wanted. What
-/// they want then is left.
+/// The place from which on several walks pass all events of some, of which the newest is the last, until at most one is
+/// wanted. What they want then is left.
 pub(crate) fn meet(events: &[Event], wanted: &mut Vec<Point>) -> usize
     ensures within { result ≤ length events.now }
     ensures met { 0 < result → length wanted.new.items ≤ 1 }
-    ensures covers { (point : Option Point) → IsAmong point wanted.old.items → IsAmong (beyond (reverse (drop result events.now)) point) wanted.new.items }
-    ensures come { (root : Option Point) → AllComeTo root (reverse events.now) wanted.old.items → AllComeTo root (reverse (take result events.now)) wanted.new.items }
+    ensures covers { (point : Option Point) → IsAmong point wanted.old.items →
+        IsAmong (beyond (reverse (drop result events.now)) point) wanted.new.items }
+    ensures come { (root : Option Point) → AllComeTo root (reverse events.now) wanted.old.items →
+        AllComeTo root (reverse (take result events.now)) wanted.new.items }
 {
     let mut front = events.len();
     while front > 0 && wanted.len() > 1 {

@@ -58,7 +58,8 @@ fn count_below(number: u64, numbers: &[u64]) -> usize
 impl Numbering {
     ghost use Rattle.rv_causes.specs.Numbering.{IsOneLater, number_by};
 
-    /// That of a window which begins where a run does, with these instructions in flight, numbered from 0 on. The only error is out of memory.
+    /// That of a window which begins where a run does, with these instructions in flight, numbered from 0 on. The only
+    /// error is out of memory.
     pub fn begin(alloc: Global, rows: &[Passage]) -> Result<Numbering, AllocError>
         requires few { length rows.now ≤ 576 }
         ensures numbers { IfOk result (λ numbering. numbering.numbers.items ≡ row_numbers rows.now) }
@@ -72,12 +73,13 @@ impl Numbering {
         })
     }
 
-    /// One more of the cycles before a window, if so many are no more than those: the instructions that were in flight before it or fetched
-    /// in it stand so at its end.
+    /// One more of the cycles before a window, if so many are no more than those: the instructions that were in flight
+    /// before it or fetched in it stand so at its end.
     pub fn follow(&mut self, from: u64, cycles: u64, rows: &[Passage])
         requires few { length rows.now ≤ 576 }
         requires fits { self.old.fetched + 576 < 2 ^ 64 }
-        ensures followed { cycles ≤ from → IsOneLater rows.now self.old.numbers.items self.old.fetched self.new.numbers.items self.new.fetched }
+        ensures followed { cycles ≤ from →
+            IsOneLater rows.now self.old.numbers.items self.old.fetched self.new.numbers.items self.new.fetched }
         ensures begun { from < cycles → self.new ≡ self.old }
     {
         if cycles <= from {

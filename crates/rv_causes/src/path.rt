@@ -35,8 +35,8 @@ const MOST_BESIDE: usize = 6;
 /// What is known of the path that leads to each event of a run, between two cycles.
 #[derive(Drop)]
 pub struct Path {
-    // The events of the instructions in flight, oldest first. Those of the first `dropped` are forgotten: they lie there until their
-    // room is wanted, so that the others stay.
+    // The events of the instructions in flight, oldest first. Those of the first `dropped` are forgotten: they lie
+    // there until their room is wanted, so that the others stay.
     ways: Vec<Way>,
     dropped: usize,
     // Room for the others then.
@@ -65,8 +65,8 @@ impl Path {
     ghost use Rattle.rv_causes.specs.Path.{before_at, path_of, with_fetched};
     ghost use Rattle.rv_causes.specs.declared.event.Event.{Event};
 
-    /// That of hardware which shows this and has this store queue, in which so many instructions are in flight, before the first cycle.
-    /// The only error is out of memory.
+    /// That of hardware which shows this and has this store queue, in which so many instructions are in flight, before
+    /// the first cycle. The only error is out of memory.
     pub fn begin(
         alloc: Global,
         facts: Facts,
@@ -134,8 +134,8 @@ impl Path {
         self.window.reserve(more)
     }
 
-    /// Makes room for what a further cycle may add, and drops no event where all are kept. The only error is out of memory, which changes
-    /// nothing that is known.
+    /// Makes room for what a further cycle may add, and drops no event where all are kept. The only error is out of
+    /// memory, which changes nothing that is known.
     pub fn make_room_keeping(&mut self, keeps_all: bool) -> Result<(), AllocError>
         ensures same { (events : List Event) → known_of_path self.new events ≡ known_of_path self.old events }
         ensures kept { ArePathsKept self.old self.new }
@@ -182,9 +182,11 @@ impl Path {
         requires few { length cycle.now.rows.now ≤ 576 }
         requires cycles { cycle.now.number < 2 ^ 40 }
         ensures known { (events : List Event)
-            → known_of_path self.new (with_events (made_shown (cycle_of cycle.now) (known_of_path self.old events)) events)
+            → known_of_path self.new
+            (with_events (made_shown (cycle_of cycle.now) (known_of_path self.old events)) events)
             ≡ known_shown (cycle_of cycle.now) (known_of_path self.old events) }
-        ensures made { IsFollowed (made_shown (cycle_of cycle.now) (known_of_path self.old [])) self.old.window self.new.window }
+        ensures made { IsFollowed (made_shown (cycle_of cycle.now) (known_of_path self.old []))
+            self.old.window self.new.window }
     {
         let ended = count_in_order(cycle.rows);
         see_shown(
@@ -207,7 +209,8 @@ impl Path {
         requires few { length cycle.now.rows.now ≤ 576 }
         requires cycles { cycle.now.number < 2 ^ 40 }
         ensures known { (events : List Event)
-            → known_of_path self.new events ≡ known_brought (cycle_of cycle.now) self.old.seen (known_of_path self.old events) }
+            → known_of_path self.new events
+            ≡ known_brought (cycle_of cycle.now) self.old.seen (known_of_path self.old events) }
         ensures window { self.new.window ≡ self.old.window }
     {
         self.take_holds(cycle);
@@ -301,7 +304,8 @@ impl Path {
 
     /// The account of the path to the end of a run of so many cycles. The only error is out of memory.
     pub fn into_account(self, cycles: u64) -> Result<Account, AllocError>
-        ensures { IfOk result (λ account. (all : List Event) → IsWindow self.window all → Passes self.window (last_point self)
+        ensures { IfOk result (λ account. (all : List Event) → IsWindow self.window all →
+            Passes self.window (last_point self)
             → accounted account ≡ account_of (path_of cycles (known_of_path self all))) }
     {
         let Path {
@@ -317,8 +321,8 @@ impl Path {
         window.into_account(&end_of(cycles, &before))
     }
 
-    /// The path to the last event of the cycles so far, as far as it lies in the window, the newest event first. The only error is out of
-    /// memory.
+    /// The path to the last event of the cycles so far, as far as it lies in the window, the newest event first. The
+    /// only error is out of memory.
     pub fn into_path(self) -> Result<Vec<Event>, AllocError>
         ensures { IfOk result (λ path. path.items ≡ path_to (kept_events self.window) (last_point self)) }
     {

@@ -42,7 +42,8 @@ impl Stage {
     }
 }
 
-/// Which event of a run one is, by the number of the instruction; that of a drain or an interrupt is the cycles of the run before it.
+/// Which event of a run one is, by the number of the instruction; that of a drain or an interrupt is the cycles of the
+/// run before it.
 #[derive(Clone, Copy)]
 pub struct Point {
     pub(crate) stage: Stage,

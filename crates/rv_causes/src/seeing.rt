@@ -173,7 +173,8 @@ fn see_handler(
     events: &mut Vec<Event>,
 )
     requires room { length events.old.items + 1 ≤ vec_capacity events.old }
-    ensures fetch { fetch.new ≡ Some (fetch_of (setting_of scene.now) first.now (handled (setting_of scene.now) first.now)) }
+    ensures fetch { fetch.new ≡ Some
+        (fetch_of (setting_of scene.now) first.now (handled (setting_of scene.now) first.now)) }
     ensures items { events.new.items
         ≡ events.old.items ++ new_fetch_of (setting_of scene.now) first.now (handled (setting_of scene.now) first.now) }
     ensures capacity { vec_capacity events.old ≤ vec_capacity events.new }
@@ -227,7 +228,8 @@ fn see_fetched(
 )
     requires room { length events.old.items + 1 ≤ vec_capacity events.old }
     ensures fetch { fetch.new
-        ≡ fetched_by (setting_of scene.now) ways.now interrupted leaving.now (after_of after.now) (option_copied first.entry) }
+        ≡ fetched_by (setting_of scene.now) ways.now interrupted leaving.now (after_of after.now)
+        (option_copied first.entry) }
     ensures items { events.new.items ≡ events.old.items
         ++ new_fetched (setting_of scene.now) ways.now interrupted leaving.now (after_of after.now) (option_copied first.entry) }
     ensures capacity { vec_capacity events.old ≤ vec_capacity events.new }
@@ -250,8 +252,8 @@ fn first_fetched<'a>(scene: &Scene<'a>, ways: &[Way]) -> Option<&'a Passage>
     scene.rows.get(ways.len())
 }
 
-// What a cycle brings, where the events of the instructions that were in flight before it stand as they do after it. Appends the new
-// ones of the others.
+// What a cycle brings, where the events of the instructions that were in flight before it stand as they do after it.
+// Appends the new ones of the others.
 #[tactic(auto, using(crate::proofs::Drains::drain_of_taken))]
 fn notice(
     scene: &Scene<'_>,
@@ -292,8 +294,8 @@ fn notice(
     seen.refilled = refilled_after(scene.refilled, &seen.fetch);
 }
 
-// Adds the events of the cycle to those of the instructions that were in flight before it, appends all new ones, and sees what the cycle
-// brings beside.
+// Adds the events of the cycle to those of the instructions that were in flight before it, appends all new ones, and
+// sees what the cycle brings beside.
 fn see(
     scene: &Scene<'_>,
     left: &[Passage],
@@ -306,7 +308,8 @@ fn see(
     requires left { HasAllThatLeft (setting_of scene.now).rows left.now }
     requires room { length events.old.items + length ways.old + 6 ≤ vec_capacity events.old }
     ensures seen { IsSeen (setting_of scene.now) steps.now (after_of after.now) ways.old ways.new seen.new }
-    ensures items { events.new.items ≡ events.old.items ++ made_in (setting_of scene.now) ways.old steps.now (after_of after.now) }
+    ensures items { events.new.items
+        ≡ events.old.items ++ made_in (setting_of scene.now) ways.old steps.now (after_of after.now) }
     ensures capacity { vec_capacity events.old ≤ vec_capacity events.new }
 {
     let mut leaving = Leaving::NONE;
@@ -347,7 +350,8 @@ pub(crate) fn see_shown(
     requires room { length events.old.items + length (drop dropped ways.old) + 6 ≤ vec_capacity events.old }
     ensures seen { IsSeen (setting_by (cycle_of cycle.now) holds.now before.now)
         cycle.now.steps.now (after_of cycle.now.after) (drop dropped ways.old) (drop dropped ways.new) seen.new }
-    ensures items { events.new.items ≡ events.old.items ++ made_in (setting_by (cycle_of cycle.now) holds.now before.now)
+    ensures items { events.new.items
+        ≡ events.old.items ++ made_in (setting_by (cycle_of cycle.now) holds.now before.now)
         (drop dropped ways.old) cycle.now.steps.now (after_of cycle.now.after) }
     ensures capacity { vec_capacity events.old ≤ vec_capacity events.new }
 {

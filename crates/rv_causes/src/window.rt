@@ -10,8 +10,8 @@ use crate::meeting::{meet, walk};
 use crate::point::Point;
 use std::alloc::{AllocError, Global};
 
-/// The events of a run from some one on, and the account of the path to that one, the root, through which all paths go that may be asked
-/// for.
+/// The events of a run from some one on, and the account of the path to that one, the root, through which all paths go
+/// that may be asked for.
 #[derive(Drop)]
 pub(crate) struct Window {
     /// The newest is the last.
@@ -76,19 +76,21 @@ impl Window {
     pub(crate) fn push(&mut self, event: Event)
         requires room { HasRoomForEvents 1 self.old }
         ensures window { (all : List Event) → IsWindow self.old all → IsWindow self.new (event ∷ all) }
-        ensures passes { Passes self.old event.before → (wanted : Option Point) → Passes self.old wanted → Passes self.new wanted }
+        ensures passes { Passes self.old event.before → (wanted : Option Point) → Passes self.old wanted →
+            Passes self.new wanted }
         ensures new { Passes self.old event.before → Passes self.new (Some event.at) }
         ensures room { (more : ℕ) → HasRoomForEvents (more + 1) self.old → HasRoomForEvents more self.new }
     {
         self.events.push_reserved(event);
     }
 
-    // Makes the account that of the path to a point, of so many of the oldest events, with room for a word more. The only error is out of
-    // memory, which changes nothing that is accounted.
+    // Makes the account that of the path to a point, of so many of the oldest events, with room for a word more. The
+    // only error is out of memory, which changes nothing that is accounted.
     fn account_to(&mut self, count: usize, wanted: Option<Point>) -> Result<(), AllocError>
         requires within { count ≤ length self.old.events.items }
         ensures others { AreSameButAccount self.old self.new }
-        ensures account { OnOk result (accounted self.new.account ≡ account_to (reverse (take count self.old.events.items)) wanted (accounted self.old.account)) }
+        ensures account { OnOk result (accounted self.new.account
+            ≡ account_to (reverse (take count self.old.events.items)) wanted (accounted self.old.account)) }
         ensures room { OnOk result (HasRoomFor 1 self.new.account) }
         ensures failed { OnErr result (accounted self.new.account ≡ accounted self.old.account) }
     {
@@ -124,15 +126,16 @@ impl Window {
             .reserve(if events < length { length } else { events })
     }
 
-    /// Makes room for so many events more, where the paths to some points may be asked for still, that are used up. Drops the events that
-    /// come before all of those paths meet, and doubles the room where that leaves too little. The only error is out of memory: then
-    /// less room may be left than there was, and no path is another.
+    /// Makes room for so many events more, where the paths to some points may be asked for still, that are used up.
+    /// Drops the events that come before all of those paths meet, and doubles the room where that leaves too little.
+    /// The only error is out of memory: then less room may be left than there was, and no path is another.
     pub(crate) fn make_room(
         &mut self,
         events: usize,
         live: &mut Vec<Point>,
     ) -> Result<(), AllocError>
-        ensures window { AllPass self.old live.old.items → (all : List Event) → IsWindow self.old all → IsWindow self.new all }
+        ensures window { AllPass self.old live.old.items → (all : List Event) → IsWindow self.old all →
+            IsWindow self.new all }
         ensures pass { AllPass self.old live.old.items → AllPass self.new live.old.items }
         ensures room { OnOk result (HasRoomForEvents events self.new) }
         ensures few { length self.new.events.items ≤ length self.old.events.items }
@@ -146,7 +149,8 @@ impl Window {
 
     /// The account of the path to the end of the run. The only error is out of memory.
     pub(crate) fn into_account(self, end: &Event) -> Result<Account, AllocError>
-        ensures { IfOk result (λ account. (all : List Event) → IsWindow self all → Passes self end.now.before → accounted account ≡ account_of (end.now ∷ path_to all end.now.before)) }
+        ensures { IfOk result (λ account. (all : List Event) → IsWindow self all → Passes self end.now.before →
+            accounted account ≡ account_of (end.now ∷ path_to all end.now.before)) }
     {
         let mut window = self;
         let count = window.events.len();

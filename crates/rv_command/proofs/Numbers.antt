@@ -16,6 +16,7 @@ use Rattle.rv_command.specs.Command.{number_from, number_in}
 abbrev pub legal : ℕ → ℕ → Option ℕ → Option ℕ
 legal low high = option_and_then (λ n. if nat_le low n && nat_le n high then Some n else None)
 
+-- a number in the range is taken
 pub legal_number : (low high : ℕ) (r : Option ℕ) (n : ℕ) → r ≡ Some n → low ≤ n → n ≤ high → legal low high r ≡ Some n
 legal_number low high r n is above below = rw (is, le-leb low n above, le-leb n high below) refl
 
@@ -23,9 +24,11 @@ none_either : (n : ℕ) (b : Bool) → (if b && false then Some n else None) ≡
 none_either n true = refl
 none_either n false = refl
 
+-- one above it is not
 pub legal_over : (low high : ℕ) (r : Option ℕ) (n : ℕ) → r ≡ Some n → high < n → legal low high r ≡ None
 legal_over low high r n is over = rw (is, lt-leb n high over) (none_either n (nat_le low n))
 
+-- and one below it is not
 pub legal_under : (low high : ℕ) (r : Option ℕ) (n : ℕ) → r ≡ Some n → n < low → legal low high r ≡ None
 legal_under low high r n is under = rw (is, lt-leb low n under) refl
 

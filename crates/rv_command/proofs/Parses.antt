@@ -18,7 +18,8 @@ arguments_are_simple = refl
 arguments_are_free : is_simple_and_free program_arguments ≡ true
 arguments_are_free = refl
 
-faulty : (kinds : Kinds) (words : List Text) (e : Error) → fault_of program_arguments words ≡ kinds → IsAmong (kind_of e) kinds → command_of words ≡ None
+faulty : (kinds : Kinds) (words : List Text) (e : Error) → fault_of program_arguments words ≡ kinds →
+    IsAmong (kind_of e) kinds → command_of words ≡ None
 faulty [] words e is among = absurd among
 faulty (k ∷ ks) words e is among =
     let some : is_empty (k ∷ ks) ≡ false = ne_eqb (length (k ∷ ks)) 0 (λ none. omega arith) in

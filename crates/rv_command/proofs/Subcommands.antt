@@ -4,6 +4,7 @@ use Rattle.clap.specs.Words.{AddsSubcommand, App, shape_of, with_subcommand}
 use Rattle.clap.specs.declared.builder.command.Command.{Command as Parser}
 use Rattle.rv_command.specs.Arguments.{IsParserOf}
 
+-- a parser to which a subcommand is added parses that too
 pub subcommand_added : (old sub new : Parser) (program command : App) → IsParserOf program old → IsParserOf command sub
     → AddsSubcommand old sub new → IsParserOf (with_subcommand program command.top) new
 subcommand_added old sub new program command is is_command added = (

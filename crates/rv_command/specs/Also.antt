@@ -23,12 +23,14 @@ number_by _ = None
 abbrev pub number_named : Text → Option ℕ
 number_named text =
     if length text == 0 then None
-    else option_and_then (λ (lexeme : Lexeme). if lexeme.size == length text then option_and_then number_by lexeme.token else None)
+    else option_and_then
+    (λ (lexeme : Lexeme). if lexeme.size == length text then option_and_then number_by lexeme.token else None)
     (first_lexeme (get_or text 0 0) text)
 
 -- the truth value that a text is
 abbrev pub truth_named : Text → Option Bool
-truth_named text = if bytes_eq text (codes "true") then Some true else (if bytes_eq text (codes "false") then Some false else None)
+truth_named text =
+    if bytes_eq text (codes "true") then Some true else (if bytes_eq text (codes "false") then Some false else None)
 
 -- the value that a text is for a key
 abbrev pub value_at : Key → Text → Option KeyValue
@@ -56,7 +58,8 @@ is_tried _ = true
 
 -- a key that says so, by its name, with its index
 abbrev pub tried_key : Text → Result (ℕ × Key) Reason
-tried_key name = and_then (ok_or (index_named name) UnknownKey) (λ index. and_then (ok_or (key_at index) UnknownKey) (λ k.
+tried_key name =
+    and_then (ok_or (index_named name) UnknownKey) (λ index. and_then (ok_or (key_at index) UnknownKey) (λ k.
     if is_tried k then Ok (index, k) else Err (OtherKey k)))
 
 -- the setting of a key to the value that a text is, where the key takes it
@@ -65,7 +68,8 @@ made index k text = option_and_then (λ held. taken (record { index = index; val
 
 -- the setting of a key with a name
 abbrev pub setting_named : Text → Text → Result Setting Reason
-setting_named name text = and_then (tried_key name) (λ (found : ℕ × Key). ok_or (made found.0 found.1 text) (WrongValue found.1))
+setting_named name text =
+    and_then (tried_key name) (λ (found : ℕ × Key). ok_or (made found.0 found.1 text) (WrongValue found.1))
 
 -- a text that has no `=` is a key at most
 abbrev pub no_setting : Text → Result Setting Reason
@@ -77,7 +81,8 @@ is_equals byte = byte == 61
 
 -- `KEY=VALUE`: what stands before the first `=`, and after it
 abbrev pub setting_of : Text → Result Setting Reason
-setting_of text = option_map_or (λ at. setting_named (take at text) (drop (at + 1) text)) (position is_equals text) (no_setting text)
+setting_of text =
+    option_map_or (λ at. setting_named (take at text) (drop (at + 1) text)) (position is_equals text) (no_setting text)
 
 -- the setting of the text at a place, or why there is none
 abbrev pub set_at : ℕ → Result Setting Reason → Result (Option Setting) AlsoFault
@@ -98,19 +103,23 @@ abbrev pub repeated : Settings → Option ℕ
 repeated settings =
     if is_of_one_key settings.first settings.second then Some 1
     else (if is_of_one_key settings.first settings.third || is_of_one_key settings.second settings.third then Some 2
-    else (if is_of_one_key settings.first settings.fourth || (is_of_one_key settings.second settings.fourth || is_of_one_key settings.third settings.fourth) then Some 3
+    else (if is_of_one_key settings.first settings.fourth
+    || (is_of_one_key settings.second settings.fourth || is_of_one_key settings.third settings.fourth) then Some 3
     else None))
 
 -- settings, where no key is set twice
 abbrev pub set_once : Settings → Result Settings AlsoFault
-set_once settings = option_map_or (λ place. Err (record { place = place; reason = SetTwice })) (repeated settings) (Ok settings)
+set_once settings =
+    option_map_or (λ place. Err (record { place = place; reason = SetTwice })) (repeated settings) (Ok settings)
 
--- the settings of at most four texts, or what is wrong with them: that there are more, or else the first text that sets no value, or else
--- the first that sets a key again
+-- the settings of at most four texts, or what is wrong with them: that there are more, or else the first text that sets
+-- no value, or else the first that sets a key again
 abbrev pub settings_of : List Text → Result Settings AlsoFault
 settings_of texts =
     if nat_lt 4 (length texts) then Err (record { place = 4; reason = TooMany })
-    else and_then (column_of texts 0) (λ one. and_then (column_of texts 1) (λ two. and_then (column_of texts 2) (λ three. and_then (column_of texts 3) (λ four.
+    else and_then (column_of texts 0)
+    (λ one. and_then (column_of texts 1)
+    (λ two. and_then (column_of texts 2) (λ three. and_then (column_of texts 3) (λ four.
     set_once (record { first = one; second = two; third = three; fourth = four })))))
 
 -- the texts that the matches hold

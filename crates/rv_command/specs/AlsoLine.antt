@@ -34,7 +34,9 @@ text_at_fault texts fault = unwrap_or (slice_get texts fault.place) []
 
 -- what is said of a text, and why
 abbrev pub said_of_text : Text → Reason → Text
-said_of_text text reason = codes "invalid value '" ++ (text ++ (codes "' for '--also <KEY=VALUE>': " ++ (reason_text reason ++ hint_of reason text)))
+said_of_text text reason =
+    codes "invalid value '"
+    ++ (text ++ (codes "' for '--also <KEY=VALUE>': " ++ (reason_text reason ++ hint_of reason text)))
 
 -- what is said of the one at fault
 abbrev pub fault_line : List Text → AlsoFault → Text

@@ -86,7 +86,8 @@ check_arguments = new_app (codes "check")
 -- `rv_sim picture [--text] [--retired] [--path]`
 abbrev pub bare_picture_arguments : App
 bare_picture_arguments =
-    with_rule (with_rule (with_rule (new_app (codes "picture")) (flag_rule (codes "text"))) (flag_rule (codes "retired")))
+    with_rule (with_rule (with_rule (new_app (codes "picture")) (flag_rule (codes "text")))
+    (flag_rule (codes "retired")))
     (flag_rule (codes "path"))
 
 -- `rv_sim picture [--text] [--retired] [--path] [--from N] [--cycles N]`
@@ -96,7 +97,8 @@ picture_arguments = with_rule (with_rule bare_picture_arguments from_rule) cycle
 -- `rv_sim explain [--figures] [--path] [--limit N]`
 abbrev pub explain_arguments : App
 explain_arguments =
-    with_rule (with_rule (with_rule (new_app (codes "explain")) (flag_rule (codes "figures"))) (flag_rule (codes "path"))) limit_rule
+    with_rule (with_rule (with_rule (new_app (codes "explain")) (flag_rule (codes "figures")))
+    (flag_rule (codes "path"))) limit_rule
 
 -- `rv_sim NAME [--from N]`
 abbrev pub stretch_from_arguments : Text → App

@@ -75,7 +75,8 @@ stretch_cycles_in = number_in (codes "cycles") 1 most_cycles_of_states
 
 -- the first of the cycles whose states are written, and the limit of a run that ends with the last of them
 abbrev pub stretch_in : List Row → Option (ℕ × ℕ)
-stretch_in rows = option_and_then (λ from. option_map (λ cycles. (from, from + cycles)) (stretch_cycles_in rows)) (from_in rows)
+stretch_in rows =
+    option_and_then (λ from. option_map (λ cycles. (from, from + cycles)) (stretch_cycles_in rows)) (from_in rows)
 
 -- what the matches of `states` ask for
 abbrev pub states_in : List Row → Option Command
@@ -108,7 +109,10 @@ sensitivity_in rows = option_and_then (λ also. option_map (Sensitivity also) (l
 -- what the matches of `picture` ask for
 abbrev pub picture_in : List Row → Option Command
 picture_in rows =
-    option_and_then (λ from. option_map (Picture (flag_in (codes "text") rows) (flag_in (codes "retired") rows) (flag_in (codes "path") rows) from) (cycles_in rows))
+    option_and_then
+    (λ from. option_map
+    (Picture (flag_in (codes "text") rows) (flag_in (codes "retired") rows)
+    (flag_in (codes "path") rows) from) (cycles_in rows))
     (from_in rows)
 
 -- ---- what the words ask for
@@ -149,7 +153,7 @@ command_of words = if is_empty (fault_of program_arguments words)
 abbrev pub said_of_words : List Text → Text
 said_of_words words = option_map_or said_of (subcommand_of program_arguments words) []
 
--- The kinds that the error of refused words may have: those that clap's rules give for them. Where they give none, the words name no
--- command with numbers in their ranges.
+-- The kinds that the error of refused words may have: those that clap's rules give for them. Where they give none, the
+-- words name no command with numbers in their ranges.
 abbrev pub refused_kinds : List Text → Kinds
 refused_kinds words = or_else (fault_of program_arguments words) (ValueValidation ∷ [])

@@ -22,7 +22,9 @@ nothing_line texts = option_map_or (λ text. said_of_text text what_is_shown) (f
 
 -- what is said of texts: of a fifth one that it is one too many, and else of the first that names nothing
 abbrev pub show_line : List Text → Text
-show_line texts = option_map_or (λ text. said_of_text text (codes "--show may be given four times")) (slice_get texts 4) (nothing_line texts)
+show_line texts =
+    option_map_or (λ text. said_of_text text (codes "--show may be given four times")) (slice_get texts 4)
+    (nothing_line texts)
 
 -- the same of those that the matches hold
 abbrev pub line_in : List Row → Text

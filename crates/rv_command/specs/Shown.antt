@@ -21,7 +21,8 @@ shown_by _ = None
 abbrev pub shown_of : Text → Option Shown
 shown_of text =
     if length text == 0 then None
-    else option_and_then (λ (lexeme : Lexeme). if lexeme.size == length text then option_and_then shown_by lexeme.token else None)
+    else option_and_then
+    (λ (lexeme : Lexeme). if lexeme.size == length text then option_and_then shown_by lexeme.token else None)
     (first_lexeme (get_or text 0 0) text)
 
 -- the column of the text at a place: none where there is no text, and no answer where that names nothing

@@ -6,6 +6,7 @@ use Rattle.rv_counts.specs.Counts.{nothing_at, times_of}
 use Rattle.rv_counts.specs.Order.{AreAbove, HasAddress, IsInOrder, with_change}
 use Rattle.rv_counts.specs.declared.counts.WordCounts.{WordCounts}
 
+-- what implies another property of each implies it of all
 pub each-by : {X : Type 0} {P Q : X → Type 0} (xs : List X) → ((x : X) → P x → Q x) → Each P xs → Each Q xs
 each-by [] then each = tt
 each-by (x ∷ xs) then each = (then x each.0, each-by xs then each.1)
@@ -23,14 +24,16 @@ none_of (suc n) never = absurd (never (omega arith))
 
 -- cases of where a change is made
 module _ (address : ℕ) (change : WordCounts → WordCounts) (P : List WordCounts → Type 0) (w : WordCounts) (ws : List WordCounts) where
-  by_order : (low : Bool) → (w.address == address) ≡ false → nat_lt address w.address ≡ low → (address < w.address → P (change (nothing_at address) ∷ w ∷ ws))
+  by_order : (low : Bool) → (w.address == address) ≡ false → nat_lt address w.address ≡ low →
+      (address < w.address → P (change (nothing_at address) ∷ w ∷ ws))
       → (w.address < address → P (w ∷ with_change address change ws)) → P (with_change address change (w ∷ ws))
   by_order true other is new later = rw (other, is) (new (ltb-true address w.address is))
   by_order false other is new later =
       let not_above = ltb-false address w.address is in
       rw (other, is) (later (below_other w.address address not_above (eqb-false w.address address other)))
 
-  by_test : (same : Bool) → (w.address == address) ≡ same → (w.address ≡ address → P (change w ∷ ws)) → (address < w.address → P (change (nothing_at address) ∷ w ∷ ws))
+  by_test : (same : Bool) → (w.address == address) ≡ same → (w.address ≡ address → P (change w ∷ ws)) →
+      (address < w.address → P (change (nothing_at address) ∷ w ∷ ws))
       → (w.address < address → P (w ∷ with_change address change ws)) → P (with_change address change (w ∷ ws))
   by_test true is here new later = rw is (here (eqb-true w.address address is))
   by_test false is here new later = by_order (nat_lt address w.address) is refl new later
@@ -42,21 +45,26 @@ module _ (address : ℕ) (change : WordCounts → WordCounts) (P : List WordCoun
 
 module _ (address : ℕ) (change : WordCounts → WordCounts) where
   -- each has a property, where the change makes it
-  pub each-change : (P : WordCounts → Type 0) → ((w : WordCounts) → P w → P (change w)) → P (change (nothing_at address)) → (words : List WordCounts) → Each P words → Each P (with_change address change words)
+  pub each-change : (P : WordCounts → Type 0) → ((w : WordCounts) → P w → P (change w)) →
+      P (change (nothing_at address)) → (words : List WordCounts) → Each P words →
+      Each P (with_change address change words)
   each-change P then new [] each = (new, tt)
   each-change P then new (w ∷ ws) each =
-      by_place address change (λ words. Each P words) w ws (λ is. (then w each.0, each.1)) (λ above. (new, each)) (λ below. (each.0, each-change P then new ws each.1))
+      by_place address change (λ words. Each P words) w ws (λ is. (then w each.0, each.1)) (λ above. (new, each))
+      (λ below. (each.0, each-change P then new ws each.1))
 
   -- a change adds one address at most
   pub length-change : (words : List WordCounts) → length (with_change address change words) ≤ length words + 1
   length-change [] = omega arith
   length-change (w ∷ ws) =
-      by_place address change (λ words. length words ≤ length (w ∷ ws) + 1) w ws (λ is. omega arith) (λ above. omega arith) (λ below. omega (arith, length-change ws))
+      by_place address change (λ words. length words ≤ length (w ∷ ws) + 1) w ws (λ is. omega arith)
+      (λ above. omega arith) (λ below. omega (arith, length-change ws))
 
   module _ (keeps : (w : WordCounts) → (change w).address ≡ w.address) where
     above-change : (low : ℕ) (words : List WordCounts) → low < address → AreAbove low words → AreAbove low (with_change address change words)
     above-change low words under above =
-        each-change (λ w. low < w.address) (λ w over. subst (λ (a : ℕ). low < a) (sym (keeps w)) over) (subst (λ (a : ℕ). low < a) (sym (keeps (nothing_at address))) under) words above
+        each-change (λ w. low < w.address) (λ w over. subst (λ (a : ℕ). low < a) (sym (keeps w)) over)
+        (subst (λ (a : ℕ). low < a) (sym (keeps (nothing_at address))) under) words above
 
     -- the addresses stay in order
     pub in_order-change : (words : List WordCounts) → IsInOrder words → IsInOrder (with_change address change words)
@@ -65,7 +73,12 @@ module _ (address : ℕ) (change : WordCounts → WordCounts) where
         by_place address change IsInOrder w ws
         (λ is. (each-by ws (λ v over. subst (λ (a : ℕ). a < v.address) (sym (keeps w)) over) order.0, order.1))
         (λ above. (
-          (subst (λ (a : ℕ). a < w.address) (sym (keeps (nothing_at address))) above, each-by ws (λ v over. subst (λ (a : ℕ). a < v.address) (sym (keeps (nothing_at address))) (omega (arith, over, above))) order.0),
+          (
+            subst (λ (a : ℕ). a < w.address) (sym (keeps (nothing_at address))) above,
+            each-by ws
+                (λ v over. subst (λ (a : ℕ). a < v.address) (sym (keeps (nothing_at address)))
+                (omega (arith, over, above))) order.0,
+          ),
           order,
         ))
         (λ below. (above-change w.address ws below order.0, in_order-change ws order.1))
@@ -74,7 +87,8 @@ module _ (address : ℕ) (change : WordCounts → WordCounts) where
     pub has-change : (words : List WordCounts) → HasAddress address (with_change address change words)
     has-change [] = inl (keeps (nothing_at address))
     has-change (w ∷ ws) =
-        by_place address change (HasAddress address) w ws (λ is. inl (keeps w ∙ is)) (λ above. inl (keeps (nothing_at address))) (λ below. inr (has-change ws))
+        by_place address change (HasAddress address) w ws (λ is. inl (keeps w ∙ is))
+        (λ above. inl (keeps (nothing_at address))) (λ below. inr (has-change ws))
 
     -- an address that has counts keeps them
     pub has-kept : (other : ℕ) (words : List WordCounts) → HasAddress other words → HasAddress other (with_change address change words)
@@ -85,7 +99,9 @@ module _ (address : ℕ) (change : WordCounts → WordCounts) where
         by_place address change (HasAddress other) w ws (λ here. inr later) (λ above. inr (inr later)) (λ below. inr (has-kept other ws later))
 
 -- counts that a change of some others makes are in order
-pub in_order-made : (address : ℕ) (change : WordCounts → WordCounts) (keeps : (w : WordCounts) → (change w).address ≡ w.address) (old new : List WordCounts) → IsInOrder old → new ≡ with_change address change old → IsInOrder new
+pub in_order-made : (address : ℕ) (change : WordCounts → WordCounts)
+    (keeps : (w : WordCounts) → (change w).address ≡ w.address) (old new : List WordCounts) → IsInOrder old →
+    new ≡ with_change address change old → IsInOrder new
 in_order-made address change keeps old new order made = subst IsInOrder (sym made) (in_order-change address change keeps old order)
 
 -- none of a lower address is among those above

@@ -23,6 +23,7 @@ one_more-cond : (is : Bool) (count : ℕ) → cond is 1 0 + count ≡ one_more i
 one_more-cond true count = omega arith
 one_more-cond false count = omega arith
 
+-- one passage more is counted where it passes the test
 pub count_by-cons : (test : Passage → Bool) (p : Passage) (ps : List Passage) → count_by test (p ∷ ps) ≡ one_more (test p) (count_by test ps)
 count_by-cons test p ps = sum_by-cons (λ (q : Passage). cond (test q) 1 0) p ps ∙ one_more-cond (test p) (count_by test ps)
 
@@ -63,7 +64,9 @@ module _ (costs : LoadCosts) (address heads : ℕ) (p : Passage) (ps : List Pass
       → counts_of costs address (p ∷ ps) heads ≡ built costs address heads (length ps + 1) count retired
   more count retired count_is retired_are = λ i. built costs address heads (fetched i) (count_is i) (retired_are i)
 
-  with_one : (retired : List Passage) → built costs address heads (length ps + 1) counts.squashed (p ∷ retired) ≡ with_retired costs p (built costs address heads (length ps + 1) counts.squashed retired)
+  with_one : (retired : List Passage) →
+      built costs address heads (length ps + 1) counts.squashed (p ∷ retired)
+      ≡ with_retired costs p (built costs address heads (length ps + 1) counts.squashed retired)
   with_one retired =
       let one : length (p ∷ retired) ≡ length retired + 1 = omega arith in
       let dispatch = waited-cons (dispatch_wait p) (filter_map dispatch_wait retired) in
@@ -91,11 +94,14 @@ module _ (costs : LoadCosts) (address heads : ℕ) (p : Passage) (ps : List Pass
   by_ending : (e : Ending) → p.ending ≡ e → counts_of costs address (p ∷ ps) heads ≡ added costs p counts
   by_ending (ending.Retired order cycle written next) is =
       let here : retired_of (p ∷ ps) ≡ p ∷ retired_of ps = rw is refl in
-      more counts.squashed (p ∷ retired_of ps) (squashed false (ap is_squash is)) here ∙ with_one (retired_of ps) ∙ added-by (ending.Retired order cycle written next) is
+      more counts.squashed (p ∷ retired_of ps) (squashed false (ap is_squash is)) here ∙ with_one (retired_of ps)
+      ∙ added-by (ending.Retired order cycle written next) is
   by_ending (ending.Squashed cycle) is =
-      more (counts.squashed + 1) (retired_of ps) (squashed true (ap is_squash is)) (kept (ending.Squashed cycle) is refl) ∙ added-by (ending.Squashed cycle) is
+      more (counts.squashed + 1) (retired_of ps) (squashed true (ap is_squash is))
+      (kept (ending.Squashed cycle) is refl) ∙ added-by (ending.Squashed cycle) is
   by_ending (ending.Trapped cycle cause) is =
-      more counts.squashed (retired_of ps) (squashed false (ap is_squash is)) (kept (ending.Trapped cycle cause) is refl) ∙ added-by (ending.Trapped cycle cause) is
+      more counts.squashed (retired_of ps) (squashed false (ap is_squash is))
+      (kept (ending.Trapped cycle cause) is refl) ∙ added-by (ending.Trapped cycle cause) is
   by_ending ending.InFlight is =
       more counts.squashed (retired_of ps) (squashed false (ap is_squash is)) (kept ending.InFlight is refl) ∙ added-by ending.InFlight is
 
@@ -111,31 +117,41 @@ module _ (costs : LoadCosts) (passages : List Passage) (heads : List ℕ) where
   pub counts_at-here : (p : Passage) → added costs p (counts_at costs passages heads p.pc) ≡ counts_at costs (p ∷ passages) heads p.pc
   counts_at-here p =
       let here : filter (is_at p.pc) (p ∷ passages) ≡ p ∷ filter (is_at p.pc) passages = rw (eq-eqb p.pc p.pc refl) refl in
-      sym (ap (λ those. counts_of costs p.pc those (head_count heads p.pc)) here ∙ counts_of-cons costs p.pc (head_count heads p.pc) p (filter (is_at p.pc) passages))
+      sym (ap (λ those. counts_of costs p.pc those (head_count heads p.pc)) here
+      ∙ counts_of-cons costs p.pc (head_count heads p.pc) p (filter (is_at p.pc) passages))
 
   -- and those at no other
-  pub counts_at-other : (p : Passage) (address : ℕ) → (address ≡ p.pc → ⊥) → counts_at costs (p ∷ passages) heads address ≡ counts_at costs passages heads address
+  pub counts_at-other : (p : Passage) (address : ℕ) → (address ≡ p.pc → ⊥) →
+      counts_at costs (p ∷ passages) heads address ≡ counts_at costs passages heads address
   counts_at-other p address other =
       let past : filter (is_at address) (p ∷ passages) ≡ filter (is_at address) passages = rw (ne_eqb p.pc address (λ is. other (sym is))) refl in
       ap (λ those. counts_of costs address those (head_count heads address)) past
 
-  head_count-cons : (head address : ℕ) (is : Bool) → (head == address) ≡ is → head_count (head ∷ heads) address ≡ one_more is (head_count heads address)
+  head_count-cons : (head address : ℕ) (is : Bool) → (head == address) ≡ is →
+      head_count (head ∷ heads) address ≡ one_more is (head_count heads address)
   head_count-cons head address is test =
-      sum_by-cons (λ (h : ℕ). cond (h == address) 1 0) head heads ∙ one_more-cond (head == address) (head_count heads address) ∙ ap (λ t. one_more t (head_count heads address)) test
+      sum_by-cons (λ (h : ℕ). cond (h == address) 1 0) head heads
+      ∙ one_more-cond (head == address) (head_count heads address)
+      ∙ ap (λ t. one_more t (head_count heads address)) test
 
   -- one more cycle at the head changes the counts at its address
   pub counts_at-head : (head : ℕ) → once_more_at_head (counts_at costs passages heads head) ≡ counts_at costs passages (head ∷ heads) head
-  counts_at-head head = sym (ap (λ count. counts_of costs head (filter (is_at head) passages) count) (head_count-cons head head true (eq-eqb head head refl)))
+  counts_at-head head =
+      sym (ap (λ count. counts_of costs head (filter (is_at head) passages) count)
+      (head_count-cons head head true (eq-eqb head head refl)))
 
   -- and those at no other
-  pub counts_at-other_head : (head address : ℕ) → (address ≡ head → ⊥) → counts_at costs passages (head ∷ heads) address ≡ counts_at costs passages heads address
+  pub counts_at-other_head : (head address : ℕ) → (address ≡ head → ⊥) →
+      counts_at costs passages (head ∷ heads) address ≡ counts_at costs passages heads address
   counts_at-other_head head address other =
-      ap (λ count. counts_of costs address (filter (is_at address) passages) count) (head_count-cons head address false (ne_eqb head address (λ is. other (sym is))))
+      ap (λ count. counts_of costs address (filter (is_at address) passages) count)
+      (head_count-cons head address false (ne_eqb head address (λ is. other (sym is))))
 
   nothing_of : (address : ℕ) (those : List Passage) (count : ℕ) → length those + count ≡ 0 → counts_of costs address those count ≡ nothing_at address
   nothing_of address [] count none = ap (λ n. counts_of costs address [] n) (omega (arith, none))
   nothing_of address (p ∷ ps) count none = absurd (omega (arith, none))
 
   -- where an address was never fetched and never at the head, there is nothing
-  pub counts_at-none : (address : ℕ) → times_of (counts_at costs passages heads address) ≡ 0 → counts_at costs passages heads address ≡ nothing_at address
+  pub counts_at-none : (address : ℕ) → times_of (counts_at costs passages heads address) ≡ 0 →
+      counts_at costs passages heads address ≡ nothing_at address
   counts_at-none address none = nothing_of address (filter (is_at address) passages) (head_count heads address) none

@@ -11,7 +11,8 @@ use Rattle.rv_counts.specs.Left.{left_after, left_in}
 use Rattle.rv_counts.specs.Passing.{has_left}
 use Rattle.rv_counts.proofs.Rooms.{filter-le}
 
-left_in-push : (cycles : List FollowedCycle) (last : FollowedCycle) → left_in (cycles ++ last ∷ []) ≡ filter has_left last.passages.rows ++ left_in cycles
+left_in-push : (cycles : List FollowedCycle) (last : FollowedCycle) →
+    left_in (cycles ++ last ∷ []) ≡ filter has_left last.passages.rows ++ left_in cycles
 left_in-push [] last = sym (append-nil (filter has_left last.passages.rows))
 left_in-push (cycle ∷ cycles) last =
     ap (λ left. left ++ filter has_left cycle.passages.rows) (left_in-push cycles last)
@@ -28,7 +29,17 @@ module _ {arrivals : List Arrival} {first now : GuidedHardware} {moments : List 
       ∙ ap (λ ps. filter has_left ps ++ left_after first.hardware moments) (sym rows_are)
 
   -- no cycle lets more leave than were in flight before it and fetched in it
-  pub some_left-push : length rows ≤ 576 → last.after.cycle ≡ now.hardware.cycle + 1 → length (left_after first.hardware moments) ≤ 576 * now.hardware.cycle
+  pub some_left-push : length rows ≤ 576 → last.after.cycle ≡ now.hardware.cycle + 1 →
+      length (left_after first.hardware moments) ≤ 576 * now.hardware.cycle
       → length (left_after first.hardware (moments ++ last ∷ [])) ≤ 576 * last.after.cycle
   some_left-push few one_more some_left =
-      omega (arith, some_left, filter-le has_left rows, few, one_more, ap length left-push, length-append (filter has_left rows) (left_after first.hardware moments))
+      omega (
+        arith,
+        some_left,
+        filter-le has_left rows,
+        few,
+        one_more,
+        ap length left-push,
+        length-append
+            (filter has_left rows) (left_after first.hardware moments),
+      )

@@ -33,14 +33,19 @@ by_queue : (full : Bool) → IsReason (cond full (Some stall.Store) None) loss.S
 by_queue true = inr refl
 by_queue false = inl refl
 
-by_kind : (h : Hardware) (full : Bool) (k : Option Kind) → IsReason (cond (has_full_stations h k) (Some stall.Station) (cond full (Some stall.Store) None)) (loss_of_kind h.values h.rob k)
+by_kind : (h : Hardware) (full : Bool) (k : Option Kind) →
+    IsReason (cond (has_full_stations h k) (Some stall.Station) (cond full (Some stall.Store) None))
+    (loss_of_kind h.values h.rob k)
 by_kind h full None = by_queue full
 by_kind h full (Some kind) = by_stations (has_full_stations h (Some kind)) where
-  by_stations : (no_room : Bool) → IsReason (cond no_room (Some stall.Station) (cond full (Some stall.Store) None)) (cond no_room (loss.Station kind) loss.Store)
+  by_stations : (no_room : Bool) →
+      IsReason (cond no_room (Some stall.Station) (cond full (Some stall.Store) None))
+      (cond no_room (loss.Station kind) loss.Store)
   by_stations true = inr refl
   by_stations false = by_queue full
 
-by_test : (test : Bool) (first : Stall) (o : Option Stall) (why why' : Loss) → stall_for why ≡ first → IsReason o why' → IsReason (cond test (Some first) o) (cond test why why')
+by_test : (test : Bool) (first : Stall) (o : Option Stall) (why why' : Loss) → stall_for why ≡ first → IsReason o why' →
+    IsReason (cond test (Some first) o) (cond test why why')
 by_test true first o why why' is rest = inr (ap Some (sym is))
 by_test false first o why why' is rest = rest
 
@@ -50,7 +55,8 @@ reason_is h f =
     let queued : Bool = is_store f.instruction && nat_le h.values.store_queue (length (stores_after h h.rob.entries)) in
     let kind : Option Kind = kind_of_word f.instruction in
     let rest : Option Stall = cond (has_full_stations h kind) (Some stall.Station) (cond queued (Some stall.Store) None) in
-    by_test (has_serialising h.rob) stall.Serial (cond full (Some stall.Rob) rest) loss.Serial (cond full loss.Rob (loss_of_kind h.values h.rob kind)) refl
+    by_test (has_serialising h.rob) stall.Serial (cond full (Some stall.Rob) rest) loss.Serial
+    (cond full loss.Rob (loss_of_kind h.values h.rob kind)) refl
     (by_test full stall.Rob rest loss.Rob (loss_of_kind h.values h.rob kind) refl (by_kind h queued kind))
 
 -- what the oldest of some words waits for
@@ -66,29 +72,35 @@ module _ (width : ℕ) where
   abbrev After : ℕ → Dispatching → Type 0
   After k d = d.dispatched ≡ k
 
-  by_reason : (k : ℕ) (d : Dispatching) (f : Fetched) (fs : List Fetched) → d.hardware.front.entries ≡ f ∷ fs → After k d → (o : Option Stall) → IsReason o (loss_of d.hardware.values d.hardware.rob f.instruction)
+  by_reason : (k : ℕ) (d : Dispatching) (f : Fetched) (fs : List Fetched) → d.hardware.front.entries ≡ f ∷ fs →
+      After k d → (o : Option Stall) → IsReason o (loss_of d.hardware.values d.hardware.rob f.instruction)
       → Leads (After (suc k)) Ended (dispatch_unless o f fs d)
   by_reason k d f fs at count None is = omega (arith, count)
   by_reason k d f fs at count (Some s) (inl none) = absurd (cc)
   by_reason k d f fs at count (Some s) (inr is) = inr (is ∙ sym (ap (λ words. Some (stall_for (first_loss d.hardware words))) at))
 
-  turn_ends : (k : ℕ) (d : Dispatching) (fs : List Fetched) → d.hardware.front.entries ≡ fs → After k d → Leads (After (suc k)) Ended (dispatch_turn_of fs d)
+  turn_ends : (k : ℕ) (d : Dispatching) (fs : List Fetched) → d.hardware.front.entries ≡ fs → After k d →
+      Leads (After (suc k)) Ended (dispatch_turn_of fs d)
   turn_ends k d [] none count = inr (sym (ap (λ words. Some (stall_for (first_loss d.hardware words))) none))
   turn_ends k d (f ∷ fs) at count = by_reason k d f fs at count (reason_of d.hardware f) (reason_is d.hardware f)
 
   phase_ends : (h : Hardware) → h.values.dispatch_width ≡ width → Ended (dispatch h)
   phase_ends h is =
-      turns_within width After Ended dispatch_turn (λ k d lt count. turn_ends k d d.hardware.front.entries refl count) (λ d count. inl (omega (arith, count)))
+      turns_within width After Ended dispatch_turn (λ k d lt count. turn_ends k d d.hardware.front.entries refl count)
+      (λ d count. inl (omega (arith, count)))
       h.values.dispatch_width 0 (record { hardware = h; dispatched = 0; waits_for = None }) (omega (arith, is)) refl
 
 -- the words that a cycle fetches come after those that wait for their dispatch
-first_is : (now : ℕ) (h : Hardware) (fs added : List Fetched) → Each (SoundFetched now) fs → Each (IsNew now) added → loss_by now h.values h.rob (slice_get (fs ++ added) 0) ≡ first_loss h fs
+first_is : (now : ℕ) (h : Hardware) (fs added : List Fetched) → Each (SoundFetched now) fs → Each (IsNew now) added →
+    loss_by now h.values h.rob (slice_get (fs ++ added) 0) ≡ first_loss h fs
 first_is now h [] [] sound new = refl
 first_is now h [] (f ∷ added) sound new = rw (le-ltb f.cycle now (omega (arith, new.0.0))) refl
 first_is now h (f ∷ fs) added sound new = rw (lt-ltb f.cycle now sound.0.0) refl
 
-module _ (arrivals : List Arrival) {old new : Hardware} {report : Report} (reached : Reachable old) (cycle : IsCycle any_prediction (lines_at arrivals old.cycle) old report new) where
-  one_reason : 0 < (places_in old (record { report = report; after = new })).lost → awaited_in arrivals old ≡ Some (stall_for (loss_in old.cycle new.values new.rob new.front))
+module _ (arrivals : List Arrival) {old new : Hardware} {report : Report} (reached : Reachable old)
+    (cycle : IsCycle any_prediction (lines_at arrivals old.cycle) old report new) where
+  one_reason : 0 < (places_in old (record { report = report; after = new })).lost →
+      awaited_in arrivals old ≡ Some (stall_for (loss_in old.cycle new.values new.rob new.front))
   one_reason lost =
       let lines : Lines = lines_at arrivals old.cycle in
       let before = reachable_has_history reached in
@@ -106,12 +118,19 @@ module _ (arrivals : List Arrival) {old new : Hardware} {report : Report} (reach
         | inr is ↦ is ∙ ap (λ why. Some (stall_for why)) (sym same)
       ]
 
-cycles_on : {arrivals : List Arrival} {old new : GuidedHardware} {moments : List Moment} → History arrivals old moments new → old.hardware.cycle ≤ new.hardware.cycle
+cycles_on : {arrivals : List Arrival} {old new : GuidedHardware} {moments : List Moment} →
+    History arrivals old moments new → old.hardware.cycle ≤ new.hardware.cycle
 cycles_on ended = omega arith
 cycles_on (cycled cycle rest) = omega (arith, ap (λ (h : Hardware). h.cycle) cycle.cycle.others_stay, cycles_on rest)
 
 -- those of a whole run
-pub lost_for : {arrivals : List Arrival} {old new : GuidedHardware} {moments : List Moment} → Reachable old.hardware → History arrivals old moments new → new.hardware.cycle ≤ 2 ^ 40 → AreLostFor arrivals old.hardware moments
+pub lost_for : {arrivals : List Arrival} {old new : GuidedHardware} {moments : List Moment} → Reachable old.hardware →
+    History arrivals old moments new → new.hardware.cycle ≤ 2 ^ 40 → AreLostFor arrivals old.hardware moments
 lost_for reached ended within = tt
-lost_for {arrivals} reached (cycled cycle rest) within =
-    (one_reason arrivals reached (any_cycle cycle.cycle), lost_for (by_cycle reached (omega (arith, within, ap (λ (h : Hardware). h.cycle) cycle.cycle.others_stay, cycles_on rest)) (any_cycle cycle.cycle)) rest within)
+lost_for {arrivals} reached (cycled cycle rest) within = (
+  one_reason arrivals reached (any_cycle cycle.cycle),
+  lost_for
+      (by_cycle reached
+      (omega (arith, within, ap (λ (h : Hardware). h.cycle) cycle.cycle.others_stay, cycles_on rest))
+      (any_cycle cycle.cycle)) rest within,
+)

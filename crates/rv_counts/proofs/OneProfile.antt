@@ -27,18 +27,27 @@ module _ (at : ℕ → WordCounts) where
   first_once word other words others above above' (inl same) there = sym same
   first_once word other words others above above' (inr further) (inl same) = same
   first_once word other words others above above' (inr further) (inr further') =
-      absurd (omega (arith, above_is_higher other.address word.address others above' further, above_is_higher word.address other.address words above further'))
+      absurd (omega (
+        arith,
+        above_is_higher other.address word.address others above' further,
+        above_is_higher word.address
+            other.address words above further',
+      ))
 
   -- an address above the first is one of the others
-  not_first : (low address : ℕ) (other : WordCounts) (others : List WordCounts) → low < address → other.address ≡ low → HasAddress address (other ∷ others) → HasAddress address others
+  not_first : (low address : ℕ) (other : WordCounts) (others : List WordCounts) → low < address → other.address ≡ low →
+      HasAddress address (other ∷ others) → HasAddress address others
   not_first low address other others higher first (inl same) = absurd (omega (arith, higher, first, same))
   not_first low address other others higher first (inr further) = further
 
-  rest_in : (low : ℕ) (words : List WordCounts) (other : WordCounts) (others : List WordCounts) → other.address ≡ low → AreAbove low words → AreIn words (other ∷ others) → AreIn words others
+  rest_in : (low : ℕ) (words : List WordCounts) (other : WordCounts) (others : List WordCounts) → other.address ≡ low →
+      AreAbove low words → AreIn words (other ∷ others) → AreIn words others
   rest_in low [] other others first above are = tt
-  rest_in low (word ∷ words) other others first above are = (not_first low word.address other others above.0 first are.0, rest_in low words other others first above.1 are.1)
+  rest_in low (word ∷ words) other others first above are =
+      (not_first low word.address other others above.0 first are.0, rest_in low words other others first above.1 are.1)
 
-  words_once : (words others : List WordCounts) → IsInOrder words → IsInOrder others → AreAt words → AreAt others → AreIn words others → AreIn others words → words ≡ others
+  words_once : (words others : List WordCounts) → IsInOrder words → IsInOrder others → AreAt words → AreAt others →
+      AreIn words others → AreIn others words → words ≡ others
   words_once [] [] order order' here here' are are' = refl
   words_once [] (other ∷ others) order order' here here' are are' = absurd are'.0
   words_once (word ∷ words) [] order order' here here' are are' = absurd are.0
@@ -57,7 +66,9 @@ all_in at [] others here seen all = tt
 all_in at (word ∷ words) others here seen all =
     (all word.address (subst (λ (w : WordCounts). 0 < times_of w) here.0 seen.0), all_in at words others here.1 seen.1 all)
 
-pub counted_once : {costs : LoadCosts} {passages : List Passage} {heads : List ℕ} (words others : List WordCounts) → IsProfileOf costs passages heads words → IsProfileOf costs passages heads others
+-- two profiles of the same passages and heads are the same
+pub counted_once : {costs : LoadCosts} {passages : List Passage} {heads : List ℕ} (words others : List WordCounts) →
+    IsProfileOf costs passages heads words → IsProfileOf costs passages heads others
     → words ≡ others
 counted_once {costs} {passages} {heads} words others is is' =
     let at : ℕ → WordCounts = counts_at costs passages heads in

@@ -36,10 +36,12 @@ more_lost loss.Store count l = omega arith
 pub more_places : (c : CyclePlaces) (p : Places) → all_places (with_cycle c p) ≡ all_places p + cycle_total c
 more_places c p = omega (arith, more_squashed c.flush c.squashed p.squashed, more_lost c.loss c.lost p.lost)
 
-places_from-push : {arrivals : List Arrival} {old now : GuidedHardware} {moments : List Moment} (p : Places) (moment : Moment) → History arrivals old moments now
+places_from-push : {arrivals : List Arrival} {old now : GuidedHardware} {moments : List Moment} (p : Places)
+    (moment : Moment) → History arrivals old moments now
     → places_from p old.hardware (moments ++ moment ∷ []) ≡ with_cycle (places_in now.hardware moment) (places_from p old.hardware moments)
 places_from-push p moment ended = refl
-places_from-push {old = old} p moment (cycled {moment = first} cycle rest) = places_from-push (with_cycle (places_in old.hardware first) p) moment rest
+places_from-push {old = old} p moment (cycled {moment = first} cycle rest) =
+    places_from-push (with_cycle (places_in old.hardware first) p) moment rest
 
 -- one more cycle
 pub places_of-push : {arrivals : List Arrival} {old now : GuidedHardware} {moments : List Moment} (moment : Moment) → History arrivals old moments now
@@ -52,7 +54,8 @@ add_up_nothing h = omega arith
 
 -- one more cycle, whose places add up
 pub add_up-push : {arrivals : List Arrival} {old now : GuidedHardware} {moments : List Moment} (moment : Moment) → History arrivals old moments now
-    → ArePlaced now.hardware moment.report moment.after → AddUp old.hardware moments now.hardware → AddUp old.hardware (moments ++ moment ∷ []) moment.after
+    → ArePlaced now.hardware moment.report moment.after → AddUp old.hardware moments now.hardware →
+    AddUp old.hardware (moments ++ moment ∷ []) moment.after
 add_up-push {old = old} {now = now} {moments = moments} moment passes placed add_up =
     let width : ℕ = now.hardware.values.dispatch_width in
     let same : moment.after.values.dispatch_width ≡ width = ap (λ (v : Values). v.dispatch_width) placed.values in
@@ -64,13 +67,16 @@ add_up-push {old = old} {now = now} {moments = moments} moment passes placed add
     omega (arith, all, times, add_up, placed.add_up, same)
 
 -- in so many cycles there are no more
-pub places_counted : (first : Hardware) (moments : List Moment) (last : Hardware) → AddUp first moments last → last.values.dispatch_width ≤ 8 → length first.rob.entries ≤ 256
+pub places_counted : (first : Hardware) (moments : List Moment) (last : Hardware) → AddUp first moments last →
+    last.values.dispatch_width ≤ 8 → length first.rob.entries ≤ 256
     → all_places (places_of first moments) ≤ length moments * 8 + 256
 places_counted first moments last add_up wide few =
     omega (arith, add_up, few, mul-le (length moments) last.values.dispatch_width (length moments) 8 (omega arith) wide)
 
 -- the places of a cycle, by what is seen after it
-module _ {old new : Hardware} {report : Report} (placed : ArePlaced old report new) (cycle before : ℕ) (steps : List Step) (number : cycle ≡ old.cycle) (in_flight : before ≡ length old.rob.entries) (steps_are : steps ≡ report.steps) where
+module _ {old new : Hardware} {report : Report} (placed : ArePlaced old report new) (cycle before : ℕ)
+    (steps : List Step) (number : cycle ≡ old.cycle) (in_flight : before ≡ length old.rob.entries)
+    (steps_are : steps ≡ report.steps) where
   -- what is counted of a cycle that is shown are its places
   pub places_seen : places_by new.values cycle before steps new.rob new.front ≡ places_in old (record { report = report; after = new })
   places_seen =

@@ -69,7 +69,13 @@ module _ (all : ℕ) where
 
   one_taken : (steps : List Step) (step : Step) → taken (step ∷ []) ≤ 1 → taken (steps ++ step ∷ []) ≤ taken steps + 1
   one_taken steps step one =
-      omega (arith, one, sum_by-append (λ s. cond (is_retirement s) 1 0) steps (step ∷ []), sum_by-append (λ s. cond (is_trap s) 1 0) steps (step ∷ []))
+      omega (
+        arith,
+        one,
+        sum_by-append (λ s. cond (is_retirement s) 1 0) steps (step ∷ []),
+        sum_by-append
+            (λ s. cond (is_trap s) 1 0) steps (step ∷ []),
+      )
 
   turn_takes : (c : Committing) (t : Turn Committing) → CommitTurn set.contains c t → AreTaken c → Leaves AreTaken t
   turn_takes c _ (fence_retires e es written next head is clean) few =
@@ -81,7 +87,15 @@ module _ (all : ℕ) where
   turn_takes c _ (traps e es issue cycle message fault head plain at is) few =
       omega (arith, few, ap length head.place, one_taken c.steps (step.Trap e.pc fault.cause fault.value c.hardware.cycle) (omega arith))
   turn_takes c _ (retires e es issue cycle message head plain at none) few =
-      omega (arith, few, ap length head.place, ap length (head_retired_entries c.hardware.rob e es head.place), one_taken c.steps (row_of e (written_of e message) c.hardware.cycle) (omega arith))
+      omega (
+        arith,
+        few,
+        ap length head.place,
+        ap length
+            (head_retired_entries c.hardware.rob e es head.place),
+        one_taken c.steps
+            (row_of e (written_of e message) c.hardware.cycle) (omega arith),
+      )
   turn_takes c _ (retires_last e es issue cycle message head plain at none) few =
       omega (arith, few, ap length head.place, one_taken c.steps (row_of e (written_of e message) c.hardware.cycle) (omega arith))
   turn_takes c _ _ few = few
@@ -104,7 +118,14 @@ module _ (most : ℕ) where
   few_at_issue k = record {
     accesses = λ h older younger e address few split ready by. few;
     starts = λ h older younger e cost message few split waits of_kind result costs.
-        omega (arith, few, ap length split, length-append older (e ∷ younger), length-append older (started (record { cycle = h.cycle; cost = cost }) message e ∷ younger));
+        omega (
+          arith,
+          few,
+          ap length split,
+          length-append older (e ∷ younger),
+          length-append older
+              (started (record { cycle = h.cycle; cost = cost }) message e ∷ younger),
+        );
   }
 
   few_at_broadcast : IsKeptByBroadcast AreFew
@@ -133,7 +154,8 @@ pub record ArePlaced (old : Hardware) (report : Report) (new : Hardware) : Type 
   pub within : report.dispatched ≤ new.values.dispatch_width
   pub values : new.values ≡ old.values
   pub wide : new.values.dispatch_width ≤ 8
-  pub add_up : cycle_total (places_in old (record { report = report; after = new })) + length new.rob.entries ≡ new.values.dispatch_width + length old.rob.entries
+  pub add_up : cycle_total (places_in old (record { report = report; after = new })) + length new.rob.entries
+      ≡ new.values.dispatch_width + length old.rob.entries
 
 module _ {lines : Lines} {old new : Hardware} {report : Report} (reached : Reachable old) (cycle : IsCycle any_prediction lines old report new) where
   -- each cycle of hardware that a reset and cycles lead to is so
@@ -146,7 +168,8 @@ module _ {lines : Lines} {old new : Hardware} {report : Report} (reached : Reach
       let sent : Hardware = sent_all lines old in
       let d : Dispatching = dispatching lines old in
       let none = count-none (λ (e : Entry). e.dispatched == now) sent.rob.entries
-      (Each-weaker (SoundEntry v now (now + 1) (now + 1)) (λ e. (e.dispatched == now) ≡ false) (λ e w. ne_eqb e.dispatched now (omega (arith, w.by_now))) sent.rob.entries passed.sends.basics.entries) in
+      (Each-weaker (SoundEntry v now (now + 1) (now + 1)) (λ e. (e.dispatched == now) ≡ false)
+      (λ e w. ne_eqb e.dispatched now (omega (arith, w.by_now))) sent.rob.entries passed.sends.basics.entries) in
       let none_by : count_by (λ (e : Entry). e.dispatched == now) sent.rob.entries ≡ 0 = sym (count-count_by (λ (e : Entry). e.dispatched == now) sent.rob.entries) ∙ none in
       let there = there_after now sent passed.sends.basics.cycle none_by in
       let entries : new.rob.entries ≡ d.hardware.rob.entries = ap (λ (h : Hardware). h.rob.entries) passed.others_stay in

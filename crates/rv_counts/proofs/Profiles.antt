@@ -18,6 +18,7 @@ ended-address (ending.Squashed cycle) costs p w = refl
 ended-address (ending.Trapped cycle cause) costs p w = refl
 ended-address ending.InFlight costs p w = refl
 
+-- a passage more leaves the counts at their address
 pub added-address : (costs : LoadCosts) (p : Passage) (w : WordCounts) → (added costs p w).address ≡ w.address
 added-address costs p w = ended-address p.ending costs p (record w { fetched = w.fetched + 1 })
 
@@ -35,11 +36,13 @@ pub profile-nothing : (costs : LoadCosts) → IsProfileOf costs [] [] []
 profile-nothing costs = record { in_order = tt; counted = tt; seen = tt; all = λ address some. absurd (omega (arith, some)) }
 
 -- a change of the counts at one address, by what changes there alone
-module _ (address : ℕ) (change : WordCounts → WordCounts) (keeps : (w : WordCounts) → (change w).address ≡ w.address) (counts : (w : WordCounts) → 0 < times_of (change w))
+module _ (address : ℕ) (change : WordCounts → WordCounts) (keeps : (w : WordCounts) → (change w).address ≡ w.address)
+    (counts : (w : WordCounts) → 0 < times_of (change w))
     {costs : LoadCosts} {passages passages' : List Passage} {heads heads' : List ℕ}
     (others : (other : ℕ) → (other ≡ address → ⊥) → counts_at costs passages' heads' other ≡ counts_at costs passages heads other)
     (here : change (counts_at costs passages heads address) ≡ counts_at costs passages' heads' address) where
-  pub profile-change : (words : List WordCounts) → IsProfileOf costs passages heads words → IsProfileOf costs passages' heads' (with_change address change words)
+  pub profile-change : (words : List WordCounts) → IsProfileOf costs passages heads words →
+      IsProfileOf costs passages' heads' (with_change address change words)
   profile-change words is = record {
     in_order = in_order-change address change keeps words is.in_order;
     counted = counted-change address change (counts_at costs passages heads) (counts_at costs passages' heads') others here
@@ -52,21 +55,28 @@ module _ (address : ℕ) (change : WordCounts → WordCounts) (keeps : (w : Word
   }
 
 -- one more passage
-pub profile-passage : (costs : LoadCosts) (p : Passage) (passages : List Passage) (heads : List ℕ) (words : List WordCounts) → IsProfileOf costs passages heads words
+pub profile-passage : (costs : LoadCosts) (p : Passage) (passages : List Passage) (heads : List ℕ)
+    (words : List WordCounts) → IsProfileOf costs passages heads words
     → IsProfileOf costs (p ∷ passages) heads (with_change p.pc (added costs p) words)
 profile-passage costs p passages heads words is =
-    profile-change p.pc (added costs p) (added-address costs p) (added-some costs p) (λ other is_not. counts_at-other costs passages heads p other is_not) (counts_at-here costs passages heads p) words is
+    profile-change p.pc (added costs p) (added-address costs p) (added-some costs p)
+    (λ other is_not. counts_at-other costs passages heads p other is_not)
+    (counts_at-here costs passages heads p) words is
 
 -- some more
-pub profile-passages : (costs : LoadCosts) (ps passages : List Passage) (heads : List ℕ) (words : List WordCounts) → IsProfileOf costs passages heads words
+pub profile-passages : (costs : LoadCosts) (ps passages : List Passage) (heads : List ℕ) (words : List WordCounts) →
+    IsProfileOf costs passages heads words
     → IsProfileOf costs (ps ++ passages) heads (with_passages costs ps words)
 profile-passages costs [] passages heads words is = is
 profile-passages costs (p ∷ ps) passages heads words is =
     profile-passage costs p (ps ++ passages) heads (with_passages costs ps words) (profile-passages costs ps passages heads words is)
 
 -- one more cycle that left something at the head, or nothing
-pub profile-head : (costs : LoadCosts) (head : Option ℕ) (passages : List Passage) (heads : List ℕ) (words : List WordCounts) → IsProfileOf costs passages heads words
+pub profile-head : (costs : LoadCosts) (head : Option ℕ) (passages : List Passage) (heads : List ℕ)
+    (words : List WordCounts) → IsProfileOf costs passages heads words
     → IsProfileOf costs passages (option_to_list head ++ heads) (with_head head words)
 profile-head costs None passages heads words is = is
 profile-head costs (Some head) passages heads words is =
-    profile-change head once_more_at_head (λ w. refl) (λ w. omega arith) (λ other is_not. counts_at-other_head costs passages heads head other is_not) (counts_at-head costs passages heads head) words is
+    profile-change head once_more_at_head (λ w. refl) (λ w. omega arith)
+    (λ other is_not. counts_at-other_head costs passages heads head other is_not)
+    (counts_at-head costs passages heads head) words is

@@ -18,6 +18,7 @@ waits-within : (wait : Option ℕ) (w : Waited) → (with_wait wait w).count ≤
 waits-within None w = omega arith
 waits-within (Some cycles) w = omega arith
 
+-- a test adds one at most
 pub one_more-within : (is : Bool) (count : ℕ) → one_more is count ≤ count + 1
 one_more-within true count = omega arith
 one_more-within false count = omega arith
@@ -69,7 +70,8 @@ module _ (most : ℕ) where
     head_cycles = omega (arith, is.head_cycles);
   }
 
-  ended-within : (e : Ending) (costs : LoadCosts) (p : Passage) (w : WordCounts) → IsWithin most w → IsWithin (most + 1) (with_ended e costs p (record w { fetched = w.fetched + 1 }))
+  ended-within : (e : Ending) (costs : LoadCosts) (p : Passage) (w : WordCounts) → IsWithin most w →
+      IsWithin (most + 1) (with_ended e costs p (record w { fetched = w.fetched + 1 }))
   ended-within (ending.Retired order cycle written next) costs p w is = record {
     fetched = omega (arith, is.fetched);
     retired = omega (arith, is.retired);
@@ -115,13 +117,16 @@ module _ (most : ℕ) where
   }
 
   -- a change by which no count grows by more than one
-  change-within : (address : ℕ) (change : WordCounts → WordCounts) → ((w : WordCounts) → IsWithin most w → IsWithin (most + 1) (change w)) → (words : List WordCounts) → Each (IsWithin most) words
+  change-within : (address : ℕ) (change : WordCounts → WordCounts) →
+      ((w : WordCounts) → IsWithin most w → IsWithin (most + 1) (change w)) → (words : List WordCounts) →
+      Each (IsWithin most) words
       → Each (IsWithin (most + 1)) (with_change address change words)
   change-within address change grows [] each = (grows _ (nothing-within address), tt)
   change-within address change grows (w ∷ ws) each =
       let same : Each (IsWithin (most + 1)) (w ∷ ws) = each-by (w ∷ ws) (λ v is. within-more (most + 1) v (omega arith) is) each in
       by_place address change (λ words. Each (IsWithin (most + 1)) words) w ws
-      (λ here. (grows w each.0, same.1)) (λ above. (grows _ (nothing-within address), same)) (λ below. (same.0, change-within address change grows ws each.1))
+      (λ here. (grows w each.0, same.1)) (λ above. (grows _ (nothing-within address), same))
+      (λ below. (same.0, change-within address change grows ws each.1))
 
 pub added-grows : (costs : LoadCosts) (p : Passage) (most : ℕ) (w : WordCounts) → IsWithin most w → IsWithin (most + 1) (added costs p w)
 added-grows costs p most w is = ended-within most p.ending costs p w is
@@ -140,24 +145,34 @@ can_count-each words can = each-by words (λ w is. within-more can.most (2 ^ 50 
 -- so can those among which there are some of an address then
 pub can_count-begun : (address : ℕ) (old new : List WordCounts) → new ≡ with_change address (λ w. w) old → CanCountMore old 1 → Each CanCount new
 can_count-begun address old new begun can =
-    subst (λ (words : List WordCounts). Each CanCount words) (sym begun) (each-change address (λ w. w) CanCount (λ w is. is) (nothing-within (2 ^ 50 - 2) address) old (can_count-each old can))
+    subst (λ (words : List WordCounts). Each CanCount words) (sym begun)
+    (each-change address (λ w. w) CanCount (λ w is. is) (nothing-within (2 ^ 50 - 2) address) old
+    (can_count-each old can))
 
 -- one cycle at the head more, and some passages more
-pub within-head : (head : Option ℕ) (most : ℕ) (words : List WordCounts) → Each (IsWithin most) words → Each (IsWithin (most + 1)) (with_head head words)
+pub within-head : (head : Option ℕ) (most : ℕ) (words : List WordCounts) → Each (IsWithin most) words →
+    Each (IsWithin (most + 1)) (with_head head words)
 within-head None most words each = each-by words (λ w is. within-more most (most + 1) w (omega arith) is) each
 within-head (Some head) most words each = change-within most head once_more_at_head (head-grows most) words each
 
 -- each passage adds one at most
-pub within-passages : (costs : LoadCosts) (ps : List Passage) (most : ℕ) (words : List WordCounts) → Each (IsWithin most) words → Each (IsWithin (most + length ps)) (with_passages costs ps words)
+pub within-passages : (costs : LoadCosts) (ps : List Passage) (most : ℕ) (words : List WordCounts) →
+    Each (IsWithin most) words → Each (IsWithin (most + length ps)) (with_passages costs ps words)
 within-passages costs [] most words each = each-by words (λ w is. within-more most (most + 0) w (omega arith) is) each
 within-passages costs (p ∷ ps) most words each =
     let now = change-within (most + length ps) p.pc (added costs p) (added-grows costs p (most + length ps)) (with_passages costs ps words) (within-passages costs ps most words each) in
     each-by (with_passages costs (p ∷ ps) words) (λ w is. within-more (most + length ps + 1) (most + length (p ∷ ps)) w (omega arith) is) now
 
 can_count-head : (head : Option ℕ) (words : List WordCounts) (more : ℕ) → CanCountMore words (more + 1) → CanCountMore (with_head head words) more
-can_count-head head words more can = record { most = can.most + 1; counts = within-head head can.most words can.counts; countable = omega (arith, can.countable) }
+can_count-head head words more can =
+    record {
+      most = can.most + 1;
+      counts = within-head head can.most words can.counts;
+      countable = omega (arith, can.countable);
+    }
 
-can_count-passages : (costs : LoadCosts) (ps : List Passage) (words : List WordCounts) (more : ℕ) → CanCountMore words (length ps + more) → CanCountMore (with_passages costs ps words) more
+can_count-passages : (costs : LoadCosts) (ps : List Passage) (words : List WordCounts) (more : ℕ) →
+    CanCountMore words (length ps + more) → CanCountMore (with_passages costs ps words) more
 can_count-passages costs ps words more can =
     record { most = can.most + length ps; counts = within-passages costs ps can.most words can.counts; countable = omega (arith, can.countable) }
 
@@ -165,7 +180,8 @@ pub length-head : (head : Option ℕ) (words : List WordCounts) → length (with
 length-head None words = omega arith
 length-head (Some head) words = length-change head once_more_at_head words
 
-pub length-passages : (costs : LoadCosts) (ps : List Passage) (words : List WordCounts) → length (with_passages costs ps words) ≤ length words + length ps
+pub length-passages : (costs : LoadCosts) (ps : List Passage) (words : List WordCounts) →
+    length (with_passages costs ps words) ≤ length words + length ps
 length-passages costs [] words = omega arith
 length-passages costs (p ∷ ps) words =
     omega (arith, length-passages costs ps words, length-change p.pc (added costs p) (with_passages costs ps words))
@@ -181,14 +197,17 @@ pub filter-le : (test : Passage → Bool) (ps : List Passage) → length (filter
 filter-le test ps = omega (arith, length-filter test ps, count_by-le-length test ps)
 
 -- room after a cycle's head, and after some passages
-pub room-head : (head : Option ℕ) (old new : Profiled) (more : ℕ) → HasRoom old (more + 1) → new.words ≡ with_head head old.words → old.capacity ≤ new.capacity → HasRoom new more
+pub room-head : (head : Option ℕ) (old new : Profiled) (more : ℕ) → HasRoom old (more + 1) →
+    new.words ≡ with_head head old.words → old.capacity ≤ new.capacity → HasRoom new more
 room-head head old new more room words capacity = record {
   capacity = omega (arith, room.capacity, ap length words, length-head head old.words, capacity);
   counts = subst (λ ws. CanCountMore ws more) (sym words) (can_count-head head old.words more room.counts);
 }
 
 -- after some passages there is room for what comes after them
-pub room-passages : (costs : LoadCosts) (ps : List Passage) (old new : Profiled) (more : ℕ) → HasRoom old (length ps + more) → new.words ≡ with_passages costs ps old.words → old.capacity ≤ new.capacity → HasRoom new more
+pub room-passages : (costs : LoadCosts) (ps : List Passage) (old new : Profiled) (more : ℕ) →
+    HasRoom old (length ps + more) → new.words ≡ with_passages costs ps old.words →
+    old.capacity ≤ new.capacity → HasRoom new more
 room-passages costs ps old new more room words capacity = record {
   capacity = omega (arith, room.capacity, ap length words, length-passages costs ps old.words, capacity);
   counts = subst (λ ws. CanCountMore ws more) (sym words) (can_count-passages costs ps old.words more room.counts);
@@ -196,4 +215,8 @@ room-passages costs ps old new more room words capacity = record {
 
 -- room for more is room for fewer
 pub room-fewer : (profile : Profiled) (more fewer : ℕ) → fewer ≤ more → HasRoom profile more → HasRoom profile fewer
-room-fewer profile more fewer under room = record { capacity = omega (arith, room.capacity, under); counts = can_count-fewer profile.words more fewer under room.counts }
+room-fewer profile more fewer under room =
+    record {
+      capacity = omega (arith, room.capacity, under);
+      counts = can_count-fewer profile.words more fewer under room.counts;
+    }

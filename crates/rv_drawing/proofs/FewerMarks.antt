@@ -13,7 +13,9 @@ pub is_marked-drop : (marks : List Mark) (number : ℕ) (other : Mark) → 0 < l
     → is_marked (take (length marks - 1) (drop 1 marks)) number ≡ is_marked marks number
 is_marked-drop [] number other some is_other = absurd (omega arith)
 is_marked-drop (mark ∷ marks) number other some is_other =
-    ap (λ l. is_marked l number) (take_all (length (mark ∷ marks) - 1) marks (omega arith)) ∙ sym (λ i column. (ne_eqb mark.number number is_other i && mark.column == column) || is_marked marks number column)
+    ap (λ l. is_marked l number) (take_all (length (mark ∷ marks) - 1) marks (omega arith))
+    ∙ sym (λ i column. (ne_eqb mark.number number is_other i && mark.column == column)
+    || is_marked marks number column)
 
 -- without the last one, which is of another instruction
 pub is_marked-take : (marks : List Mark) (number : ℕ) (other : Mark) → 0 < length marks → (get_or marks (length marks - 1) other).number ≢ number

@@ -10,7 +10,8 @@ use Rattle.rv_drawing.specs.SvgPicture.{placed_row, rows_of, svg_rows}
 use Rattle.rv_drawing.specs.declared.{mark.Mark.Mark, window.Window.Window}
 
 -- a count with one more in front
-count_by-cons : (window : Window) (x : Passage) (xs : List Passage) → count_by (has_cell window) (x ∷ xs) ≡ rows_of window x + count_by (has_cell window) xs
+count_by-cons : (window : Window) (x : Passage) (xs : List Passage) →
+    count_by (has_cell window) (x ∷ xs) ≡ rows_of window x + count_by (has_cell window) xs
 count_by-cons window x xs =
     let one : count_by (has_cell window) (x ∷ []) ≡ rows_of window x = omega arith in
     sum_by-append _ (x ∷ []) xs ∙ (λ i. one i + count_by (has_cell window) xs)
@@ -30,10 +31,12 @@ module _ (listing : Listed) (window : Window) (all : List Passage) (reasons : Li
   svg_rows-append place (x ∷ xs) ys =
       let below = place + rows_of window x in
       let same : below + count xs ≡ place + count (x ∷ xs) = omega (arith, count_by-cons window x xs) in
-      ap (λ l. placed_row listing window all reasons marks place x ++ l) (svg_rows-append below xs ys ∙ ap (λ n. rows_from below xs ++ rows_from n ys) same)
+      ap (λ l. placed_row listing window all reasons marks place x ++ l)
+      (svg_rows-append below xs ys ∙ ap (λ n. rows_from below xs ++ rows_from n ys) same)
       ∙ sym (append_assoc (placed_row listing window all reasons marks place x) (rows_from below xs) (rows_from (place + count (x ∷ xs)) ys))
 
-  module _ (items : List Passage) (index : ℕ) (other : Passage) (here : index < length items) (place : ℕ) (below : place ≡ count (take index items)) where
+  module _ (items : List Passage) (index : ℕ) (other : Passage) (here : index < length items) (place : ℕ)
+      (below : place ≡ count (take index items)) where
     abbrev pub row : Passage
     row = get_or items index other
 
@@ -42,7 +45,8 @@ module _ (listing : Listed) (window : Window) (all : List Passage) (reasons : Li
     unfolding svg_rows
     svg_rows-more =
         let same : 0 + count (take index items) ≡ place = omega (arith, below) in
-        ap (rows_from 0) (take_more items index other here) ∙ svg_rows-append 0 (take index items) (row ∷ []) ∙ ap (λ n. rows_from 0 (take index items) ++ rows_from n (row ∷ [])) same
+        ap (rows_from 0) (take_more items index other here) ∙ svg_rows-append 0 (take index items) (row ∷ [])
+        ∙ ap (λ n. rows_from 0 (take index items) ++ rows_from n (row ∷ [])) same
         ∙ ap (λ l. rows_from 0 (take index items) ++ l) (append-nil (placed_row listing window all reasons marks place row))
 
     -- and how many they are

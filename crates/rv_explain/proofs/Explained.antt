@@ -22,6 +22,7 @@ use Rattle.rv_passage.proofs.EndedRun.{length-reports_of}
 
 module _ {arrivals : List Arrival} {limit : ℕ} {values : Values} {old new : GuidedHardware} {run : Tallied}
     (tallied : IsTallied arrivals limit values old new run) where
+  -- what is written of a tallied run is its explanation
   pub explained : (figures : Figures) (path : Option Accounted) (listing : Listed) →
       IsExplanation arrivals limit figures values path listing old new run.stop (explanation figures path listing new.hardware run)
   explained figures path listing = record {

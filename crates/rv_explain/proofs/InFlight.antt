@@ -25,6 +25,7 @@ running (ending.Squashed cycle) flies = refl
 unretired : (p : Passage) → is_in_flight p ≡ true → is_retirement p.ending ≡ false
 unretired p flies = running p.ending flies
 
+-- an instruction in flight is counted as no branch
 pub no_branch : (p : Passage) → is_in_flight p ≡ true → word_in Branch p ≡ None
 no_branch p flies = rw (unretired p flies) refl
 
@@ -57,7 +58,8 @@ module _ (place : Passage → Option ℕ) (fails : (p : Passage) → is_in_fligh
       ap (λ o. with_one o (with_all place ps notes)) (fails p (all 0 p (omega arith)))
       ∙ none_noted ps notes (λ k d within. all (suc k) d (omega (arith, within)))
 
-  noted_among : (kept others : List Passage) (notes : Notes ℕ) → AllPass is_in_flight others → with_all place (kept ++ others) notes ≡ with_all place kept notes
+  noted_among : (kept others : List Passage) (notes : Notes ℕ) → AllPass is_in_flight others →
+      with_all place (kept ++ others) notes ≡ with_all place kept notes
   noted_among [] others notes all = none_noted others notes all
   noted_among (p ∷ ps) others notes all = ap (with_one (place p)) (noted_among ps others notes all)
 

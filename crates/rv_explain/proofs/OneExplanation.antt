@@ -8,10 +8,12 @@ use Rattle.rv_explain.specs.declared.figures.Figures.{Figures}
 use Rattle.rv_explain.specs.Explanation.{IsExplanation, explanation, tallied_of}
 use Rattle.rv_view.specs.Run.{HasOneText}
 
+-- of a run of described hardware there is one explanation
 pub one_explanation : (arrivals : List Arrival) (limit : ℕ) (figures : Figures) (values : Values) (path : Option Accounted) (listing : Listed) →
     HasOneText limit (IsExplanation arrivals limit figures values path listing)
 one_explanation arrivals limit figures values path listing h predictor new new' stop stop' text text' within is is' =
     let same = one_run within is.run is'.run in (
       same.reasons,
-      is.text_is ∙ (λ i. explanation figures path listing (same.ends i).hardware (tallied_of values arrivals h (same.moments_are i) (same.reasons i))) ∙ sym is'.text_is,
+      is.text_is ∙ (λ i. explanation figures path listing (same.ends i).hardware
+          (tallied_of values arrivals h (same.moments_are i) (same.reasons i))) ∙ sym is'.text_is,
     )

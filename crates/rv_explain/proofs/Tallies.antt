@@ -55,17 +55,23 @@ kept_after-push : (es : List Exception) (o : Option Exception) → kept_after o 
 kept_after-push es None = sym (ap kept_of (append-nil es))
 kept_after-push es (Some e) = kept-push e es
 
-exceptions-push : (moments : List Moment) (moment : Moment) → kept_after (exception_of_cycle moment) (kept_of (exceptions_of moments)) ≡ kept_of (exceptions_of (moments ++ moment ∷ []))
+exceptions-push : (moments : List Moment) (moment : Moment) →
+    kept_after (exception_of_cycle moment) (kept_of (exceptions_of moments))
+    ≡ kept_of (exceptions_of (moments ++ moment ∷ []))
 exceptions-push moments moment =
-    kept_after-push (exceptions_of moments) (exception_of_cycle moment) ∙ sym (ap kept_of (filter_map-append exception_of_cycle moments (moment ∷ [])))
+    kept_after-push (exceptions_of moments) (exception_of_cycle moment)
+    ∙ sym (ap kept_of (filter_map-append exception_of_cycle moments (moment ∷ [])))
 
 interrupts_after-push : (is : List Interruption) (o : Option Interruption) → interrupts_after o (by_line is) ≡ by_line (is ++ cons_option o [])
 interrupts_after-push is None = sym (ap by_line (append-nil is))
 interrupts_after-push is (Some i) = sym (by_line-push is i)
 
-interrupts-push : (moments : List Moment) (moment : Moment) → interrupts_after (interruption_of_cycle moment) (by_line (interruptions_of moments)) ≡ by_line (interruptions_of (moments ++ moment ∷ []))
+interrupts-push : (moments : List Moment) (moment : Moment) →
+    interrupts_after (interruption_of_cycle moment) (by_line (interruptions_of moments))
+    ≡ by_line (interruptions_of (moments ++ moment ∷ []))
 interrupts-push moments moment =
-    interrupts_after-push (interruptions_of moments) (interruption_of_cycle moment) ∙ sym (ap by_line (filter_map-append interruption_of_cycle moments (moment ∷ [])))
+    interrupts_after-push (interruptions_of moments) (interruption_of_cycle moment)
+    ∙ sym (ap by_line (filter_map-append interruption_of_cycle moments (moment ∷ [])))
 
 cons_option-le : {Y : Type 0} (o : Option Y) (ys : List Y) → length (cons_option o ys) ≤ length ys + 1
 cons_option-le None ys = omega arith
@@ -76,7 +82,8 @@ length-filter_map : {X Y : Type 0} (h : X → Option Y) (xs : List X) → length
 length-filter_map h [] = omega arith
 length-filter_map h (x ∷ xs) = omega (arith, cons_option-le (h x) (filter_map h xs), length-filter_map h xs)
 
-dispatched_after-append : (some more : List Step) (d : Dispatches) → dispatched_after (some ++ more) d ≡ dispatched_after more (dispatched_after some d)
+dispatched_after-append : (some more : List Step) (d : Dispatches) →
+    dispatched_after (some ++ more) d ≡ dispatched_after more (dispatched_after some d)
 dispatched_after-append [] more d = refl
 dispatched_after-append (step ∷ some) more d = dispatched_after-append some more (dispatched_with step d)
 
@@ -98,9 +105,12 @@ dispatched_after-le (step ∷ steps) d = omega (arith, dispatched_with-le step d
 
 module _ (values : Values) where
   -- one more cycle
-  pub tally-push : {arrivals : List Arrival} {old now : GuidedHardware} {moments : List Moment} (moment : Moment) (rows left : List Passage) (passes : History arrivals old moments now)
+  pub tally-push : {arrivals : List Arrival} {old now : GuidedHardware} {moments : List Moment} (moment : Moment)
+      (rows left : List Passage) (passes : History arrivals old moments now)
       → rows ≡ (last_cycle still_open passes moment).passages.rows
-      → tally_after now.hardware.cycle now.hardware.registers moment.report.steps (places_in now.hardware moment) (drain_in arrivals now.hardware) moment.after.lines moment.after rows (tally_of values arrivals old.hardware moments left)
+      → tally_after now.hardware.cycle now.hardware.registers moment.report.steps (places_in now.hardware moment)
+      (drain_in arrivals now.hardware) moment.after.lines moment.after rows
+      (tally_of values arrivals old.hardware moments left)
       ≡ tally_of values arrivals old.hardware (moments ++ moment ∷ []) (filter has_left rows ++ left)
   tally-push {arrivals = arrivals} {old = old} {now = now} {moments = moments} moment rows left passes rows_are =
       let steps = shown_steps-push moments moment in
@@ -151,8 +161,10 @@ module _ (values : Values) where
       }
 
   -- the steps of one more cycle can be counted
-  pub has_room : (arrivals : List Arrival) (h : Hardware) (moments : List Moment) (left : List Passage) (more rows : ℕ) → length (steps_of (reports_of moments)) ≤ 8 * 2 ^ 40 → length moments ≤ 2 ^ 40
-      → all_places (places_of h moments) ≤ 8 * 2 ^ 40 + 256 → length left ≤ 576 * 2 ^ 40 → more ≤ 8 → rows ≤ 576 → all_stays (with_stays (stays_of h moments) no_stays) ≤ 576 * 2 ^ 40
+  pub has_room : (arrivals : List Arrival) (h : Hardware) (moments : List Moment) (left : List Passage)
+      (more rows : ℕ) → length (steps_of (reports_of moments)) ≤ 8 * 2 ^ 40 → length moments ≤ 2 ^ 40
+      → all_places (places_of h moments) ≤ 8 * 2 ^ 40 + 256 → length left ≤ 576 * 2 ^ 40 → more ≤ 8 → rows ≤ 576 →
+      all_stays (with_stays (stays_of h moments) no_stays) ≤ 576 * 2 ^ 40
       → HasRoom (tally_of values arrivals h moments left) more rows
   has_room arrivals h moments left more rows few within placed fewer little some few_stays = record {
     dispatches = omega (arith, dispatched_after-le (steps_of (reports_of moments)) none_dispatched, few, little);
@@ -174,7 +186,14 @@ module _ (values : Values) where
       outcomes = can_take values (costs_of values) left rows (omega (arith, fewer, some));
     };
     drains = omega (arith, drains_of-le arrivals h moments, within);
-    hits = omega (arith, drains_of-le arrivals h moments, count_by-le-length (λ (cost : ℕ). cost == values.cache.hit) (drains_of arrivals h moments), within);
+    hits =
+        omega (
+          arith,
+          drains_of-le arrivals h moments,
+          count_by-le-length (λ (cost : ℕ). cost == values.cache.hit)
+              (drains_of arrivals h moments),
+          within,
+        );
     stores = can_count_store values (costs_of values) arrivals h moments within;
     heads = omega (arith, counted_within itself values (accounts_of h moments), length-accounts h moments, within);
     idle = omega (arith, count_by-le-length is_idle (accounts_of h moments), length-accounts h moments, within);

@@ -45,8 +45,10 @@ use Rattle.rv_view.specs.Viewing.{IsNextCycle}
 use Rattle.rv_view.specs.declared.shown_cycle.ShownCycle.{ShownCycle}
 
 -- no cycle yet
-pub nothing_tallied : (values : Values) (arrivals : List Arrival) (h : GuidedHardware) (tally : Tally) (registers : List ℕ) (end : Option ℕ) (in_flight : ℕ) → IsOfNoCycle values tally
-    → registers ≡ h.hardware.registers → end ≡ drain_end h.hardware → in_flight ≡ length h.hardware.rob.entries → in_flight ≤ 256 → IsTallying tally tally registers end in_flight (watched arrivals h [] h)
+pub nothing_tallied : (values : Values) (arrivals : List Arrival) (h : GuidedHardware) (tally : Tally)
+    (registers : List ℕ) (end : Option ℕ) (in_flight : ℕ) → IsOfNoCycle values tally
+    → registers ≡ h.hardware.registers → end ≡ drain_end h.hardware → in_flight ≡ length h.hardware.rob.entries →
+    in_flight ≤ 256 → IsTallying tally tally registers end in_flight (watched arrivals h [] h)
 nothing_tallied values arrivals h tally registers end in_flight of_no_cycle registers_are end_is in_flight_is few =
     record {
       values = values;
@@ -63,7 +65,9 @@ nothing_tallied values arrivals h tally registers end in_flight of_no_cycle regi
     }
 
 -- one more cycle
-module _ {seen : Watched} {cycle : ShownCycle} (next : IsNextCycle seen cycle) {first tally : Tally} {registers : List ℕ} {end : Option ℕ} {in_flight : ℕ} (tallying : IsTallying first tally registers end in_flight seen) where
+module _ {seen : Watched} {cycle : ShownCycle}
+    (next : IsNextCycle seen cycle) {first tally : Tally} {registers : List ℕ} {end : Option ℕ} {in_flight : ℕ}
+    (tallying : IsTallying first tally registers end in_flight seen) where
   abbrev moment : Moment
   moment = record { report = next.shown.report; after = cycle.hardware.now }
 
@@ -79,7 +83,9 @@ module _ {seen : Watched} {cycle : ShownCycle} (next : IsNextCycle seen cycle) {
 
   -- those of a cycle are few
   pub few_places : cycle_total places_now ≤ 264
-  few_places = few_seen placed_now cycle.number in_flight cycle.steps.now next.shown.number tallying.in_flight_is next.shown.steps_are tallying.few_in_flight
+  few_places =
+      few_seen placed_now cycle.number in_flight cycle.steps.now next.shown.number tallying.in_flight_is
+      next.shown.steps_are tallying.few_in_flight
 
   -- its steps and passages can be counted
   pub room : HasRoom tally (length cycle.steps.now) (length cycle.rows.now)
@@ -89,11 +95,29 @@ module _ {seen : Watched} {cycle : ShownCycle} (next : IsNextCycle seen cycle) {
       let rows = length cycle.rows.now in
       let counted = moments_counted shown.passes in
       subst (λ (t : Tally). HasRoom t more rows) (sym (tallying.tallied tallying.values tallying.of_no_cycle))
-      (has_room tallying.values seen.arrivals seen.first.hardware seen.moments (left_after seen.first.hardware seen.moments) more rows (omega (arith, shown.few_before, counted, shown.number, shown.counted))
+      (has_room tallying.values seen.arrivals seen.first.hardware seen.moments
+      (left_after seen.first.hardware seen.moments) more rows
+      (omega (arith, shown.few_before, counted, shown.number, shown.counted))
       (omega (arith, length-reports_of seen.moments, counted, shown.number, shown.counted))
-      (omega (arith, places_counted seen.first.hardware seen.moments seen.now.hardware tallying.places_add_up (omega (arith, ap (λ (v : Values). v.dispatch_width) placed_now.values, placed_now.wide)) tallying.few_before, length-reports_of seen.moments, counted, shown.number, shown.counted))
+      (omega (
+        arith,
+        places_counted seen.first.hardware seen.moments seen.now.hardware tallying.places_add_up
+            (omega (arith, ap (λ (v : Values). v.dispatch_width) placed_now.values, placed_now.wide))
+            tallying.few_before,
+        length-reports_of seen.moments,
+        counted,
+        shown.number,
+        shown.counted,
+      ))
       (omega (arith, tallying.some_left, shown.number, shown.counted)) shown.few next.few
-      (omega (arith, tallying.few_stays, ap (λ (t : Tally). all_stays t.stays) (tallying.tallied tallying.values tallying.of_no_cycle), shown.number, shown.counted)))
+      (omega (
+        arith,
+        tallying.few_stays,
+        ap (λ (t : Tally). all_stays t.stays)
+            (tallying.tallied tallying.values tallying.of_no_cycle),
+        shown.number,
+        shown.counted,
+      )))
 
   -- its passages are those at its end
   pub ended : AreAtEnd cycle.number cycle.hardware.now cycle.rows.now
@@ -107,9 +131,13 @@ module _ {seen : Watched} {cycle : ShownCycle} (next : IsNextCycle seen cycle) {
       (at_end number steps after kept))
 
   -- and are tallied
-  pub tallied_on : (drain : Option ℕ) (tally' : Tally) (registers' : List ℕ) (end' : Option ℕ) (in_flight' : ℕ) (places : CyclePlaces) (lines : Lines) → lines ≡ cycle.hardware.now.lines → places ≡ places_now → drain ≡ begun cycle.number end end'
-      → tally' ≡ tally_after cycle.number registers cycle.steps.now places drain lines cycle.hardware.now cycle.rows.now tally → registers' ≡ cycle.hardware.now.registers → end' ≡ drain_end cycle.hardware.now
-      → in_flight' ≡ length cycle.hardware.now.rob.entries → in_flight' ≤ 256 → IsTallying first tally' registers' end' in_flight' (with_shown seen next.shown)
+  pub tallied_on : (drain : Option ℕ) (tally' : Tally) (registers' : List ℕ) (end' : Option ℕ) (in_flight' : ℕ)
+      (places : CyclePlaces) (lines : Lines) → lines ≡ cycle.hardware.now.lines → places ≡ places_now →
+      drain ≡ begun cycle.number end end'
+      → tally' ≡ tally_after cycle.number registers cycle.steps.now places drain lines cycle.hardware.now cycle.rows.now
+      tally → registers' ≡ cycle.hardware.now.registers → end' ≡ drain_end cycle.hardware.now
+      → in_flight' ≡ length cycle.hardware.now.rob.entries → in_flight' ≤ 256 →
+      IsTallying first tally' registers' end' in_flight' (with_shown seen next.shown)
   tallied_on drain tally' registers' end' in_flight' places lines lines_are places_is drain_is added registers_are end_is in_flight_is few =
       let shown = next.shown in
       let steps = cycle.steps.now in
@@ -126,10 +154,20 @@ module _ {seen : Watched} {cycle : ShownCycle} (next : IsNextCycle seen cycle) {
         some_left = some_left-push shown.passes moment next.rows_are next.few (cycle_counts shown.cycled) tallying.some_left;
         of_no_cycle = tallying.of_no_cycle;
         tallied = λ by is.
-            added ∙ (λ i. tally_after (shown.number i) (tallying.registers_are i) (shown.steps_are i) (placed_as i) (drain_now i) (lines_are i) after rows (tallying.tallied by is i)) ∙
+            added ∙ (λ i. tally_after (shown.number i) (tallying.registers_are i) (shown.steps_are i) (placed_as i)
+            (drain_now i) (lines_are i) after rows (tallying.tallied by is i)) ∙
             tally-push by moment rows left shown.passes next.rows_are ∙
             ap (tally_of by seen.arrivals seen.first.hardware (seen.moments ++ moment ∷ [])) (sym (left-push shown.passes moment next.rows_are));
-        few_stays = omega (arith, ap (λ (t : Tally). all_stays t.stays) added, few_more_stays cycle.number free true rows tally.stays, tallying.few_stays, next.few, one_more);
+        few_stays =
+            omega (
+              arith,
+              ap (λ (t : Tally). all_stays t.stays) added,
+              few_more_stays cycle.number free true rows
+                  tally.stays,
+              tallying.few_stays,
+              next.few,
+              one_more,
+            );
         registers_are = registers_are;
         end_is = end_is;
         in_flight_is = in_flight_is;
@@ -139,13 +177,16 @@ module _ {seen : Watched} {cycle : ShownCycle} (next : IsNextCycle seen cycle) {
       }
 
 -- the end of a run, at which a table has what is in flight
-module _ {arrivals : List Arrival} {old new : GuidedHardware} {moments : List Moment} {first tally : Tally} {registers : List ℕ} {end : Option ℕ} {in_flight : ℕ} {table : Table}
-    (tallying : IsTallying first tally registers end in_flight (watched arrivals old moments new)) (kept : HasOpen old.hardware moments new.hardware table) where
+module _ {arrivals : List Arrival} {old new : GuidedHardware} {moments : List Moment} {first
+    tally : Tally} {registers : List ℕ} {end : Option ℕ} {in_flight : ℕ} {table : Table}
+    (tallying : IsTallying first tally registers end in_flight (watched arrivals old moments new))
+    (kept : HasOpen old.hardware moments new.hardware table) where
   left_are : tally.work.left ≡ length (left_after old.hardware moments)
   left_are = ap (λ (t : Tally). t.work.left) (tallying.tallied tallying.values tallying.of_no_cycle)
 
   -- so can the places of all its cycles
-  pub places_of_all : {limit : ℕ} {stop : Stop} {progress : Progress} → IsEndedRun arrivals limit old moments new stop → progress ≡ progress_of (reports_of moments)
+  pub places_of_all : {limit : ℕ} {stop : Stop} {progress : Progress} → IsEndedRun arrivals limit old moments new stop →
+      progress ≡ progress_of (reports_of moments)
       → new.hardware.cycle ≤ 2 ^ 40 → Reachable new.hardware → progress.cycles * new.hardware.values.dispatch_width < 2 ^ 64
   places_of_all {progress = progress} run counted within reached =
       let few : progress.cycles ≤ 2 ^ 40 = omega (arith, ap (λ (p : Progress). p.cycles) counted, moments_counted run.passes, within) in
@@ -164,7 +205,13 @@ module _ {arrivals : List Arrival} {old new : GuidedHardware} {moments : List Mo
   tallied_to_the_end {values = values} {stop = stop} run counted of_no_cycle rows rows_are few reached within =
       let open_rows : rows ≡ (passages_after still_open old.hardware moments).rows = rows_are ∙ ap (λ (t : Passages). t.rows) kept.followed.passages in
       let fetched_are : tally.work.left + length rows ≡ length (passages_of_run old.hardware moments) =
-      omega (arith, left_are, ap length open_rows, length-append (passages_after still_open old.hardware moments).rows (left_after old.hardware moments)) in
+      omega (
+        arith,
+        left_are,
+        ap length open_rows,
+        length-append (passages_after still_open old.hardware moments).rows
+            (left_after old.hardware moments),
+      ) in
       let tally_is = tallying.tallied values (of_no_cycle arrivals old.hardware) in
       record {
         moments = moments;

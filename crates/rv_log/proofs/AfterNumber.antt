@@ -6,7 +6,9 @@ use Rattle.rv_text.proofs.Saying.{says_both, says_nothing, says_same}
 
 module _ {W : Type 0} {contents : W → Option (List ℕ)} where
   -- what is said after a number and the text that comes with it
-  pub says_after_number : {a b c : Sink W} {rest : List ℕ} (before number after : List ℕ) → Says contents a b (before ++ (number ++ after)) → Says contents b c rest → Says contents a c (before ++ (number ++ (after ++ rest)))
+  pub says_after_number : {a b c : Sink W} {rest : List ℕ} (before number after : List ℕ) →
+      Says contents a b (before ++ (number ++ after)) → Says contents b c rest →
+      Says contents a c (before ++ (number ++ (after ++ rest)))
   says_after_number {rest = rest} before number after one other =
       says_same (append_assoc before (number ++ after) rest ∙ ap (λ text. before ++ text) (append_assoc number after rest)) (says_both one other)
 

@@ -35,7 +35,8 @@ cycles-more listing first before (cycle ∷ cycles) last =
     append_assoc text (cycles_text listing first cycle.report.stall cycles) (last_text listing first cycle.report.stall cycles last)
     ∙ ap (λ rest. text ++ rest) (cycles-more listing first cycle.report.stall cycles last)
 
-last_stall-more : (before : Option Stall) (cycles : List FollowedCycle) (last : FollowedCycle) → last_stall before (cycles ++ last ∷ []) ≡ last.report.stall
+last_stall-more : (before : Option Stall) (cycles : List FollowedCycle) (last : FollowedCycle) →
+    last_stall before (cycles ++ last ∷ []) ≡ last.report.stall
 last_stall-more before [] last = refl
 last_stall-more before (cycle ∷ cycles) last = last_stall-more cycle.report.stall cycles last
 
@@ -45,11 +46,15 @@ module _ {seen : Watched} {cycle : ShownCycle} (next : IsNextCycle seen cycle)
   stall_now : cycle.progress.now.stall ≡ next.shown.report.stall
   stall_now = ap (λ (p : Progress). p.stall) (next.shown.progress_is ∙ progress_of-push (reports_of seen.moments) next.shown.report)
 
+  -- the log is under way after one cycle more
   pub logging_on : IsLogging listing listing' first cycle.progress.now.stall (with_shown seen next.shown)
   logging_on = record {
     same = logging.same;
     began = logging.began;
-    stalled = stall_now ∙ sym (ap (last_stall None) (cycles_seen-push seen next.shown) ∙ last_stall-more None (cycles_seen seen) (cycle_shown seen next.shown));
+    stalled =
+        stall_now ∙ sym
+        (ap (last_stall None) (cycles_seen-push seen next.shown)
+        ∙ last_stall-more None (cycles_seen seen) (cycle_shown seen next.shown));
   }
 
   -- and its text
@@ -60,7 +65,9 @@ module _ {seen : Watched} {cycle : ShownCycle} (next : IsNextCycle seen cycle)
       let number = seen.first.hardware.cycle in
       let so_far = cycles_text listing number None (cycles_seen seen) in
       sym
-      ((λ i. so_far ++ cycle_text (logging.same i) (logging.began i) (next.shown.number i) (record { before = logging.stalled i; reason = stall_now i }) (next.rows_are i))
+      ((λ i. so_far
+      ++ cycle_text (logging.same i) (logging.began i) (next.shown.number i)
+      (record { before = logging.stalled i; reason = stall_now i }) (next.rows_are i))
       ∙ cycles-more listing number None (cycles_seen seen) (cycle_shown seen next.shown))
 
 -- the log of a run that ended: its begin, and then its cycles

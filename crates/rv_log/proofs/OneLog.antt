@@ -6,6 +6,7 @@ use Rattle.rv_passage.proofs.OneRun.{one_run}
 use Rattle.rv_source.specs.Listing.{Listed}
 use Rattle.rv_view.specs.Run.{HasOneText}
 
+-- of a run of described hardware there is one log
 pub one_log : (arrivals : List Arrival) (limit : ℕ) (listing : Listed) → HasOneText limit (IsLog arrivals limit listing)
 one_log arrivals limit listing h predictor new new' stop stop' text text' within log log' =
     let same = one_run within log.run log'.run in

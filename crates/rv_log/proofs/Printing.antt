@@ -19,6 +19,7 @@ front-cons byte text true prints rest =
     ∙ sym (ap (λ b. (cond b (byte ∷ []) (if byte == 9 then codes " " else codes "?")) ++ plain_text text) prints)
 front-cons byte text false prints rest = ap (λ b. front-of (cond b (1 + prefix_len is_printing text) 0) (byte ∷ text)) prints
 
+-- the printing characters in front are written as they are
 pub plain-front : (text : List ℕ) → take (prefix_len is_printing text) text ++ plain_text (drop (prefix_len is_printing text) text) ≡ plain_text text
 plain-front [] = refl
 plain-front (byte ∷ text) = front-cons byte text (is_printing byte) refl (plain-front text)
@@ -27,4 +28,5 @@ plain-front (byte ∷ text) = front-cons byte text (is_printing byte) refl (plai
 pub plain-whole : (text : List ℕ) → prefix_len is_printing text ≡ length text → plain_text text ≡ text
 plain-whole text whole =
     let same : length text ≤ length text = omega arith in
-    sym (plain-front text) ∙ ap (λ n. front-of n text) whole ∙ (λ i. take_all (length text) text same i ++ plain_text (drop_all (length text) text same i)) ∙ append-nil text
+    sym (plain-front text) ∙ ap (λ n. front-of n text) whole
+    ∙ (λ i. take_all (length text) text same i ++ plain_text (drop_all (length text) text same i)) ∙ append-nil text

@@ -34,7 +34,8 @@ unfolding one_text words_after waits_text
 waits-next before w ws = waits-by (cycles_of w == 0) before w ws
 
 -- the first of some, and then the others after its words
-pub waits-after : {words : List ℕ} (before : List ℕ) (w : Wait) (ws : List Wait) {rest : List ℕ} → words ≡ words_after before w → rest ≡ waits_text words ws → one_text before w ++ rest ≡ waits_text before (w ∷ ws)
+pub waits-after : {words : List ℕ} (before : List ℕ) (w : Wait) (ws : List Wait) {rest : List ℕ} →
+    words ≡ words_after before w → rest ≡ waits_text words ws → one_text before w ++ rest ≡ waits_text before (w ∷ ws)
 waits-after before w ws after same = ap (λ end. one_text before w ++ end) (same ∙ ap (λ words. waits_text words ws) after) ∙ waits-next before w ws
 
 -- the last one

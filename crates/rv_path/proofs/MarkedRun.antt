@@ -1,4 +1,5 @@
--- The marks of a run's path: what a marker has of the cycles so far, and that what is left of the path at the end has all that are marked.
+-- The marks of a run's path: what a marker has of the cycles so far, and that what is left of the path at the end has
+-- all that are marked.
 use Rattle.std.proofs.Common.{◌≡◌, ◌⊎◌, ◌∙◌, ℕ, ◌+◌, ◌-◌, ◌^◌, ◌<◌, ◌≤◌, List, [], ◌∷◌, Option, Some, sym, ap, subst, arith, length}
 use Rattle.std.proofs.Common.{length-append, take, inl, inr}
 use Rattle.std.proofs.lemmas.Bool.{cases_order}
@@ -88,7 +89,8 @@ marking_still marker path' seen path same is = record {
   by_cycles (inl begun) = has_all_same marker.from marker.path.window path'.window all (same begun) is.events
   by_cycles (inr before) =
       has_all_of marker.from path'.window all path.window
-      (unmarked_in_time (length seen.moments) marker.from all (omega (arith, before, is.cycles)) (comes_in_time seen.first.hardware seen.moments).events)
+      (unmarked_in_time (length seen.moments) marker.from all (omega (arith, before, is.cycles))
+      (comes_in_time seen.first.hardware seen.moments).events)
 
 -- the count of what was fetched can go on
 pub fits : {seen : Watched} {cycle : ShownCycle} (next : IsNextCycle seen cycle) (marker : Marker) → IsMarking marker seen
@@ -104,10 +106,13 @@ module _ {seen : Watched} {cycle : ShownCycle} (next : IsNextCycle seen cycle) (
       ap (λ (p : Progress). p.cycles) next.shown.progress_is ∙ length-append (reports_of seen.moments) (next.shown.report ∷ [])
       ∙ ap (λ n. n + 1) (length-reports_of seen.moments)
 
+  -- the marks are under way after one cycle more
   pub marking_on : new.from ≡ old.from → new.cycles ≡ cycle.progress.now.cycles
       → IsKnown new.path (known_of seen.first.hardware (cycles_seen (with_shown seen next.shown)))
       → IsFollowed (made_shown (read_by cycle) (known_of_path old.path [])) old.path.window new.path.window
-      → (new.cycles ≤ old.from → IsOneLater cycle.rows.now old.numbering.numbers.items old.numbering.fetched new.numbering.numbers.items new.numbering.fetched)
+      → (new.cycles ≤ old.from →
+      IsOneLater cycle.rows.now old.numbering.numbers.items old.numbering.fetched new.numbering.numbers.items
+      new.numbering.fetched)
       → (old.from < new.cycles → new.numbering ≡ old.numbering)
       → IsMarking new (with_shown seen next.shown)
   marking_on from cycles path followed later begun = record {
@@ -158,50 +163,54 @@ ended-sooner limit other cycles reports new (stop.Stale pc) few below above stop
 ended-sooner limit other cycles reports new stop.Exhausted few below above stops = (stops.0, omega (arith, few, above), stops.2)
 
 -- the marks of the run
-pub marked_run : {arrivals : List Arrival} {limit from cycles : ℕ} {old new : GuidedHardware} {moments : List Moment} {reason : Stop} (marker : Marker) (path : List Event) (marks : List Mark)
+pub marked_run : {arrivals : List Arrival} {limit from cycles : ℕ} {old new : GuidedHardware} {moments : List
+    Moment} {reason : Stop} (marker : Marker) (path : List Event) (marks : List Mark)
     → IsMarking marker (watched arrivals old moments new) → marker.from ≡ from → IsEndedRun arrivals limit old moments new reason
     → (from + cycles < 2 ^ 64 → limit ≡ from + cycles) → (2 ^ 64 ≤ from + cycles → limit ≡ 2 ^ 64 - 1) → new.hardware.cycle ≤ 2 ^ 40
     → path ≡ path_to (kept_events marker.path.window) (Some (last_left marker.path.before.left).at)
     → marks ≡ marks_of from (number_by marker.numbering.numbers.items marker.numbering.fetched) path
     → IsMarked arrivals from cycles old new marks
-marked_run {arrivals} {limit} {from} {cycles} {old} {new} {moments} {reason} marker path marks is from_is run exact beyond within path_is marks_are = record {
-  moments = moments;
-  stop = reason;
-  run = ended (le_or_lt (2 ^ 64) (from + cycles));
-  marks_are =
-      marks_are ∙ ap (marks_of from number) path_is ∙ marks-kept from number marker.path.window known.events wanted has
-      ∙ (λ i. marks_of from (number_by (numbers i) (fetched i)) (path_to known.events (Some (last_left (before i).left).at)));
-} where
-  known : Known
-  known = known_of old.hardware (cycles_seen (watched arrivals old moments new))
+marked_run {arrivals} {limit} {from} {cycles} {old} {new} {moments} {reason} marker path marks is from_is run exact
+    beyond within path_is marks_are = record {
+      moments = moments;
+      stop = reason;
+      run = ended (le_or_lt (2 ^ 64) (from + cycles));
+      marks_are =
+          marks_are ∙ ap (marks_of from number) path_is ∙ marks-kept from number marker.path.window known.events wanted has
+          ∙ (λ i. marks_of from (number_by (numbers i) (fetched i)) (path_to known.events (Some (last_left (before i).left).at)));
+    } where
+      known : Known
+      known = known_of old.hardware (cycles_seen (watched arrivals old moments new))
 
-  number : ℕ → ℕ
-  number = number_by marker.numbering.numbers.items marker.numbering.fetched
+      number : ℕ → ℕ
+      number = number_by marker.numbering.numbers.items marker.numbering.fetched
 
-  wanted : Option Point
-  wanted = Some (last_left marker.path.before.left).at
+      wanted : Option Point
+      wanted = Some (last_left marker.path.before.left).at
 
-  has : HasAllMarked from marker.path.window known.events
-  has = subst (λ (n : ℕ). HasAllMarked n marker.path.window known.events) from_is is.events
+      has : HasAllMarked from marker.path.window known.events
+      has = subst (λ (n : ℕ). HasAllMarked n marker.path.window known.events) from_is is.events
 
-  numbered : IsNumbering marker.numbering (passages_after still_open old.hardware (take from moments))
-  numbered = subst (λ (n : ℕ). IsNumbering marker.numbering (passages_after still_open old.hardware (take n moments))) from_is is.numbering
+      numbered : IsNumbering marker.numbering (passages_after still_open old.hardware (take from moments))
+      numbered = subst (λ (n : ℕ). IsNumbering marker.numbering (passages_after still_open old.hardware (take n moments))) from_is is.numbering
 
-  numbers : marker.numbering.numbers.items ≡ row_numbers (passages_after still_open old.hardware (take from moments)).rows
-  numbers = numbered.numbers
+      numbers : marker.numbering.numbers.items ≡ row_numbers (passages_after still_open old.hardware (take from moments)).rows
+      numbers = numbered.numbers
 
-  fetched : marker.numbering.fetched ≡ (passages_after still_open old.hardware (take from moments)).fetched
-  fetched = numbered.fetched
+      fetched : marker.numbering.fetched ≡ (passages_after still_open old.hardware (take from moments)).fetched
+      fetched = numbered.fetched
 
-  before : marker.path.before ≡ known.before
-  before = ap (λ (k : Known). k.before) is.path.known
+      before : marker.path.before ≡ known.before
+      before = ap (λ (k : Known). k.before) is.path.known
 
-  few : length (reports_of moments) ≤ 2 ^ 40
-  few = omega (arith, moments_counted run.passes, within)
+      few : length (reports_of moments) ≤ 2 ^ 40
+      few = omega (arith, moments_counted run.passes, within)
 
-  ended : (2 ^ 64 ≤ from + cycles) ⊎ (from + cycles < 2 ^ 64) → IsEndedRun arrivals (from + cycles) old moments new reason
-  ended (inl over) = record {
-    passes = run.passes;
-    stops = ended-sooner limit (from + cycles) (2 ^ 40) (reports_of moments) new.hardware reason few (omega (arith, beyond over)) (omega (arith, over)) run.stops;
-  }
-  ended (inr under) = subst (λ (n : ℕ). IsEndedRun arrivals n old moments new reason) (exact under) run
+      ended : (2 ^ 64 ≤ from + cycles) ⊎ (from + cycles < 2 ^ 64) → IsEndedRun arrivals (from + cycles) old moments new reason
+      ended (inl over) = record {
+        passes = run.passes;
+        stops =
+            ended-sooner limit (from + cycles) (2 ^ 40) (reports_of moments) new.hardware reason few
+            (omega (arith, beyond over)) (omega (arith, over)) run.stops;
+      }
+      ended (inr under) = subst (λ (n : ℕ). IsEndedRun arrivals n old moments new reason) (exact under) run

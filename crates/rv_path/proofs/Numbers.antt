@@ -19,6 +19,7 @@ use Rattle.rv_causes.specs.Numbering.{IsOneLater, numbers_in_flight}
 use Rattle.rv_causes.specs.WindowFrom.{IsNumbering}
 use Rattle.rv_causes.specs.declared.numbering.Numbering.{Numbering}
 
+-- numbering changes no count
 pub length-numbered_from : (number : ℕ) (ps : List Passage) → length (numbered_from number ps) ≡ length ps
 length-numbered_from number [] = refl
 length-numbered_from number (p ∷ ps) = ap suc (length-numbered_from (number + 1) ps)

@@ -5,6 +5,7 @@ use Rattle.rv_passage.proofs.OneRun.{one_run}
 use Rattle.rv_causes.specs.Path.{account_of_run}
 use Rattle.rv_path.specs.PathAccount.{HasOneAccount}
 
+-- of a run of described hardware the path has one account
 pub one_account : (arrivals : List Arrival) (limit : ℕ) → HasOneAccount arrivals limit
 one_account arrivals limit h predictor new new' account account' within is is' =
     let one = is.accounted in

@@ -4,6 +4,7 @@ use Rattle.rv_isa.specs.declared.lines.Arrival.{Arrival}
 use Rattle.rv_passage.proofs.OneRun.{one_run}
 use Rattle.rv_path.specs.Marking.{HasOneMarking, marks_of_run}
 
+-- of a run of described hardware the path has the marks of one list
 pub one_marking : (arrivals : List Arrival) (from cycles : ℕ) → HasOneMarking arrivals from cycles
 one_marking arrivals from cycles h predictor new new' marks marks' within is is' =
     let same = one_run within is.run is'.run in

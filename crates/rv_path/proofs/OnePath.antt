@@ -7,6 +7,7 @@ use Rattle.rv_path.specs.Run.{HasOnePath}
 use Rattle.rv_causes.specs.Lines.{account_text}
 use Rattle.rv_source.specs.Listing.{Listed}
 
+-- of a run of described hardware there is one text of its path
 pub one_path : (arrivals : List Arrival) (limit : ℕ) (listing : Listed) → HasOnePath arrivals limit listing
 one_path arrivals limit listing h predictor new new' stop stop' text text' within is is' =
     let one = is.accounted in

@@ -49,7 +49,9 @@ known-shown {seen = seen} {cycle = cycle} next path on =
 -- one more cycle, of which this was read
 pub pathing_on : {seen : Watched} {cycle : ShownCycle} (next : IsNextCycle seen cycle) (read : CycleRead) (path path' : Path) → read ≡ read_by cycle
     → IsOnPath path seen
-    → ((events : List Event) → known_of_path path' (with_events (made_shown read (known_of_path path events)) events) ≡ known_shown read (known_of_path path events))
+    → ((events : List Event) →
+    known_of_path path' (with_events (made_shown read (known_of_path path events)) events)
+    ≡ known_shown read (known_of_path path events))
     → IsFollowed (made_shown read (known_of_path path [])) path.window path'.window → IsOnPath path' (with_shown seen next.shown)
 pathing_on {seen = seen} {cycle = cycle} next read path path' is on followed made_is =
     let k = known_of seen.first.hardware (cycles_seen seen) in
@@ -57,10 +59,12 @@ pathing_on {seen = seen} {cycle = cycle} next read path path' is on followed mad
     subst (IsKnown path') (read-is ∙ known-shown next path on) (followed_on path path' read k on followed made_is)
 
 -- the account of the run
-pub accounted_run : {arrivals : List Arrival} {limit : ℕ} {old new : GuidedHardware} {moments : List Moment} {stop : Stop} {progress : Progress} (path : Path) (account : Accounted)
+pub accounted_run : {arrivals : List Arrival} {limit : ℕ} {old new : GuidedHardware} {moments : List
+    Moment} {stop : Stop} {progress : Progress} (path : Path) (account : Accounted)
     → IsOnPath path (watched arrivals old moments new) → IsEndedRun arrivals limit old moments new stop
     → progress ≡ progress_of (reports_of moments)
-    → ((all : List Event) → IsWindow path.window all → PassesIn path (last_left path.before.left) → account ≡ account_of (end_of progress.cycles path.before ∷ path_to all (Some (last_left path.before.left).at)))
+    → ((all : List Event) → IsWindow path.window all → PassesIn path (last_left path.before.left) →
+    account ≡ account_of (end_of progress.cycles path.before ∷ path_to all (Some (last_left path.before.left).at)))
     → IsAccounted arrivals limit old new stop progress.cycles account
 accounted_run {arrivals = arrivals} {old = old} {new = new} {moments = moments} {progress = progress} path account on run counted accounts =
     let k = known_of old.hardware (cycles_seen (watched arrivals old moments new)) in

@@ -1,5 +1,5 @@
--- The marks of a window of cycles of a run: the events of instructions in it that are on the path to the run's last retirement, trap or
--- interrupt.
+-- The marks of a window of cycles of a run: the events of instructions in it that are on the path to the run's last
+-- retirement, trap or interrupt.
 use Rattle.std.specs.Prelude.{◌≡◌, ℕ, ◌+◌, ◌-◌, ◌^◌, ◌≤◌, List, filter, length, map, take}
 use Rattle.rv_isa.specs.declared.lines.Arrival.{Arrival}
 use Rattle.rv_arch.specs.declared.outcome.Stop.{Stop}
@@ -32,7 +32,8 @@ marks_of_run from first moments =
     (path_of (length moments) (known_of first (walk still_open first moments)))
 
 -- marks are those of the path of a run that ended, in the window of so many cycles after others
-pub record IsMarked (arrivals : List Arrival) (from cycles : ℕ) (old new : GuidedHardware) (marks : List Mark) : Type 0 where
+pub record IsMarked (arrivals : List Arrival) (from cycles : ℕ) (old new : GuidedHardware)
+    (marks : List Mark) : Type 0 where
   pub moments : List Moment
   pub stop : Stop
   pub run : IsEndedRun arrivals (from + cycles) old moments new stop
@@ -41,6 +42,8 @@ pub record IsMarked (arrivals : List Arrival) (from cycles : ℕ) (old new : Gui
 -- of hardware that a described predictor guides there are the marks of one path, whatever it leaves
 abbrev pub HasOneMarking : List Arrival → ℕ → ℕ → Type 0
 HasOneMarking arrivals from cycles =
-    (h : Hardware) (predictor : DescribedPredictor) (new new' : GuidedHardware) (marks marks' : List Mark) → h.cycle + (from + cycles) ≤ 2 ^ 40 →
-    IsMarked arrivals from cycles (guided h (guide_of predictor)) new marks → IsMarked arrivals from cycles (guided h (guide_of predictor)) new' marks' →
+    (h : Hardware) (predictor : DescribedPredictor) (new new' : GuidedHardware) (marks marks' : List Mark) →
+    h.cycle + (from + cycles) ≤ 2 ^ 40 →
+    IsMarked arrivals from cycles (guided h (guide_of predictor)) new marks →
+    IsMarked arrivals from cycles (guided h (guide_of predictor)) new' marks' →
     marks ≡ marks'

@@ -10,13 +10,16 @@ use Rattle.rv_causes.specs.Account.{Accounted}
 use Rattle.rv_path.specs.Run.{IsAccounted}
 
 -- an account is that of the path of a run that ended, all of whose cycles it has
-pub record IsPathAccount (arrivals : List Arrival) (limit : ℕ) (old new : GuidedHardware) (account : Accounted) : Type 0 where
+pub record IsPathAccount (arrivals : List Arrival) (limit : ℕ) (old new : GuidedHardware)
+    (account : Accounted) : Type 0 where
   pub stop : Stop
   pub accounted : IsAccounted arrivals limit old new stop account.cycles account
 
 -- of hardware that a described predictor guides there is one account, whatever it leaves
 abbrev pub HasOneAccount : List Arrival → ℕ → Type 0
 HasOneAccount arrivals limit =
-    (h : Hardware) (predictor : DescribedPredictor) (new new' : GuidedHardware) (account account' : Accounted) → h.cycle + limit ≤ 2 ^ 40 →
-    IsPathAccount arrivals limit (guided h (guide_of predictor)) new account → IsPathAccount arrivals limit (guided h (guide_of predictor)) new' account' →
+    (h : Hardware) (predictor : DescribedPredictor) (new new' : GuidedHardware) (account account' : Accounted) →
+    h.cycle + limit ≤ 2 ^ 40 →
+    IsPathAccount arrivals limit (guided h (guide_of predictor)) new account →
+    IsPathAccount arrivals limit (guided h (guide_of predictor)) new' account' →
     account ≡ account'

@@ -13,9 +13,10 @@ use Rattle.rv_causes.specs.Path.{account_of_run}
 use Rattle.rv_causes.specs.Lines.{account_text}
 use Rattle.rv_source.specs.Listing.{Listed}
 
--- So many cycles are those of a run that ended for a reason, and so many of them each cause has on its path, which are all of them. A word of
--- the program has those of its causes, and all words together have no more than the run.
-pub record IsAccounted (arrivals : List Arrival) (limit : ℕ) (old new : GuidedHardware) (stop : Stop) (cycles : ℕ) (account : Accounted) : Type 0 where
+-- So many cycles are those of a run that ended for a reason, and so many of them each cause has on its path, which are
+-- all of them. A word of the program has those of its causes, and all words together have no more than the run.
+pub record IsAccounted (arrivals : List Arrival) (limit : ℕ) (old new : GuidedHardware) (stop : Stop) (cycles : ℕ)
+    (account : Accounted) : Type 0 where
   pub moments : List Moment
   pub run : IsEndedRun arrivals limit old moments new stop
   pub cycles_are : cycles ≡ length moments
@@ -25,7 +26,8 @@ pub record IsAccounted (arrivals : List Arrival) (limit : ℕ) (old new : Guided
   pub all_words : words_cycles account.words ≤ cycles
 
 -- a text is that of the path of a run that ended for a reason
-pub record IsPath (arrivals : List Arrival) (limit : ℕ) (listing : Listed) (old new : GuidedHardware) (stop : Stop) (text : List ℕ) : Type 0 where
+pub record IsPath (arrivals : List Arrival) (limit : ℕ) (listing : Listed) (old new : GuidedHardware) (stop : Stop)
+    (text : List ℕ) : Type 0 where
   pub cycles : ℕ
   pub account : Accounted
   pub accounted : IsAccounted arrivals limit old new stop cycles account
@@ -34,6 +36,8 @@ pub record IsPath (arrivals : List Arrival) (limit : ℕ) (listing : Listed) (ol
 -- of hardware that a described predictor guides there is one path, whatever it leaves
 abbrev pub HasOnePath : List Arrival → ℕ → Listed → Type 0
 HasOnePath arrivals limit listing =
-    (h : Hardware) (predictor : DescribedPredictor) (new new' : GuidedHardware) (stop stop' : Stop) (text text' : List ℕ) → h.cycle + limit ≤ 2 ^ 40 →
-    IsPath arrivals limit listing (guided h (guide_of predictor)) new stop text → IsPath arrivals limit listing (guided h (guide_of predictor)) new' stop' text' →
+    (h : Hardware) (predictor : DescribedPredictor) (new new' : GuidedHardware) (stop stop' : Stop)
+    (text text' : List ℕ) → h.cycle + limit ≤ 2 ^ 40 →
+    IsPath arrivals limit listing (guided h (guide_of predictor)) new stop text →
+    IsPath arrivals limit listing (guided h (guide_of predictor)) new' stop' text' →
     (stop ≡ stop') × (text ≡ text')

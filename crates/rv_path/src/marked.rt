@@ -10,11 +10,12 @@ use rv_isa::Arrivals;
 use rv_watch::Simulated;
 use std::alloc::{AllocError, Global};
 
-/// Runs a pipeline that a predictor guides, each cycle with the lines of its number, up to a breakpoint, a stale word, exhaustion or
-/// `from + cycles` cycles, and answers the marks of the critical path, that to the last retirement, trap or interrupt of the run, in the
-/// window of the cycles from `from` on: one for each fetch, dispatch, issue, broadcast and commit of an instruction that is on the path,
-/// the newest first. The number of the instruction is that in the picture of the window. The only error is out of memory: then the run
-/// was cut short or not begun, and the pipeline stands at the end of a cycle.
+/// Runs a pipeline that a predictor guides, each cycle with the lines of its number, up to a breakpoint, a stale word,
+/// exhaustion or `from + cycles` cycles, and answers the marks of the critical path, that to the last retirement, trap
+/// or interrupt of the run, in the window of the cycles from `from` on: one for each fetch, dispatch, issue, broadcast
+/// and commit of an instruction that is on the path, the newest first. The number of the instruction is that in the
+/// picture of the window. The only error is out of memory: then the run was cut short or not begun, and the pipeline
+/// stands at the end of a cycle.
 pub fn path_marks<S: Simulated>(
     alloc: Global,
     pipeline: &mut S,

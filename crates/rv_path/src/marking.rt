@@ -60,9 +60,9 @@ fn limit_of(from: u64, cycles: u64) -> u64
     from.saturating_add(cycles)
 }
 
-/// Runs a pipeline that a predictor guides up to so many cycles after others, and answers the marks of its path in the former, the newest
-/// first. The only error is out of memory, which may come in the middle of the run. The pipeline stands at the end of
-/// a cycle then.
+/// Runs a pipeline that a predictor guides up to so many cycles after others, and answers the marks of its path in the
+/// former, the newest first. The only error is out of memory, which may come in the middle of the run. The pipeline
+/// stands at the end of a cycle then.
 pub(crate) fn run_marked<S: Simulated>(
     alloc: Global,
     pipeline: &mut S,

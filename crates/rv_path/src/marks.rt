@@ -19,7 +19,9 @@ fn mark_of(from: u64, numbering: &Numbering, event: &Event) -> Mark
 // Appends the mark of an event, if it is marked.
 fn push_mark(from: u64, numbering: &Numbering, event: &Event, marks: &mut Vec<Mark>)
     requires room { length marks.old.items < vec_capacity marks.old }
-    ensures items { marks.new.items ≡ marks.old.items ++ marks_of from (number_by numbering.now.numbers.items numbering.now.fetched) (event.now ∷ []) }
+    ensures items { marks.new.items
+        ≡ marks.old.items
+        ++ marks_of from (number_by numbering.now.numbers.items numbering.now.fetched) (event.now ∷ []) }
     ensures few { length marks.new.items ≤ length marks.old.items + 1 }
     ensures capacity { vec_capacity marks.old ≤ vec_capacity marks.new }
 {
@@ -36,7 +38,8 @@ pub fn marks_of(
     numbering: &Numbering,
     path: &[Event],
 ) -> Result<Vec<Mark>, AllocError>
-    ensures { IfOk result (λ marks. marks.items ≡ marks_of from (number_by numbering.now.numbers.items numbering.now.fetched) path.now) }
+    ensures { IfOk result (λ marks. marks.items
+        ≡ marks_of from (number_by numbering.now.numbers.items numbering.now.fetched) path.now) }
 {
     let mut marks = Vec::with_capacity(alloc, path.len())?;
     for event in path {

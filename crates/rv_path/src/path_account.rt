@@ -21,8 +21,8 @@ const MOST_RANKED: usize = 33;
 /// The most causes that have a sentence.
 const MOST_SENTENCES: usize = 3;
 
-/// How many cycles of a run each cause has on its critical path, that to the last retirement, trap or interrupt, and each word of the
-/// program.
+/// How many cycles of a run each cause has on its critical path, that to the last retirement, trap or interrupt, and
+/// each word of the program.
 #[derive(Drop)]
 pub struct PathAccount {
     account: Account,
@@ -45,16 +45,17 @@ impl PathAccount {
     ghost use Rattle.rv_causes.specs.Sentence.{sentences};
     ghost use Rattle.rv_text.specs.Said.{Says};
 
-    /// How many cycles of the path are on account of the word at an address; none where it is no word that an event of the path names.
+    /// How many cycles of the path are on account of the word at an address; none where it is no word that an event of
+    /// the path names.
     pub fn cycles_at(&self, address: u32) -> u64
         ensures { result ≡ cycles_at address self.now.words }
     {
         self.account.words.cycles_at(address)
     }
 
-    /// Writes a sentence for each of the three causes with the most cycles, but those before the first event and after the last step, a
-    /// line for each: its share of the cycles, its name, and the line of the program with most of its cycles, if a line has any. A cause
-    /// that has no cycles has no sentence.
+    /// Writes a sentence for each of the three causes with the most cycles, but those before the first event and after
+    /// the last step, a line for each: its share of the cycles, its name, and the line of the program with most of its
+    /// cycles, if a line has any. A cause that has no cycles has no sentence.
     pub fn write_sentences<W: Write>(&self, out: &mut Sink<'_, W>, listing: &Listing)
         ensures { Says W.contents out.old out.new (sentences listing.now self.now) }
     {
@@ -62,9 +63,10 @@ impl PathAccount {
     }
 }
 
-/// Runs a pipeline that a predictor guides, each cycle with the lines of its number, up to a breakpoint, a stale word, exhaustion or
-/// so many cycles, and answers the account of its critical path, that to its last retirement, trap or interrupt. The only error is out of
-/// memory: then the run was cut short or not begun, and the pipeline stands at the end of a cycle.
+/// Runs a pipeline that a predictor guides, each cycle with the lines of its number, up to a breakpoint, a stale word,
+/// exhaustion or so many cycles, and answers the account of its critical path, that to its last retirement, trap or
+/// interrupt. The only error is out of memory: then the run was cut short or not begun, and the pipeline stands at the
+/// end of a cycle.
 pub fn account_path<S: Simulated>(
     alloc: Global,
     pipeline: &mut S,

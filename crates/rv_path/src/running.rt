@@ -54,9 +54,9 @@ impl View for Walker {
     }
 }
 
-/// Runs a pipeline that a predictor guides up to so many cycles, and follows its path to the last retirement, trap or interrupt. The
-/// only error is out of memory, which may come in the middle of the run. The pipeline stands at the end of a cycle
-/// then.
+/// Runs a pipeline that a predictor guides up to so many cycles, and follows its path to the last retirement, trap or
+/// interrupt. The only error is out of memory, which may come in the middle of the run. The pipeline stands at the end
+/// of a cycle then.
 pub(crate) fn run_accounted<S: Simulated>(
     alloc: Global,
     pipeline: &mut S,

@@ -17,14 +17,15 @@ use rv_watch::Simulated;
 use std::alloc::Global;
 use std::io::Write;
 
-/// Runs a pipeline that a predictor guides, each cycle with the lines of its number, up to a breakpoint, a stale word, exhaustion or
-/// so many cycles, and then writes the critical path of the run, that to its last retirement, trap or interrupt. Each event of the path
-/// waited last for the one before it: a dispatch for the fetch or for room, an issue for an operand or a unit, a broadcast for the
-/// execution or the bus, a commit for the result or the older instructions. So each cycle of the run is on account of exactly one cause.
-/// The text has the number of cycles, then how many of them came before the first event and after the last step, and then those of each
-/// cause, the greatest first, each with its share in percent; and then the ten lines of the program with the most cycles, each with the
-/// three greatest of their causes. A cycle is on account of the instruction that waited, or that sent the fetch elsewhere. The listing is
-/// that of the program, whose lines are shown. Answers why the run ended.
+/// Runs a pipeline that a predictor guides, each cycle with the lines of its number, up to a breakpoint, a stale word,
+/// exhaustion or so many cycles, and then writes the critical path of the run, that to its last retirement, trap or
+/// interrupt. Each event of the path waited last for the one before it: a dispatch for the fetch or for room, an issue
+/// for an operand or a unit, a broadcast for the execution or the bus, a commit for the result or the older
+/// instructions. So each cycle of the run is on account of exactly one cause. The text has the number of cycles, then
+/// how many of them came before the first event and after the last step, and then those of each cause, the greatest
+/// first, each with its share in percent; and then the ten lines of the program with the most cycles, each with the
+/// three greatest of their causes. A cycle is on account of the instruction that waited, or that sent the fetch
+/// elsewhere. The listing is that of the program, whose lines are shown. Answers why the run ended.
 ///
 /// # Errors
 ///

@@ -10,6 +10,7 @@ use Rattle.rv_picture.specs.declared.picture.View.{View}
 use Rattle.rv_source.specs.Listing.{Listed}
 use Rattle.rv_view.specs.Run.{HasOneText}
 
+-- of a run of described hardware there is one picture
 pub one_picture : (arrivals : List Arrival) (view : View) (marks : Option (List Mark)) (listing : Listed) →
     HasOneText (view.from + view.cycles) (IsPicture arrivals view marks listing)
 one_picture arrivals view marks listing h predictor new new' end end' text text' within is is' =

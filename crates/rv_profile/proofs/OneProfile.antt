@@ -14,6 +14,7 @@ use Rattle.rv_profile.specs.Run.{IsProfile}
 use Rattle.rv_profile.specs.Text.{table_text}
 use Rattle.rv_view.specs.Run.{HasOneText}
 
+-- of a run of described hardware there is one profile
 pub one_profile : (arrivals : List Arrival) (limit : ℕ) (values : Values) (path : Option Accounted) (listing : Listed) →
     HasOneText limit (IsProfile arrivals limit values path listing)
 one_profile arrivals limit values path listing h predictor new new' stop stop' text text' within is is' =

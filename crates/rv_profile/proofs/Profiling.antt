@@ -36,10 +36,12 @@ use Rattle.rv_view.specs.declared.shown_cycle.ShownCycle.{ShownCycle}
 heads_of-push : (moments : List Moment) (last : Moment) → heads_of (moments ++ last ∷ []) ≡ option_to_list (head_of last.after) ++ heads_of moments
 heads_of-push [] last = sym (append-nil (option_to_list (head_of last.after)))
 heads_of-push (moment ∷ moments) last =
-    ap (λ heads. heads ++ option_to_list (head_of moment.after)) (heads_of-push moments last) ∙ append_assoc (option_to_list (head_of last.after)) (heads_of moments) (option_to_list (head_of moment.after))
+    ap (λ heads. heads ++ option_to_list (head_of moment.after)) (heads_of-push moments last)
+    ∙ append_assoc (option_to_list (head_of last.after)) (heads_of moments) (option_to_list (head_of moment.after))
 
 -- no cycle yet
-pub profiling_nothing : (arrivals : List Arrival) (h : GuidedHardware) (profile : Profiled) → profile.words ≡ [] → IsProfiling profile.costs profile (watched arrivals h [] h)
+pub profiling_nothing : (arrivals : List Arrival) (h : GuidedHardware) (profile : Profiled) → profile.words ≡ [] →
+    IsProfiling profile.costs profile (watched arrivals h [] h)
 profiling_nothing arrivals h profile none = record {
   costs_are = refl;
   counted = subst (λ words. IsProfileOf profile.costs [] [] words) (sym none) (profile-nothing profile.costs);
@@ -47,16 +49,23 @@ profiling_nothing arrivals h profile none = record {
 }
 
 -- one more cycle
-module _ {seen : Watched} {cycle : ShownCycle} (next : IsNextCycle seen cycle) {costs : LoadCosts} {profile : Profiled} (profiling : IsProfiling costs profile seen) where
+module _ {seen : Watched} {cycle : ShownCycle} (next : IsNextCycle seen cycle) {costs : LoadCosts} {profile : Profiled}
+    (profiling : IsProfiling costs profile seen) where
   -- its passages and its head can be counted
   pub room_now : length profile.words + 577 ≤ profile.capacity → HasRoom profile (length cycle.rows.now + 1)
   room_now capacity = record {
     capacity = omega (arith, capacity, next.few);
-    counts = record { most = 577 * seen.now.hardware.cycle; counts = profiling.within; countable = omega (arith, next.few, next.shown.number, next.shown.counted) };
+    counts =
+        record {
+          most = 577 * seen.now.hardware.cycle;
+          counts = profiling.within;
+          countable = omega (arith, next.few, next.shown.number, next.shown.counted);
+        };
   }
 
   -- and are
-  pub profiling_on : (profile' : Profiled) (head : Option ℕ) → head ≡ head_of cycle.hardware.now → profile'.costs ≡ profile.costs → profile'.words ≡ with_cycle profile.costs cycle.rows.now head profile.words
+  pub profiling_on : (profile' : Profiled) (head : Option ℕ) → head ≡ head_of cycle.hardware.now →
+      profile'.costs ≡ profile.costs → profile'.words ≡ with_cycle profile.costs cycle.rows.now head profile.words
       → IsProfiling costs profile' (with_shown seen next.shown)
   profiling_on profile' head head_is same words =
       let after = cycle.hardware.now in
@@ -72,15 +81,22 @@ module _ {seen : Watched} {cycle : ShownCycle} (next : IsNextCycle seen cycle) {
       let lefts : left_after seen.first.hardware (seen.moments ++ moment ∷ []) ≡ left_now = left-push next.shown.passes moment next.rows_are in
       record {
         costs_are = same ∙ profiling.costs_are;
-        counted = subst (λ ws. IsProfileOf costs (left_after seen.first.hardware (seen.moments ++ moment ∷ [])) (heads_of (with_shown seen next.shown).moments) ws) (sym words_now)
-            (subst (λ l. IsProfileOf costs l (heads_of (with_shown seen next.shown).moments) (with_cycle costs rows (head_of after) profile.words)) (sym lefts)
-            (subst (λ heads. IsProfileOf costs left_now heads (with_cycle costs rows (head_of after) profile.words)) (sym (heads_of-push seen.moments moment)) all_now));
+        counted =
+            subst (λ ws. IsProfileOf costs (left_after seen.first.hardware (seen.moments ++ moment ∷ []))
+            (heads_of (with_shown seen next.shown).moments) ws) (sym words_now)
+            (subst (λ l. IsProfileOf costs l (heads_of (with_shown seen next.shown).moments)
+            (with_cycle costs rows (head_of after) profile.words)) (sym lefts)
+            (subst (λ heads. IsProfileOf costs left_now heads (with_cycle costs rows (head_of after) profile.words))
+            (sym (heads_of-push seen.moments moment)) all_now));
         within = subst (λ ws. Each (IsWithin (577 * after.cycle)) ws) (sym words_now)
-            (each-by _ (λ w is. within-more _ (577 * after.cycle) w (omega (arith, filter-le has_left rows, next.few, cycle_counts next.shown.cycled)) is) within_now);
+            (each-by _ (λ w is. within-more _ (577 * after.cycle) w
+            (omega (arith, filter-le has_left rows, next.few, cycle_counts next.shown.cycled)) is) within_now);
       }
 
 -- the end of a run, at which a table has what is in flight
-module _ {arrivals : List Arrival} {old new : GuidedHardware} {moments : List Moment} {costs : LoadCosts} {profile : Profiled} {table : Table} (profiling : IsProfiling costs profile (watched arrivals old moments new))
+module _ {arrivals : List Arrival} {old new : GuidedHardware} {moments : List
+    Moment} {costs : LoadCosts} {profile : Profiled} {table : Table}
+    (profiling : IsProfiling costs profile (watched arrivals old moments new))
     (kept : HasOpen old.hardware moments new.hardware table) where
   -- those in flight can be counted
   pub can_finish : (rows : List Passage) → rows ≡ (passages_of table).rows → new.hardware.cycle ≤ 2 ^ 40 → CanCountMore profile.words (length rows)
@@ -91,7 +107,8 @@ module _ {arrivals : List Arrival} {old new : GuidedHardware} {moments : List Mo
   }
 
   -- the counts of the run
-  pub counted_to_the_end : {limit : ℕ} {stop : Stop} (values : Values) (words : List WordCounts) (rows : List Passage) → IsEndedRun arrivals limit old moments new stop → rows ≡ (passages_of table).rows → costs ≡ costs_of values
+  pub counted_to_the_end : {limit : ℕ} {stop : Stop} (values : Values) (words : List WordCounts) (rows : List Passage) →
+      IsEndedRun arrivals limit old moments new stop → rows ≡ (passages_of table).rows → costs ≡ costs_of values
       → words ≡ with_passages profile.costs rows profile.words → IsCounted arrivals limit values old new stop words
   counted_to_the_end values words rows run rows_are costs_is words_are =
       let last : rows ≡ (passages_after still_open old.hardware moments).rows = rows_are ∙ ap (λ (t : Passages). t.rows) kept.followed.passages in
@@ -101,6 +118,7 @@ module _ {arrivals : List Arrival} {old new : GuidedHardware} {moments : List Mo
         moments = moments;
         run = run;
         counted = subst (λ ws. IsProfileOf (costs_of values) (passages_of_run old.hardware moments) (heads_of moments) ws) (sym words_now)
-            (profile-passages (costs_of values) (passages_after still_open old.hardware moments).rows (left_after old.hardware moments) (heads_of moments) profile.words
+            (profile-passages (costs_of values) (passages_after still_open old.hardware moments).rows
+            (left_after old.hardware moments) (heads_of moments) profile.words
             (subst (λ c. IsProfileOf c (left_after old.hardware moments) (heads_of moments) profile.words) costs_is profiling.counted));
       }

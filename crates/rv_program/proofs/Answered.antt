@@ -17,13 +17,16 @@ of_job Is IsOfJob (Err WriteFailed) old new means (answer, text, is, beginning) 
 of_job Is IsOfJob (Err Memory) old new means nothing = nothing
 
 answered_by : {T : Type 0} (Is IsOfJob : T → List ℕ → Type 0) (written : Result T TextError) (result : Result T SimError) (old new : Option (List ℕ))
-    → result ≡ answered written → ((answer : T) (text : List ℕ) → Is answer text → IsOfJob answer text) → IsText Is written old new → IsAnswer IsOfJob result old new
+    → result ≡ answered written → ((answer : T) (text : List ℕ) → Is answer text → IsOfJob answer text) →
+    IsText Is written old new → IsAnswer IsOfJob result old new
 answered_by Is IsOfJob written result old new is means writes =
     subst (λ r. IsAnswer IsOfJob r old new) (sym is) (of_job Is IsOfJob written old new means writes)
 
 -- the same, where the text comes first
-pub answered_from : {T : Type 0} {Is : T → List ℕ → Type 0} (IsOfJob : T → List ℕ → Type 0) (written : Result T TextError) {result : Result T SimError} (old new : Option (List ℕ))
-    → IsText Is written old new → result ≡ answered written → ((answer : T) (text : List ℕ) → Is answer text → IsOfJob answer text) → IsAnswer IsOfJob result old new
+pub answered_from : {T : Type 0} {Is : T → List ℕ → Type 0} (IsOfJob : T → List ℕ → Type 0)
+    (written : Result T TextError) {result : Result T SimError} (old new : Option (List ℕ))
+    → IsText Is written old new → result ≡ answered written →
+    ((answer : T) (text : List ℕ) → Is answer text → IsOfJob answer text) → IsAnswer IsOfJob result old new
 answered_from {Is = Is} IsOfJob written {result} old new writes is means = answered_by Is IsOfJob written result old new is means writes
 
 -- an error that `?` hands on

@@ -17,16 +17,21 @@ use Rattle.rv_program.proofs.Answered.{Keeps-same}
 use Rattle.rv_program.proofs.PassedOn.{ended_passed_on}
 
 -- by the error of a call that answers with the text, after each answer of which the task ends so
-pub Ends-by_error : {T : Type 0} (task : Task) (predictor : Guide) (Is : T → List ℕ → Type 0) (ended : T → Ended) (error : SimError) (old new : Option (List ℕ))
-    → AsksForMemory task → ((answer : T) (text : List ℕ) → Is answer text → Shows task predictor text (ended answer)) → IsAnswer Is (Err error) old new
+pub Ends-by_error : {T : Type 0} (task : Task) (predictor : Guide) (Is : T → List ℕ → Type 0) (ended : T → Ended)
+    (error : SimError) (old new : Option (List ℕ))
+    → AsksForMemory task → ((answer : T) (text : List ℕ) → Is answer text → Shows task predictor text (ended answer)) →
+    IsAnswer Is (Err error) old new
     → Ends task predictor old new (Err error)
 Ends-by_error task predictor Is ended Memory old new asks shows nothing = (asks, Keeps-same old new nothing)
-Ends-by_error task predictor Is ended WriteFailed old new asks shows (answer, text, is, beginning) = (text, ended answer, shows answer text is, beginning)
+Ends-by_error task predictor Is ended WriteFailed old new asks shows (answer, text, is, beginning) =
+    (text, ended answer, shows answer text is, beginning)
 Ends-by_error task predictor Is ended _ old new asks shows never = absurd never
 
 -- by whatever its call answered
-pub Ends-after : {T : Type 0} (task : Task) (predictor : Guide) (Is : T → List ℕ → Type 0) (ended : T → Ended) (answer : Result T SimError) {result : Result Ended SimError} (old new : Option (List ℕ))
-    → AsksForMemory task → ((a : T) (text : List ℕ) → Is a text → Shows task predictor text (ended a)) → IsAnswer Is answer old new → result ≡ ended_after ended answer
+pub Ends-after : {T : Type 0} (task : Task) (predictor : Guide) (Is : T → List ℕ → Type 0) (ended : T → Ended)
+    (answer : Result T SimError) {result : Result Ended SimError} (old new : Option (List ℕ))
+    → AsksForMemory task → ((a : T) (text : List ℕ) → Is a text → Shows task predictor text (ended a)) →
+    IsAnswer Is answer old new → result ≡ ended_after ended answer
     → Ends task predictor old new result
 Ends-after task predictor Is ended (Ok a) old new asks shows (text, is, appended) same =
     subst (Ends task predictor old new) (sym same) (text, shows a text is, appended)

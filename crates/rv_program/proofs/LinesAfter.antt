@@ -34,7 +34,11 @@ executed_lines lines h has =
       starts = λ g older younger e cost message same split waits of_kind result costs. same;
     }) (drain h) drained in
     let broadcasts : Has lines (broadcast (issue (drain h))) =
-    broadcast-keeps {P = Has lines} (record { broadcasts = λ g older younger e message same split gives. same; mends = λ g older younger e next same split. same }) (issue (drain h)) issued in
+    broadcast-keeps {P = Has lines}
+    (record {
+      broadcasts = λ g older younger e message same split gives. same;
+      mends = λ g older younger e next same split. same;
+    }) (issue (drain h)) issued in
     dispatch-keeps {P = Has lines} (record { dispatches = λ g fetched rest same first none. same }) (broadcast (issue (drain h))) broadcasts
 
 cycle_lines : {lines : Lines} {old new : Hardware} {report : Report} → IsCycle any_prediction lines old report new → new.lines ≡ lines
@@ -57,11 +61,14 @@ one_more arrivals n =
     rw (some, last) refl
 
 -- after the cycles of a run
-run_lines : {arrivals : List Arrival} {old new : Hardware} {reports : List Report} → Cycles arrivals old reports new → old.lines ≡ lines_after arrivals old.cycle → new.lines ≡ lines_after arrivals new.cycle
+run_lines : {arrivals : List Arrival} {old new : Hardware} {reports : List Report} → Cycles arrivals old reports new →
+    old.lines ≡ lines_after arrivals old.cycle → new.lines ≡ lines_after arrivals new.cycle
 run_lines ended is = is
 run_lines {arrivals} (cycled {old = old} {middle = middle} cycle rest) is =
     let next : middle.cycle ≡ old.cycle + 1 = ap (λ (h : Hardware). h.cycle) cycle.others_stay in
     run_lines rest (cycle_lines cycle ∙ sym (ap (lines_after arrivals) next ∙ one_more arrivals old.cycle))
 
-pub lines_are : {arrivals : List Arrival} {old new : Hardware} {reports : List Report} → Cycles arrivals old reports new → old.lines ≡ no_lines → old.cycle ≡ 0 → new.lines ≡ lines_after arrivals new.cycle
+-- after some cycles from reset the lines are at the levels of the last one
+pub lines_are : {arrivals : List Arrival} {old new : Hardware} {reports : List Report} →
+    Cycles arrivals old reports new → old.lines ≡ no_lines → old.cycle ≡ 0 → new.lines ≡ lines_after arrivals new.cycle
 lines_are {arrivals} cycles low first = run_lines cycles (low ∙ ap (lines_after arrivals) (sym first))

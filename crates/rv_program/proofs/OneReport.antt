@@ -8,7 +8,8 @@ use Rattle.rv_program.specs.CoreReport.{IsAtMostOne, IsSimulation, hardware_of, 
 use Rattle.rv_job.specs.declared.job.Job.{Job}
 
 -- the cycles of two reports of a job are the same cycles
-pub one_report_of : (job : Job) (predictor : DescribedPredictor) (options : Options) → options.limit ≤ 2 ^ 40 → IsAtMostOne (IsSimulation job (guide_of predictor) options)
+pub one_report_of : (job : Job) (predictor : DescribedPredictor) (options : Options) → options.limit ≤ 2 ^ 40 →
+    IsAtMostOne (IsSimulation job (guide_of predictor) options)
 one_report_of job predictor options within stop stop' text text' is is' =
     let timing = is.timing in
     let timing' = is'.timing in

@@ -16,11 +16,13 @@ module _ (job : Job) (options : TableOptions) (within : options.limit ≤ 2 ^ 40
   run_once : (machine : Values) (run run' : ComparedRun) → IsRunOn options job machine run → IsRunOn options job machine run' → run ≡ run'
   run_once machine run run' is is' = came_to_once {h = hardware_on machine job} run run' (omega (arith, within)) is is'
 
-  tried_once : (neighbour : Neighbour) (tried tried' : TriedRun) → IsTried options job neighbour tried → IsTried options job neighbour tried' → tried ≡ tried'
+  tried_once : (neighbour : Neighbour) (tried tried' : TriedRun) → IsTried options job neighbour tried →
+      IsTried options job neighbour tried' → tried ≡ tried'
   tried_once neighbour tried tried' (run, is, same) (run', is', same') =
       same ∙ ap (tried_run neighbour) (run_once neighbour.machine run run' is is') ∙ sym same'
 
-  each_once : (neighbours : List Neighbour) (tried tried' : List TriedRun) → AllZip (IsTried options job) neighbours tried → AllZip (IsTried options job) neighbours tried' → tried ≡ tried'
+  each_once : (neighbours : List Neighbour) (tried tried' : List TriedRun) →
+      AllZip (IsTried options job) neighbours tried → AllZip (IsTried options job) neighbours tried' → tried ≡ tried'
   each_once [] [] [] each each' = refl
   each_once [] (first ∷ tried) tried' each each' = absurd each
   each_once [] [] (first' ∷ tried') each each' = absurd each'
@@ -35,7 +37,9 @@ module _ (job : Job) (options : TableOptions) (within : options.limit ≤ 2 ^ 40
   rows_once own rows rows' are are' =
       are.rows_are ∙ ap in_order (each_once (neighbours_of job.description own) are.tried are'.tried are.each are'.each) ∙ sym are'.rows_are
 
-pub one_sensitivity_of : (job : Job) (own : List Change) (options : TableOptions) → options.limit ≤ 2 ^ 40 → IsAtMostOneText (IsSensitivityTable job own options)
+-- a job has one table of its neighbours
+pub one_sensitivity_of : (job : Job) (own : List Change) (options : TableOptions) → options.limit ≤ 2 ^ 40 →
+    IsAtMostOneText (IsSensitivityTable job own options)
 one_sensitivity_of job own options within text text' is is' =
     let run = run_once job options within job.description is.run is'.run is.as_it_is is'.as_it_is in
     let rows = rows_once job options within own is.rows is'.rows is.tried is'.tried in

@@ -20,7 +20,8 @@ use Rattle.rv_program.specs.Comparison.{AreRuns, IsAtMostOneText, IsComparisonTa
 use Rattle.rv_program.specs.CoreReport.{hardware_of}
 
 -- a run of hardware with a described predictor comes to one thing
-pub came_to_once : {arrivals : List Arrival} {options : TableOptions} {h : Hardware} {predictor : DescribedPredictor} (run run' : ComparedRun) → h.cycle + options.limit ≤ 2 ^ 40
+pub came_to_once : {arrivals : List Arrival} {options : TableOptions} {h : Hardware} {predictor : DescribedPredictor}
+    (run run' : ComparedRun) → h.cycle + options.limit ≤ 2 ^ 40
     → RunsTo arrivals options (guided h (guide_of predictor)) run → RunsTo arrivals options (guided h (guide_of predictor)) run' → run ≡ run'
 came_to_once {arrivals} {options} {h} {predictor} run run' within is is' =
     let ended : IsEndedRun arrivals options.limit (guided h (guide_of predictor)) is.moments is.new run.totals.stop = record { passes = is.cycles; stops = is.stops } in
@@ -41,7 +42,8 @@ module _ (options : TableOptions) where
   EachRun [] (run ∷ runs) = ⊥
   EachRun (job ∷ jobs) [] = ⊥
 
-  EachRun-push : (jobs : List Job) (runs : List ComparedRun) (job : Job) (run : ComparedRun) → EachRun jobs runs → IsRun options job run → EachRun (jobs ++ job ∷ []) (runs ++ run ∷ [])
+  EachRun-push : (jobs : List Job) (runs : List ComparedRun) (job : Job) (run : ComparedRun) → EachRun jobs runs →
+      IsRun options job run → EachRun (jobs ++ job ∷ []) (runs ++ run ∷ [])
   EachRun-push [] [] job run each last = (last, tt)
   EachRun-push (first ∷ jobs) (its ∷ runs) job run each last = (each.0, EachRun-push jobs runs job run each.1 last)
   EachRun-push [] (its ∷ runs) job run each last = absurd each
@@ -63,7 +65,8 @@ module _ (options : TableOptions) where
       λ i. first i ∷ rest i
 
 -- there is one table of a comparison
-pub one_table_of : (comparison : Comparison) (options : TableOptions) → options.limit ≤ 2 ^ 40 → IsAtMostOneText (IsComparisonTable comparison options)
+pub one_table_of : (comparison : Comparison) (options : TableOptions) → options.limit ≤ 2 ^ 40 →
+    IsAtMostOneText (IsComparisonTable comparison options)
 one_table_of comparison options within text text' is is' =
     let runs = runs_once options within comparison.jobs.items is.runs is'.runs (each_run options is.done) (each_run options is'.done) in
     is.text_is ∙ ap (table_of options.shown (map (λ name. name.items) comparison.names.items)) runs ∙ sym is'.text_is

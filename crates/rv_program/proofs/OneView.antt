@@ -29,7 +29,8 @@ whole : {ended ended' : RunEnd} → ended.stop ≡ ended'.stop → ended.over �
 whole stops none none' = λ i. record { stop = stops i; over = (none ∙ sym none') i }
 
 -- what is asked for is one thing, where one alone is right
-asked_once : {T : Type 0} (path : Bool) (Is : T → Type 0) (found found' : Option T) → ((a b : T) → Is a → Is b → a ≡ b) → IsAskedFor path Is found → IsAskedFor path Is found' → found ≡ found'
+asked_once : {T : Type 0} (path : Bool) (Is : T → Type 0) (found found' : Option T) →
+    ((a b : T) → Is a → Is b → a ≡ b) → IsAskedFor path Is found → IsAskedFor path Is found' → found ≡ found'
 asked_once false Is found found' once none none' = none ∙ sym none'
 asked_once true Is (Some a) (Some b) once is is' = ap Some (once a b is is')
 asked_once true Is None found' once never is' = absurd never
@@ -50,12 +51,14 @@ account_once job limit path account account' within = asked_once path (IsAccount
     one_account job.arrivals limit (hardware_of job) (own job) is.0 is'.0 a b (omega (arith, within)) is.1 is'.1)
 
 module _ (listed : ListedJob) (predictor : DescribedPredictor) where
-  picture_once : (view : View) (path : Bool) → view.from + view.cycles ≤ 2 ^ 40 → IsAtMostOne (IsViewOf listed (guide_of predictor) (Picture view path))
+  picture_once : (view : View) (path : Bool) → view.from + view.cycles ≤ 2 ^ 40 →
+      IsAtMostOne (IsViewOf listed (guide_of predictor) (Picture view path))
   picture_once view path within ended ended' text text' is is' =
       let (marks, asked, shows) = is.shows in
       let (marks', asked', shows') = is'.shows in
       let same = marks_once listed.job view path marks' marks within asked' asked in
-      one_picture listed.job.arrivals view marks listed.listing (hardware_of listed.job) predictor is.end is'.end ended ended' text text' (omega (arith, within)) shows
+      one_picture listed.job.arrivals view marks listed.listing
+      (hardware_of listed.job) predictor is.end is'.end ended ended' text text' (omega (arith, within)) shows
       (subst (λ m. IsPicture listed.job.arrivals view m listed.listing _ is'.end ended' text') same shows')
 
   log_once : (limit : ℕ) → limit ≤ 2 ^ 40 → IsAtMostOne (IsViewOf listed (guide_of predictor) (Log limit))
@@ -68,13 +71,15 @@ module _ (listed : ListedJob) (predictor : DescribedPredictor) where
       let same = one_text listed.job.arrivals stretch.from stretch.limit stretch.form listed.listing (hardware_of listed.job) predictor is.end is'.end ended.stop ended'.stop text text' (omega (arith, within)) is.shows.0 is'.shows.0 in
       (whole same.0 is.shows.1 is'.shows.1, same.1)
 
-  explanation_once : (figures : Figures) (path : Bool) (limit : ℕ) → limit ≤ 2 ^ 40 → IsAtMostOne (IsViewOf listed (guide_of predictor) (Explanation figures path limit))
+  explanation_once : (figures : Figures) (path : Bool) (limit : ℕ) → limit ≤ 2 ^ 40 →
+      IsAtMostOne (IsViewOf listed (guide_of predictor) (Explanation figures path limit))
   explanation_once figures path limit within ended ended' text text' is is' =
       let (account, asked, shows, none) = is.shows in
       let (account', asked', shows', none') = is'.shows in
       let found = account_once listed.job limit path account' account within asked' asked in
       let same = one_explanation listed.job.arrivals limit figures listed.job.description account listed.listing (hardware_of listed.job) predictor is.end is'.end ended.stop ended'.stop text text' (omega (arith, within)) shows
-      (subst (λ a. IsExplanation listed.job.arrivals limit figures listed.job.description a listed.listing _ is'.end ended'.stop text') found shows') in
+      (subst (λ a. IsExplanation listed.job.arrivals limit figures listed.job.description a listed.listing _ is'.end
+      ended'.stop text') found shows') in
       (whole same.0 none none', same.1)
 
   profile_once : (path : Bool) (limit : ℕ) → limit ≤ 2 ^ 40 → IsAtMostOne (IsViewOf listed (guide_of predictor) (Profile path limit))
@@ -91,7 +96,9 @@ module _ (listed : ListedJob) (predictor : DescribedPredictor) where
       let same = one_path listed.job.arrivals limit listed.listing (hardware_of listed.job) predictor is.end is'.end ended.stop ended'.stop text text' (omega (arith, within)) is.shows.0 is'.shows.0 in
       (whole same.0 is.shows.1 is'.shows.1, same.1)
 
-pub one_view_of : (listed : ListedJob) (predictor : DescribedPredictor) (view : RunView) → limit_of view ≤ 2 ^ 40 → IsAtMostOne (IsViewOf listed (guide_of predictor) view)
+-- a job has one view of each kind
+pub one_view_of : (listed : ListedJob) (predictor : DescribedPredictor) (view : RunView) → limit_of view ≤ 2 ^ 40 →
+    IsAtMostOne (IsViewOf listed (guide_of predictor) view)
 one_view_of listed predictor (Picture view path) within = picture_once listed predictor view path within
 one_view_of listed predictor (Log limit) within = log_once listed predictor limit within
 one_view_of listed predictor (States stretch) within = states_once listed predictor stretch within

@@ -49,7 +49,8 @@ kept_left (Some old) (Some held) None kept left = absurd left
 kept_left (Some old) (Some held) (Some new) kept (rest, is) = (rest, is ∙ ap (λ l. l ++ []) kept)
 
 -- a beginning of what had grown by the front of a text
-grown_left : (old held new : Option (List ℕ)) (n : ℕ) (text : List ℕ) → Appends old held (take n text) → HoldsBeginning held new [] → HoldsBeginning old new text
+grown_left : (old held new : Option (List ℕ)) (n : ℕ) (text : List ℕ) → Appends old held (take n text) →
+    HoldsBeginning held new [] → HoldsBeginning old new text
 grown_left None held new n text grown left = tt
 grown_left (Some old) None new n text grown left = absurd grown
 grown_left (Some old) (Some held) None n text grown left = absurd left

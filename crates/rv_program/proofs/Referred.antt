@@ -9,6 +9,7 @@ use Rattle.rv_report.specs.ReferenceReport.{reference_report}
 use Rattle.rv_report.specs.declared.options.Options.{Options}
 use Rattle.rv_program.specs.ReferenceReport.{IsReferenceReport, at_reset, shown}
 
+-- a run of the one-at-a-time machine from reset is what its report says
 pub run_referred : (job : Job) (options asked : Options) (values : Values) (image : List ℕ) (old new : Machine) (outcome : RefOutcome)
     → values ≡ job.description → image ≡ job.image.bytes → asked ≡ shown values.report options → old ≡ at_reset values image job.image.start
     → IsRunTo job.arrivals asked.limit old new outcome → IsReferenceReport job options outcome.stop (reference_report outcome new asked)

@@ -52,18 +52,27 @@ module _ (job : Job) (predictor : Guide) (options : Options) (stop : Stop) (repo
         steps = steps;
         totals = totals;
         end = seen new;
-        promised = subst (λ n. IsPromised job.description job.arrivals 0 n start (reported_of reports) (seen new)) number (promise_of_run reached cycles (is_stop-only_last options.limit reports new stop stopped));
+        promised =
+            subst (λ n. IsPromised job.description job.arrivals 0 n start (reported_of reports) (seen new)) number
+            (promise_of_run reached cycles (is_stop-only_last options.limit reports new stop stopped));
         stopped = refl;
-        ends = subst (λ n. IsTrueStop layout job.arrivals options.limit 0 n steps (seen new) stop) number (headline_of_stop job.arrivals options.limit (hardware_of job) new reports stop reached cycles stopped);
+        ends =
+            subst (λ n. IsTrueStop layout job.arrivals options.limit 0 n steps (seen new) stop) number
+            (headline_of_stop job.arrivals options.limit (hardware_of job) new reports stop reached cycles stopped);
         counts = refl;
         text_is = ap (λ (levels : Lines). run_report steps totals layout (seen new) levels (shown job.description.report options)) lines;
       }
 
   pub simulated : IsSimulation job predictor options stop (text_of job options stop reports new)
-  simulated = record { promises = promised; timing = record { reports = reports; end = end; cycles = guided_cycles; stops = stopped; text_is = refl } }
+  simulated =
+      record {
+        promises = promised;
+        timing = record { reports = reports; end = end; cycles = guided_cycles; stops = stopped; text_is = refl };
+      }
 
 -- a run does not change what was described
-values_kept : {arrivals : List Arrival} {old new : Hardware} {reports : List Report} → IsSound old → Cycles arrivals old reports new → new.values ≡ old.values
+values_kept : {arrivals : List Arrival} {old new : Hardware} {reports : List Report} → IsSound old →
+    Cycles arrivals old reports new → new.values ≡ old.values
 values_kept sound ended = refl
 values_kept {arrivals} sound (cycled {old = old} {middle = middle} {report = report} cycle rest) =
     let goes = cycle_true (lines_at arrivals old.cycle) old report middle sound cycle in
@@ -72,7 +81,8 @@ values_kept {arrivals} sound (cycled {old = old} {middle = middle} {report = rep
 -- the report of a run of the core
 pub run_simulated : (job : Job) (predictor : Guide) (options asked : Options) (values : Values) (old : Hardware) (stop : Stop) (text : List ℕ)
     → values ≡ job.description → IsLegal values → IsLoadable job.description job.image.base job.image.bytes job.image.start → old ≡ hardware_of job
-    → asked ≡ shown values.report options → IsRunReport job.arrivals asked (guided old predictor) stop text → IsSimulation job predictor options stop text
+    → asked ≡ shown values.report options → IsRunReport job.arrivals asked (guided old predictor) stop text →
+    IsSimulation job predictor options stop text
 run_simulated job predictor options asked values old stop text values_are values_legal loadable old_is asked_is run =
     let legal = subst IsLegal values_are values_legal in
     let options_are : asked ≡ shown job.description.report options = asked_is ∙ ap (λ (v : Values). shown v.report options) values_are in
@@ -80,6 +90,7 @@ run_simulated job predictor options asked values old stop text values_are values
     let stops = subst (λ (o : Options). IsStop o.limit run.reports run.new.hardware stop) options_are run.stops in
     let kept = values_kept (always_sound (at_reset legal loadable)) (cycles_of cycles) in
     let text_is : text_of job options stop run.reports run.new.hardware ≡ text =
-    (λ i. run_report (steps_of run.reports) (totals_at run.reports stop) (layout_of (sym kept i)) (seen run.new.hardware) run.new.hardware.lines (sym options_are i)) ∙ sym run.text_is
+    (λ i. run_report (steps_of run.reports) (totals_at run.reports stop) (layout_of (sym kept i))
+    (seen run.new.hardware) run.new.hardware.lines (sym options_are i)) ∙ sym run.text_is
     in
     subst (IsSimulation job predictor options stop) text_is (simulated job predictor options stop run.reports run.new legal loadable cycles stops)

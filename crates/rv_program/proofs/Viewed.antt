@@ -21,14 +21,19 @@ view_of listed {predictor} end view {ended} {text} made shows =
     record { end = end; shows = subst (λ x. IsShown view listed (guided x predictor) end ended text) made shows }
 
 written_whole : {Is : Stop → List ℕ → Type 0} (IsShownBy : RunEnd → List ℕ → Type 0) (written : Result Stop TextError) (old new : Option (List ℕ))
-    → ((stop : Stop) (text : List ℕ) → Is stop text → IsShownBy (record { stop = stop; over = None }) text) → IsText Is written old new → IsText IsShownBy (whole_run written) old new
+    → ((stop : Stop) (text : List ℕ) → Is stop text → IsShownBy (record { stop = stop; over = None }) text) →
+    IsText Is written old new → IsText IsShownBy (whole_run written) old new
 written_whole IsShownBy (Ok stop) old new shows (text, is, appended) = (text, shows stop text is, appended)
-written_whole IsShownBy (Err WriteFailed) old new shows (stop, text, is, beginning) = (record { stop = stop; over = None }, text, shows stop text is, beginning)
+written_whole IsShownBy (Err WriteFailed) old new shows (stop, text, is, beginning) =
+    (record { stop = stop; over = None }, text, shows stop text is, beginning)
 written_whole IsShownBy (Err Memory) old new shows nothing = nothing
 
 -- a view that is no picture
-pub shown_whole : {Is : Stop → List ℕ → Type 0} (IsShownBy : RunEnd → List ℕ → Type 0) (written : Result Stop TextError) {result : Result RunEnd TextError} (old new : Option (List ℕ))
-    → IsText Is written old new → result ≡ whole_run written → ((stop : Stop) (text : List ℕ) → Is stop text → IsShownBy (record { stop = stop; over = None }) text) → IsText IsShownBy result old new
+pub shown_whole : {Is : Stop → List ℕ → Type 0} (IsShownBy : RunEnd → List ℕ → Type 0)
+    (written : Result Stop TextError) {result : Result RunEnd TextError} (old new : Option (List ℕ))
+    → IsText Is written old new → result ≡ whole_run written →
+    ((stop : Stop) (text : List ℕ) → Is stop text → IsShownBy (record { stop = stop; over = None }) text) →
+    IsText IsShownBy result old new
 shown_whole IsShownBy written old new writes same shows =
     subst (λ r. IsText IsShownBy r old new) (sym same) (written_whole IsShownBy written old new shows writes)
 

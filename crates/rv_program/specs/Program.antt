@@ -26,7 +26,8 @@ IsUnread old new status =
 abbrev pub IsRefused : {W : Type 0} → (W → Option (List ℕ)) → Command → List ℕ → W → Option W → Result Unit TextError →
     FaultStream → FaultStream → ℕ → Type 0
 IsRefused contents command input given handed refusal old new status =
-    (error : SimError) × Refuses command input error × Reports old new (fault_line error) × (status ≡ fault_status error)
+    (error : SimError) × Refuses command input error × Reports old new (fault_line error)
+    × (status ≡ fault_status error)
     × HandsBack contents command input error given handed refusal
 
 -- A task ended so, with a predictor, and its output was handed back by the buffer before it. The output has got the

@@ -11,7 +11,9 @@ use Rattle.rv_isa.specs.declared.instructions.Instr.TheVariants as instr
 use Rattle.rv_refusal.specs.Range.{HasRanges, csr_range, is_range_fault, value_range}
 
 -- a number is refused as out of range exactly where it lies outside, if nothing after it is
-ranged_fault : {T : Type 0} (least greatest number : ℤ) (next : ℤ → Result T AsmFault) → ((n : ℤ) → is_range_fault (next n) ≡ false) → is_range_fault (and_then (ranged least greatest number) next) ≡ not (is_between least greatest number)
+ranged_fault : {T : Type 0} (least greatest number : ℤ) (next : ℤ → Result T AsmFault) →
+    ((n : ℤ) → is_range_fault (next n) ≡ false) →
+    is_range_fault (and_then (ranged least greatest number) next) ≡ not (is_between least greatest number)
 ranged_fault least greatest number next clean =
     elim (cases_Bool (is_between least greatest number)) [
       | inl inside ↦ rw inside (clean number)
@@ -19,7 +21,9 @@ ranged_fault least greatest number next clean =
     ]
 
 -- so is a number from 0 on
-natural_fault : {T : Type 0} (limit : ℕ) (number : ℤ) (next : ℕ → Result T AsmFault) → ((n : ℕ) → is_range_fault (next n) ≡ false) → is_range_fault (and_then (natural limit number) next) ≡ not (is_between (pos 0) (pos limit -ℤ pos 1) number)
+natural_fault : {T : Type 0} (limit : ℕ) (number : ℤ) (next : ℕ → Result T AsmFault) →
+    ((n : ℕ) → is_range_fault (next n) ≡ false) →
+    is_range_fault (and_then (natural limit number) next) ≡ not (is_between (pos 0) (pos limit -ℤ pos 1) number)
 natural_fault limit number next clean =
     elim (cases_Bool (is_between (pos 0) (pos limit -ℤ pos 1) number)) [
       | inl inside ↦ rw inside (clean _)
@@ -27,7 +31,9 @@ natural_fault limit number next clean =
     ]
 
 -- and a distance: an odd one is refused otherwise
-distance_fault : {T : Type 0} (least greatest number : ℤ) (next : ℤ → Result T AsmFault) → ((n : ℤ) → is_range_fault (next n) ≡ false) → is_range_fault (and_then (distance least greatest number) next) ≡ not (is_between least greatest number)
+distance_fault : {T : Type 0} (least greatest number : ℤ) (next : ℤ → Result T AsmFault) →
+    ((n : ℤ) → is_range_fault (next n) ≡ false) →
+    is_range_fault (and_then (distance least greatest number) next) ≡ not (is_between least greatest number)
 distance_fault least greatest number next clean =
     elim (cases_Bool (is_between least greatest number)) [
       | inl inside ↦ rw inside (elim (cases_Bool (unsigned_abs number % 2 == 0)) [
@@ -46,9 +52,12 @@ pub has_ranges : (operation : Operation) → HasRanges operation
 unfolding csr_range value_range
 has_ranges operation.Lui f address v = natural_fault 1048576 v (λ n. one (instr.Lui f.rd n)) (λ n. refl)
 has_ranges operation.Auipc f address v = natural_fault 1048576 v (λ n. one (instr.Auipc f.rd n)) (λ n. refl)
-has_ranges operation.Jal f address v = distance_fault (negsuc 1048575) (pos 1048574) (v -ℤ pos address) (λ away. one (instr.Jal f.rd away)) (λ n. refl)
+has_ranges operation.Jal f address v =
+    distance_fault (negsuc 1048575) (pos 1048574) (v -ℤ pos address) (λ away. one (instr.Jal f.rd away)) (λ n. refl)
 has_ranges operation.Jalr f address v = ranged_fault (negsuc 2047) (pos 2047) v (λ n. one (instr.Jalr f.rd f.rs1 n)) (λ n. refl)
-has_ranges (operation.Branch condition) f address v = distance_fault (negsuc 4095) (pos 4094) (v -ℤ pos address) (λ away. one (instr.Branch condition f.rs1 f.rs2 away)) (λ n. refl)
+has_ranges (operation.Branch condition) f address v =
+    distance_fault (negsuc 4095) (pos 4094) (v -ℤ pos address)
+    (λ away. one (instr.Branch condition f.rs1 f.rs2 away)) (λ n. refl)
 has_ranges (operation.Load form) f address v = ranged_fault (negsuc 2047) (pos 2047) v (λ n. one (instr.Load form f.rd f.rs1 n)) (λ n. refl)
 has_ranges (operation.Store width) f address v = ranged_fault (negsuc 2047) (pos 2047) v (λ n. one (instr.Store width f.rs1 f.rs2 n)) (λ n. refl)
 has_ranges (operation.OpImmediate op) f address v = ranged_fault (negsuc 2047) (pos 2047) v (λ n. one (instr.OpImmediate op f.rd f.rs1 n)) (λ n. refl)

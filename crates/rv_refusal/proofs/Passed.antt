@@ -8,5 +8,6 @@ drop_past passed count lines none more =
     let left : 0 ≡ length lines - passed = ap length none ∙ length-drop passed lines in sym (drop_all count lines (omega arith))
 
 -- after one more line stands what follows it
-pub drop_next : (passed : ℕ) (lines : List (List ℕ)) (line : List ℕ) (behind : List (List ℕ)) → line ∷ behind ≡ drop passed lines → behind ≡ drop (passed + 1) lines
+pub drop_next : (passed : ℕ) (lines : List (List ℕ)) (line : List ℕ) (behind : List (List ℕ)) →
+    line ∷ behind ≡ drop passed lines → behind ≡ drop (passed + 1) lines
 drop_next passed lines line behind left = ap (drop 1) left ∙ drop-drop 1 passed lines

@@ -43,7 +43,8 @@ field_line Level = codes "expected: level is 0 or 1, by default 1\n"
 -- the line of a field of an entry, or else the one on which the entry begins
 unfoldable pub line_of_field : Field → ℕ → List ℕ → Option EntryLine
 line_of_field field entry part =
-    option_or (first_sought (in_entry entry (field_on (field_name field))) part) (first_sought (in_entry entry entry_on) part)
+    option_or (first_sought (in_entry entry (field_on (field_name field))) part)
+    (first_sought (in_entry entry entry_on) part)
 
 -- why arrivals are refused by a field of an entry: the line at fault, and which values the field takes
 unfoldable pub field_lines : ℕ → List ℕ → ℕ → Field → List ℕ
@@ -58,7 +59,8 @@ line_of_list part =
 -- why arrivals are refused that are no array: the line that gives them, and which heading an entry has
 unfoldable pub heading_lines : ℕ → List ℕ → List ℕ
 heading_lines before part =
-    option_map_or (entry_line_text before) (line_of_list part) [] ++ codes "expected: the heading of each entry is [[arrival]]\n"
+    option_map_or (entry_line_text before) (line_of_list part) []
+    ++ codes "expected: the heading of each entry is [[arrival]]\n"
 
 -- why arrivals are refused by the list itself: it is no array, or has too many entries
 unfoldable pub list_lines : ℕ → List ℕ → ArrivalsError → List ℕ

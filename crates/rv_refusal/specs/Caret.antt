@@ -11,9 +11,11 @@ use Rattle.rv_refusal.specs.Culprit.{culprit_on}
 abbrev pub distance_from : Option Lexeme → ℕ → (ℕ → ℕ → ℕ) → ℕ
 distance_from None before further = 0
 distance_from (Some found) before further =
-    if is_some found.token then (if before == 0 then 0 else further found.size (before - 1)) else further found.size before
+    if is_some found.token then (if before == 0 then 0 else further found.size (before - 1))
+    else further found.size before
 
--- how many of the bytes after so many, which belong to what stands before them, stand before the token that so many tokens stand before
+-- how many of the bytes after so many, which belong to what stands before them, stand before the token that so many
+-- tokens stand before
 unfoldable pub distance : List ℕ → ℕ → ℕ → ℕ
 distance [] taken before = 0
 distance (byte ∷ bytes) (suc taken) before = 1 + distance bytes taken before
@@ -27,7 +29,8 @@ token_place line before = distance line 0 before
 -- how many bytes of a line with these tokens stand before the one at fault, or before the first bytes that are no token
 unfoldable pub fault_place : AsmFault → List ℕ → List Token → Option ℕ
 fault_place BadToken line tokens = Some (token_place line (length line))
-fault_place fault line tokens = option_map (λ from. token_place line (length tokens - length from)) (culprit_on fault tokens)
+fault_place fault line tokens =
+    option_map (λ from. token_place line (length tokens - length from)) (culprit_on fault tokens)
 
 -- a caret below a byte of a line that is shown
 unfoldable pub caret_below : ℕ → List ℕ

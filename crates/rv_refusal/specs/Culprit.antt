@@ -132,10 +132,12 @@ fixed_places _ count = []
 
 -- the operand of a form for which a fault is reported, of those that tokens spell
 unfoldable pub culprit_of : AsmFault → Form → List Token → Option (List Token)
-culprit_of fault (form.Instruction operation first second third) tokens = culprit_among fault (first ∷ second ∷ third ∷ []) (operands_on tokens)
+culprit_of fault (form.Instruction operation first second third) tokens =
+    culprit_among fault (first ∷ second ∷ third ∷ []) (operands_on tokens)
 culprit_of fault (form.Values width) tokens = wrong_value fault width (operands_on tokens)
 culprit_of fault (form.Bytes directive operand) tokens = culprit_among fault (operand ∷ []) (operands_on tokens)
-culprit_of fault form tokens = culprit_among fault (fixed_places form (length (slice_split is_comma tokens))) (operands_on tokens)
+culprit_of fault form tokens =
+    culprit_among fault (fixed_places form (length (slice_split is_comma tokens))) (operands_on tokens)
 
 -- these faults are reported for one of the operands
 abbrev pub is_of_operands : AsmFault → Bool
@@ -145,7 +147,8 @@ is_of_operands fault.UnknownSymbol = true
 is_of_operands fault.OutOfRange = true
 is_of_operands _ = false
 
--- the tokens of an operand from the one at fault on: of a register its name, before which stand an offset and a parenthesis, or nothing
+-- the tokens of an operand from the one at fault on: of a register its name, before which stand an offset and a
+-- parenthesis, or nothing
 unfoldable pub marked : AsmFault → List Token → List Token
 marked fault.BadRegister tokens = drop (length (before_first is_comma tokens) - 2) tokens
 marked _ tokens = tokens
@@ -153,7 +156,8 @@ marked _ tokens = tokens
 -- the operand of a statement for which a fault is reported, from its token at fault on
 unfoldable pub operand_of_fault : AsmFault → List Token → Option (List Token)
 operand_of_fault fault (token.Name name ∷ rest) =
-    if is_of_operands fault then option_and_then (λ form. option_map (marked fault) (culprit_of fault form rest)) (form_named name)
+    if is_of_operands fault
+    then option_and_then (λ form. option_map (marked fault) (culprit_of fault form rest)) (form_named name)
     else None
 operand_of_fault fault _ = None
 
@@ -162,8 +166,9 @@ abbrev pub unless_empty : List Token → List Token → List Token
 unless_empty [] other = other
 unless_empty (first ∷ rest) other = first ∷ rest
 
--- The tokens of a line from the one at fault on: a symbol that was defined before; an operand; or the statement, and in a line without
--- one its label.
+-- The tokens of a line from the one at fault on: a symbol that was defined before; an operand; or the statement, and in
+-- a line without one its label.
 unfoldable pub culprit_on : AsmFault → List Token → Option (List Token)
 culprit_on fault.DuplicateSymbol tokens = definition_on tokens
-culprit_on fault tokens = Some (unwrap_or (operand_of_fault fault (body_of tokens)) (unless_empty (body_of tokens) tokens))
+culprit_on fault tokens =
+    Some (unwrap_or (operand_of_fault fault (body_of tokens)) (unless_empty (body_of tokens) tokens))

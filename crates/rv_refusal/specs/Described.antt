@@ -17,7 +17,8 @@ use Rattle.rv_refusal.specs.TomlFault.{no_toml}
 -- a line at fault of a description, with which a job begins, and a caret below its name
 unfoldable pub key_line_text : KeyLine → List ℕ
 key_line_text found =
-    line_place (codes "description") 0 found.number ++ (codes "\n" ++ (shown_line found.line ++ caret_below found.before))
+    line_place (codes "description") 0 found.number
+    ++ (codes "\n" ++ (shown_line found.line ++ caret_below found.before))
 
 -- the key at a place, from 1
 abbrev pub key_at : ℕ → Option Key
@@ -44,7 +45,8 @@ unknown_line known found = key_line_text found ++ (known_expected ++ hint_line f
 -- the first line of a description with a name that is none of these
 unfoldable pub unknown_among : List (List ℕ) → List ℕ → List ℕ
 unknown_among known part =
-    option_map_or (unknown_line known) (first_named (is_none_of known) part) (codes "expected: keys and tables of a description\n")
+    option_map_or (unknown_line known) (first_named (is_none_of known) part)
+    (codes "expected: keys and tables of a description\n")
 
 -- the first line of a description with a name that is no key's and no table's
 abbrev pub unknown_lines : List ℕ → List ℕ

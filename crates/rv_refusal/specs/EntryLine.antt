@@ -17,7 +17,14 @@ pub record EntryLine : Type 0 where
 
 -- the bytes of the line that the program holds
 abbrev pub entry_line : Found → EntryLine
-entry_line found = record { number = found.number; entry = found.entry; line = found.line.now; before = found.before; name = found.name.now }
+entry_line found =
+    record {
+      number = found.number;
+      entry = found.entry;
+      line = found.line.now;
+      before = found.before;
+      name = found.name.now;
+    }
 
 -- the element of an array of tables that a line begins: the array's name stands in two brackets
 unfoldable pub element_on : List ℕ → Option NameOn
@@ -60,7 +67,8 @@ if_unknown known on = option_and_then (if_passes (is_none_of known)) on
 
 -- the name on a line that is not known there, given how many entries have begun up to the line
 abbrev pub unknown_on : ℕ → List ℕ → Option NameOn
-unknown_on count line = option_or (if_unknown heading_names (heading_on line)) (if_unknown (key_names count) (key_on line))
+unknown_on count line =
+    option_or (if_unknown heading_names (heading_on line)) (if_unknown (key_names count) (key_on line))
 
 -- how many entries have begun up to a line, of which so many have before it
 abbrev pub count_after : ℕ → List ℕ → ℕ
@@ -78,17 +86,20 @@ sought_on Unknown count line = unknown_on count line
 
 -- the line with a number, up to which so many entries have begun, with a name on it
 abbrev pub line_of : ℕ → ℕ → List ℕ → NameOn → EntryLine
-line_of number entry line on = record { number = number; entry = entry; line = line; before = on.before; name = on.name }
+line_of number entry line on =
+    record { number = number; entry = entry; line = line; before = on.before; name = on.name }
 
 -- the line with a number, up to which so many entries have begun, if what is looked for stands on it
 abbrev pub sought_line : (ℕ → List ℕ → Option NameOn) → ℕ → ℕ → List ℕ → Option EntryLine
 sought_line on number count line = option_map (line_of number count line) (on count line)
 
--- the first line on which that stands which is looked for, of lines that are numbered from here on and that so many entries begin before
+-- the first line on which that stands which is looked for, of lines that are numbered from here on and that so many
+-- entries begin before
 abbrev pub first_from : (ℕ → List ℕ → Option NameOn) → ℕ → ℕ → List (List ℕ) → Option EntryLine
 first_from on number count [] = None
 first_from on number count (line ∷ others) =
-    option_or (sought_line on number (count_after count line) line) (first_from on (number + 1) (count_after count line) others)
+    option_or (sought_line on number (count_after count line) line)
+    (first_from on (number + 1) (count_after count line) others)
 
 -- the first line of a text on which that stands which is looked for
 unfoldable pub first_sought : (ℕ → List ℕ → Option NameOn) → List ℕ → Option EntryLine

@@ -7,7 +7,8 @@ use Rattle.rv_asm.specs.declared.fault.AsmFault.TheVariants.{BadToken}
 use Rattle.rv_refusal.specs.declared.further.Faulty.{Faulty}
 use Rattle.rv_refusal.specs.Place.{place_line}
 
--- the fault that a line has whatever stands on the others: it has bytes that are no token, or what stands after its labels is no statement
+-- the fault that a line has whatever stands on the others: it has bytes that are no token, or what stands after its
+-- labels is no statement
 abbrev pub fault_of_line : Line → Option AsmFault
 fault_of_line Unreadable = Some BadToken
 fault_of_line (Readable labels body) = result_err (statement_in body)
@@ -32,7 +33,8 @@ more_line count = if nat_le count 20 then [] else codes "and " ++ (decimal (coun
 
 -- the lines on lines with a fault, of an assembly that so many lines of the job stand before: the first twenty, and how many more
 abbrev pub faulty_lines : ℕ → List Faulty → List ℕ
-faulty_lines before lines = flat_map (λ line. place_line before line.number line.fault) (take 20 lines) ++ more_line (length lines)
+faulty_lines before lines =
+    flat_map (λ line. place_line before line.number line.fault) (take 20 lines) ++ more_line (length lines)
 
 -- the lines on those after the first fault
 unfoldable pub further_lines : ℕ → ℕ → List ℕ → List ℕ

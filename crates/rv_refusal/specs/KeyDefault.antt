@@ -22,4 +22,6 @@ key_default PredictorKind = quoted (predictor_name standard_values.predictor.kin
 -- the line on the values that a key takes
 unfoldable pub values_line : Key → List ℕ
 values_line key =
-    codes "expected: " ++ (text_of key ++ (codes " is " ++ (key_range key ++ (codes ", by default " ++ (key_default key ++ codes "\n")))))
+    codes "expected: "
+    ++ (text_of key
+    ++ (codes " is " ++ (key_range key ++ (codes ", by default " ++ (key_default key ++ codes "\n")))))

@@ -16,7 +16,13 @@ pub record KeyLine : Type 0 where
 
 -- the bytes of the line that the program holds
 abbrev pub key_line : Found → KeyLine
-key_line found = record { number = found.number; line = found.line.now; before = found.before; name = joined (option_copied found.table) found.name.now }
+key_line found =
+    record {
+      number = found.number;
+      line = found.line.now;
+      before = found.before;
+      name = joined (option_copied found.table) found.name.now;
+    }
 
 -- the line with a number, where a name stands on it in a table
 abbrev pub line_of : ℕ → Option (List ℕ) → List ℕ → NameOn → KeyLine
@@ -24,7 +30,9 @@ line_of number table line on = record { number = number; line = line; before = o
 
 -- the line with a number, if a name stands on it: a table's, or a key's in the table that the line stands in
 unfoldable pub named_line : ℕ → Option (List ℕ) → List ℕ → Option KeyLine
-named_line number table line = option_or (option_map (line_of number None line) (table_on line)) (option_map (line_of number table line) (key_on line))
+named_line number table line =
+    option_or (option_map (line_of number None line) (table_on line))
+    (option_map (line_of number table line) (key_on line))
 
 -- the table that the lines after a line stand in
 abbrev pub table_after : Option (List ℕ) → List ℕ → Option (List ℕ)

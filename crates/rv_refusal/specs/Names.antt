@@ -29,7 +29,8 @@ csrs = map (λ csr. (row_of csr).1) csr.order
 
 -- the symbol right after .equ
 abbrev pub constant_of : List Token → List (List ℕ)
-constant_of (token.Name directive ∷ token.Name symbol ∷ rest) = if bytes_eq directive (codes ".equ") then symbol ∷ [] else []
+constant_of (token.Name directive ∷ token.Name symbol ∷ rest) =
+    if bytes_eq directive (codes ".equ") then symbol ∷ [] else []
 constant_of _ = []
 
 -- the symbols that a line defines
@@ -61,5 +62,6 @@ names_csr body = option_map_or has_csr (option_and_then form_named (first_name b
 -- the name at fault in a statement: its own, or an operand's; of operands of the wrong shape that of a CSR alone may be unknown
 unfoldable pub unknown_name : AsmFault → List Token → Option (List ℕ)
 unknown_name fault.UnknownMnemonic body = first_name body
-unknown_name fault.BadOperands body = if names_csr body then option_and_then first_name (operand_of_fault fault.BadOperands body) else None
+unknown_name fault.BadOperands body =
+    if names_csr body then option_and_then first_name (operand_of_fault fault.BadOperands body) else None
 unknown_name fault body = option_and_then first_name (operand_of_fault fault body)

@@ -51,7 +51,8 @@ operand_example _ = []
 abbrev pub operand_list : (Place → List ℕ) → List ℕ → List Place → List ℕ
 operand_list word mark [] = []
 operand_list word mark (place ∷ places) =
-    if is_implied place then operand_list word mark places else mark ++ (word place ++ operand_list word (codes ", ") places)
+    if is_implied place then operand_list word mark places
+    else mark ++ (word place ++ operand_list word (codes ", ") places)
 
 -- the places that a form's operands may fill, one list for each shape
 abbrev pub shapes : Form → List (List Place)

@@ -8,7 +8,8 @@ use Rattle.rv_text.specs.Plain.{plain_text}
 -- where a line stands of a part of the job, which has this name, and that so many lines of the job stand before
 unfoldable pub line_place : List ℕ → ℕ → ℕ → List ℕ
 line_place part before number =
-    codes "line " ++ (decimal (before + number) ++ (codes " of the job, line " ++ (decimal number ++ (codes " of its " ++ part))))
+    codes "line "
+    ++ (decimal (before + number) ++ (codes " of the job, line " ++ (decimal number ++ (codes " of its " ++ part))))
 
 -- where a line of the assembly stands that so many lines of the job stand before, and its fault
 unfoldable pub place_line : ℕ → ℕ → AsmFault → List ℕ

@@ -63,11 +63,14 @@ is_range_fault _ = false
 
 -- the assembler reports a value out of range for an operation exactly where its CSR or its value lies outside its range
 abbrev pub HasRanges : Operation → Type 0
-HasRanges operation = (fields : Fields) (address : ℕ) (value : ℤ) → is_range_fault (instructions operation fields address value) ≡ is_past operation fields address value
+HasRanges operation =
+    (fields : Fields) (address : ℕ) (value : ℤ) →
+    is_range_fault (instructions operation fields address value) ≡ is_past operation fields address value
 
 -- a range after a word
 unfoldable pub range_words : List ℕ → Range → List ℕ
-range_words word range = word ++ (codes " from " ++ (signed_decimal range.least ++ (codes " to " ++ signed_decimal range.greatest)))
+range_words word range =
+    word ++ (codes " from " ++ (signed_decimal range.least ++ (codes " to " ++ signed_decimal range.greatest)))
 
 -- the range of a distance
 abbrev pub target_words : Range → List ℕ
@@ -85,11 +88,14 @@ value_part mark operation = option_map_or (λ range. mark ++ value_words operati
 
 -- the line on the ranges of an operation that has a CSR
 abbrev pub csr_line : Operation → Range → List ℕ
-csr_line operation range = codes "expected: " ++ (range_words (codes "a CSR") range ++ (value_part (codes ", and ") operation ++ codes "\n"))
+csr_line operation range =
+    codes "expected: " ++ (range_words (codes "a CSR") range ++ (value_part (codes ", and ") operation ++ codes "\n"))
 
 -- the line on the range of an operation that has none
 abbrev pub value_line : Operation → List ℕ
-value_line operation = option_map_or (λ range. codes "expected: " ++ (value_words operation range ++ codes "\n")) (value_range operation) []
+value_line operation =
+    option_map_or (λ range. codes "expected: " ++ (value_words operation range ++ codes "\n"))
+    (value_range operation) []
 
 -- the line on the ranges of an operation
 unfoldable pub operation_line : Operation → List ℕ

@@ -21,14 +21,17 @@ use Rattle.rv_refusal.specs.Unfit.{unfit_lines}
 unfoldable pub line_text : ℕ → AsmError → List ℕ → List Token → List ℕ
 line_text before error line tokens =
     place_line before error.line error.fault
-    ++ (shown_line line ++ (caret_line error.fault line tokens ++ (expected error.fault tokens ++ separator_question before line)))
+    ++ (shown_line line
+    ++ (caret_line error.fault line tokens ++ (expected error.fault tokens ++ separator_question before line)))
 
--- the fault of an assembly that so many lines of the job stand before, the known names that are near, and the lines after it at fault
+-- the fault of an assembly that so many lines of the job stand before, the known names that are near, and the lines
+-- after it at fault
 unfoldable pub assembly_text : ℕ → List ℕ → AsmError → List ℕ
 assembly_text before assembly error =
     let line = line_at error.line assembly in
     let tokens = tokens_on line in
-    line_text before error line tokens ++ (nearest_line error.fault tokens assembly ++ further_lines before error.line assembly)
+    line_text before error line tokens
+    ++ (nearest_line error.fault tokens assembly ++ further_lines before error.line assembly)
 
 -- why a job is refused
 unfoldable pub refusal_text : List ℕ → SimError → List ℕ

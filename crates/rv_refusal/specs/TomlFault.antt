@@ -15,7 +15,8 @@ unfoldable pub toml_up_to : List ℕ → ℕ → ℕ
 toml_up_to text zero = zero
 toml_up_to text (suc place) = if is_toml_up_to text (suc place) then suc place else toml_up_to text place
 
--- The number of the line that begins where a text ceases to be TOML: the lines before it are, and no more of its lines are with them.
+-- The number of the line that begins where a text ceases to be TOML: the lines before it are, and no more of its lines
+-- are with them.
 unfoldable pub toml_line : List ℕ → ℕ
 toml_line text = line_feeds (take (toml_up_to text (length text)) text) + 1
 
@@ -29,7 +30,8 @@ toml_expected example line =
 unfoldable pub toml_lines : List ℕ → ℕ → List ℕ → List ℕ → List ℕ
 toml_lines name before example part =
     let line = line_at (toml_line part) part in
-    line_place name before (toml_line part) ++ (codes "\n" ++ (shown_line line ++ (caret_below (blanks line) ++ toml_expected example line)))
+    line_place name before (toml_line part)
+    ++ (codes "\n" ++ (shown_line line ++ (caret_below (blanks line) ++ toml_expected example line)))
 
 -- the longest text whose line is looked for, since that reads the text again for each line
 abbrev pub most_searched : ℕ

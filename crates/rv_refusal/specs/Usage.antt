@@ -29,7 +29,8 @@ pub record HasHint (kind : ErrorKind) (text : List ℕ) : Type 0 where
 
 -- a mistake: the text is reported, and the status is 2 even where it can't be written
 abbrev pub ReportsMistake : List ℕ → Option (List ℕ) → Option (List ℕ) → FaultStream → FaultStream → ℕ → Type 0
-ReportsMistake text old-output new-output old new status = (new-output ≡ old-output) × Reports old new text × (status ≡ 2)
+ReportsMistake text old-output new-output old new status =
+    (new-output ≡ old-output) × Reports old new text × (status ≡ 2)
 
 -- help or the version: the text is written whole, or a beginning of it, which is reported
 abbrev pub ShowsHelp : List ℕ → Option (List ℕ) → Option (List ℕ) → FaultStream → FaultStream → ℕ → Type 0

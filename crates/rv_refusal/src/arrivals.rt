@@ -95,7 +95,8 @@ fn add_line_of_field(
     field: Field,
 ) -> Result<(), AllocError>
     ensures { OnOk result (out.new.items
-        ≡ out.old.items ++ option_map_or (entry_line_text before) (line_of_field field entry part.now) (entry_text entry)) }
+        ≡ out.old.items
+        ++ option_map_or (entry_line_text before) (line_of_field field entry part.now) (entry_text entry)) }
 {
     match line_of_field(field, entry, part) {
         Some(found) => add_entry_line(out, before, found),

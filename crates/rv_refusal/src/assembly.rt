@@ -31,8 +31,8 @@ fn add_line_text(
     add_separator_question(out, before, line)
 }
 
-/// Appends the fault of an assembly that so many lines of the job stand before, the known names that are near, and the lines after it
-/// at fault.
+/// Appends the fault of an assembly that so many lines of the job stand before, the known names that are near, and the
+/// lines after it at fault.
 #[tactic(auto, unfolding(crate::specs::Refusal::assembly_text))]
 pub(crate) fn add_assembly(
     alloc: Global,

@@ -9,12 +9,13 @@ use crate::text::add_text;
 use rv_asm::{AsmFault, Token, first_lexeme};
 use std::alloc::AllocError;
 
-// How many bytes are passed over at the front of a line, and how many tokens are then still to be passed over; none where the end is
-// reached.
+// How many bytes are passed over at the front of a line, and how many tokens are then still to be passed over; none
+// where the end is reached.
 fn step(rest: &[u8], before: usize) -> Option<(usize, usize)>
     requires { 0 < length rest.now }
     ensures reached { result ≡ None → distance rest.now 0 before ≡ 0 }
-    ensures further { IfSome result (λ next. distance rest.now 0 before ≡ next.0 + distance (drop next.0 rest.now) 0 next.1) }
+    ensures further { IfSome result
+        (λ next. distance rest.now 0 before ≡ next.0 + distance (drop next.0 rest.now) 0 next.1) }
     ensures size { IfSome result (λ next. (0 < next.0) × (next.0 ≤ length rest.now)) }
 {
     let Some(found) = first_lexeme(rest) else {

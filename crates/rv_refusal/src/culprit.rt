@@ -110,7 +110,8 @@ fn culprit_among<'t, 'a>(
     places: &[Place],
     operands: Option<&'t [Token<'a>]>,
 ) -> Option<&'t [Token<'a>]>
-    ensures { option_map (λ from. tokens_in from.now) result ≡ culprit_among fault places.now (operands_left operands.entry) }
+    ensures { option_map (λ from. tokens_in from.now) result
+        ≡ culprit_among fault places.now (operands_left operands.entry) }
 {
     let Some(operand) = operands else {
         return None;

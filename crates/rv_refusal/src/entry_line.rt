@@ -8,8 +8,8 @@ use crate::name_on::{NameOn, begins_with, blanks, key_on, name_after, table_on};
 use rv_asm::first_line;
 use rv_job::without_mark;
 
-/// A line of a list of arrivals with its number, how many entries have begun up to it, a name on it, and how many bytes stand before
-/// the name.
+/// A line of a list of arrivals with its number, how many entries have begun up to it, a name on it, and how many bytes
+/// stand before the name.
 #[derive(Clone, Copy)]
 pub(crate) struct EntryLine<'a> {
     pub(crate) number: usize,

@@ -86,7 +86,8 @@ impl Faults {
     fn add_line(&mut self, alloc: Global, number: usize, line: &[u8]) -> Result<(), AllocError>
         requires { self.old.count ≤ 2 ^ 63 }
         ensures shown { OnOk result (self.new.shown.items
-            ≡ self.old.shown.items ++ take (20 - self.old.count) (faulty_by number (fault_of_line (line_in line.now)))) }
+            ≡ self.old.shown.items
+            ++ take (20 - self.old.count) (faulty_by number (fault_of_line (line_in line.now)))) }
         ensures count { OnOk result (self.new.count
             ≡ self.old.count + length (faulty_by number (fault_of_line (line_in line.now)))) }
     {
@@ -124,7 +125,8 @@ fn faulty_from(alloc: Global, number: usize, text: &[u8]) -> Result<Faults, Allo
 
 // Appends the lines on lines with a fault, of an assembly that so many lines of the job stand before.
 fn add_faulty(out: &mut Vec<u8>, before: usize, lines: &[Faulty]) -> Result<(), AllocError>
-    ensures { OnOk result (out.new.items ≡ out.old.items ++ flat_map (λ line. place_line before line.number line.fault) lines.now) }
+    ensures { OnOk result (out.new.items
+        ≡ out.old.items ++ flat_map (λ line. place_line before line.number line.fault) lines.now) }
 {
     for line in lines {
         add_place(out, before, line.number, line.fault)?;
@@ -150,7 +152,9 @@ fn add_more(out: &mut Vec<u8>, count: usize) -> Result<(), AllocError>
 // Appends the lines on lines with a fault, and how many more have one.
 fn add_faults(out: &mut Vec<u8>, before: usize, faults: &Faults) -> Result<(), AllocError>
     ensures { OnOk result (out.new.items
-        ≡ out.old.items ++ (flat_map (λ line. place_line before line.number line.fault) faults.now.shown.items ++ more_line faults.now.count)) }
+        ≡ out.old.items
+        ++ (flat_map (λ line. place_line before line.number line.fault) faults.now.shown.items
+        ++ more_line faults.now.count)) }
 {
     add_faulty(out, before, faults.shown.as_slice())?;
     add_more(out, faults.count)

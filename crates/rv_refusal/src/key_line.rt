@@ -8,7 +8,8 @@ use rv_asm::first_line;
 use rv_job::without_mark;
 use std::alloc::{AllocError, Global};
 
-/// A line of a description with its number, a name on it, the table that the name stands in, and how many bytes stand before the name.
+/// A line of a description with its number, a name on it, the table that the name stands in, and how many bytes stand
+/// before the name.
 #[derive(Clone, Copy)]
 pub(crate) struct KeyLine<'a> {
     pub(crate) number: usize,

@@ -1,6 +1,6 @@
-//! Why a job is refused, for its reader: the line at fault as it stands, where it stands, and what was expected there. Its model is
-//! that text, as a function of the job's bytes and of its fault. The program shows it where a job is to be explained. Beside it stands what
-//! is shown of words that are no command: some text of `clap`, with a hint after it.
+//! Why a job is refused, for its reader: the line at fault as it stands, where it stands, and what was expected there.
+//! Its model is that text, as a function of the job's bytes and of its fault. The program shows it where a job is to be
+//! explained. Beside it stands what is shown of words that are no command: some text of `clap`, with a hint after it.
 #![tactic(auto)]
 
 mod arrivals;

@@ -79,7 +79,8 @@ fn others() -> &'static [&'static [u8]]
 
 /// Adds a name.
 pub(crate) fn add_name<'a>(names: &mut Vec<&'a [u8]>, name: &'a [u8]) -> Result<(), AllocError>
-    ensures { OnOk result (map (λ name. name.now) names.new.items ≡ map (λ name. name.now) names.old.items ++ name.now ∷ []) }
+    ensures { OnOk result (map (λ name. name.now) names.new.items
+        ≡ map (λ name. name.now) names.old.items ++ name.now ∷ []) }
 {
     names.push(name)?;
     Ok(())
@@ -87,7 +88,8 @@ pub(crate) fn add_name<'a>(names: &mut Vec<&'a [u8]>, name: &'a [u8]) -> Result<
 
 /// Adds the mnemonics and directives that the assembler knows.
 pub(crate) fn add_mnemonics(names: &mut Vec<&[u8]>) -> Result<(), AllocError>
-    ensures { OnOk result (map (λ name. name.now) names.new.items ≡ map (λ name. name.now) names.old.items ++ mnemonics) }
+    ensures { OnOk result (map (λ name. name.now) names.new.items
+        ≡ map (λ name. name.now) names.old.items ++ mnemonics) }
 {
     names.extend_from_slice(instructions())?;
     names.extend_from_slice(pseudo_instructions())?;

@@ -18,7 +18,8 @@ fn add_near<'a>(
     known: &[&'a [u8]],
 ) -> Result<(), AllocError>
     ensures { OnOk result (map (λ other. other.now) found.new.items
-        ≡ map (λ other. other.now) found.old.items ++ filter (is_near distance name.now) (map (λ other. other.now) known.now)) }
+        ≡ map (λ other. other.now) found.old.items
+        ++ filter (is_near distance name.now) (map (λ other. other.now) known.now)) }
 {
     for other in known {
         if is_near(alloc, distance, name, other)? {
@@ -31,7 +32,8 @@ fn add_near<'a>(
 // The known names that are nearest to an unknown one.
 #[tactic(auto, using(crate::proofs::Named::named_three))]
 fn nearest<'a>(alloc: Global, name: &[u8], known: &[&'a [u8]]) -> Result<Vec<&'a [u8]>, AllocError>
-    ensures { IfOk result (λ found. map (λ other. other.now) found.items ≡ nearest name.now (map (λ other. other.now) known.now)) }
+    ensures { IfOk result (λ found. map (λ other. other.now) found.items
+        ≡ nearest name.now (map (λ other. other.now) known.now)) }
 {
     let mut found = Vec::new(alloc);
     add_near(alloc, &mut found, 1, name, known)?;
@@ -70,7 +72,8 @@ pub(crate) fn add_nearest(
     name: &[u8],
     known: &[&[u8]],
 ) -> Result<(), AllocError>
-    ensures { OnOk result (out.new.items ≡ out.old.items ++ names_line (nearest name.now (map (λ other. other.now) known.now))) }
+    ensures { OnOk result (out.new.items
+        ≡ out.old.items ++ names_line (nearest name.now (map (λ other. other.now) known.now))) }
 {
     let names = nearest(alloc, name, known)?;
     add_names_line(out, names.as_slice())

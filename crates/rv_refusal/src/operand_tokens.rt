@@ -41,7 +41,8 @@ pub(crate) fn operand_at<'a>(tokens: &[Token<'a>]) -> Option<Operand<'a>>
 
 /// An operand from the name of its register on, before which stand an offset and a parenthesis, or nothing.
 pub(crate) fn from_register<'t, 'a>(tokens: &'t [Token<'a>]) -> &'t [Token<'a>]
-    ensures { tokens_in result.now ≡ drop (length (before_first is_comma (tokens_in tokens.entry.now)) - 2) (tokens_in tokens.entry.now) }
+    ensures { tokens_in result.now
+        ≡ drop (length (before_first is_comma (tokens_in tokens.entry.now)) - 2) (tokens_in tokens.entry.now) }
 {
     let (operand, _) = first_piece(tokens);
     let (_, from) = tokens.split_at(operand.len().saturating_sub(2));

@@ -48,8 +48,8 @@ fn refusal(alloc: Global, text: &[u8], error: SimError) -> Result<Vec<u8>, Alloc
 }
 
 /// Writes why a job is refused, for its reader: the line at fault with its numbers in the job and in its part, and
-/// what was expected there; of an image that does not fit, its size and that of the RAM. `text` is the job, and `error` its fault. Of
-/// a fault that needs no more words, and where memory or the output failed, nothing is written.
+/// what was expected there; of an image that does not fit, its size and that of the RAM. `text` is the job, and `error`
+/// its fault. Of a fault that needs no more words, and where memory or the output failed, nothing is written.
 ///
 /// Fails by `Memory`, and has written nothing then, or by `WriteFailed`, and has written a beginning of the text.
 pub fn write_refusal<W: Write>(
@@ -58,7 +58,8 @@ pub fn write_refusal<W: Write>(
     error: SimError,
     writer: &mut W,
 ) -> Result<(), TextError>
-    ensures { IsText (λ _ shown. shown ≡ refusal_text text.now error) result (W.contents writer.old) (W.contents writer.new) }
+    ensures { IsText (λ _ shown. shown ≡ refusal_text text.now error) result (W.contents writer.old)
+        (W.contents writer.new) }
 {
     let Ok(shown) = refusal(alloc, text, error) else {
         return Err(TextError::Memory);

@@ -96,8 +96,8 @@ fn add_toml_lines(
     add_toml_expected(alloc, out, example, line)
 }
 
-/// Appends why a part of the job is no TOML, which has this name and so many lines before it: the line with which it ceases to be, and
-/// what was expected there. Of a part of more than 16,384 bytes the line is not looked for.
+/// Appends why a part of the job is no TOML, which has this name and so many lines before it: the line with which it
+/// ceases to be, and what was expected there. Of a part of more than 16,384 bytes the line is not looked for.
 #[tactic(auto, unfolding(crate::specs::TomlFault::no_toml))]
 pub(crate) fn add_no_toml(
     alloc: Global,

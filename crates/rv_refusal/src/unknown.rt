@@ -65,7 +65,8 @@ fn add_known(
     name: &[u8],
     assembly: &[u8],
 ) -> Result<(), AllocError>
-    ensures { OnOk result (out.new.items ≡ out.old.items ++ known_line fault name.now (known_names fault assembly.now)) }
+    ensures { OnOk result (out.new.items
+        ≡ out.old.items ++ known_line fault name.now (known_names fault assembly.now)) }
 {
     let mut known = Vec::new(alloc);
     add_known_names(alloc, &mut known, fault, assembly)?;

@@ -41,6 +41,7 @@ trace_of-append false xs ys = refl
 count_by-append : (p : Step → Bool) (xs ys : List Step) → count_by p (xs ++ ys) ≡ count_by p xs + count_by p ys
 count_by-append p xs ys = sum_by-append _ xs ys
 
+-- the counts of two lists of steps are those of both
 pub counts_of-append : (xs ys : List Step) → counts_of (xs ++ ys) ≡ both_counts (counts_of xs) (counts_of ys)
 counts_of-append xs ys = λ i. record {
   retired = count_by-append is_retirement xs ys i;
@@ -49,7 +50,8 @@ counts_of-append xs ys = λ i. record {
 }
 
 -- the trace of a run, and then the rest, is its report
-pub traced_report : {arrivals : List Arrival} {options : Options} {old new : GuidedHardware} {totals : Totals} {failed : Bool} {before mid : Option (List ℕ)}
+pub traced_report : {arrivals : List Arrival} {options : Options} {old
+    new : GuidedHardware} {totals : Totals} {failed : Bool} {before mid : Option (List ℕ)}
     → (traced : IsTraced arrivals options old new totals failed before mid)
     → IsRunReport arrivals options old totals.stop (trace_of options.trace (steps_of traced.reports) ++ end_of totals new.hardware options)
 unfolding run_report
@@ -62,15 +64,20 @@ traced_report {options = options} {new = new} traced = record {
 }
 
 -- what is said after a text that was said: a beginning of both where a write failed, and else both
-pub said_in_part : {was failed : Bool} (before : Option (List ℕ)) {mid now : Option (List ℕ)} (first : List ℕ) {text : List ℕ} → failed ≡ true → IsSaid was before mid first → Extends was failed mid now text → AppendsBeginning before now (first ++ text)
+pub said_in_part : {was failed : Bool} (before : Option (List ℕ)) {mid now : Option (List ℕ)}
+    (first : List ℕ) {text : List ℕ} → failed ≡ true → IsSaid was before mid first → Extends was failed mid now text →
+    AppendsBeginning before now (first ++ text)
 said_in_part before first is said extended = rw is at (extended.extends before first said)
 
 -- a text and one that extends it are appended whole where no write failed
-pub said_to_the_end : {was failed : Bool} (before : Option (List ℕ)) {mid now : Option (List ℕ)} (first : List ℕ) {text : List ℕ} → failed ≡ false → IsSaid was before mid first → Extends was failed mid now text → Appends before now (first ++ text)
+pub said_to_the_end : {was failed : Bool} (before : Option (List ℕ)) {mid now : Option (List ℕ)}
+    (first : List ℕ) {text : List ℕ} → failed ≡ false → IsSaid was before mid first → Extends was failed mid now text →
+    Appends before now (first ++ text)
 said_to_the_end before first is said extended = rw is at (extended.extends before first said)
 
 -- no step yet
-pub traced_nothing : (counts : StepCounts) (output : Option (List ℕ)) → (counts.retired ≡ 0) × ((counts.traps ≡ 0) × (counts.interrupts ≡ 0)) → HasTraced counts false [] output output
+pub traced_nothing : (counts : StepCounts) (output : Option (List ℕ)) →
+    (counts.retired ≡ 0) × ((counts.traps ≡ 0) × (counts.interrupts ≡ 0)) → HasTraced counts false [] output output
 traced_nothing counts output none = record {
   counted = λ i. record { retired = none.0 i; traps = none.1.0 i; interrupts = none.1.1 i };
   trace = Appends-same output output _ _ (sym (trace_of-none true)) (Appends-nothing output);
@@ -91,7 +98,8 @@ module _ {seen : Watched} {cycle : ℕ} {steps : List Step} {after : Hardware} {
 
   -- one more cycle, whose steps are counted and written
   pub traced_on : (counts' : StepCounts) (failed' : Bool) (now : Option (List ℕ)) → counts' ≡ both_counts counts (counts_of steps)
-      → IsSaid failed' before now (trace_lines (steps_of (reports_of seen.moments)) ++ trace_lines steps) → HasTraced counts' failed' (with_shown seen shown).moments before now
+      → IsSaid failed' before now (trace_lines (steps_of (reports_of seen.moments)) ++ trace_lines steps) →
+      HasTraced counts' failed' (with_shown seen shown).moments before now
   traced_on counts' failed' now counted wrote =
       let so_far = steps_of (reports_of seen.moments) in
       let all : steps_of (reports_of (with_shown seen shown).moments) ≡ so_far ++ steps = shown_steps-push seen.moments _ ∙ ap (λ l. so_far ++ l) (sym shown.steps_are) in
@@ -101,24 +109,35 @@ module _ {seen : Watched} {cycle : ℕ} {steps : List Step} {after : Hardware} {
       }
 
 -- what a run came to whose cycles are traced
-pub traced_to_the_end : {arrivals : List Arrival} {options : Options} {old new : GuidedHardware} {moments : List Moment} {progress : Progress} {counts : StepCounts} {failed : Bool} {before after : Option (List ℕ)} {stop : Stop} {totals : Totals}
-    → History arrivals old moments new → progress ≡ progress_of (reports_of moments) → IsStop options.limit (reports_of moments) new.hardware stop → true ≡ options.trace → HasTraced counts failed moments before after
+pub traced_to_the_end : {arrivals : List Arrival} {options : Options} {old new : GuidedHardware} {moments : List
+    Moment} {progress : Progress} {counts : StepCounts} {failed : Bool} {before after : Option
+    (List ℕ)} {stop : Stop} {totals : Totals}
+    → History arrivals old moments new → progress ≡ progress_of (reports_of moments) →
+    IsStop options.limit (reports_of moments) new.hardware stop → true ≡ options.trace →
+    HasTraced counts failed moments before after
     → totals ≡ totals_with progress counts stop → IsTraced arrivals options old new totals failed before after
-traced_to_the_end {moments = moments} {failed = failed} {before = before} {after = after} {stop = stop} passes counted stops shown traced is = rw is (record {
-  reports = reports_of moments;
-  cycles = cycles_shown passes;
-  stops = stops;
-  totals_are = λ i. totals_with (counted i) (traced.counted i) stop;
-  trace = subst (λ b. IsSaid failed before after (trace_of b (steps_of (reports_of moments)))) shown traced.trace;
-})
+traced_to_the_end {moments = moments} {failed = failed} {before = before} {after = after} {stop = stop} passes counted
+    stops shown traced is = rw is (record {
+      reports = reports_of moments;
+      cycles = cycles_shown passes;
+      stops = stops;
+      totals_are = λ i. totals_with (counted i) (traced.counted i) stop;
+      trace = subst (λ b. IsSaid failed before after (trace_of b (steps_of (reports_of moments)))) shown traced.trace;
+    })
 
 -- what a run came to whose steps were counted, where no trace is asked for
-pub counted_to_the_end : {arrivals : List Arrival} {options : Options} {old new : GuidedHardware} {run : Counted} {totals : Totals} → IsCountedRun arrivals options.limit old new run → options.trace ≡ false
-    → totals ≡ totals_with run.progress (record { retired = run.retired; traps = run.traps; interrupts = run.interrupts }) run.stop → (output : Option (List ℕ)) → IsTraced arrivals options old new totals false output output
+pub counted_to_the_end : {arrivals : List Arrival} {options : Options} {old
+    new : GuidedHardware} {run : Counted} {totals : Totals} → IsCountedRun arrivals options.limit old new run →
+    options.trace ≡ false
+    → totals ≡ totals_with run.progress
+    (record { retired = run.retired; traps = run.traps; interrupts = run.interrupts }) run.stop →
+    (output : Option (List ℕ)) → IsTraced arrivals options old new totals false output output
 counted_to_the_end {run = run} counted off is output = rw is (record {
   reports = reports_of counted.moments;
   cycles = cycles_shown counted.passes;
   stops = counted.ends;
-  totals_are = λ i. totals_with (counted.progress i) (record { retired = counted.retired i; traps = counted.traps i; interrupts = counted.interrupts i }) run.stop;
+  totals_are =
+      λ i. totals_with (counted.progress i)
+      (record { retired = counted.retired i; traps = counted.traps i; interrupts = counted.interrupts i }) run.stop;
   trace = subst (λ b. IsSaid false output output (trace_of b (steps_of (reports_of counted.moments)))) (sym off) (Appends-nothing output);
 })

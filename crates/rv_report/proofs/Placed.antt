@@ -28,7 +28,8 @@ passed true x y = refl
 passed false x y = refl
 
 -- no cycle yet
-pub placed_nothing : (arrivals : List Arrival) (shown : Columns (Option Shown)) (h : GuidedHardware) (places : Option RunPlaces) → places ≡ places_shown shown h.hardware [] h.hardware
+pub placed_nothing : (arrivals : List Arrival) (shown : Columns (Option Shown)) (h : GuidedHardware)
+    (places : Option RunPlaces) → places ≡ places_shown shown h.hardware [] h.hardware
     → length h.hardware.rob.entries ≤ 256 → HasPlaced places places (watched arrivals h [] h)
 placed_nothing arrivals shown h places begun few =
     let none = run_places h.hardware [] h.hardware in
@@ -63,11 +64,13 @@ module _ {seen : Watched} {cycle : ℕ} {steps : List Step} {after : Hardware} {
         room = omega (arith, counted, more, length-reports_of seen.moments, moments_counted shown.passes, shown.number, shown.counted);
       }
 
-  module _ (values : Values) (rob : ReorderBuffer) (front : FetchBuffer) (values_are : values ≡ after.values) (rob_is : rob ≡ after.rob) (front_is : front ≡ after.front)
+  module _ (values : Values) (rob : ReorderBuffer) (front : FetchBuffer) (values_are : values ≡ after.values)
+      (rob_is : rob ≡ after.rob) (front_is : front ≡ after.front)
       (few : length after.rob.entries ≤ 256) where
     countable_by : CanPlace values cycle steps rob front so_far
     countable_by =
-        subst (λ (v : Values). CanPlace v cycle steps rob front so_far) (sym values_are) (subst (λ (r : ReorderBuffer). CanPlace after.values cycle steps r front so_far) (sym rob_is)
+        subst (λ (v : Values). CanPlace v cycle steps rob front so_far) (sym values_are)
+        (subst (λ (r : ReorderBuffer). CanPlace after.values cycle steps r front so_far) (sym rob_is)
         (subst (λ (f : FetchBuffer). CanPlace after.values cycle steps after.rob f so_far) (sym front_is) (countable few)))
 
     where_counted : (o : Option RunPlaces) → IfSome (option_map (λ (p : RunPlaces). so_far) o) (CanPlace values cycle steps rob front)
@@ -84,13 +87,17 @@ module _ {seen : Watched} {cycle : ℕ} {steps : List Step} {after : Hardware} {
         let added = ap (λ c. with_cycle c (places_of seen.first.hardware seen.moments)) places_now ∙ sym (places_of-push moment shown.passes) in
         λ i. record { places = added i; in_flight = length after.rob.entries }
 
-    one_more : (o : Option RunPlaces) → option_map (placed_after after.values cycle steps after.rob after.front) (option_map (λ (p : RunPlaces). so_far) o)
+    one_more : (o : Option RunPlaces) →
+        option_map (placed_after after.values cycle steps after.rob after.front)
+        (option_map (λ (p : RunPlaces). so_far) o)
         ≡ option_map (λ (p : RunPlaces). run_places seen.first.hardware (seen.moments ++ moment ∷ []) after) o
     one_more None = refl
     one_more (Some begun) = ap Some next
 
     -- and is
-    pub placed_on : (places' : Option RunPlaces) → places' ≡ option_map (placed_after values cycle steps rob front) places → HasPlaced start places' (with_shown seen shown)
+    pub placed_on : (places' : Option RunPlaces) →
+        places' ≡ option_map (placed_after values cycle steps rob front) places →
+        HasPlaced start places' (with_shown seen shown)
     placed_on places' is = record {
       placed = is ∙ (λ i. option_map (placed_after (values_are i) cycle steps (rob_is i) (front_is i)) (has.placed i)) ∙ one_more start;
       places_add_up = add_up-push moment shown.passes placed_now has.places_add_up;
@@ -99,7 +106,9 @@ module _ {seen : Watched} {cycle : ℕ} {steps : List Step} {after : Hardware} {
     }
 
 -- what became of the places of a run that ended
-pub placed_at_end : {arrivals : List Arrival} {old new : GuidedHardware} {moments : List Moment} (shown : Columns (Option Shown)) (start places : Option RunPlaces) → start ≡ places_shown shown old.hardware [] old.hardware
+pub placed_at_end : {arrivals : List Arrival} {old new : GuidedHardware} {moments : List Moment}
+    (shown : Columns (Option Shown)) (start places : Option RunPlaces) →
+    start ≡ places_shown shown old.hardware [] old.hardware
     → HasPlaced start places (watched arrivals old moments new) → places ≡ places_shown shown old.hardware moments new.hardware
 placed_at_end {old = old} {new = new} {moments = moments} shown start places begun has =
     let all = run_places old.hardware moments new.hardware in

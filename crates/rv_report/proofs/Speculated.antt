@@ -18,7 +18,8 @@ module _ {X Y : Type 0} (f : X → Y) where
   map-if false x = refl
 
   -- what is picked of one more
-  pub picked-more : (p : X → Bool) (xs : List X) (place : ℕ) (x : X) → slice_get xs place ≡ Some x → map f (filter p (take (place + 1) xs)) ≡ map f (filter p (take place xs)) ++ (if p x then f x ∷ [] else [])
+  pub picked-more : (p : X → Bool) (xs : List X) (place : ℕ) (x : X) → slice_get xs place ≡ Some x →
+      map f (filter p (take (place + 1) xs)) ≡ map f (filter p (take place xs)) ++ (if p x then f x ∷ [] else [])
   picked-more p xs place x is =
       let here = get_or_from_slice_get xs place x x is in
       let front = filter p (take place xs) in
@@ -27,12 +28,14 @@ module _ {X Y : Type 0} (f : X → Y) where
       ∙ ap (λ l. map f front ++ l) (map-if (p x) x)
 
   -- what is appended of one more
-  pub appended-more : (before : List Y) (xs : List X) (place : ℕ) (x : X) → place < length xs → x ≡ get_or xs place x → (before ++ map f (take place xs)) ++ f x ∷ [] ≡ before ++ map f (take (place + 1) xs)
+  pub appended-more : (before : List Y) (xs : List X) (place : ℕ) (x : X) → place < length xs → x ≡ get_or xs place x →
+      (before ++ map f (take place xs)) ++ f x ∷ [] ≡ before ++ map f (take (place + 1) xs)
   appended-more before xs place x within is =
       append_assoc before (map f (take place xs)) (f x ∷ [])
       ∙ ap (λ l. before ++ l) (ap (λ y. map f (take place xs) ++ f y ∷ []) is ∙ sym (map_more f xs place x within))
 
 -- one more cycle
-pub speculated-push : (s : Speculated) (moments : List Moment) (last : Moment) → speculated_in s (moments ++ last ∷ []) ≡ speculated_by last (speculated_in s moments)
+pub speculated-push : (s : Speculated) (moments : List Moment) (last : Moment) →
+    speculated_in s (moments ++ last ∷ []) ≡ speculated_by last (speculated_in s moments)
 speculated-push s [] last = refl
 speculated-push s (moment ∷ moments) last = speculated-push (speculated_by moment s) moments last

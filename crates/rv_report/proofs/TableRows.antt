@@ -10,7 +10,8 @@ use Rattle.rv_text.specs.Said.{Says}
 use Rattle.rv_text.specs.declared.sink.Sink.{Sink}
 use Rattle.rv_text.proofs.Saying.{says_at, says_same}
 
-module _ (shown : Columns (Option Shown)) (names : List (List ℕ)) (runs : List ComparedRun) (place : ℕ) (below : place < length runs) (other : ComparedRun) where
+module _ (shown : Columns (Option Shown)) (names : List (List ℕ)) (runs : List ComparedRun) (place : ℕ)
+    (below : place < length runs) (other : ComparedRun) where
   abbrev run : ComparedRun
   run = get_or runs place other
 
@@ -27,11 +28,16 @@ module _ (shown : Columns (Option Shown)) (names : List (List ℕ)) (runs : List
       ∙ ap (row_of shown names) (sym (get_or-enumerate_from 1 runs place here below))
 
   -- one more line
-  pub row_said : {W : Type 0} {contents : W → Option (List ℕ)} {a b c : Sink W} → Says contents a b (flat_map (row_of shown names) (take place (enumerate_from 1 runs)))
-      → Says contents b c (table_row shown (1 + place) (get_or names place []) run) → Says contents a c (flat_map (row_of shown names) (take (place + 1) (enumerate_from 1 runs)))
+  pub row_said : {W : Type 0} {contents : W → Option (List ℕ)} {a b c : Sink W} →
+      Says contents a b (flat_map (row_of shown names) (take place (enumerate_from 1 runs)))
+      → Says contents b c (table_row shown (1 + place) (get_or names place []) run) →
+      Says contents a c (flat_map (row_of shown names) (take (place + 1) (enumerate_from 1 runs)))
   row_said front last = says_at (row_of shown names) (enumerate_from 1 runs) place here within front (says_same line_is last)
 
 -- the lines of all runs
-pub all_rows : (shown : Columns (Option Shown)) (names : List (List ℕ)) (runs : List ComparedRun) (place : ℕ) → place ≡ length runs → flat_map (row_of shown names) (take place (enumerate_from 1 runs)) ≡ flat_map (row_of shown names) (enumerate_from 1 runs)
+pub all_rows : (shown : Columns (Option Shown)) (names : List (List ℕ)) (runs : List ComparedRun) (place : ℕ) →
+    place ≡ length runs →
+    flat_map (row_of shown names) (take place (enumerate_from 1 runs))
+    ≡ flat_map (row_of shown names) (enumerate_from 1 runs)
 all_rows shown names runs place is =
     ap (flat_map (row_of shown names)) (take_all place (enumerate_from 1 runs) (omega (arith, is, length-enumerate_from 1 runs)))

@@ -53,8 +53,10 @@ both-nothing a =
     λ i. record { branches = branches i; loads = loads i; drains = drains i; hits = hits i; misses = misses i; write_backs = write_backs i }
 
 -- what one more cycle did
-events-push : {arrivals : List Arrival} {old now : GuidedHardware} {moments : List Moment} (values : Values) (last : Moment) → History arrivals old moments now
-    → events_in values old.hardware (moments ++ last ∷ []) ≡ both_events (events_in values old.hardware moments) (events_between values now.hardware last)
+events-push : {arrivals : List Arrival} {old now : GuidedHardware} {moments : List Moment} (values : Values)
+    (last : Moment) → History arrivals old moments now
+    → events_in values old.hardware (moments ++ last ∷ [])
+    ≡ both_events (events_in values old.hardware moments) (events_between values now.hardware last)
 events-push {old = old} values last ended = both-nothing (events_between values old.hardware last)
 events-push {old = old} {now = now} values last (cycled {moment = moment} {moments = moments} first rest) =
     ap (both_events (events_between values old.hardware moment)) (events-push values last rest)
@@ -90,7 +92,8 @@ drain-few costs (Some cost) = record {
   write_backs = one-or-none (nat_lt costs.clean_miss cost);
 }
 
-pub both-few : (some others : Events) (most more : ℕ) → AreAtMost most some → AreAtMost more others → AreAtMost (most + more) (both_events some others)
+pub both-few : (some others : Events) (most more : ℕ) → AreAtMost most some → AreAtMost more others →
+    AreAtMost (most + more) (both_events some others)
 both-few some others most more few few' = record {
   branches = omega (arith, few.branches, few'.branches);
   loads = omega (arith, few.loads, few'.loads);
@@ -110,16 +113,26 @@ few-below events most more few below = record {
   write_backs = omega (arith, few.write_backs, below);
 }
 
-cycle-few : (costs : LoadCosts) (cycle : ℕ) (steps : List Step) (before after : Option ℕ) → AreAtMost (length steps + 1) (events_by costs cycle steps before after)
+cycle-few : (costs : LoadCosts) (cycle : ℕ) (steps : List Step) (before after : Option ℕ) →
+    AreAtMost (length steps + 1) (events_by costs cycle steps before after)
 cycle-few costs cycle steps before after =
     both-few (events_of_steps costs steps) (events_of_drain costs (begun cycle before after)) (length steps) 1 (steps-few costs steps)
     (drain-few costs (begun cycle before after))
 
 none-few : AreAtMost 0 no_events
-none-few = record { branches = omega arith; loads = omega arith; drains = omega arith; hits = omega arith; misses = omega arith; write_backs = omega arith }
+none-few =
+    record {
+      branches = omega arith;
+      loads = omega arith;
+      drains = omega arith;
+      hits = omega arith;
+      misses = omega arith;
+      write_backs = omega arith;
+    }
 
 -- no cycle yet
-pub tallied_nothing : (arrivals : List Arrival) (h : GuidedHardware) (counts : StepCounts) (s : Speculated) (events : EventCounter) → counts ≡ counts_of [] → s ≡ speculated_at h.hardware → s.fetched ≤ 288
+pub tallied_nothing : (arrivals : List Arrival) (h : GuidedHardware) (counts : StepCounts) (s : Speculated)
+    (events : EventCounter) → counts ≡ counts_of [] → s ≡ speculated_at h.hardware → s.fetched ≤ 288
     → events ≡ events_so_far h.hardware.values (drain_end h.hardware) no_events → IsTallied counts s events (watched arrivals h [] h)
 tallied_nothing arrivals h counts s events none begun few happened = record {
   counted = none;
@@ -161,35 +174,46 @@ module _ {seen : Watched} {cycle : ℕ} {steps : List Step} {after : Hardware} {
   all_steps : steps_of (reports_of (with_shown seen shown).moments) ≡ steps_of (reports_of seen.moments) ++ steps
   all_steps = shown_steps-push seen.moments _ ∙ ap (λ l. steps_of (reports_of seen.moments) ++ l) (sym shown.steps_are)
 
-  speculated_now : (s' : Speculated) → s' ≡ speculated_after cycle steps after.rob after.front after.pc s → s' ≡ speculated_in (speculated_at seen.first.hardware) (with_shown seen shown).moments
+  speculated_now : (s' : Speculated) → s' ≡ speculated_after cycle steps after.rob after.front after.pc s →
+      s' ≡ speculated_in (speculated_at seen.first.hardware) (with_shown seen shown).moments
   speculated_now s' is =
       let number : cycle ≡ after.cycle - 1 = omega (arith, shown.number, one_more) in
       is ∙ (λ i. speculated_after (number i) (shown.steps_are i) after.rob after.front after.pc (tallied.speculated i))
       ∙ sym (speculated-push (speculated_at seen.first.hardware) seen.moments (record { report = shown.report; after = after }))
 
   happened_now : (events' : EventCounter) → events' ≡ counted_after cycle steps (drain_end after) events
-      → events' ≡ events_so_far seen.first.hardware.values (drain_end after) (events_in seen.first.hardware.values seen.first.hardware (with_shown seen shown).moments)
+      → events' ≡ events_so_far seen.first.hardware.values (drain_end after)
+      (events_in seen.first.hardware.values seen.first.hardware (with_shown seen shown).moments)
   happened_now events' is =
       is ∙ (λ i. counted_after (shown.number i) (shown.steps_are i) (drain_end after) (tallied.happened i))
-      ∙ ap (events_so_far seen.first.hardware.values (drain_end after)) (sym (events-push seen.first.hardware.values (record { report = shown.report; after = after }) shown.passes))
+      ∙ ap (events_so_far seen.first.hardware.values (drain_end after))
+      (sym (events-push seen.first.hardware.values (record { report = shown.report; after = after }) shown.passes))
 
   -- one more cycle
-  pub tallied_on : (counts' : StepCounts) (s' : Speculated) (events' : EventCounter) → counts' ≡ both_counts counts (counts_of steps) → s' ≡ speculated_after cycle steps after.rob after.front after.pc s
-      → events' ≡ counted_after cycle steps (drain_end after) events → s'.fetched ≤ s.fetched + 32 → s'.mispredicted ≤ s.mispredicted + 8 → IsTallied counts' s' events' (with_shown seen shown)
+  pub tallied_on : (counts' : StepCounts) (s' : Speculated) (events' : EventCounter) →
+      counts' ≡ both_counts counts (counts_of steps) →
+      s' ≡ speculated_after cycle steps after.rob after.front after.pc s
+      → events' ≡ counted_after cycle steps (drain_end after) events → s'.fetched ≤ s.fetched + 32 →
+      s'.mispredicted ≤ s.mispredicted + 8 → IsTallied counts' s' events' (with_shown seen shown)
   tallied_on counts' s' events' counted speculated happened fetched mispredicted = record {
-    counted = counted ∙ ap (λ c. both_counts c (counts_of steps)) tallied.counted ∙ sym (ap counts_of all_steps ∙ counts_of-append (steps_of (reports_of seen.moments)) steps);
+    counted =
+        counted ∙ ap (λ c. both_counts c (counts_of steps)) tallied.counted
+        ∙ sym (ap counts_of all_steps ∙ counts_of-append (steps_of (reports_of seen.moments)) steps);
     speculated = speculated_now s' speculated;
     happened = happened_now events' happened;
     fetched = omega (arith, fetched, tallied.fetched, one_more);
     mispredicted = omega (arith, mispredicted, tallied.mispredicted, one_more);
     events_few = rw happened (few-below (both_events events.counts (events_by events.costs cycle steps events.drain_end (drain_end after)))
         (9 * seen.now.hardware.cycle + (length steps + 1)) (9 * after.cycle)
-        (both-few events.counts (events_by events.costs cycle steps events.drain_end (drain_end after)) (9 * seen.now.hardware.cycle) (length steps + 1)
+        (both-few events.counts (events_by events.costs cycle steps events.drain_end (drain_end after))
+        (9 * seen.now.hardware.cycle) (length steps + 1)
         tallied.events_few (cycle-few events.costs cycle steps events.drain_end (drain_end after))) (omega (arith, shown.few, one_more)));
     steps_few = omega (arith, ap length all_steps, length-append (steps_of (reports_of seen.moments)) steps, shown.few, tallied.steps_few, one_more);
   }
 
-module _ {arrivals : List Arrival} {old new : GuidedHardware} {moments : List Moment} {counts : StepCounts} {s : Speculated} {events : EventCounter} (tallied : IsTallied counts s events (watched arrivals old moments new)) where
+module _ {arrivals : List Arrival} {old new : GuidedHardware} {moments : List
+    Moment} {counts : StepCounts} {s : Speculated} {events : EventCounter}
+    (tallied : IsTallied counts s events (watched arrivals old moments new)) where
   -- what ended can be counted together with what is in flight
   pub room_at_end : (left : ℕ) → left ≤ 288 → new.hardware.cycle ≤ 2 ^ 40 → counts.retired + counts.traps + left < 2 ^ 64
   room_at_end left few within =
@@ -198,19 +222,23 @@ module _ {arrivals : List Arrival} {old new : GuidedHardware} {moments : List Mo
 
   -- what a run came to that ended
   pub tallied_to_the_end : {progress : Progress} {stop : Stop} {totals : Totals} {losses : Losses} {did : Events} {words : Columns (Option ℕ)} {places : Option RunPlaces} (options : TableOptions) (left : ℕ) → History arrivals old moments new → progress ≡ progress_of (reports_of moments)
-      → IsStop options.limit (reports_of moments) new.hardware stop → totals ≡ totals_with progress counts stop → left ≡ in_flight new.hardware.rob new.hardware.front → losses ≡ losses_with s counts left → did ≡ events.counts → words ≡ words_of options.shown new.hardware
-      → places ≡ places_shown options.shown old.hardware moments new.hardware → AddUp old.hardware moments new.hardware → AreLostFor arrivals old.hardware moments
+      → IsStop options.limit (reports_of moments) new.hardware stop → totals ≡ totals_with progress counts stop →
+      left ≡ in_flight new.hardware.rob new.hardware.front → losses ≡ losses_with s counts left →
+      did ≡ events.counts → words ≡ words_of options.shown new.hardware
+      → places ≡ places_shown options.shown old.hardware moments new.hardware →
+      AddUp old.hardware moments new.hardware → AreLostFor arrivals old.hardware moments
       → RunsTo arrivals options old (record { totals = totals; losses = losses; events = did; words = words; places = places })
-  tallied_to_the_end {stop = stop} options left passes counted stops totals_are left_is losses_are did_are words_are places_are add_up lost_for = rw totals_are (record {
-    moments = moments;
-    new = new;
-    cycles = passes;
-    stops = stops;
-    totals_are = λ i. totals_with (counted i) (tallied.counted i) stop;
-    losses_are = losses_are ∙ (λ i. losses_with (tallied.speculated i) (tallied.counted i) (left_is i));
-    words_are = words_are;
-    events_are = did_are ∙ ap (λ (e : EventCounter). e.counts) tallied.happened;
-    places_are = places_are;
-    places_add_up = add_up;
-    places_are_lost_for = lost_for;
-  })
+  tallied_to_the_end {stop = stop} options left passes counted stops totals_are left_is losses_are did_are words_are
+      places_are add_up lost_for = rw totals_are (record {
+        moments = moments;
+        new = new;
+        cycles = passes;
+        stops = stops;
+        totals_are = λ i. totals_with (counted i) (tallied.counted i) stop;
+        losses_are = losses_are ∙ (λ i. losses_with (tallied.speculated i) (tallied.counted i) (left_is i));
+        words_are = words_are;
+        events_are = did_are ∙ ap (λ (e : EventCounter). e.counts) tallied.happened;
+        places_are = places_are;
+        places_add_up = add_up;
+        places_are_lost_for = lost_for;
+      })

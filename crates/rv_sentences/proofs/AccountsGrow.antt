@@ -16,19 +16,23 @@ use Rattle.rv_sentences.specs.WordCount.{count_at, with_one}
 use Rattle.rv_sentences.specs.WordNotes.{notes_of}
 use Rattle.rv_sentences.proofs.CountsGrow.{with_last_at}
 
-last_flusher-push : (before : Option ℕ) (cycles : List FollowedCycle) (last : FollowedCycle) → last_flusher before (cycles ++ last ∷ []) ≡ flusher_in last.after last.passages.rows (last_flusher before cycles)
+last_flusher-push : (before : Option ℕ) (cycles : List FollowedCycle) (last : FollowedCycle) →
+    last_flusher before (cycles ++ last ∷ []) ≡ flusher_in last.after last.passages.rows (last_flusher before cycles)
 last_flusher-push before [] last = refl
 last_flusher-push before (cycle ∷ cycles) last = last_flusher-push (flusher_in cycle.after cycle.passages.rows before) cycles last
 
 accounts_from-push : (before : Option ℕ) (cycles : List FollowedCycle) (last : FollowedCycle)
-    → accounts_from before (cycles ++ last ∷ []) ≡ accounts_from before cycles ++ account_of last.after last.passages.rows (last_flusher before cycles) ∷ []
+    → accounts_from before (cycles ++ last ∷ [])
+    ≡ accounts_from before cycles ++ account_of last.after last.passages.rows (last_flusher before cycles) ∷ []
 accounts_from-push before [] last = refl
 accounts_from-push before (cycle ∷ cycles) last =
-    ap (λ rest. account_of cycle.after cycle.passages.rows before ∷ rest) (accounts_from-push (flusher_in cycle.after cycle.passages.rows before) cycles last)
+    ap (λ rest. account_of cycle.after cycle.passages.rows before ∷ rest)
+    (accounts_from-push (flusher_in cycle.after cycle.passages.rows before) cycles last)
 
 -- one more cycle, with these passages at its end
 module _ {arrivals : List Arrival} {old now : GuidedHardware} {moments : List Moment} (moment : Moment) (passes : History arrivals old moments now)
     {rows : List Passage} (rows_are : rows ≡ (last_cycle still_open passes moment).passages.rows) where
+  -- the line that flushed last, with one cycle more
   pub flusher-push : flusher_in moment.after rows (flusher_of old.hardware moments) ≡ flusher_of old.hardware (moments ++ moment ∷ [])
   flusher-push =
       sym (
@@ -37,21 +41,25 @@ module _ {arrivals : List Arrival} {old now : GuidedHardware} {moments : List Mo
       ∙ ap (λ ps. flusher_in moment.after ps (flusher_of old.hardware moments)) (sym rows_are)
       )
 
-  accounts-push : accounts_of old.hardware (moments ++ moment ∷ []) ≡ accounts_of old.hardware moments ++ account_of moment.after rows (flusher_of old.hardware moments) ∷ []
+  accounts-push : accounts_of old.hardware (moments ++ moment ∷ [])
+      ≡ accounts_of old.hardware moments ++ account_of moment.after rows (flusher_of old.hardware moments) ∷ []
   accounts-push =
       ap (accounts_from None) (walk-push still_open passes moment)
       ∙ accounts_from-push None (walk still_open old.hardware moments) (last_cycle still_open passes moment)
       ∙ ap (λ ps. accounts_of old.hardware moments ++ account_of moment.after ps (flusher_of old.hardware moments) ∷ []) (sym rows_are)
 
   -- the words that the cycles are on account of
-  pub heads-push : (values : Values) → with_one (account_of moment.after rows (flusher_of old.hardware moments)) (notes_of values (count_at itself (accounts_of old.hardware moments)))
+  pub heads-push : (values : Values) →
+      with_one (account_of moment.after rows (flusher_of old.hardware moments))
+      (notes_of values (count_at itself (accounts_of old.hardware moments)))
       ≡ notes_of values (count_at itself (accounts_of old.hardware (moments ++ moment ∷ [])))
   heads-push values =
       with_last_at values itself (accounts_of old.hardware moments) (account_of moment.after rows (flusher_of old.hardware moments))
       ∙ ap (λ all. notes_of values (count_at itself all)) (sym accounts-push)
 
   -- the cycles that are on account of none
-  pub idle-push : one_more (is_idle (account_of moment.after rows (flusher_of old.hardware moments))) (count_by is_idle (accounts_of old.hardware moments))
+  pub idle-push : one_more (is_idle (account_of moment.after rows (flusher_of old.hardware moments)))
+      (count_by is_idle (accounts_of old.hardware moments))
       ≡ count_by is_idle (accounts_of old.hardware (moments ++ moment ∷ []))
   idle-push =
       let account = account_of moment.after rows (flusher_of old.hardware moments) in

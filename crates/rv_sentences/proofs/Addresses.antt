@@ -17,7 +17,8 @@ and_assoc : (a b c : Bool) → a && (b && c) ≡ (a && b) && c
 and_assoc true b c = refl
 and_assoc false b c = refl
 
-addresses-push : (cycle : ℕ) (before : Bool) (ps : List Passage) (p : Passage) → have_addresses cycle before (ps ++ p ∷ []) ≡ have_addresses cycle before ps && not (lacks_address cycle p)
+addresses-push : (cycle : ℕ) (before : Bool) (ps : List Passage) (p : Passage) →
+    have_addresses cycle before (ps ++ p ∷ []) ≡ have_addresses cycle before ps && not (lacks_address cycle p)
 addresses-push cycle before [] p = and_swap (not (lacks_address cycle p)) before
 addresses-push cycle before (q ∷ ps) p =
     ap (λ b. not (lacks_address cycle q) && b) (addresses-push cycle before ps p)
@@ -52,5 +53,6 @@ module _ (cycle : ℕ) (unit before : Bool) (rows : List Passage) (place : ℕ) 
     oldest_on old mid new first rest =
         rest
         ∙ (λ i. option_or (first i) (oldest_awaited (stays_among cycle unit (addresses i) (drop (place + 1) rows))))
-        ∙ sym (option_or-assoc old (awaited_word (stay_in cycle unit has p)) (oldest_awaited (stays_among cycle unit (has && not (lacks_address cycle p)) (drop (place + 1) rows))))
+        ∙ sym (option_or-assoc old (awaited_word (stay_in cycle unit has p))
+        (oldest_awaited (stays_among cycle unit (has && not (lacks_address cycle p)) (drop (place + 1) rows))))
         ∙ ap (λ l. option_or old (oldest_awaited (stays_among cycle unit has l))) (sym from_here)

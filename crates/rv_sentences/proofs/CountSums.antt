@@ -41,7 +41,8 @@ one_place : (place a n : ℕ) → total (at_word (Some place)) a n ≤ 1
 unfolding total at_word
 one_place place a zero = omega arith
 one_place place a (suc n) = by_first (place == a) refl (one_place place (a + 1) n) where
-  by_first : (here : Bool) → (place == a) ≡ here → total (at_word (Some place)) (a + 1) n ≤ 1 → at_word (Some place) a + total (at_word (Some place)) (a + 1) n ≤ 1
+  by_first : (here : Bool) → (place == a) ≡ here → total (at_word (Some place)) (a + 1) n ≤ 1 →
+      at_word (Some place) a + total (at_word (Some place)) (a + 1) n ≤ 1
   by_first true here rest =
       let same = eqb-true place a here in
       let others = total_none (at_word (Some place)) (a + 1) n (λ w from. at_word-other (Some place) w (ne_eqb place w (λ is. omega (arith, is, same, from)))) in
@@ -92,7 +93,8 @@ sum_set [] i n is = absurd cc
 sum_set (count ∷ counts) zero n is = omega (arith, sum_cons (n + 1) counts, sum_cons count counts, ap or_nothing is)
 sum_set (count ∷ counts) (suc i) n is = omega (arith, sum_cons count (slice_set counts i (n + 1)), sum_cons count counts, sum_set counts i n is)
 
-sum_at : (counts : Notes ℕ) (word : ℕ) (below : Bool) → nat_lt word counts.first ≡ below → (got : Option ℕ) → slice_get counts.words (word - counts.first) ≡ got
+sum_at : (counts : Notes ℕ) (word : ℕ) (below : Bool) → nat_lt word counts.first ≡ below → (got : Option ℕ) →
+    slice_get counts.words (word - counts.first) ≡ got
     → sum (with_one (Some word) counts).words ≤ sum counts.words + 1
 sum_at counts word true is got got_is = rw is (omega arith)
 sum_at counts word false is None got_is = rw (is, got_is) (omega arith)
@@ -103,6 +105,7 @@ pub sum_with_one : (place : Option ℕ) (counts : Notes ℕ) → sum (with_one p
 sum_with_one None counts = omega arith
 sum_with_one (Some word) counts = sum_at counts word (nat_lt word counts.first) refl (slice_get counts.words (word - counts.first)) refl
 
-pub sum_with_all : {X : Type 0} (place : X → Option ℕ) (xs : List X) (counts : Notes ℕ) → sum (with_all place xs counts).words ≤ sum counts.words + length xs
+pub sum_with_all : {X : Type 0} (place : X → Option ℕ) (xs : List X) (counts : Notes ℕ) →
+    sum (with_all place xs counts).words ≤ sum counts.words + length xs
 sum_with_all place [] counts = omega arith
 sum_with_all place (x ∷ xs) counts = omega (arith, sum_with_one (place x) (with_all place xs counts), sum_with_all place xs counts)

@@ -7,7 +7,8 @@ use Rattle.rv_sentences.specs.WordNotes.{Notes, notes_of}
 use Rattle.rv_sentences.proofs.WordTable.{change_one}
 
 -- one thing more
-pub with_one_at : (values : Values) (place : Option ℕ) (old new : ℕ → ℕ) → ((w : ℕ) → new w ≡ old w + cond (is_word w place) 1 0) → with_one place (notes_of values old) ≡ notes_of values new
+pub with_one_at : (values : Values) (place : Option ℕ) (old new : ℕ → ℕ) →
+    ((w : ℕ) → new w ≡ old w + cond (is_word w place) 1 0) → with_one place (notes_of values old) ≡ notes_of values new
 with_one_at values None old new are =
     let same : (w : ℕ) → old w ≡ new w = λ w. omega (arith, are w) in
     λ i. notes_of values (λ w. same w i)
@@ -18,7 +19,8 @@ with_one_at values (Some word) old new are =
     change_one values (λ count. count + 1) old new word here others
 
 -- some things more
-pub with_all_at : {X : Type 0} (values : Values) (place : X → Option ℕ) (xs : List X) (old new : ℕ → ℕ) → ((w : ℕ) → new w ≡ old w + count_at place xs w)
+pub with_all_at : {X : Type 0} (values : Values) (place : X → Option ℕ) (xs : List X) (old new : ℕ → ℕ) →
+    ((w : ℕ) → new w ≡ old w + count_at place xs w)
     → with_all place xs (notes_of values old) ≡ notes_of values new
 with_all_at values place [] old new are =
     let same : (w : ℕ) → old w ≡ new w = λ w. let is : new w ≡ old w + 0 = are w in omega (arith, is) in
@@ -29,14 +31,17 @@ with_all_at values place (x ∷ xs) old new are =
     with_one_at values (place x) rest new (λ w. omega (arith, are w, sum_by-cons (λ y. cond (is_word w (place y)) 1 0) x xs))
 
 -- one place more at the end
-pub with_last_at : {X : Type 0} (values : Values) (place : X → Option ℕ) (xs : List X) (x : X) → with_one (place x) (notes_of values (count_at place xs)) ≡ notes_of values (count_at place (xs ++ x ∷ []))
+pub with_last_at : {X : Type 0} (values : Values) (place : X → Option ℕ) (xs : List X) (x : X) →
+    with_one (place x) (notes_of values (count_at place xs)) ≡ notes_of values (count_at place (xs ++ x ∷ []))
 with_last_at values place xs x =
     with_one_at values (place x) (count_at place xs) (count_at place (xs ++ x ∷ []))
-    (λ w. sum_by-append (λ y. cond (is_word w (place y)) 1 0) xs (x ∷ []) ∙ ap (λ n. count_at place xs w + n) (nothing_and (cond (is_word w (place x)) 1 0))) where
+    (λ w. sum_by-append (λ y. cond (is_word w (place y)) 1 0) xs (x ∷ [])
+    ∙ ap (λ n. count_at place xs w + n) (nothing_and (cond (is_word w (place x)) 1 0))) where
       nothing_and : (n : ℕ) → 0 + n ≡ n
       nothing_and n = omega arith
 
 -- the last of some things comes first
-pub with_all-last : {X : Type 0} (place : X → Option ℕ) (xs : List X) (x : X) (counts : Notes ℕ) → with_all place (xs ++ x ∷ []) counts ≡ with_all place xs (with_one (place x) counts)
+pub with_all-last : {X : Type 0} (place : X → Option ℕ) (xs : List X) (x : X) (counts : Notes ℕ) →
+    with_all place (xs ++ x ∷ []) counts ≡ with_all place xs (with_one (place x) counts)
 with_all-last place [] x counts = refl
 with_all-last place (y ∷ xs) x counts = ap (with_one (place y)) (with_all-last place xs x counts)

@@ -44,12 +44,14 @@ record Stands (number : ℕ) (under : Option ℕ) (h : Hardware) : Type 0 where
   pub costs : 1 ≤ h.cache.values.hit
   pub ends : drain_end h ≡ under
 
-oldest_stays : (ss : List Store) (seq : ℕ) (access : Option StoreAccess) → is_oldest_draining (ss ++ committed_store seq access) ≡ is_oldest_draining ss
+oldest_stays : (ss : List Store) (seq : ℕ) (access : Option StoreAccess) →
+    is_oldest_draining (ss ++ committed_store seq access) ≡ is_oldest_draining ss
 oldest_stays [] seq None = refl
 oldest_stays [] seq (Some access) = refl
 oldest_stays (s ∷ ss) seq access = refl
 
-none_drains : (h : Hardware) (stores : List Store) → h.committed ≡ stores → is_drained (record h { committed = stores }) ≡ true → is_oldest_draining h.committed ≡ false
+none_drains : (h : Hardware) (stores : List Store) → h.committed ≡ stores →
+    is_drained (record h { committed = stores }) ≡ true → is_oldest_draining h.committed ≡ false
 none_drains h [] is drained = ap is_oldest_draining is
 none_drains h (s ∷ ss) is drained = absurd (cc)
 
@@ -149,7 +151,8 @@ record Stays (number : ℕ) (under : Option ℕ) (h : Hardware) : Type 0 where
   pub ends : drain_end h ≡ under
 
 module _ (number : ℕ) (under : Option ℕ) where
-  idle_rests : (h : Hardware) → Stays number under h → h.port_free ≤ h.cycle → (drains : Bool) → is_oldest_draining h.committed ≡ drains → is_oldest_draining h.committed ≡ false
+  idle_rests : (h : Hardware) → Stays number under h → h.port_free ≤ h.cycle → (drains : Bool) →
+      is_oldest_draining h.committed ≡ drains → is_oldest_draining h.committed ≡ false
   idle_rests h stays idle true is = absurd (omega (arith, stays.later is, stays.cycle, idle))
   idle_rests h stays idle false is = is
 
@@ -162,9 +165,13 @@ module _ (number : ℕ) (under : Option ℕ) where
         record {
           cycle = stays.cycle;
           later = λ drains. absurd (true≢false (sym drains ∙ none));
-          ends = ap (λ drains. end_by drains (with_access (FromCache address) h).port_free) none ∙ sym (ap (λ drains. end_by drains h.port_free) none) ∙ stays.ends;
+          ends =
+              ap (λ drains. end_by drains (with_access (FromCache address) h).port_free) none
+              ∙ sym (ap (λ drains. end_by drains h.port_free) none) ∙ stays.ends;
         };
-    starts = λ h older younger e cost message stays split waits of_kind result costs. record { cycle = stays.cycle; later = stays.later; ends = stays.ends };
+    starts =
+        λ h older younger e cost message stays split waits of_kind result
+        costs. record { cycle = stays.cycle; later = stays.later; ends = stays.ends };
   }
 
   stays_at_broadcast : IsKeptByBroadcast (Stays number under)
@@ -174,7 +181,11 @@ module _ (number : ℕ) (under : Option ℕ) where
   }
 
   stays_at_dispatch : IsKeptByDispatch (Stays number under)
-  stays_at_dispatch = record { dispatches = λ h fetched rest stays first none. record { cycle = stays.cycle; later = stays.later; ends = stays.ends } }
+  stays_at_dispatch =
+      record {
+        dispatches = λ h fetched rest stays first
+            none. record { cycle = stays.cycle; later = stays.later; ends = stays.ends };
+      }
 
 -- ---- the whole cycle
 pub begun_in_cycle : {lines : Lines} {old new : Hardware} {report : Report} → Reachable old → IsCycle any_prediction lines old report new
@@ -194,5 +205,6 @@ begun_in_cycle {lines} {old} {new} reached cycle =
     let first : Stays old.cycle under (drain h) = record { cycle = begins.cycle; later = begins.later; ends = refl } in
     let stays = dispatch-keeps (stays_at_dispatch old.cycle under) _ (broadcast-keeps (stays_at_broadcast old.cycle under) _ (issue-keeps (Stays old.cycle under) (stays_at_issue old.cycle under) _ first)) in
     let later : drain_end new ≡ under =
-    ap drain_end cycle.others_stay ∙ ap (λ d. drain_end d.hardware) cycle.executes ∙ ap (λ c. drain_end (execute c.hardware).hardware) cycle.commits ∙ stays.ends in
+    ap drain_end cycle.others_stay ∙ ap (λ d. drain_end d.hardware) cycle.executes
+    ∙ ap (λ c. drain_end (execute c.hardware).hardware) cycle.commits ∙ stays.ends in
     ap (begun old.cycle (drain_end old)) later ∙ begins.costs

@@ -11,7 +11,8 @@ use Rattle.rv_hardware.specs.History.{History, Moment, ended, cycled}
 
 -- the drains of one cycle more
 pub drains_of-push : {arrivals : List Arrival} {old now : GuidedHardware} {moments : List Moment} (moment : Moment) → History arrivals old moments now
-    → drains_of arrivals old.hardware (moments ++ moment ∷ []) ≡ drains_of arrivals old.hardware moments ++ option_to_list (drain_in arrivals now.hardware)
+    → drains_of arrivals old.hardware (moments ++ moment ∷ [])
+    ≡ drains_of arrivals old.hardware moments ++ option_to_list (drain_in arrivals now.hardware)
 drains_of-push moment ended = append-nil _
 drains_of-push {arrivals = arrivals} {old = old} moment (cycled {moment = first} cycle rest) =
     ap (λ drains. option_to_list (drain_in arrivals old.hardware) ++ drains) (drains_of-push moment rest) ∙
@@ -32,4 +33,11 @@ length-option (Some cost) = omega arith
 pub drains_of-le : (arrivals : List Arrival) (h : Hardware) (moments : List Moment) → length (drains_of arrivals h moments) ≤ length moments
 drains_of-le arrivals h [] = omega arith
 drains_of-le arrivals h (moment ∷ moments) =
-    omega (arith, length-append (option_to_list (drain_in arrivals h)) (drains_of arrivals moment.after moments), length-option (drain_in arrivals h), drains_of-le arrivals moment.after moments)
+    omega (
+      arith,
+      length-append (option_to_list (drain_in arrivals h))
+          (drains_of arrivals moment.after moments),
+      length-option
+          (drain_in arrivals h),
+      drains_of-le arrivals moment.after moments,
+    )

@@ -11,24 +11,38 @@ use Rattle.rv_sentences.specs.declared.{interruption.Interruption.Interruption, 
 use Rattle.rv_sentences.proofs.SeriesGrows.{series_counted, series_of-push}
 
 module _ (cause : ℕ) (interruption : Interruption) where
-  kept_as : (some : List Interruption) (has : Bool) → series_of (some ++ cond has (interruption ∷ []) []) ≡ cond has (series_with interruption (series_of some)) (series_of some)
+  kept_as : (some : List Interruption) (has : Bool) →
+      series_of (some ++ cond has (interruption ∷ []) [])
+      ≡ cond has (series_with interruption (series_of some)) (series_of some)
   kept_as some true = series_of-push some interruption
   kept_as some false = ap series_of (append-nil some)
 
-  cause-push : (interruptions : List Interruption) → of_cause cause (interruptions ++ interruption ∷ []) ≡ line_with cause interruption (of_cause cause interruptions)
+  cause-push : (interruptions : List Interruption) →
+      of_cause cause (interruptions ++ interruption ∷ []) ≡ line_with cause interruption (of_cause cause interruptions)
   cause-push interruptions =
-      ap series_of (filter-append (λ (i : Interruption). i.cause == cause) interruptions (interruption ∷ [])) ∙ kept_as (filter (λ (i : Interruption). i.cause == cause) interruptions) (interruption.cause == cause)
+      ap series_of (filter-append (λ (i : Interruption). i.cause == cause) interruptions (interruption ∷ []))
+      ∙ kept_as (filter (λ (i : Interruption). i.cause == cause) interruptions) (interruption.cause == cause)
 
-pub by_line-push : (interruptions : List Interruption) (interruption : Interruption) → by_line (interruptions ++ interruption ∷ []) ≡ with_interruption interruption (by_line interruptions)
+-- the interrupts by line, with one more
+pub by_line-push : (interruptions : List Interruption) (interruption : Interruption) →
+    by_line (interruptions ++ interruption ∷ []) ≡ with_interruption interruption (by_line interruptions)
 by_line-push interruptions interruption = λ i. record {
   software = cause-push (interrupt_cause 3) interruption interruptions i;
   timer = cause-push (interrupt_cause 7) interruption interruptions i;
   external = cause-push (interrupt_cause 11) interruption interruptions i;
 }
 
-cause_counted : (cause : ℕ) (interruptions : List Interruption) → length interruptions + 1 < 2 ^ 64 → IfSome (of_cause cause interruptions) (λ (series : Series Interruption). series.count + 1 < 2 ^ 64)
+cause_counted : (cause : ℕ) (interruptions : List Interruption) → length interruptions + 1 < 2 ^ 64 →
+    IfSome (of_cause cause interruptions) (λ (series : Series Interruption). series.count + 1 < 2 ^ 64)
 cause_counted cause interruptions little =
-    series_counted (filter (λ (i : Interruption). i.cause == cause) interruptions) (omega (arith, length-filter (λ (i : Interruption). i.cause == cause) interruptions, count_by-le-length (λ (i : Interruption). i.cause == cause) interruptions, little))
+    series_counted (filter (λ (i : Interruption). i.cause == cause) interruptions)
+    (omega (
+      arith,
+      length-filter (λ (i : Interruption). i.cause == cause) interruptions,
+      count_by-le-length
+          (λ (i : Interruption). i.cause == cause) interruptions,
+      little,
+    ))
 
 -- the counts of few interrupts can go on by one
 pub lines_counted : (interruptions : List Interruption) → length interruptions + 1 < 2 ^ 64 → AreCountable (by_line interruptions)

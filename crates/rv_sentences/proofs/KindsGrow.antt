@@ -49,19 +49,25 @@ module _ (e : Exception) where
   begun known = cond known [] (series_from e [] ∷ [])
 
   alike-push : (f : Exception) (es : List Exception) (alike : Bool) → is_alike f e ≡ alike
-      → series_from f (filter (is_alike f) es ++ cond alike (e ∷ []) []) ≡ cond alike (continued e (series_from f (filter (is_alike f) es))) (series_from f (filter (is_alike f) es))
+      → series_from f (filter (is_alike f) es ++ cond alike (e ∷ []) [])
+      ≡ cond alike (continued e (series_from f (filter (is_alike f) es))) (series_from f (filter (is_alike f) es))
   alike-push f es true is = series_from-push f e (filter (is_alike f) es)
   alike-push f es false is = ap (series_from f) (append-nil _)
 
-  series-push : (f : Exception) (es : List Exception) → series_from f (filter (is_alike f) (es ++ e ∷ [])) ≡ kind_with e (series_from f (filter (is_alike f) es))
+  series-push : (f : Exception) (es : List Exception) →
+      series_from f (filter (is_alike f) (es ++ e ∷ [])) ≡ kind_with e (series_from f (filter (is_alike f) es))
   series-push f es = ap (series_from f) (filter-append (is_alike f) es (e ∷ [])) ∙ alike-push f es (is_alike f e) refl
 
-  first-push : (f : Exception) (before : List Exception) (known : Bool) → is_like f before ≡ known → (s s' : Series Exception) → s ≡ kind_with e s' → (ks ks' tail : List (Series Exception)) → ks ≡ map (kind_with e) ks' ++ tail
+  first-push : (f : Exception) (before : List Exception) (known : Bool) → is_like f before ≡ known →
+      (s s' : Series Exception) → s ≡ kind_with e s' → (ks ks' tail : List (Series Exception)) →
+      ks ≡ map (kind_with e) ks' ++ tail
       → cond known ks (s ∷ ks) ≡ map (kind_with e) (cond known ks' (s' ∷ ks')) ++ tail
   first-push f before true is s s' series ks ks' tail rest = rest
   first-push f before false is s s' series ks ks' tail rest = λ i. series i ∷ rest i
 
-  kinds-push : (before es : List Exception) → kinds_after before (es ++ e ∷ []) ≡ map (kind_with e) (kinds_after before es) ++ begun (is_like e es || is_like e before)
+  kinds-push : (before es : List Exception) →
+      kinds_after before (es ++ e ∷ [])
+      ≡ map (kind_with e) (kinds_after before es) ++ begun (is_like e es || is_like e before)
   unfolding begun
   kinds-push before [] = refl
   kinds-push before (f ∷ es) =
@@ -74,9 +80,14 @@ module _ (e : Exception) where
   any_kind before (f ∷ es) = by_known (is_like f before) refl (is_alike f e) refl (any_kind (f ∷ before) es) where
     by_known : (known : Bool) → is_like f before ≡ known → (alike : Bool) → is_alike f e ≡ alike
         → (list_any (belongs e) (kinds_after (f ∷ before) es) || (alike || is_like e before)) ≡ (is_like e es || (alike || is_like e before))
-        → (list_any (belongs e) (cond known (kinds_after (f ∷ before) es) (series_from f (filter (is_alike f) es) ∷ kinds_after (f ∷ before) es)) || is_like e before) ≡ ((alike || is_like e es) || is_like e before)
+        → (list_any (belongs e)
+        (cond known (kinds_after (f ∷ before) es)
+        (series_from f (filter (is_alike f) es) ∷ kinds_after (f ∷ before) es)) || is_like e before)
+        ≡ ((alike || is_like e es) || is_like e before)
     by_known true is_known true is rest =
-        ap (λ (p : Bool). list_any (belongs e) (kinds_after (f ∷ before) es) || p) (sym (is_like-alike f e before is) ∙ is_known) ∙ or_true (list_any (belongs e) (kinds_after (f ∷ before) es))
+        ap (λ (p : Bool). list_any (belongs e) (kinds_after (f ∷ before) es) || p)
+        (sym (is_like-alike f e before is) ∙ is_known)
+        ∙ or_true (list_any (belongs e) (kinds_after (f ∷ before) es))
     by_known true is_known false is rest = rest
     by_known false is_known true is rest = ap (λ (a : Bool). (a || list_any (belongs e) (kinds_after (f ∷ before) es)) || is_like e before) is
     by_known false is_known false is rest = ap (λ (a : Bool). (a || list_any (belongs e) (kinds_after (f ∷ before) es)) || is_like e before) is ∙ rest
@@ -92,7 +103,8 @@ module _ (e : Exception) where
       sym (take-map (kind_with e) 8 ks) ∙ sym (take-append-le 8 (map (kind_with e) ks) (begun known) (omega (arith, len, many)))
 
   -- and where there are fewer
-  few : (ks : List (Series Exception)) (known : Bool) → list_any (belongs e) ks ≡ known → length ks < 8 → kinds_with e ks ≡ take 8 (map (kind_with e) ks ++ begun known)
+  few : (ks : List (Series Exception)) (known : Bool) → list_any (belongs e) ks ≡ known → length ks < 8 →
+      kinds_with e ks ≡ take 8 (map (kind_with e) ks ++ begun known)
   unfolding begun
   few ks true is little =
       let more = map (kind_with e) ks in
@@ -107,9 +119,11 @@ module _ (e : Exception) where
       ap (λ (b : Bool). cond b more (more ++ series_from e [] ∷ [])) test ∙
       sym (take_all 8 (more ++ series_from e [] ∷ []) (omega (arith, length-append more (series_from e [] ∷ []), len, little)))
 
-  bounded : (ks : List (Series Exception)) (known : Bool) → list_any (belongs e) ks ≡ known → kinds_with e (take 8 ks) ≡ take 8 (map (kind_with e) ks ++ begun known)
+  bounded : (ks : List (Series Exception)) (known : Bool) → list_any (belongs e) ks ≡ known →
+      kinds_with e (take 8 ks) ≡ take 8 (map (kind_with e) ks ++ begun known)
   bounded ks known is =
-      ⊎_elim (λ little. ap (kinds_with e) (take_all 8 ks (omega (arith, little))) ∙ few ks known is little) (λ many. full ks known (omega (arith, many))) (order (length ks) 8)
+      ⊎_elim (λ little. ap (kinds_with e) (take_all 8 ks (omega (arith, little))) ∙ few ks known is little)
+      (λ many. full ks known (omega (arith, many))) (order (length ks) 8)
 
   -- what is kept, with one exception more
   pub kept-push : (es : List Exception) → kept_with e (kept_of es) ≡ kept_of (es ++ e ∷ [])
@@ -120,19 +134,27 @@ module _ (e : Exception) where
       λ i. record { all = all i; kinds = kinds i }
 
 -- no kind counts more than all exceptions
-kind_within : (bound : ℕ) (before es : List Exception) (k : ℕ) (d : Series Exception) → length es ≤ bound → k < length (kinds_after before es) → (slice_index_or (kinds_after before es) k d).count ≤ bound
+kind_within : (bound : ℕ) (before es : List Exception) (k : ℕ) (d : Series Exception) → length es ≤ bound →
+    k < length (kinds_after before es) → (slice_index_or (kinds_after before es) k d).count ≤ bound
 kind_within bound before [] k d little below = absurd (omega arith)
-kind_within bound before (f ∷ es) k d little below = by_known (is_like f before) k (λ j within. kind_within bound (f ∷ before) es j d (omega (arith, little)) within) below where
-  by_known : (known : Bool) (k : ℕ) → ((j : ℕ) → j < length (kinds_after (f ∷ before) es) → (slice_index_or (kinds_after (f ∷ before) es) j d).count ≤ bound)
-      → k < length (cond known (kinds_after (f ∷ before) es) (series_from f (filter (is_alike f) es) ∷ kinds_after (f ∷ before) es))
-      → (slice_index_or (cond known (kinds_after (f ∷ before) es) (series_from f (filter (is_alike f) es) ∷ kinds_after (f ∷ before) es)) k d).count ≤ bound
-  by_known true k rest below = rest k below
-  by_known false zero rest below = omega (arith, length-filter (is_alike f) es, count_by-le-length (is_alike f) es, little)
-  by_known false (suc k) rest below = rest k (omega (arith, below))
+kind_within bound before (f ∷ es) k d little below = by_known (is_like f before) k
+    (λ j within. kind_within bound (f ∷ before) es j d (omega (arith, little)) within) below where
+      by_known : (known : Bool) (k : ℕ) →
+          ((j : ℕ) → j < length (kinds_after (f ∷ before) es) →
+          (slice_index_or (kinds_after (f ∷ before) es) j d).count ≤ bound)
+          → k < length (cond known (kinds_after (f ∷ before) es) (series_from f (filter (is_alike f) es) ∷ kinds_after (f ∷ before) es))
+          → (slice_index_or
+          (cond known (kinds_after (f ∷ before) es)
+          (series_from f (filter (is_alike f) es) ∷ kinds_after (f ∷ before) es)) k d).count ≤ bound
+      by_known true k rest below = rest k below
+      by_known false zero rest below = omega (arith, length-filter (is_alike f) es, count_by-le-length (is_alike f) es, little)
+      by_known false (suc k) rest below = rest k (omega (arith, below))
 
 -- what is kept of some exceptions can be counted on
 pub kept_counted : (es : List Exception) → length es + 1 < 2 ^ 64 → IsCountable (kept_of es)
 kept_counted es little = record {
   all = series_counted es little;
-  kinds = All-take (λ (kind : Series Exception). kind.count + 1 < 2 ^ 64) 8 (kinds_after [] es) (λ k d below. omega (arith, kind_within (length es) [] es k d (omega arith) below, little));
+  kinds =
+      All-take (λ (kind : Series Exception). kind.count + 1 < 2 ^ 64) 8 (kinds_after [] es)
+      (λ k d below. omega (arith, kind_within (length es) [] es k d (omega arith) below, little));
 }

@@ -13,10 +13,12 @@ use Rattle.rv_sentences.proofs.Options.{option_or-assoc, option_or-none}
 use Rattle.rv_sentences.proofs.WordTable.{set_one}
 
 -- one more store comes last
-last_store_to-push : (stores : List Stored) (store : Stored) (word : ℕ) → last_store_to (stores ++ store ∷ []) word ≡ option_or (store_to store word) (last_store_to stores word)
+last_store_to-push : (stores : List Stored) (store : Stored) (word : ℕ) →
+    last_store_to (stores ++ store ∷ []) word ≡ option_or (store_to store word) (last_store_to stores word)
 last_store_to-push [] store word = sym (option_or-none (store_to store word))
 last_store_to-push (first ∷ stores) store word =
-    ap (λ last. option_or last (store_to first word)) (last_store_to-push stores store word) ∙ sym (option_or-assoc (store_to store word) (last_store_to stores word) (store_to first word))
+    ap (λ last. option_or last (store_to first word)) (last_store_to-push stores store word)
+    ∙ sym (option_or-assoc (store_to store word) (last_store_to stores word) (store_to first word))
 
 -- a store is one to its own word
 store_to-own : (store : Stored) (word : ℕ) → word ≡ word_of store.address → store_to store word ≡ Some store.pc
@@ -27,7 +29,8 @@ store_to-other : (store : Stored) (word : ℕ) → (word ≡ word_of store.addre
 store_to-other store word is_not = rw (ne_eqb (word_of store.address) word (λ is. is_not (sym is))) refl
 
 -- the last store to each word, once more stores retired
-pub with_stores_of : (values : Values) (new old : List Stored) → with_stores new (notes_of values (last_store_to old)) ≡ notes_of values (last_store_to (old ++ new))
+pub with_stores_of : (values : Values) (new old : List Stored) →
+    with_stores new (notes_of values (last_store_to old)) ≡ notes_of values (last_store_to (old ++ new))
 with_stores_of values [] old = ap (λ stores. notes_of values (last_store_to stores)) (sym (append-nil old))
 with_stores_of values (store ∷ new) old =
     let own = store_to-own store (word_of store.address) refl in
@@ -35,7 +38,9 @@ with_stores_of values (store ∷ new) old =
     last_store_to-push old store (word_of store.address) ∙ ap (λ last. option_or last (last_store_to old (word_of store.address))) own in
     let others : (w : ℕ) → (w ≡ word_of store.address → ⊥) → last_store_to old w ≡ last_store_to (old ++ store ∷ []) w =
     λ w is_not. sym (last_store_to-push old store w ∙ ap (λ last. option_or last (last_store_to old w)) (store_to-other store w is_not)) in
-    ap (with_stores new) (set_one values (last_store_to old) (last_store_to (old ++ store ∷ [])) (word_of store.address) (Some store.pc) (sym here) others) ∙
+    ap (with_stores new)
+    (set_one values (last_store_to old) (last_store_to (old ++ store ∷ [])) (word_of store.address) (Some store.pc)
+    (sym here) others) ∙
     with_stores_of values new (old ++ store ∷ []) ∙ ap (λ stores. notes_of values (last_store_to stores)) (append_assoc old (store ∷ []) new)
 
 -- the stores of one cycle more
@@ -43,4 +48,5 @@ pub stores_of-push : {arrivals : List Arrival} {old now : GuidedHardware} {momen
     → stores_of old.hardware (moments ++ moment ∷ []) ≡ stores_of old.hardware moments ++ stores_in now.hardware.registers moment.report.steps
 stores_of-push moment ended = append-nil _
 stores_of-push {old = old} moment (cycled {moment = first} cycle rest) =
-    ap (λ stores. stores_in old.hardware.registers first.report.steps ++ stores) (stores_of-push moment rest) ∙ sym (append_assoc (stores_in old.hardware.registers first.report.steps) _ _)
+    ap (λ stores. stores_in old.hardware.registers first.report.steps ++ stores) (stores_of-push moment rest)
+    ∙ sym (append_assoc (stores_in old.hardware.registers first.report.steps) _ _)

@@ -27,21 +27,27 @@ one_more-counted : (is : Bool) (n m : ℕ) → one_more is n + m ≡ n + (m + co
 one_more-counted true n m = omega arith
 one_more-counted false n m = omega arith
 
-counted-last : (test : Passage → Bool) (ps : List Passage) (p : Passage) (n : ℕ) → one_more (test p) n + count_by test ps ≡ n + count_by test (ps ++ p ∷ [])
+counted-last : (test : Passage → Bool) (ps : List Passage) (p : Passage) (n : ℕ) →
+    one_more (test p) n + count_by test ps ≡ n + count_by test (ps ++ p ∷ [])
 counted-last test ps p n =
     one_more-counted (test p) n (count_by test ps) ∙ ap (λ m. n + m) (sym (sum_by_push (λ (q : Passage). cond (test q) 1 0) ps p))
 
 -- where a test is of what left the hardware alone
 module _ (test : Passage → Bool) (same : (ps : List Passage) → count_by test (filter has_left ps) ≡ count_by test ps) where
-  counted_left-last : (ps : List Passage) (p : Passage) (n : ℕ) → one_more (test p) n + count_by test (filter has_left ps) ≡ n + count_by test (filter has_left (ps ++ p ∷ []))
+  counted_left-last : (ps : List Passage) (p : Passage) (n : ℕ) →
+      one_more (test p) n + count_by test (filter has_left ps) ≡ n + count_by test (filter has_left (ps ++ p ∷ []))
   counted_left-last ps p n =
       ap (λ m. one_more (test p) n + m) (same ps) ∙ counted-last test ps p n ∙ ap (λ m. n + m) (sym (same (ps ++ p ∷ [])))
 
-left-last : (ps : List Passage) (p : Passage) (n : ℕ) → one_more (has_left p) n + length (filter has_left ps) ≡ n + length (filter has_left (ps ++ p ∷ []))
+left-last : (ps : List Passage) (p : Passage) (n : ℕ) →
+    one_more (has_left p) n + length (filter has_left ps) ≡ n + length (filter has_left (ps ++ p ∷ []))
 left-last ps p n =
-    ap (λ m. one_more (has_left p) n + m) (length-filter has_left ps) ∙ counted-last has_left ps p n ∙ ap (λ m. n + m) (sym (length-filter has_left (ps ++ p ∷ [])))
+    ap (λ m. one_more (has_left p) n + m) (length-filter has_left ps) ∙ counted-last has_left ps p n
+    ∙ ap (λ m. n + m) (sym (length-filter has_left (ps ++ p ∷ [])))
 
-pub work-last : (ps : List Passage) (p : Passage) (work : Work) → both_work (work_with p work) (work_of (filter has_left ps)) ≡ both_work work (work_of (filter has_left (ps ++ p ∷ [])))
+pub work-last : (ps : List Passage) (p : Passage) (work : Work) →
+    both_work (work_with p work) (work_of (filter has_left ps))
+    ≡ both_work work (work_of (filter has_left (ps ++ p ∷ [])))
 work-last ps p work =
     let left = left-last ps p work.left in
     let squashed = counted_left-last (λ q. is_squash q.ending) squashed_left ps p work.squashed in
@@ -49,20 +55,27 @@ work-last ps p work =
     let mispredicted = counted_left-last is_mispredicted_branch mispredicted_left ps p work.mispredicted in
     λ i. record { left = left i; squashed = squashed i; branches = branches i; mispredicted = mispredicted i }
 
-pub loads-last : (costs : LoadCosts) (ps : List Passage) (p : Passage) (loads : Accesses) → both (loads_with costs p loads) (loads_of costs ps) ≡ both loads (loads_of costs (ps ++ p ∷ []))
+pub loads-last : (costs : LoadCosts) (ps : List Passage) (p : Passage) (loads : Accesses) →
+    both (loads_with costs p loads) (loads_of costs ps) ≡ both loads (loads_of costs (ps ++ p ∷ []))
 loads-last costs ps p loads =
     let all = counted-last (λ q. is_some (retired_load_cost q)) ps p loads.all in
     let quick = counted-last (λ q. is_hit costs (retired_load_cost q)) ps p loads.quick in
     λ i. record { all = all i; quick = quick i }
 
 module _ (costs : LoadCosts) (ps : List Passage) (p : Passage) (notes : Notes Outcomes) where
-  by_left : (is : Bool) → has_left p ≡ is → with_passages costs (filter has_left ps) (with_change (outcomes_with costs p) notes (word_of p.pc)) ≡ with_passages costs (filter has_left ps ++ filter has_left (p ∷ [])) notes
+  by_left : (is : Bool) → has_left p ≡ is →
+      with_passages costs (filter has_left ps) (with_change (outcomes_with costs p) notes (word_of p.pc))
+      ≡ with_passages costs (filter has_left ps ++ filter has_left (p ∷ [])) notes
   by_left true is = rw is (sym (passages-last costs (filter has_left ps) p notes))
   by_left false is =
-      rw is (ap (with_passages costs (filter has_left ps)) (sym (no_load costs p notes (word_of p.pc) (retired_load_cost p) refl (rw (unretired p is) refl))) ∙ ap (λ l. with_passages costs l notes) (sym (append-nil (filter has_left ps))))
+      rw is (ap (with_passages costs (filter has_left ps))
+      (sym (no_load costs p notes (word_of p.pc) (retired_load_cost p) refl (rw (unretired p is) refl)))
+      ∙ ap (λ l. with_passages costs l notes) (sym (append-nil (filter has_left ps))))
 
   -- the loads in each word, with the last instruction
-  pub outcomes-last : with_passages costs (filter has_left ps) (with_change (outcomes_with costs p) notes (word_of p.pc)) ≡ with_passages costs (filter has_left (ps ++ p ∷ [])) notes
+  pub outcomes-last : with_passages costs (filter has_left ps)
+      (with_change (outcomes_with costs p) notes (word_of p.pc))
+      ≡ with_passages costs (filter has_left (ps ++ p ∷ [])) notes
   outcomes-last =
       by_left (has_left p) refl ∙ ap (λ l. with_passages costs l notes) (sym (filter-append has_left ps (p ∷ [])))
 

@@ -26,7 +26,8 @@ got-each P [] i each = tt
 got-each P (x ∷ xs) zero each = each.0
 got-each P (x ∷ xs) (suc i) each = got-each P xs i each.1
 
-note-each : {X : Type 0} (P : X → Type 0) (notes : Notes X) (word : ℕ) (below : Bool) → nat_lt word notes.first ≡ below → Each P notes.words → IfSome (note_at notes word) P
+note-each : {X : Type 0} (P : X → Type 0) (notes : Notes X) (word : ℕ) (below : Bool) →
+    nat_lt word notes.first ≡ below → Each P notes.words → IfSome (note_at notes word) P
 note-each P notes word true is each = rw is tt
 note-each P notes word false is each = rw is (got-each P notes.words (word - notes.first) each)
 
@@ -77,11 +78,14 @@ can_count notes word more some can =
     each-note CanCount notes word (each-by notes.words (λ o is. within-more can.most (2 ^ 62) o (omega (arith, some, can.countable)) is) can.within)
 
 -- and so many fewer after it
-pub can_take_others : (costs : LoadCosts) (p : Passage) (old new : Notes Outcomes) (word fewer more : ℕ) → new ≡ with_change (outcomes_with costs p) old word → fewer + 1 ≤ more → CanTake old more → CanTake new fewer
+pub can_take_others : (costs : LoadCosts) (p : Passage) (old new : Notes Outcomes) (word fewer more : ℕ) →
+    new ≡ with_change (outcomes_with costs p) old word → fewer + 1 ≤ more → CanTake old more → CanTake new fewer
 can_take_others costs p old new word fewer more new_is under can = record {
   most = can.most + 1;
   within = subst (λ (notes : Notes Outcomes). Each (IsWithin (can.most + 1)) notes.words) (sym new_is)
-      (each-change (IsWithin can.most) (IsWithin (can.most + 1)) (outcomes_with costs p) (λ o is. within-more can.most (can.most + 1) o (omega arith) is) (λ o is. within-with costs p can.most o is) old word can.within);
+      (each-change (IsWithin can.most) (IsWithin (can.most + 1)) (outcomes_with costs p)
+      (λ o is. within-more can.most (can.most + 1) o (omega arith) is)
+      (λ o is. within-with costs p can.most o is) old word can.within);
   countable = omega (arith, under, can.countable);
 }
 
@@ -98,10 +102,14 @@ counts_within costs ps more few = record {
 }
 
 -- few instructions leave room for more
-pub can_take : (values : Values) (costs : LoadCosts) (left : List Passage) (more : ℕ) → length left + more < 2 ^ 62 → CanTake (notes_of values (outcomes_at costs left)) more
+pub can_take : (values : Values) (costs : LoadCosts) (left : List Passage) (more : ℕ) → length left + more < 2 ^ 62 →
+    CanTake (notes_of values (outcomes_at costs left)) more
 can_take values costs left more few = record {
   most = length left;
-  within = each-of (IsWithin (length left)) (outcomes_at costs left) (λ w. counts_within costs (filter (is_in w) left) (length left) (filter-le (is_in w) left)) (word_of values.ram_base) (word_of values.ram_size);
+  within =
+      each-of (IsWithin (length left)) (outcomes_at costs left)
+      (λ w. counts_within costs (filter (is_in w) left) (length left) (filter-le (is_in w) left))
+      (word_of values.ram_base) (word_of values.ram_size);
   countable = few;
 }
 
@@ -117,23 +125,36 @@ set_got [] i x is = refl
 set_got (y ∷ xs) zero x is = ap (λ o. or_this y o ∷ xs) (sym is)
 set_got (y ∷ xs) (suc i) x is = ap (λ l. y ∷ l) (set_got xs i x is)
 
-changed_same : {X : Type 0} (change : X → X) (notes : Notes X) (word : ℕ) (below : Bool) → nat_lt word notes.first ≡ below → (got : Option X) → slice_get notes.words (word - notes.first) ≡ got
+changed_same : {X : Type 0} (change : X → X) (notes : Notes X) (word : ℕ) (below : Bool) →
+    nat_lt word notes.first ≡ below → (got : Option X) → slice_get notes.words (word - notes.first) ≡ got
     → ((x : X) → change x ≡ x) → with_change change notes word ≡ notes
 changed_same change notes word true is got got_is same = rw is refl
 changed_same change notes word false is None got_is same = rw (is, got_is) refl
 changed_same change notes word false is (Some x) got_is same =
-    rw (is, got_is, is) (λ i. record notes { words = (ap (slice_set notes.words (word - notes.first)) (same x) ∙ set_got notes.words (word - notes.first) x got_is) i })
+    rw (is, got_is, is)
+    (λ i. record notes {
+      words = (ap (slice_set notes.words (word - notes.first)) (same x)
+          ∙ set_got notes.words (word - notes.first) x got_is) i;
+    })
 
 -- an instruction that is no load that retired changes nothing
-pub no_load : (costs : LoadCosts) (p : Passage) (notes : Notes Outcomes) (word : ℕ) (cost : Option ℕ) → cost ≡ retired_load_cost p → cost ≡ None → notes ≡ with_change (outcomes_with costs p) notes word
+pub no_load : (costs : LoadCosts) (p : Passage) (notes : Notes Outcomes) (word : ℕ) (cost : Option ℕ) →
+    cost ≡ retired_load_cost p → cost ≡ None → notes ≡ with_change (outcomes_with costs p) notes word
 no_load costs p notes word cost cost_is is =
     let none : retired_load_cost p ≡ None = sym cost_is ∙ is in
     let same : (o : Outcomes) → outcomes_with costs p o ≡ o =
-    λ o. ap (λ (cost : Option ℕ). record { hits = one_more (is_hit costs cost) o.hits; forwarded = one_more (is_forwarded costs cost) o.forwarded; misses = one_more (is_miss costs cost) o.misses; write_backs = one_more (is_write_back costs cost) o.write_backs }) none in
+    λ o. ap (λ (cost : Option ℕ). record {
+      hits = one_more (is_hit costs cost) o.hits;
+      forwarded = one_more (is_forwarded costs cost) o.forwarded;
+      misses = one_more (is_miss costs cost) o.misses;
+      write_backs = one_more (is_write_back costs cost) o.write_backs;
+    }) none in
     sym (changed_same (outcomes_with costs p) notes word (nat_lt word notes.first) refl (slice_get notes.words (word - notes.first)) refl same)
 
 -- the last of some instructions comes first
-pub passages-last : (costs : LoadCosts) (ps : List Passage) (p : Passage) (notes : Notes Outcomes) → with_passages costs (ps ++ p ∷ []) notes ≡ with_passages costs ps (with_change (outcomes_with costs p) notes (word_of p.pc))
+pub passages-last : (costs : LoadCosts) (ps : List Passage) (p : Passage) (notes : Notes Outcomes) →
+    with_passages costs (ps ++ p ∷ []) notes
+    ≡ with_passages costs ps (with_change (outcomes_with costs p) notes (word_of p.pc))
 passages-last costs [] p notes = refl
 passages-last costs (q ∷ ps) p notes =
     ap (λ (before : Notes Outcomes). with_change (outcomes_with costs q) before (word_of q.pc)) (passages-last costs ps p notes)
@@ -148,18 +169,21 @@ outcomes-cons costs p ps =
     let write_backs = count_by-cons (λ q. is_write_back costs (retired_load_cost q)) p ps in
     λ i. record { hits = sym hits i; forwarded = sym forwarded i; misses = sym misses i; write_backs = sym write_backs i }
 
-outcomes-here : (costs : LoadCosts) (p : Passage) (ps : List Passage) → outcomes_with costs p (outcomes_at costs ps (word_of p.pc)) ≡ outcomes_at costs (p ∷ ps) (word_of p.pc)
+outcomes-here : (costs : LoadCosts) (p : Passage) (ps : List Passage) →
+    outcomes_with costs p (outcomes_at costs ps (word_of p.pc)) ≡ outcomes_at costs (p ∷ ps) (word_of p.pc)
 outcomes-here costs p ps =
     let here : filter (is_in (word_of p.pc)) (p ∷ ps) ≡ p ∷ filter (is_in (word_of p.pc)) ps = rw (eq-eqb (word_of p.pc) (word_of p.pc) refl) refl in
     outcomes-cons costs p (filter (is_in (word_of p.pc)) ps) ∙ sym (ap (outcomes_of costs) here)
 
-outcomes-other : (costs : LoadCosts) (p : Passage) (ps : List Passage) (word : ℕ) → (word ≡ word_of p.pc → ⊥) → outcomes_at costs ps word ≡ outcomes_at costs (p ∷ ps) word
+outcomes-other : (costs : LoadCosts) (p : Passage) (ps : List Passage) (word : ℕ) → (word ≡ word_of p.pc → ⊥) →
+    outcomes_at costs ps word ≡ outcomes_at costs (p ∷ ps) word
 outcomes-other costs p ps word other =
     let past : filter (is_in word) (p ∷ ps) ≡ filter (is_in word) ps = rw (ne_eqb (word_of p.pc) word (λ is. other (sym is))) refl in
     sym (ap (outcomes_of costs) past)
 
 -- some instructions before others
-pub outcomes-left : (values : Values) (costs : LoadCosts) (ps left : List Passage) → with_passages costs ps (notes_of values (outcomes_at costs left)) ≡ notes_of values (outcomes_at costs (ps ++ left))
+pub outcomes-left : (values : Values) (costs : LoadCosts) (ps left : List Passage) →
+    with_passages costs ps (notes_of values (outcomes_at costs left)) ≡ notes_of values (outcomes_at costs (ps ++ left))
 outcomes-left values costs [] left = refl
 outcomes-left values costs (p ∷ ps) left =
     ap (λ (notes : Notes Outcomes). with_change (outcomes_with costs p) notes (word_of p.pc)) (outcomes-left values costs ps left) ∙

@@ -8,7 +8,9 @@ last_of-push : {E : Type 0} (first event : E) (events : List E) → last_of firs
 last_of-push first event [] = refl
 last_of-push first event (next ∷ events) = last_of-push next event events
 
-pub series_from-push : {E : Type 0} (first event : E) (events : List E) → series_from first (events ++ event ∷ []) ≡ continued event (series_from first events)
+-- a series that goes on, with one event more
+pub series_from-push : {E : Type 0} (first event : E) (events : List E) →
+    series_from first (events ++ event ∷ []) ≡ continued event (series_from first events)
 series_from-push first event events =
     let count : length (events ++ event ∷ []) + 1 ≡ (length events + 1) + 1 = omega (arith, length-append events (event ∷ [])) in
     λ i. record { count = count i; first = first; last = last_of-push first event events i }
@@ -19,6 +21,7 @@ series_of-push [] event = refl
 series_of-push (first ∷ events) event = ap Some (series_from-push first event events)
 
 -- a series counts what it is of
-pub series_counted : {E : Type 0} (events : List E) → length events + 1 < 2 ^ 64 → IfSome (series_of events) (λ (series : Series E). series.count + 1 < 2 ^ 64)
+pub series_counted : {E : Type 0} (events : List E) → length events + 1 < 2 ^ 64 →
+    IfSome (series_of events) (λ (series : Series E). series.count + 1 < 2 ^ 64)
 series_counted [] few = tt
 series_counted (first ∷ events) few = omega (arith, few)

@@ -73,10 +73,13 @@ module _ {arrivals : List Arrival} {old now : GuidedHardware} {moments : List Mo
       ap (flat_map stays_in) (walk-push still_open passes moment)
       ∙ flat_map-append stays_in (walk still_open old.hardware moments) (last_cycle still_open passes moment ∷ [])
       ∙ ap (λ more. stays_of old.hardware moments ++ more) (append-nil (stays_in (last_cycle still_open passes moment)))
-      ∙ ap (λ ps. stays_of old.hardware moments ++ stays_among now.hardware.cycle (is_free now.hardware.cycle (at_kind Mem moment.after.units)) true ps) (sym rows_are)
+      ∙ ap (λ ps. stays_of old.hardware moments
+      ++ stays_among now.hardware.cycle (is_free now.hardware.cycle (at_kind Mem moment.after.units)) true
+      ps) (sym rows_are)
 
   -- why instructions stay, with one cycle more
-  pub stays-push : with_stays more_stays (with_stays (stays_of old.hardware moments) no_stays) ≡ with_stays (stays_of old.hardware (moments ++ moment ∷ [])) no_stays
+  pub stays-push : with_stays more_stays (with_stays (stays_of old.hardware moments) no_stays)
+      ≡ with_stays (stays_of old.hardware (moments ++ moment ∷ [])) no_stays
   stays-push =
       sym (ap (λ os. with_stays os no_stays) stays_of-push ∙ with_stays-append (stays_of old.hardware moments) more_stays no_stays)
 
@@ -84,29 +87,36 @@ module _ {arrivals : List Arrival} {old now : GuidedHardware} {moments : List Mo
   awaited_of-push =
       ap (map awaited_in) (walk-push still_open passes moment)
       ∙ map-append awaited_in (walk still_open old.hardware moments) (last_cycle still_open passes moment ∷ [])
-      ∙ ap (λ ps. awaited_of old.hardware moments ++ oldest_awaited (stays_among now.hardware.cycle (is_free now.hardware.cycle (at_kind Mem moment.after.units)) true ps) ∷ []) (sym rows_are)
+      ∙ ap (λ ps. awaited_of old.hardware moments
+      ++ oldest_awaited
+      (stays_among now.hardware.cycle (is_free now.hardware.cycle (at_kind Mem moment.after.units)) true ps)
+      ∷ []) (sym rows_are)
 
   -- the words that are awaited, with one cycle more
   pub awaited-push : (values : Values) → with_one (oldest_awaited more_stays) (notes_of values (count_at itself (awaited_of old.hardware moments)))
       ≡ notes_of values (count_at itself (awaited_of old.hardware (moments ++ moment ∷ [])))
   awaited-push values =
-      with_last_at values itself (awaited_of old.hardware moments) (oldest_awaited more_stays) ∙ ap (λ all. notes_of values (count_at itself all)) (sym awaited_of-push)
+      with_last_at values itself (awaited_of old.hardware moments) (oldest_awaited more_stays)
+      ∙ ap (λ all. notes_of values (count_at itself all)) (sym awaited_of-push)
 
 -- each cycle has one at most
 pub length-awaited : (h : Hardware) (moments : List Moment) → length (awaited_of h moments) ≡ length moments
 length-awaited h moments = length-map (walk still_open h moments) awaited_in ∙ length-walk_from (standing_at h) moments
 
 -- ---- there are no more of them than rows
-length-stays_among : (cycle : ℕ) (has_unit has_addresses : Bool) (ps : List Passage) → length (stays_among cycle has_unit has_addresses ps) ≡ length ps
+length-stays_among : (cycle : ℕ) (has_unit has_addresses : Bool) (ps : List Passage) →
+    length (stays_among cycle has_unit has_addresses ps) ≡ length ps
 length-stays_among cycle has_unit has_addresses [] = refl
-length-stays_among cycle has_unit has_addresses (p ∷ ps) = ap suc (length-stays_among cycle has_unit (has_addresses && not (lacks_address cycle p)) ps)
+length-stays_among cycle has_unit has_addresses (p ∷ ps) =
+    ap suc (length-stays_among cycle has_unit (has_addresses && not (lacks_address cycle p)) ps)
 
 few_stays : (os : List (Option Stay)) (t : Stays) → all_stays (with_stays os t) ≤ all_stays t + length os
 few_stays [] t = omega arith
 few_stays (o ∷ os) t = omega (arith, few_stays os (with_stay o t), one_more_stay o t)
 
 -- no more stay than there are
-pub few_more_stays : (cycle : ℕ) (has_unit has_addresses : Bool) (rows : List Passage) (t : Stays) → all_stays (with_stays (stays_among cycle has_unit has_addresses rows) t) ≤ all_stays t + length rows
+pub few_more_stays : (cycle : ℕ) (has_unit has_addresses : Bool) (rows : List Passage) (t : Stays) →
+    all_stays (with_stays (stays_among cycle has_unit has_addresses rows) t) ≤ all_stays t + length rows
 few_more_stays cycle has_unit has_addresses rows t =
     omega (arith, few_stays (stays_among cycle has_unit has_addresses rows) t, length-stays_among cycle has_unit has_addresses rows)
 
@@ -115,13 +125,16 @@ one_reason : (staying : Bool) (s : Stay) → is_some (cond staying (Some s) None
 one_reason true s = refl
 one_reason false s = refl
 
-staying_among : (cycle : ℕ) (has_unit has_addresses : Bool) (ps : List Passage) → count_by (λ (o : Option Stay). is_some o) (stays_among cycle has_unit has_addresses ps) ≡ count_by (is_staying cycle) ps
+staying_among : (cycle : ℕ) (has_unit has_addresses : Bool) (ps : List Passage) →
+    count_by (λ (o : Option Stay). is_some o) (stays_among cycle has_unit has_addresses ps)
+    ≡ count_by (is_staying cycle) ps
 staying_among cycle has_unit has_addresses [] = refl
 staying_among cycle has_unit has_addresses (p ∷ ps) =
     let reason = ap {B = ℕ} (λ test. cond test 1 0) (one_reason (is_staying cycle p) (dispatched_stay cycle has_unit has_addresses p)) in
     omega (
       arith,
-      sum_by-cons (λ (o : Option Stay). cond (is_some o) 1 0) (stay_in cycle has_unit has_addresses p) (stays_among cycle has_unit (has_addresses && not (lacks_address cycle p)) ps),
+      sum_by-cons (λ (o : Option Stay). cond (is_some o) 1 0) (stay_in cycle has_unit has_addresses p)
+          (stays_among cycle has_unit (has_addresses && not (lacks_address cycle p)) ps),
       sum_by-cons (λ (q : Passage). cond (is_staying cycle q) 1 0) p ps,
       reason,
       staying_among cycle has_unit (has_addresses && not (lacks_address cycle p)) ps,

@@ -7,11 +7,13 @@ use Rattle.rv_isa.specs.declared.values.Values.{Values}
 use Rattle.rv_memory.specs.Memory.{word_of}
 use Rattle.rv_sentences.specs.WordNotes.{Notes, notes_of, with_change, with_note}
 
-same_words : {X : Type 0} (f g : ℕ → X) (a n : ℕ) → ((w : ℕ) → a ≤ w → w < a + n → f w ≡ g w) → map f (range_with_len a n) ≡ map g (range_with_len a n)
+same_words : {X : Type 0} (f g : ℕ → X) (a n : ℕ) → ((w : ℕ) → a ≤ w → w < a + n → f w ≡ g w) →
+    map f (range_with_len a n) ≡ map g (range_with_len a n)
 same_words f g a zero all = refl
 same_words f g a (suc n) all = λ i. all a (omega arith) (omega arith) i ∷ same_words f g (a + 1) n (λ w low high. all w (omega arith) (omega arith)) i
 
-word_set : {X : Type 0} (f g : ℕ → X) (a n i : ℕ) → i < n → ((w : ℕ) → (w ≡ a + i → ⊥) → f w ≡ g w) → slice_set (map f (range_with_len a n)) i (g (a + i)) ≡ map g (range_with_len a n)
+word_set : {X : Type 0} (f g : ℕ → X) (a n i : ℕ) → i < n → ((w : ℕ) → (w ≡ a + i → ⊥) → f w ≡ g w) →
+    slice_set (map f (range_with_len a n)) i (g (a + i)) ≡ map g (range_with_len a n)
 word_set f g a zero i within others = absurd (omega arith)
 word_set f g a (suc n) zero within others =
     let here : a + 0 ≡ a = omega arith in
@@ -39,7 +41,8 @@ set_beyond f a (suc n) (suc i) x past = ap (λ rest. f a ∷ rest) (set_beyond f
 notes_from : {X : Type 0} → (ℕ → X) → ℕ → ℕ → Notes X
 notes_from f a n = record { first = a; words = map f (range_with_len a n) }
 
-module _ {X : Type 0} (change : X → X) (f g : ℕ → X) (word a n : ℕ) (here : change (f word) ≡ g word) (others : (w : ℕ) → (w ≡ word → ⊥) → f w ≡ g w) where
+module _ {X : Type 0} (change : X → X) (f g : ℕ → X) (word a n : ℕ) (here : change (f word) ≡ g word)
+    (others : (w : ℕ) → (w ≡ word → ⊥) → f w ≡ g w) where
   all_same : ((w : ℕ) → a ≤ w → w < a + n → w ≡ word → ⊥) → notes_from f a n ≡ notes_from g a n
   unfolding notes_from
   all_same outside = ap (λ words. record { first = a; words = words }) (same_words f g a n (λ w low high. others w (outside w low high)))
@@ -49,12 +52,14 @@ module _ {X : Type 0} (change : X → X) (f g : ℕ → X) (word a n : ℕ) (her
       ap (λ note. slice_set (map f (range_with_len a n)) i note) (ap (λ (w : ℕ). change (f w)) (sym is) ∙ here ∙ ap g is) ∙
       word_set f g a n i within (λ w is_not. others w (λ at. is_not (at ∙ is)))
 
-  change_above : (inside : Bool) → nat_lt word a ≡ false → nat_lt (word - a) n ≡ inside → with_change change (notes_from f a n) word ≡ notes_from g a n
+  change_above : (inside : Bool) → nat_lt word a ≡ false → nat_lt (word - a) n ≡ inside →
+      with_change change (notes_from f a n) word ≡ notes_from g a n
   unfolding notes_from
   change_above true above within =
       let low = ltb-false word a above in
       let high = ltb-true (word - a) n within in
-      rw (above, word_got f a n (word - a) high, above) (ap (λ words. record { first = a; words = words }) (change_within (word - a) high (omega arith)))
+      rw (above, word_got f a n (word - a) high, above)
+      (ap (λ words. record { first = a; words = words }) (change_within (word - a) high (omega arith)))
   change_above false above past =
       let low = ltb-false word a above in
       let high = ltb-false (word - a) n past in
@@ -81,7 +86,8 @@ module _ {X : Type 0} (change : X → X) (f g : ℕ → X) (word a n : ℕ) (her
   set_above false above past =
       let low = ltb-false word a above in
       let high = ltb-false (word - a) n past in
-      rw above (ap (λ words. record { first = a; words = words }) (set_beyond f a n (word - a) (g word) high) ∙ all_same (λ w from to is. omega arith))
+      rw above (ap (λ words. record { first = a; words = words }) (set_beyond f a n (word - a) (g word) high)
+      ∙ all_same (λ w from to is. omega arith))
 
   set_of : (below : Bool) → nat_lt word a ≡ below → with_note (notes_from f a n) word (g word) ≡ notes_from g a n
   unfolding notes_from
@@ -99,7 +105,8 @@ set_one values f g word note is others =
     set_of (λ _. g word) f g word (word_of values.ram_base) (word_of values.ram_size) refl others (nat_lt word (word_of values.ram_base)) refl
 
 -- a change at one word
-pub change_one : {X : Type 0} (values : Values) (change : X → X) (f g : ℕ → X) (word : ℕ) → change (f word) ≡ g word → ((w : ℕ) → (w ≡ word → ⊥) → f w ≡ g w)
+pub change_one : {X : Type 0} (values : Values) (change : X → X) (f g : ℕ → X) (word : ℕ) → change (f word) ≡ g word →
+    ((w : ℕ) → (w ≡ word → ⊥) → f w ≡ g w)
     → with_change change (notes_of values f) word ≡ notes_of values g
 unfolding notes_from
 change_one values change f g word here others =
@@ -111,7 +118,8 @@ all_alike note a zero = refl
 all_alike note a (suc n) = ap (λ words. note ∷ words) (all_alike note (a + 1) n)
 
 -- the same note at each word of RAM
-pub notes_alike : {X : Type 0} (values : Values) (note : X) (notes : Notes X) → notes.first ≡ word_of values.ram_base → notes.words ≡ replicate (word_of values.ram_size) note → notes ≡ notes_of values (λ _. note)
+pub notes_alike : {X : Type 0} (values : Values) (note : X) (notes : Notes X) → notes.first ≡ word_of values.ram_base →
+    notes.words ≡ replicate (word_of values.ram_size) note → notes ≡ notes_of values (λ _. note)
 notes_alike values note notes first words =
     let all = words ∙ all_alike note (word_of values.ram_base) (word_of values.ram_size) in
     λ i. record { first = first i; words = all i }

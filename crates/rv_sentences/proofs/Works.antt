@@ -28,6 +28,7 @@ unsquashed_by ending.InFlight is = refl
 unsquashed_by (ending.Trapped cycle cause) is = refl
 unsquashed_by (ending.Retired order cycle written next) is = refl
 
+-- what did not leave did not retire
 pub unretired : (p : Passage) → has_left p ≡ false → is_retirement p.ending ≡ false
 unretired p is = unretired_by p.ending is
 
@@ -39,7 +40,9 @@ module _ (test : Passage → Bool) (none : (p : Passage) → has_left p ≡ fals
   count_cons : (p : Passage) (ps : List Passage) → count_by test (p ∷ ps) ≡ cond (test p) 1 0 + count_by test ps
   count_cons p ps = sum_by-cons (λ (q : Passage). cond (test q) 1 0) p ps
 
-  by_left : (p : Passage) (ps : List Passage) (is : Bool) → has_left p ≡ is → count_by test (filter has_left ps) ≡ count_by test ps → count_by test (filter has_left (p ∷ ps)) ≡ count_by test (p ∷ ps)
+  by_left : (p : Passage) (ps : List Passage) (is : Bool) → has_left p ≡ is →
+      count_by test (filter has_left ps) ≡ count_by test ps →
+      count_by test (filter has_left (p ∷ ps)) ≡ count_by test (p ∷ ps)
   by_left p ps true is rest = rw is (count_cons p (filter has_left ps) ∙ ap (λ n. cond (test p) 1 0 + n) rest ∙ sym (count_cons p ps))
   by_left p ps false is rest =
       let same : count_by test (p ∷ ps) ≡ count_by test ps = count_cons p ps ∙ ap (λ t. cond t 1 0 + count_by test ps) (none p is) ∙ omega arith in
@@ -50,7 +53,9 @@ module _ (test : Passage → Bool) (none : (p : Passage) → has_left p ≡ fals
   count-left (p ∷ ps) = by_left p ps (has_left p) refl (count-left ps)
 
 -- those that were squashed left the hardware
-pub squashed_left : (ps : List Passage) → count_by (λ (p : Passage). is_squash p.ending) (filter has_left ps) ≡ count_by (λ (p : Passage). is_squash p.ending) ps
+pub squashed_left : (ps : List Passage) →
+    count_by (λ (p : Passage). is_squash p.ending) (filter has_left ps)
+    ≡ count_by (λ (p : Passage). is_squash p.ending) ps
 squashed_left ps = count-left (λ p. is_squash p.ending) unsquashed ps
 
 -- so did the branches and jumps that retired
@@ -83,7 +88,8 @@ work-left new old =
     λ i. record { left = left i; squashed = squashed i; branches = branches i; mispredicted = mispredicted i }
 
 -- the loads
-pub loads-left : (costs : LoadCosts) (rows old : List Passage) → both (loads_of costs old) (loads_of costs rows) ≡ loads_of costs (filter has_left rows ++ old)
+pub loads-left : (costs : LoadCosts) (rows old : List Passage) →
+    both (loads_of costs old) (loads_of costs rows) ≡ loads_of costs (filter has_left rows ++ old)
 loads-left costs rows old =
     let all = count-appended (λ p. is_some (retired_load_cost p)) (filter has_left rows) old in
     let quick = count-appended (λ p. is_hit costs (retired_load_cost p)) (filter has_left rows) old in
@@ -94,7 +100,8 @@ words-left : (class : Class) (none : (p : Passage) → has_left p ≡ false → 
     → count_at (word_in class) (filter has_left rows ++ old) word ≡ count_at (word_in class) old word + count_at (word_in class) rows word
 words-left class none rows old word =
     let test : Passage → Bool = λ p. is_word word (word_in class p) in
-    sym (count-appended test (filter has_left rows) old) ∙ ap (λ n. count_at (word_in class) old word + n) (count-left test (λ p is. rw (none p is) refl) rows)
+    sym (count-appended test (filter has_left rows) old)
+    ∙ ap (λ n. count_at (word_in class) old word + n) (count-left test (λ p is. rw (none p is) refl) rows)
 
 -- the branches and jumps at a word
 pub branch_words-left : (rows old : List Passage) (word : ℕ)
@@ -103,5 +110,6 @@ branch_words-left = words-left Branch (λ p is. rw (unretired p is) refl)
 
 -- those that were mispredicted there
 pub mispredicted_words-left : (rows old : List Passage) (word : ℕ)
-    → count_at (word_in Mispredicted) (filter has_left rows ++ old) word ≡ count_at (word_in Mispredicted) old word + count_at (word_in Mispredicted) rows word
+    → count_at (word_in Mispredicted) (filter has_left rows ++ old) word
+    ≡ count_at (word_in Mispredicted) old word + count_at (word_in Mispredicted) rows word
 mispredicted_words-left = words-left Mispredicted (λ p is. rw (unretired p is) refl)

@@ -31,7 +31,10 @@ module _ (items : List Json) (place : ℕ) (here : place < length items) where
       ∙ ap (λ l. values_from 0 (take place items) ++ l) (append-nil (comma_at place ++ get_or items place []))
 
   -- one value more
-  pub says_value : {W : Type 0} {contents : W → Option (List ℕ)} {a b c : Sink W} → Says contents a b (values_from 0 (take place items)) → Says contents b c (comma_at place ++ get_or items place []) → Says contents a c (values_from 0 (take (place + 1) items))
+  pub says_value : {W : Type 0} {contents : W → Option (List ℕ)} {a b c : Sink W} →
+      Says contents a b (values_from 0 (take place items)) →
+      Says contents b c (comma_at place ++ get_or items place []) →
+      Says contents a c (values_from 0 (take (place + 1) items))
   says_value front last = says_same (sym values-more) (says_both front last)
 
 -- an array has as many values as the list that they are made of
@@ -40,15 +43,20 @@ has_item text items place within = omega (arith, within, length-map items text)
 
 -- the text of an item of a list is that at its place
 module _ {X W : Type 0} {contents : W → Option (List ℕ)} {a b : Sink W} (text : X → List ℕ) (items : List X) (place : ℕ) (item : X) where
-  pub item_said : place < length (map text items) → Says contents a b (text (get_or items place item)) → Says contents a b (get_or (map text items) place [])
+  -- the text of an item is that at its place among all texts
+  pub item_said : place < length (map text items) → Says contents a b (text (get_or items place item)) →
+      Says contents a b (get_or (map text items) place [])
   item_said within = says_same (sym (get_or-map text items place item [] (omega (arith, within, length-map items text))))
 
+  -- and so where the item is found there
   pub found_said : slice_get items place ≡ Some item → Says contents a b (text item) → Says contents a b (get_or (map text items) place [])
   found_said found =
-      says_same (ap text (sym (get_or_from_slice_get items place item item found)) ∙ sym (get_or-map text items place item [] (slice_get_within items place item found)))
+      says_same (ap text (sym (get_or_from_slice_get items place item item found))
+      ∙ sym (get_or-map text items place item [] (slice_get_within items place item found)))
 
 -- beyond the list there is no text
-pub missing_said : {X W : Type 0} {contents : W → Option (List ℕ)} {a : Sink W} (text : X → List ℕ) (items : List X) (place : ℕ) → slice_get items place ≡ None → Says contents a a (get_or (map text items) place [])
+pub missing_said : {X W : Type 0} {contents : W → Option (List ℕ)} {a : Sink W} (text : X → List ℕ) (items : List X)
+    (place : ℕ) → slice_get items place ≡ None → Says contents a a (get_or (map text items) place [])
 missing_said {a = a} text items place none =
     let nothing : unwrap_or (slice_get (map text items) place) [] ≡ [] = ap (λ o. unwrap_or o []) (slice_get-map text items place ∙ ap (option_map text) none) in
     says_same (sym nothing ∙ unwrap_or-slice_get (map text items) place []) (says_nothing a)
@@ -103,6 +111,7 @@ pub found_given : {X : Type 0} (values : X → List Json) (items : List X) (plac
 found_given values items place item found =
     given_at values items place item (slice_get_within items place item found) (sym (get_or_from_slice_get items place item item found))
 
+-- where no item is found, nothing is given
 pub missing_given : {X : Type 0} (values : X → List Json) (items : List X) (place : ℕ) → slice_get items place ≡ None →
     [] ≡ get_or (map values items) place []
 missing_given values items place none =

@@ -16,9 +16,11 @@ pub record AreGiven {X W : Type 0} (contents : W → Option (List ℕ)) (values 
   pub few : written ≤ place
 
 module _ {X W : Type 0} {contents : W → Option (List ℕ)} (values : X → List Json) (items : List X) where
+  -- before the first item nothing is given
   pub given_none : (first : Sink W) → AreGiven contents values items 0 0 first first
   given_none first = record { said = says_nothing first; count = refl; few = omega arith }
 
+  -- one item more gives its value, if it has one
   pub given_on : {place written now : ℕ} {first out out' : Sink W} → place < length items →
       AreGiven contents values items place written first out →
       (given : List Json) → given ≡ get_or (map values items) place [] → Says contents out out' (values_from written given) →
@@ -30,6 +32,7 @@ module _ {X W : Type 0} {contents : W → Option (List ℕ)} (values : X → Lis
     few = omega (arith, few, so_far.few);
   }
 
+  -- after the last item all values are given
   pub given_all : {place written : ℕ} {first out : Sink W} → length items ≤ place →
       AreGiven contents values items place written first out → Says contents first out (values_from 0 (flat_map values items))
   given_all {place} past so_far =

@@ -36,7 +36,8 @@ both_characters no_characters after = after
 both_characters {ys = ys} (unescaped byte others test more) after = unescaped byte (others ++ ys) test (both_characters more after)
 both_characters {ys = ys} (escaped high low others test more) after = escaped high low (others ++ ys) test (both_characters more after)
 
-one_of : (test : Bool) {xs ys : List ℕ} → (test ≡ true → AreCharacters xs) → (test ≡ false → AreCharacters ys) → AreCharacters (if test then xs else ys)
+one_of : (test : Bool) {xs ys : List ℕ} → (test ≡ true → AreCharacters xs) → (test ≡ false → AreCharacters ys) →
+    AreCharacters (if test then xs else ys)
 one_of true first second = first refl
 one_of false first second = second refl
 
@@ -73,7 +74,8 @@ further_values : (place : ℕ) (values : List Json) → AllJson values → AreVa
 unfolding comma_at
 further_values place [] all = no_values
 further_values place (value ∷ values) all =
-    subst (λ n. AreValues (codes "," ++ (value ++ values_from n values))) (sym (add-one (suc place))) (further_value value (values_from (suc (suc place)) values) all.0 (further_values (suc place) values all.1))
+    subst (λ n. AreValues (codes "," ++ (value ++ values_from n values))) (sym (add-one (suc place)))
+    (further_value value (values_from (suc (suc place)) values) all.0 (further_values (suc place) values all.1))
 
 pub array_of : (values : List Json) → AllJson values → IsJson (array values)
 unfolding array comma_at
@@ -145,7 +147,8 @@ more {end = end} {xs = xs} first rest = record {
 }
 
 -- a last member, whose value and what stands after it are one text
-pub last : {end : List ℕ} (name : List ℕ) {value : List ℕ} → list_all is_unescaped name ≡ true → IsJson value → Closes end (key name ++ (value ++ (codes "}" ++ end)))
+pub last : {end : List ℕ} (name : List ℕ) {value : List ℕ} → list_all is_unescaped name ≡ true → IsJson value →
+    Closes end (key name ++ (value ++ (codes "}" ++ end)))
 unfolding also
 last {end = end} name {value} all is = subst (Closes end) (append_assoc (key name) value (codes "}" ++ end)) (more (member name all is) closes)
 

@@ -99,6 +99,7 @@ format : (first : ℕ) → IsSafe IsOpen (format_text first)
 unfolding format_text
 format first = begun (beginning _ refl (number _)) (member _ refl (in_quotes _ refl))
 
+-- the first line is lines of JSON
 pub header_is : (first : ℕ) (v : Values) → IsSafe AreLines (header_line first v)
 unfolding header_line
 header_is first v = object_line (format first) (last (codes "machine") refl (machine v))
@@ -121,6 +122,7 @@ line_if_is : (before : Option ℕ) (address : ℕ) (line : Option Line) → IsSa
 line_if_is before address None = no_lines
 line_if_is before address (Some line) = line_is _ address line
 
+-- the lines of the program are
 pub listing_is : (listing : Listed) (v : Values) → IsSafe AreLines (listing_lines listing v)
 unfolding listing_lines
 listing_is listing v = lines_each _ (λ n. line_if_is _ (word_address v.ram_base n) (line_at listing (word_address v.ram_base n))) _
@@ -135,6 +137,7 @@ cache_line : (line : CacheLine) → IsSafe IsJson (line_json line)
 unfolding line_json
 cache_line line = object (beginning _ refl (number _)) (more (member _ refl (truth_of _)) closes)
 
+-- the lines of a set of the cache are
 pub set_is : (set : ℕ) (lines : List CacheLine) → IsSafe AreLines (lines_text set lines)
 unfolding lines_text
 set_is set lines = object_line (beginning _ refl (number _)) (more (member _ refl (array_of _ (each_safe line_json cache_line lines))) closes)
@@ -152,7 +155,9 @@ head_is : (n : ℕ) (e : Entry) → IsSafe IsOpen (head_text n e)
 unfolding head_text
 head_is n e =
     begun (beginning _ refl (number _))
-    (both (counted _ refl _) (both (counted_some _ refl _) (both (counted _ refl _) (both (counted _ refl _) (both (counted _ refl _) (counted_some _ refl _))))))
+    (both (counted _ refl _)
+    (both (counted_some _ refl _)
+    (both (counted _ refl _) (both (counted _ refl _) (both (counted _ refl _) (counted_some _ refl _))))))
 
 stage_is : (stage : Stage) → IsSafe AreMembers (stage_text stage)
 unfolding stage_text
@@ -165,6 +170,7 @@ stage_is stage =
     (both (counted_some (codes "cause") refl (cause_of stage))
     (counted_some (codes "mtval") refl (fault_value_of stage)))))))
 
+-- an entry of the reorder buffer is an object that is still open
 pub entry_is : (n : ℕ) (e : Entry) → IsSafe IsOpen (entry_text n e)
 unfolding entry_text
 entry_is n e = begun (head_is n e) (both (kind_is _) (stage_is _))
@@ -174,6 +180,7 @@ unfolding known_text
 known_is (Value value) = counted _ refl _
 known_is (Tag number) = counted _ refl _
 
+-- an operand is a value
 pub operand_is : (register : ℕ) (operand : Operand) → IsSafe IsJson (operand_json register operand)
 unfolding operand_json
 operand_is register operand = object (beginning _ refl (number _)) (more (known_is operand) closes)
@@ -202,10 +209,12 @@ details_are : (p : Passage) → IsSafe AreMembers (details_text p)
 unfolding ended_text
 details_are p = let all : IsSafe AreMembers (ended_text p) = both (passage_is p) (ending_is p.ending) in unless (is_in_flight p) all
 
+-- an instruction is a value
 pub instruction_is : (p : Passage) → IsSafe IsJson (instruction_json p)
 unfolding instruction_json
 instruction_is p = object (beginning _ refl (number _)) (more (details_are p) closes)
 
+-- a step is a value
 pub step_is : (s : Step) → IsSafe IsJson (step_json s)
 unfolding retirement_json trap_json interrupt_json
 step_is (step.Retired row) = object (beginning _ refl (number _)) (more (member _ refl (in_quotes _ refl)) closes)
@@ -219,6 +228,7 @@ pub fetched_is : (f : Fetched) → IsSafe IsJson (fetched_json f)
 unfolding fetched_json
 fetched_is f = object (beginning _ refl (number _)) (more (both (counted_some _ refl _) (both (counted _ refl _) (counted _ refl _))) closes)
 
+-- where the fetch goes on is members of an object
 pub next_fetch_is : (f : FetchBuffer) → IsSafe AreMembers (next_fetch_text f)
 unfolding next_fetch_text
 next_fetch_is f = both (counted _ refl _) (member _ refl (truth_of _))
@@ -231,6 +241,7 @@ start_is start = object (beginning _ refl (number _)) (more (counted _ refl _) c
 starts_are : (pool : Pool) → IsSafe IsJson (array (map start_json pool.starts))
 starts_are pool = array_of _ (each_safe start_json start_is pool.starts)
 
+-- the units are a value
 pub units_are : (units : PerKind Pool) → IsSafe IsJson (units_json units)
 unfolding units_json
 units_are units =
@@ -257,6 +268,7 @@ filling_is Waiting = no_members
 filling_is Faulted = no_members
 filling_is (Filled access phase) = access_is access
 
+-- a store is a value
 pub store_is : (store : Store) → IsSafe IsJson (store_json store)
 unfolding store_head store_json
 store_is store = object (begun (beginning _ refl (number _)) (member _ refl (state_is _))) (more (filling_is store.state) closes)
@@ -272,10 +284,13 @@ csrs_are kept lines =
     object (begun (beginning _ refl (number _)) (both (counted _ refl _) (both (counted _ refl _) (counted _ refl _))))
     (more (both (counted _ refl _) (both (counted _ refl _) (both (counted _ refl _) (counted _ refl _)))) closes)
 
+-- the state that programs see is an object that is still open
 pub observed_is : (pc : ℕ) (registers : List ℕ) (kept : Kept) (lines : Lines) → IsSafe IsOpen (observed_text pc registers kept lines)
 unfolding observed_text
 observed_is pc registers kept lines =
-    begun (beginning _ refl (number _)) (both (member _ refl (array_of _ (each_safe numeral number registers))) (both (member _ refl (csrs_are kept lines)) (levels_are lines)))
+    begun (beginning _ refl (number _))
+    (both (member _ refl (array_of _ (each_safe numeral number registers)))
+    (both (member _ refl (csrs_are kept lines)) (levels_are lines)))
 
 -- the end
 stop_named : (stop : Stop) → IsSafe IsJson (quoted (stop_name stop))
@@ -284,6 +299,7 @@ stop_named Breakpoint = in_quotes _ refl
 stop_named (Stale pc) = in_quotes _ refl
 stop_named Exhausted = in_quotes _ refl
 
+-- the last line is lines of JSON
 pub stop_is : (cycles : ℕ) (stop : Stop) → IsSafe AreLines (stop_line cycles stop)
 unfolding stop_json stop_line
 stop_is cycles stop = one_line (object (beginning _ refl (number _)) (more (member _ refl (stop_named stop)) closes))

@@ -67,7 +67,8 @@ unfolding counts_text
 counts p = both (stall p.stall) (member _ refl (totals p))
 
 -- the reorder buffer
-operand : (name : List ℕ) → list_all is_safe_byte name ≡ true → (status : RegisterStatus) (register : Option ℕ) → IsSafe AreMembers (operand_text name status register)
+operand : (name : List ℕ) → list_all is_safe_byte name ≡ true → (status : RegisterStatus) (register : Option ℕ) →
+    IsSafe AreMembers (operand_text name status register)
 unfolding operand_text
 operand name plain status None = no_members
 operand name plain status (Some register) = member name plain (operand_is register (status register))
@@ -152,7 +153,8 @@ unfolding asked_text
 asked predictor n words =
     member _ refl (array_of _ (all_given (asked_in predictor n) (λ f. if_shown (f.cycle == n) _ (asked_word predictor f.pc f.word)) words))
 
-predictor_is : (predictor : DescribedPredictor) (n : ℕ) (steps : List Step) (words : List Fetched) → IsSafe AreMembers (predictor_text predictor n steps words)
+predictor_is : (predictor : DescribedPredictor) (n : ℕ) (steps : List Step) (words : List Fetched) →
+    IsSafe AreMembers (predictor_text predictor n steps words)
 unfolding predictor_text
 predictor_is predictor n steps words = both (learned predictor steps) (asked predictor n words)
 
@@ -160,13 +162,18 @@ predictor_is predictor n steps words = both (learned predictor steps) (asked pre
 start : (rows : List Passage) (h : Hardware) (p : Progress) → IsSafe AreLines (start_line rows h p)
 unfolding start_line
 start rows h p =
-    object_line (beginning _ refl (number _)) (more (member _ refl (array_of _ (all_given json_in_flight (λ row. if_shown (is_in_flight row) _ (instruction_is row, tt)) rows))) (more (rest h p) closes))
+    object_line (beginning _ refl (number _))
+    (more (member _ refl
+    (array_of _ (all_given json_in_flight (λ row. if_shown (is_in_flight row) _ (instruction_is row, tt)) rows)))
+    (more (rest h p) closes))
 
-cycle : (n : ℕ) (rows : List Passage) (steps : List Step) (h : Hardware) (p : Progress) (predictor : DescribedPredictor) → IsSafe AreLines (cycle_line n rows steps h p predictor)
+cycle : (n : ℕ) (rows : List Passage) (steps : List Step) (h : Hardware) (p : Progress)
+    (predictor : DescribedPredictor) → IsSafe AreLines (cycle_line n rows steps h p predictor)
 unfolding cycle_line
 cycle n rows steps h p predictor =
     object_line (beginning _ refl (number _)) (more (member _ refl (array_of _ (each_safe instruction_json instruction_is rows)))
-    (more (member _ refl (array_of _ (each_safe step_json step_is steps))) (more (rest h p) (more (predictor_is predictor n steps h.front.entries) closes))))
+    (more (member _ refl (array_of _ (each_safe step_json step_is steps)))
+    (more (rest h p) (more (predictor_is predictor n steps h.front.entries) closes))))
 
 word : (address : ℕ) (stale : Bool) (w : Option ℕ) → IsSafe AreLines (word_if address stale w)
 word address stale None = no_lines
@@ -200,7 +207,8 @@ all_shown from predictor [] = no_lines
 all_shown from predictor (c ∷ cycles) = lines_both (shown from c _) (all_shown from (taught_by predictor c) cycles)
 
 -- the lines of a run
-pub states_are : (from : ℕ) (listing : Listed) (first : Hardware) (moments : List Moment) (stop : Stop) → IsSafe AreLines (states_text from listing first moments stop)
+pub states_are : (from : ℕ) (listing : Listed) (first : Hardware) (moments : List Moment) (stop : Stop) →
+    IsSafe AreLines (states_text from listing first moments stop)
 unfolding opening_text head_text lines_text states_text
 states_are from listing first moments stop =
     lines_both (lines_both (lines_both (lines_both (header_is from _) (listing_is listing _)) (lines_where _ (window _ first _ _)))

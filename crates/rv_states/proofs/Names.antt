@@ -10,6 +10,7 @@ use Rattle.rv_states.specs.Markup.{is_markup}
 abbrev pub is_safe_byte : ℕ → Bool
 is_safe_byte byte = is_unescaped byte && not (is_markup byte)
 
+-- a safe text has no character that a string escapes
 pub unescaped : (name : List ℕ) → list_all is_safe_byte name ≡ true → list_all is_unescaped name ≡ true
 unescaped [] safe = refl
 unescaped (byte ∷ bytes) safe =
@@ -17,6 +18,7 @@ unescaped (byte ∷ bytes) safe =
     let here = and_parts (is_unescaped byte) (not (is_markup byte)) parts.0 in
     and_from _ _ here.0 (unescaped bytes parts.1)
 
+-- and none that HTML gives a meaning
 pub no_markup : (name : List ℕ) → list_all is_safe_byte name ≡ true → list_any is_markup name ≡ false
 no_markup [] safe = refl
 no_markup (byte ∷ bytes) safe =
@@ -30,6 +32,7 @@ byte-unescaped byte is = grind arith
 byte-no_markup : (byte : ℕ) → is_word_byte byte ≡ true → is_markup byte ≡ false
 byte-no_markup byte is = grind arith
 
+-- a word of the format is safe
 pub word-safe : (word : List ℕ) → is_word word ≡ true → list_all is_safe_byte word ≡ true
 word-safe [] is = refl
 word-safe (byte ∷ bytes) is =

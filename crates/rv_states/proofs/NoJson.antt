@@ -1,5 +1,6 @@
--- Texts that are no JSON by RFC 8259. The grammar cannot say so itself, so a reader stands beside it: it goes from byte to byte by what it
--- waits for, takes each text that the grammar gives, and refuses each row below. So a grammar that allows more than it should is refused here.
+-- Texts that are no JSON by RFC 8259. The grammar cannot say so itself, so a reader stands beside it: it goes from byte
+-- to byte by what it waits for, takes each text that the grammar gives, and refuses each row below. So a grammar that
+-- allows more than it should is refused here.
 use Rattle.std.proofs.Common.{◌≡◌, ◌∙◌, ℕ, ◌==◌, ◌||◌, ◌&&◌, nat_le, Bool, true, false, not, if◌then◌else◌, List, [], ◌∷◌, ◌++◌, map, codes, Option, Some, None, refl, sym, ap, append_assoc, append-nil}
 use Rattle.std.specs.Char.{is_ascii_digit, is_digit}
 use Rattle.std.specs.List.{list_all}
@@ -97,31 +98,38 @@ number_ends needs [] ends = refl
 number_ends needs (byte ∷ bytes) ends =
     ap (λ test. option_map_or (λ after. reads after bytes) (if test then Some (Digits ∷ needs) else after_byte byte needs) false) ends
 
-reads_digits : (needs : List Need) (ds rest : List ℕ) → list_all is_ascii_digit ds ≡ true → begins_digit rest ≡ false → reads (Digits ∷ needs) (ds ++ rest) ≡ reads needs rest
+reads_digits : (needs : List Need) (ds rest : List ℕ) → list_all is_ascii_digit ds ≡ true → begins_digit rest ≡ false →
+    reads (Digits ∷ needs) (ds ++ rest) ≡ reads needs rest
 reads_digits needs [] rest all ends = number_ends needs rest ends
 reads_digits needs (d ∷ ds) rest all ends =
     let parts = and_parts (is_ascii_digit d) (list_all is_ascii_digit ds) all in
     ap (λ test. option_map_or (λ after. reads after (ds ++ rest)) (if test then Some (Digits ∷ needs) else after_byte d needs) false) parts.0 ∙
     reads_digits needs ds rest parts.1 ends
 
-reads_number : {text : List ℕ} → IsNumber text → (needs : List Need) (rest : List ℕ) → begins_digit rest ≡ false → reads (Value ∷ needs) (text ++ rest) ≡ reads needs rest
+reads_number : {text : List ℕ} → IsNumber text → (needs : List Need) (rest : List ℕ) → begins_digit rest ≡ false →
+    reads (Value ∷ needs) (text ++ rest) ≡ reads needs rest
 reads_number zero_alone needs rest ends = refl
 reads_number (digits first others test all) needs rest ends =
     ap (λ test. option_map_or (λ after. reads after (others ++ rest)) (if test then Some (Digits ∷ needs) else after_start first needs) false) test ∙
     reads_digits needs others rest all ends
 
-reads_characters : {text : List ℕ} → AreCharacters text → (needs : List Need) (rest : List ℕ) → reads (Characters ∷ needs) (text ++ (codes "\"" ++ rest)) ≡ reads needs rest
+reads_characters : {text : List ℕ} → AreCharacters text → (needs : List Need) (rest : List ℕ) →
+    reads (Characters ∷ needs) (text ++ (codes "\"" ++ rest)) ≡ reads needs rest
 reads_characters no_characters needs rest = refl
 reads_characters (unescaped byte others test more) needs rest =
-    ap (λ test. option_map_or (λ after. reads after (others ++ (codes "\"" ++ rest))) (if test then Some (Characters ∷ needs) else after_other byte needs) false) test ∙
+    ap (λ test. option_map_or (λ after. reads after (others ++ (codes "\"" ++ rest)))
+    (if test then Some (Characters ∷ needs) else after_other byte needs) false) test ∙
     reads_characters more needs rest
 reads_characters (escaped high low others test more) needs rest =
     let parts = and_parts (is_digit high 16) (is_digit low 16) test in
-    ap (λ test. option_map_or (λ after. reads after (low ∷ (others ++ (codes "\"" ++ rest)))) (if test then Some (Hexadecimal ∷ Characters ∷ needs) else None) false) parts.0 ∙
-    (ap (λ test. option_map_or (λ after. reads after (others ++ (codes "\"" ++ rest))) (if test then Some (Characters ∷ needs) else None) false) parts.1 ∙
+    ap (λ test. option_map_or (λ after. reads after (low ∷ (others ++ (codes "\"" ++ rest))))
+    (if test then Some (Hexadecimal ∷ Characters ∷ needs) else None) false) parts.0 ∙
+    (ap (λ test. option_map_or (λ after. reads after (others ++ (codes "\"" ++ rest)))
+    (if test then Some (Characters ∷ needs) else None) false) parts.1 ∙
     reads_characters more needs rest)
 
-reads_name : {text : List ℕ} → IsString text → (needs : List Need) (rest : List ℕ) → reads (Byte 34 ∷ Characters ∷ needs) (text ++ rest) ≡ reads needs rest
+reads_name : {text : List ℕ} → IsString text → (needs : List Need) (rest : List ℕ) →
+    reads (Byte 34 ∷ Characters ∷ needs) (text ++ rest) ≡ reads needs rest
 reads_name (in_quotes characters are) needs rest =
     ap (reads (Characters ∷ needs)) (append_assoc characters (codes "\"") rest) ∙ reads_characters are needs rest
 
@@ -139,17 +147,23 @@ ends_member no_members rest = refl
 ends_member (further_member member others is are) rest = refl
 
 -- the first value of an array is read as a value
-first_number : {text : List ℕ} → IsNumber text → (needs : List Need) (rest : List ℕ) → reads (FirstValue ∷ needs) (text ++ rest) ≡ reads (Value ∷ FurtherValues ∷ needs) (text ++ rest)
+first_number : {text : List ℕ} → IsNumber text → (needs : List Need) (rest : List ℕ) →
+    reads (FirstValue ∷ needs) (text ++ rest) ≡ reads (Value ∷ FurtherValues ∷ needs) (text ++ rest)
 first_number zero_alone needs rest = refl
 first_number (digits first others test all) needs rest =
     let further = FurtherValues ∷ needs in
-    ap (λ test. option_map_or (λ after. reads after (others ++ rest)) (either (if test then Some (Digits ∷ further) else after_start first further) (if first == 93 then Some needs else None)) false) test ∙
-    sym (ap (λ test. option_map_or (λ after. reads after (others ++ rest)) (if test then Some (Digits ∷ further) else after_start first further) false) test)
+    ap (λ test. option_map_or (λ after. reads after (others ++ rest))
+    (either (if test then Some (Digits ∷ further) else after_start first further)
+    (if first == 93 then Some needs else None)) false) test ∙
+    sym (ap (λ test. option_map_or (λ after. reads after (others ++ rest))
+    (if test then Some (Digits ∷ further) else after_start first further) false) test)
 
-first_string : {text : List ℕ} → IsString text → (needs : List Need) (rest : List ℕ) → reads (FirstValue ∷ needs) (text ++ rest) ≡ reads (Value ∷ FurtherValues ∷ needs) (text ++ rest)
+first_string : {text : List ℕ} → IsString text → (needs : List Need) (rest : List ℕ) →
+    reads (FirstValue ∷ needs) (text ++ rest) ≡ reads (Value ∷ FurtherValues ∷ needs) (text ++ rest)
 first_string (in_quotes characters are) needs rest = refl
 
-first_value : {text : List ℕ} → IsJson text → (needs : List Need) (rest : List ℕ) → reads (FirstValue ∷ needs) (text ++ rest) ≡ reads (Value ∷ FurtherValues ∷ needs) (text ++ rest)
+first_value : {text : List ℕ} → IsJson text → (needs : List Need) (rest : List ℕ) →
+    reads (FirstValue ∷ needs) (text ++ rest) ≡ reads (Value ∷ FurtherValues ∷ needs) (text ++ rest)
 first_value truth needs rest = refl
 first_value falsehood needs rest = refl
 first_value (number text is) needs rest = first_number is needs rest
@@ -162,7 +176,8 @@ inside : (xs ys zs rest : List ℕ) → (xs ++ (ys ++ zs)) ++ rest ≡ xs ++ (ys
 inside xs ys zs rest = append_assoc xs (ys ++ zs) rest ∙ ap (λ l. xs ++ l) (append_assoc ys zs rest)
 
 mutual
-  reads_json : {text : List ℕ} → IsJson text → (needs : List Need) (rest : List ℕ) → begins_digit rest ≡ false → reads (Value ∷ needs) (text ++ rest) ≡ reads needs rest
+  reads_json : {text : List ℕ} → IsJson text → (needs : List Need) (rest : List ℕ) → begins_digit rest ≡ false →
+      reads (Value ∷ needs) (text ++ rest) ≡ reads needs rest
   reads_json truth needs rest ends = refl
   reads_json falsehood needs rest ends = refl
   reads_json (number text is) needs rest ends = reads_number is needs rest ends
@@ -176,32 +191,38 @@ mutual
       ap (reads (member_then (FurtherMembers ∷ needs))) (inside member others (codes "}") rest) ∙
       (reads_member is (FurtherMembers ∷ needs) (others ++ (codes "}" ++ rest)) (ends_member are rest) ∙ reads_members are needs rest)
 
-  reads_values : {text : List ℕ} → AreValues text → (needs : List Need) (rest : List ℕ) → reads (FurtherValues ∷ needs) (text ++ (codes "]" ++ rest)) ≡ reads needs rest
+  reads_values : {text : List ℕ} → AreValues text → (needs : List Need) (rest : List ℕ) →
+      reads (FurtherValues ∷ needs) (text ++ (codes "]" ++ rest)) ≡ reads needs rest
   reads_values no_values needs rest = refl
   reads_values (further_value value others is are) needs rest =
       ap (reads (Value ∷ FurtherValues ∷ needs)) (append_assoc value others (codes "]" ++ rest)) ∙
       (reads_json is (FurtherValues ∷ needs) (others ++ (codes "]" ++ rest)) (ends_value are rest) ∙ reads_values are needs rest)
 
-  reads_member : {text : List ℕ} → IsMember text → (needs : List Need) (rest : List ℕ) → begins_digit rest ≡ false → reads (member_then needs) (text ++ rest) ≡ reads needs rest
+  reads_member : {text : List ℕ} → IsMember text → (needs : List Need) (rest : List ℕ) → begins_digit rest ≡ false →
+      reads (member_then needs) (text ++ rest) ≡ reads needs rest
   reads_member (named name value is_name is) needs rest ends =
       ap (reads (member_then needs)) (append_assoc name (codes ":" ++ value) rest) ∙
       (reads_name is_name (Byte 58 ∷ Value ∷ needs) (codes ":" ++ (value ++ rest)) ∙ reads_json is needs rest ends)
 
-  reads_members : {text : List ℕ} → AreMembers text → (needs : List Need) (rest : List ℕ) → reads (FurtherMembers ∷ needs) (text ++ (codes "}" ++ rest)) ≡ reads needs rest
+  reads_members : {text : List ℕ} → AreMembers text → (needs : List Need) (rest : List ℕ) →
+      reads (FurtherMembers ∷ needs) (text ++ (codes "}" ++ rest)) ≡ reads needs rest
   reads_members no_members needs rest = refl
   reads_members (further_member member others is are) needs rest =
       ap (reads (member_then (FurtherMembers ∷ needs))) (append_assoc member others (codes "}" ++ rest)) ∙
       (reads_member is (FurtherMembers ∷ needs) (others ++ (codes "}" ++ rest)) (ends_member are rest) ∙ reads_members are needs rest)
 
 -- the value of a line is read as a value
-line_string : {text : List ℕ} → IsString text → (needs : List Need) (rest : List ℕ) → reads (Lines ∷ needs) (text ++ rest) ≡ reads (Value ∷ Byte 10 ∷ Lines ∷ needs) (text ++ rest)
+line_string : {text : List ℕ} → IsString text → (needs : List Need) (rest : List ℕ) →
+    reads (Lines ∷ needs) (text ++ rest) ≡ reads (Value ∷ Byte 10 ∷ Lines ∷ needs) (text ++ rest)
 line_string (in_quotes characters are) needs rest = refl
 
-line_number : {text : List ℕ} → IsNumber text → (needs : List Need) (rest : List ℕ) → reads (Lines ∷ needs) (text ++ rest) ≡ reads (Value ∷ Byte 10 ∷ Lines ∷ needs) (text ++ rest)
+line_number : {text : List ℕ} → IsNumber text → (needs : List Need) (rest : List ℕ) →
+    reads (Lines ∷ needs) (text ++ rest) ≡ reads (Value ∷ Byte 10 ∷ Lines ∷ needs) (text ++ rest)
 line_number zero_alone needs rest = refl
 line_number (digits first others test all) needs rest = refl
 
-line_value : {text : List ℕ} → IsJson text → (needs : List Need) (rest : List ℕ) → reads (Lines ∷ needs) (text ++ rest) ≡ reads (Value ∷ Byte 10 ∷ Lines ∷ needs) (text ++ rest)
+line_value : {text : List ℕ} → IsJson text → (needs : List Need) (rest : List ℕ) →
+    reads (Lines ∷ needs) (text ++ rest) ≡ reads (Value ∷ Byte 10 ∷ Lines ∷ needs) (text ++ rest)
 line_value truth needs rest = refl
 line_value falsehood needs rest = refl
 line_value (number text is) needs rest = line_number is needs rest

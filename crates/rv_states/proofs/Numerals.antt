@@ -31,4 +31,6 @@ digits_are (d ∷ ds) some below =
 pub numeral_is_number : (n : ℕ) → IsNumber (numeral n)
 unfolding numeral
 numeral_is_number zero = zero_alone
-numeral_is_number (suc n) = digits_are (digits_of 10 (suc n)) (first_digits_of 10 (suc n) (omega arith) (omega arith)) (all_below_base_digits_of 10 (suc n) (omega arith))
+numeral_is_number (suc n) =
+    digits_are (digits_of 10 (suc n)) (first_digits_of 10 (suc n) (omega arith) (omega arith))
+    (all_below_base_digits_of 10 (suc n) (omega arith))

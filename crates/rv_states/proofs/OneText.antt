@@ -8,10 +8,12 @@ use Rattle.rv_states.specs.States.{IsStates, states_text}
 use Rattle.rv_states.specs.declared.form.Form.{Form}
 use Rattle.rv_view.specs.Run.{HasOneText}
 
+-- of a run of described hardware there is one text of its states
 pub one_text : (arrivals : List Arrival) (from limit : ℕ) (form : Form) (listing : Listed) →
     HasOneText limit (IsStates arrivals from limit form listing)
 one_text arrivals from limit form listing h predictor new new' stop stop' text text' within is is' =
     let same = one_run within is.run is'.run in (
       same.reasons,
-      is.text_is ∙ (λ i. before_lines form ++ (states_text from listing h (same.moments_are i) (same.reasons i) ++ after_lines form)) ∙ sym is'.text_is,
+      is.text_is ∙ (λ i. before_lines form
+          ++ (states_text from listing h (same.moments_are i) (same.reasons i) ++ after_lines form)) ∙ sym is'.text_is,
     )

@@ -98,7 +98,8 @@ array_of values none = both {xs = codes "["} (plain refl) (both (values_of 0 val
 shown : (byte : ℕ) → (byte == 38) ≡ false → (byte == 60) ≡ false → (byte == 62) ≡ false → HasNoMarkup (plain_byte byte)
 unfolding plain_byte
 shown byte no_ampersand no_less no_greater =
-    either (nat_le 32 byte && nat_le byte 126) (plain (λ i. (no_ampersand i || (no_less i || no_greater i)) || false)) (either (byte == 9) (plain refl) (plain refl))
+    either (nat_le 32 byte && nat_le byte 126) (plain (λ i. (no_ampersand i || (no_less i || no_greater i)) || false))
+    (either (byte == 9) (plain refl) (plain refl))
 
 byte_of : (byte : ℕ) → HasNoMarkup (json_byte byte)
 unfolding json_byte

@@ -126,6 +126,7 @@ shown-early from cycles line window early =
 
 -- ---- no cycle yet
 
+-- before the first cycle nothing is shown
 pub showing_nothing : {arrivals : List Arrival} {h : GuidedHardware} {table : Table}
     (from : ℕ) (untaught : DescribedPredictor) (failed : Bool) (held : Option (List ℕ)) → BeginsAt h.hardware table
     → IsShowing from from untaught untaught table failed failed (watched arrivals h [] h) held held

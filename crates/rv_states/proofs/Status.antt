@@ -9,7 +9,8 @@ use Rattle.rv_stations.specs.declared.waiting.Operand.{Operand}
 use Rattle.rv_rob.specs.declared.entry.Entry.{Entry}
 use Rattle.rv_states.specs.Entries.{entries_json, entry_json}
 
-status_push : (status : RegisterStatus) (seq : ℕ) (older : List Entry) (e : Entry) → status_after status seq (older ++ e ∷ []) ≡ status_with (status_after status seq older) (seq + length older) e
+status_push : (status : RegisterStatus) (seq : ℕ) (older : List Entry) (e : Entry) →
+    status_after status seq (older ++ e ∷ []) ≡ status_with (status_after status seq older) (seq + length older) e
 status_push status seq [] e = ap (λ n. status_with status n e) (omega arith)
 status_push status seq (x ∷ older) e =
     status_push (status_with status seq x) (seq + 1) older e
@@ -17,7 +18,9 @@ status_push status seq (x ∷ older) e =
 
 -- what a register gives after one more instruction
 pub status_more : (status : RegisterStatus) (seq : ℕ) (es : List Entry) (place : ℕ) (e : Entry) (register : ℕ) → slice_get es place ≡ Some e
-    → status_after status seq (take (place + 1) es) register ≡ (if writes e register then operand_by (seq + place) (broadcast_of e.stage) else status_after status seq (take place es) register)
+    → status_after status seq (take (place + 1) es) register
+    ≡ (if writes e register then operand_by (seq + place) (broadcast_of e.stage)
+    else status_after status seq (take place es) register)
 status_more status seq es place e register is =
     let within = slice_get_within es place e is in
     let last = get_or_from_slice_get es place e e is in
@@ -44,12 +47,16 @@ so_many_entries status seq [] = refl
 so_many_entries status seq (x ∷ es) = ap suc (so_many_entries (status_with status seq x) (seq + 1) es)
 
 -- what a register gives after one more instruction, by what it gave before
-pub given_more : (status : RegisterStatus) (rob : ReorderBuffer) (number place : ℕ) (e : Entry) (register : ℕ) (before after : Operand) → number ≡ rob.retired + place → slice_get rob.entries place ≡ Some e
-    → before ≡ status_after status rob.retired (take place rob.entries) register → after ≡ (if writes e register then operand_by number (broadcast_of e.stage) else before)
+pub given_more : (status : RegisterStatus) (rob : ReorderBuffer) (number place : ℕ) (e : Entry) (register : ℕ)
+    (before after : Operand) → number ≡ rob.retired + place → slice_get rob.entries place ≡ Some e
+    → before ≡ status_after status rob.retired (take place rob.entries) register →
+    after ≡ (if writes e register then operand_by number (broadcast_of e.stage) else before)
     → after ≡ status_after status rob.retired (take (place + 1) rob.entries) register
 given_more status rob number place e register before after is found before_is after_is =
-    after_is ∙ (λ i. if writes e register then operand_by (is i) (broadcast_of e.stage) else before_is i) ∙ sym (status_more status rob.retired rob.entries place e register found)
+    after_is ∙ (λ i. if writes e register then operand_by (is i) (broadcast_of e.stage) else before_is i)
+    ∙ sym (status_more status rob.retired rob.entries place e register found)
 
 -- a place of the array is one of an entry
-pub within_entries : (status : RegisterStatus) (seq : ℕ) (es : List Entry) (place : ℕ) → place < length (entries_json status seq es) → place < length es
+pub within_entries : (status : RegisterStatus) (seq : ℕ) (es : List Entry) (place : ℕ) →
+    place < length (entries_json status seq es) → place < length es
 within_entries status seq es place within = omega (arith, within, so_many_entries status seq es)

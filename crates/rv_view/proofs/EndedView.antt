@@ -16,13 +16,17 @@ use Rattle.rv_passage.proofs.Walk.{walk-push}
 use Rattle.rv_view.specs.Viewing.{IsViewedRun, Saying, Seeing, cycle_shown, cycles_seen}
 
 -- a run that the view did not refuse to see ended for its reason
-pub ended_by : {V Refusal : Type 0} {has_seen : Seeing V} {text : Saying V} {arrivals : List Arrival} {limit : ℕ} {old new : GuidedHardware} {view view' : V} {table : Table} {progress : Progress}
-    {end : Result Stop Refusal} {was failed : Bool} {before now : Option (List ℕ)} (run : IsViewedRun has_seen text arrivals limit old new view view' table progress end was failed before now) (stop : Stop)
+pub ended_by : {V Refusal : Type 0} {has_seen : Seeing V} {text : Saying V} {arrivals : List Arrival} {limit : ℕ} {old
+    new : GuidedHardware} {view view' : V} {table : Table} {progress : Progress}
+    {end : Result Stop Refusal} {was failed : Bool} {before now : Option (List ℕ)}
+    (run : IsViewedRun has_seen text arrivals limit old new view view' table progress end was failed before
+    now) (stop : Stop)
     → end ≡ Ok stop → IsEndedRun arrivals limit old run.moments new stop
 ended_by {limit = limit} {new = new} run stop is =
     record { passes = run.passes; stops = subst (λ e. IsEnd limit (reports_of run.moments) new.hardware e) is run.ends }
 
 -- the walk has one cycle more
-pub cycles_seen-push : {cycle : ℕ} {steps : List Step} {after : Hardware} {progress : Progress} (seen : Watched) (shown : IsShown seen cycle steps after progress)
+pub cycles_seen-push : {cycle : ℕ} {steps : List Step} {after : Hardware} {progress : Progress} (seen : Watched)
+    (shown : IsShown seen cycle steps after progress)
     → cycles_seen (with_shown seen shown) ≡ cycles_seen seen ++ cycle_shown seen shown ∷ []
 cycles_seen-push {after = after} seen shown = walk-push still_open shown.passes (record { report = shown.report; after = after })

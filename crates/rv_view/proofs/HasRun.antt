@@ -6,6 +6,7 @@ use Rattle.rv_hardware.specs.History.{History, Moment, ended}
 use Rattle.rv_passage.proofs.EndedRun.{History-append}
 use Rattle.rv_view.specs.Run.{HasRun}
 
+-- no cycle has run from hardware to itself
 pub has_not_run : (arrivals : List Arrival) (h : GuidedHardware) → HasRun arrivals h h
 has_not_run arrivals h = ([], ended)
 

@@ -7,4 +7,5 @@ use Rattle.rv_causes.proofs.account_text.write_both.Goals as goal
 pub returns : goal.returns
 returns g c =
     says_both c.write_causes.ensures.said
-    (says_same (ap (λ (words : List WordCycles). lines_text c.args.listing.now c.args.cycles (most_words words)) c.as_slice.ensures.value) c.write_most.ensures)
+    (says_same (ap (λ (words : List WordCycles). lines_text c.args.listing.now c.args.cycles (most_words words))
+    c.as_slice.ensures.value) c.write_most.ensures)

@@ -6,4 +6,6 @@ use Rattle.rv_causes.specs.declared.point.Point.{Point}
 use Rattle.rv_causes.proofs.meeting.drop_point.Goals as goal
 
 pub returns-clause-items : goal.returns-clause-items
-returns-clause-items c = filter_same _ (λ (point : Point). not (is_point c.args.at.now point)) _ (λ x b f' k. search rules) _ _ c.retain.ensures.filtered
+returns-clause-items c =
+    filter_same _ (λ (point : Point). not (is_point c.args.at.now point)) _
+    (λ x b f' k. search rules) _ _ c.retain.ensures.filtered

@@ -9,7 +9,9 @@ loop-front-preserved c =
     record {
       within = omega arith;
       covers = λ point among.
-          meet-covers c.args.events.now front c.loop-front-test.true c.loop-front.invariant.within points c.pass.new.wanted.items point c.pass.ensures.items (c.loop-front.invariant.covers point among);
+          meet-covers c.args.events.now front c.loop-front-test.true c.loop-front.invariant.within points
+          c.pass.new.wanted.items point c.pass.ensures.items (c.loop-front.invariant.covers point among);
       come = λ root come.
-          meet-come c.args.events.now front c.loop-front-test.true c.loop-front.invariant.within points c.pass.new.wanted.items root c.pass.ensures.items (c.loop-front.invariant.come root come);
+          meet-come c.args.events.now front c.loop-front-test.true c.loop-front.invariant.within points
+          c.pass.new.wanted.items root c.pass.ensures.items (c.loop-front.invariant.come root come);
     }

@@ -23,4 +23,6 @@ returns-clause-items c =
     c.see_fetched.ensures.items
     ∙ ap (λ (es : List Event). es ++ fetched) (c.see_port.ensures.items ∙ ap (λ (es : List Event). es ++ port) c.push_interrupt_if.ensures.items)
     ∙ append_assoc (events ++ taken) port fetched ∙ append_assoc events taken (port ++ fetched)
-    ∙ (λ i. events ++ (interrupt_taken s (is i) ++ (port_event (held i) ++ new_fetched s ways (is i) leaving after (c.first_fetched-first.ensures i))))
+    ∙ (λ i. events
+    ++ (interrupt_taken s (is i)
+    ++ (port_event (held i) ++ new_fetched s ways (is i) leaving after (c.first_fetched-first.ensures i))))

@@ -16,7 +16,8 @@ returns-clause-command c =
 pub returns-clause-said : goal.returns-clause-said
 returns-clause-said c =
     let rows = taken_rows c.args.parser.now (map (λ w. w.bytes.items) c.args.words.now) c.in_ok-matches.matches c.requires.program c.in_ok-matches.ensures.ok.2 in
-    subst (λ (given : Option (Text × List Row)). IfErr c.in_ok-found.field-0 (λ refused. refused.line.bytes.items ≡ option_map_or said_of given [])) rows
+    subst (λ (given : Option (Text × List Row)). IfErr c.in_ok-found.field-0
+    (λ refused. refused.line.bytes.items ≡ option_map_or said_of given [])) rows
     c.in_ok-found.ensures.said
 
 pub returns-clause-kinds : goal.returns-clause-kinds

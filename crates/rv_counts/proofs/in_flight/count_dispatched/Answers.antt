@@ -7,6 +7,16 @@ pub returns : goal.returns
 returns c =
     let (old, young) = c.entries.result in
     record {
-      counted = counted_runs (λ (e : Entry). e.dispatched == c.args.cycle) old.now young.now c.args.buffer.now.entries _ _ c.entries.ensures c.count_dispatched_among.ensures.counted c.count_dispatched_among-2.ensures.counted;
-      few = omega (arith, ap length c.entries.ensures, length-append old.now young.now, c.count_dispatched_among.ensures.few, c.count_dispatched_among-2.ensures.few);
+      counted =
+          counted_runs (λ (e : Entry). e.dispatched == c.args.cycle) old.now young.now c.args.buffer.now.entries _ _
+          c.entries.ensures c.count_dispatched_among.ensures.counted c.count_dispatched_among-2.ensures.counted;
+      few =
+          omega (
+            arith,
+            ap length c.entries.ensures,
+            length-append old.now
+                young.now,
+            c.count_dispatched_among.ensures.few,
+            c.count_dispatched_among-2.ensures.few,
+          );
     }

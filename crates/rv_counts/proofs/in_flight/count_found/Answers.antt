@@ -12,8 +12,12 @@ returns c =
     let second = c.count_found_among-young.ensures in
     let all = c.args.buffer.now.entries in
     record {
-      dispatched = counted_runs (λ (e : Entry). e.dispatched == c.args.cycle) old.now young.now all _ _ c.entries.ensures first.dispatched second.dispatched;
-      serialising = counted_runs (λ (e : Entry). is_serialising e.instruction) old.now young.now all _ _ c.entries.ensures first.serialising second.serialising;
+      dispatched =
+          counted_runs (λ (e : Entry). e.dispatched == c.args.cycle) old.now young.now all _ _ c.entries.ensures
+          first.dispatched second.dispatched;
+      serialising =
+          counted_runs (λ (e : Entry). is_serialising e.instruction) old.now young.now all _ _ c.entries.ensures
+          first.serialising second.serialising;
       stationed = counted_runs (is_stationed c.args.kind) old.now young.now all _ _ c.entries.ensures first.stationed second.stationed;
       few = omega (arith, ap length c.entries.ensures, length-append old.now young.now, first.dispatched_few, second.dispatched_few);
     }

@@ -9,4 +9,6 @@ places_by-requires-clause-after c =
 
 pub returns : goal.returns
 returns c =
-    c.places_by.ensures ∙ (λ i. places_by (c.values-values.ensures i) c.args.cycle c.args.before c.args.steps.now (c.reorder_buffer-buffer.ensures i) (c.front.ensures i))
+    c.places_by.ensures
+    ∙ (λ i. places_by (c.values-values.ensures i) c.args.cycle c.args.before c.args.steps.now
+    (c.reorder_buffer-buffer.ensures i) (c.front.ensures i))

@@ -28,10 +28,13 @@ returns-in-Err-WriteFailed-clause-written g c =
 
 -- whatever was written
 pub returns-in_default-clause-one_explanation : goal.returns-in_default-clause-one_explanation
-returns-in_default-clause-one_explanation g c = one_explanation c.args.arrivals.now c.args.limit c.args.figures c.args.description.now _ c.args.listing.now
+returns-in_default-clause-one_explanation g c =
+    one_explanation c.args.arrivals.now c.args.limit c.args.figures c.args.description.now _ c.args.listing.now
 
 pub returns-in-Ok-written-clause-one_explanation : goal.returns-in-Ok-written-clause-one_explanation
-returns-in-Ok-written-clause-one_explanation g c = one_explanation c.args.arrivals.now c.args.limit c.args.figures c.args.description.now _ c.args.listing.now
+returns-in-Ok-written-clause-one_explanation g c =
+    one_explanation c.args.arrivals.now c.args.limit c.args.figures c.args.description.now _ c.args.listing.now
 
 pub returns-in-Err-WriteFailed-clause-one_explanation : goal.returns-in-Err-WriteFailed-clause-one_explanation
-returns-in-Err-WriteFailed-clause-one_explanation g c = one_explanation c.args.arrivals.now c.args.limit c.args.figures c.args.description.now _ c.args.listing.now
+returns-in-Err-WriteFailed-clause-one_explanation g c =
+    one_explanation c.args.arrivals.now c.args.limit c.args.figures c.args.description.now _ c.args.listing.now

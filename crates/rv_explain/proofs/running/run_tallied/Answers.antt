@@ -9,7 +9,8 @@ use Rattle.rv_explain.proofs.running.run_tallied.Goals as goal
 
 pub run_view-view-requires-clause-ready : goal.run_view-view-requires-clause-ready
 run_view-view-requires-clause-ready g c =
-    nothing_tallied c.args.description.now c.args.arrivals.now _ c.args.tally c.hardware.inside.registers.now c.drain_end-drain_end.result c.in_flight-in_flight.result c.requires.of_no_cycle
+    nothing_tallied c.args.description.now c.args.arrivals.now _ c.args.tally c.hardware.inside.registers.now
+    c.drain_end-drain_end.result c.in_flight-in_flight.result c.requires.of_no_cycle
     (ap (λ (h : Hardware). h.registers) (c.hardware.view_is ∙ c.shown-hardware.ensures))
     (c.drain_end-drain_end.ensures ∙ ap drain_end c.shown-hardware.ensures)
     (c.in_flight-in_flight.ensures.counted ∙ ap (λ (h : Hardware). length h.rob.entries) c.shown-hardware.ensures) c.in_flight-in_flight.ensures.few

@@ -13,4 +13,5 @@ returns-in-None g c =
 
 pub returns-in-Some : goal.returns-in-Some
 returns-in-Some g c =
-    says_same (ap (λ (end : List ℕ). codes ", predicted " ++ (word_text c.args.predicted ++ end)) (append-nil (correction_text c.args.correction))) c.put_correction.ensures
+    says_same (ap (λ (end : List ℕ). codes ", predicted " ++ (word_text c.args.predicted ++ end))
+    (append-nil (correction_text c.args.correction))) c.put_correction.ensures

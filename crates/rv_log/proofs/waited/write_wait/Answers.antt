@@ -13,4 +13,6 @@ returns g c =
     let words = c.awaited_words.result.now in
     let name = awaited_name wait.awaited in
     let cycles = ap (λ n. (before ++ (decimal n ++ words)) ++ name) c.cycles.ensures in
-    says_same (cycles ∙ wait-words before (decimal (cycles_of wait)) words name (awaited_text wait.awaited) c.awaited_words.ensures) (says_both c.write_cycles.ensures c.write_awaited_name.ensures)
+    says_same (cycles
+    ∙ wait-words before (decimal (cycles_of wait)) words name (awaited_text wait.awaited) c.awaited_words.ensures)
+    (says_both c.write_cycles.ensures c.write_awaited_name.ensures)

@@ -11,7 +11,8 @@ pub run_view-view-requires-clause-ready : goal.run_view-view-requires-clause-rea
 run_view-view-requires-clause-ready g c =
     let begun = c.in_ok-path.ensures in
     let rows_are : c.rows.result.now ≡ (table_at (g.S.Simulated.hardware c.args.pipeline.now)).rows = search rules in
-    pathing_nothing (g.S.Simulated.hardware c.args.pipeline.now) c.in_ok-path.path c.rows.result.now rows_are begun.ways begun.holds begun.before begun.window begun.passes
+    pathing_nothing (g.S.Simulated.hardware c.args.pipeline.now) c.in_ok-path.path c.rows.result.now rows_are begun.ways
+    begun.holds begun.before begun.window begun.passes
 
 pub returns-in_err-following-clause-run : goal.returns-in_err-following-clause-run
 returns-in_err-following-clause-run g c = on_err _ (has_not_run c.args.arrivals.now _)

@@ -23,4 +23,6 @@ returns-in_err-finish-clause-run g c = on_err _ (has_run c.run_view-view.ensures
 pub returns-clause-counted : goal.returns-clause-counted
 returns-clause-counted g c =
     let run = c.run_view-view.ensures in
-    counted_to_the_end run.viewed.sees run.viewed.kept c.args.description.now c.finish.new.self.words c.rows.result.now (ended_by run c.in_ok-stop.stop c.in_ok-stop.was) c.rows.ensures c.new.ensures.costs c.in_ok-finish.ensures.words
+    counted_to_the_end run.viewed.sees run.viewed.kept c.args.description.now c.finish.new.self.words c.rows.result.now
+    (ended_by run c.in_ok-stop.stop c.in_ok-stop.was) c.rows.ensures c.new.ensures.costs
+    c.in_ok-finish.ensures.words

@@ -9,4 +9,5 @@ pub returns : goal.returns
 returns g c =
     let job = c.args.job.now in
     of_own_run job (IsPathAccount job.arrivals c.args.limit) c.account_path.result _ c.in-Ok.ensures.made
-    (ap (λ lent. (goal.Predictor-dyn g lent).known lent.1) c.deref_box_mut-1.ensures.value.1 ∙ c.requires.described ∙ ap untaught_of c.requires.own) c.account_path.ensures.accounted
+    (ap (λ lent. (goal.Predictor-dyn g lent).known lent.1) c.deref_box_mut-1.ensures.value.1 ∙ c.requires.described
+    ∙ ap untaught_of c.requires.own) c.account_path.ensures.accounted

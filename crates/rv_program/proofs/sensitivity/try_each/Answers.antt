@@ -10,8 +10,10 @@ loop-neighbour-init c =
 
 pub loop-neighbour-preserved : goal.loop-neighbour-preserved
 loop-neighbour-preserved c =
-    subst (AllZip (IsTried c.args.options.now c.args.job.now) (take (c.loop-neighbour.neighbour-index + 1) c.args.neighbours.now)) (sym c.in-Ok-push.ensures.items)
-    (tried_more c.args.options.now c.args.job.now c.args.neighbours.now c.loop-neighbour.neighbour-index (omega arith) c.loop-neighbour.runs.items c.loop-neighbour.invariant
+    subst (AllZip (IsTried c.args.options.now c.args.job.now)
+    (take (c.loop-neighbour.neighbour-index + 1) c.args.neighbours.now)) (sym c.in-Ok-push.ensures.items)
+    (tried_more c.args.options.now c.args.job.now c.args.neighbours.now c.loop-neighbour.neighbour-index
+    (omega arith) c.loop-neighbour.runs.items c.loop-neighbour.invariant
     c.neighbour-item.result c.neighbour-item.is c.in-Ok.ended c.in-Ok.ensures.run)
 
 pub returns-clause-runs : goal.returns-clause-runs

@@ -18,7 +18,8 @@ returns-in_err-write_run-clause-report g c =
     let after = g.W.Write.contents c.write_run.new.writer in
     let ended = answered_on (IsSimulation c.args.job.now _ c.args.options.now) _ _ before after c.from_residual-in_err-write_run.ensures.1 (stop, text, report, written) in
     -- the box is lent
-    subst (λ lent. IsAnswer (IsSimulation c.args.job.now ((goal.Predictor-dyn g lent).known lent.1) c.args.options.now) c.from_residual-in_err-write_run.result before after) c.deref_box_mut-1.ensures.value.1 ended
+    subst (λ lent. IsAnswer (IsSimulation c.args.job.now ((goal.Predictor-dyn g lent).known lent.1) c.args.options.now)
+    c.from_residual-in_err-write_run.result before after) c.deref_box_mut-1.ensures.value.1 ended
 
 pub returns-clause-report : goal.returns-clause-report
 returns-clause-report g c =
@@ -27,7 +28,10 @@ returns-clause-report g c =
     let before = g.W.Write.contents c.args.writer.now in
     let after = g.W.Write.contents c.write_run.new.writer in
     -- the box is lent
-    subst (λ lent. (text : List ℕ) × IsSimulation c.args.job.now ((goal.Predictor-dyn g lent).known lent.1) c.args.options.now c.in_ok-write_run.field-0 text × Appends before after text) c.deref_box_mut-1.ensures.value.1 (text, report, written)
+    subst (λ lent. (text : List ℕ)
+    × IsSimulation c.args.job.now ((goal.Predictor-dyn g lent).known lent.1) c.args.options.now
+    c.in_ok-write_run.field-0 text × Appends before after text) c.deref_box_mut-1.ensures.value.1
+    (text, report, written)
 
 -- whatever was written
 pub returns-in_err-write_run-clause-one_report : goal.returns-in_err-write_run-clause-one_report

@@ -10,7 +10,8 @@ abbrev pub invariant-loop-rest : goal.invariant-loop-rest
 invariant-loop-rest l = record {
   counted : l.count + 1 ≤ l.number;
   numbered : IfSome l.rest (λ rest. l.number + length rest.now ≤ length l.text + 1);
-  first : first_from (sought_on l.sought) 1 0 (slice_split (λ byte. byte == 10) l.text) ≡ first_from (sought_on l.sought) l.number l.count (lines_left l.rest);
+  first : first_from (sought_on l.sought) 1 0 (slice_split (λ byte. byte == 10) l.text)
+      ≡ first_from (sought_on l.sought) l.number l.count (lines_left l.rest);
 }
 
 abbrev pub decreases-loop-rest : goal.decreases-loop-rest

@@ -17,8 +17,13 @@ loop-rest-preserved c =
     record {
       numbered = grind (arith, common_steps);
       few = let one = faulty_by_few number fault in omega (arith, c.in_ok-add_line.ensures.count, c.loop-rest.invariant.few);
-      shown = rw (c.in_ok-add_line.ensures.shown, c.in_ok-add_line.ensures.count) (shown_next number count line (lines_left c.loop-rest.rest) behind lines _ _ c.loop-rest.invariant.shown);
-      counted = rw c.in_ok-add_line.ensures.count (counted_next number count line (lines_left c.loop-rest.rest) behind lines _ c.loop-rest.invariant.counted);
+      shown =
+          rw (c.in_ok-add_line.ensures.shown, c.in_ok-add_line.ensures.count)
+          (shown_next number count line (lines_left c.loop-rest.rest) behind lines _ _ c.loop-rest.invariant.shown);
+      counted =
+          rw c.in_ok-add_line.ensures.count
+          (counted_next number count line (lines_left c.loop-rest.rest) behind lines _
+          c.loop-rest.invariant.counted);
     }
 
 pub loop-rest-init : goal.loop-rest-init

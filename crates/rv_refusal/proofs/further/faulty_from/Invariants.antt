@@ -10,8 +10,10 @@ abbrev pub invariant-loop-rest : goal.invariant-loop-rest
 invariant-loop-rest l = record {
   numbered : IfSome l.rest (λ text. l.number + length text.now ≤ 2 ^ 63);
   few : l.faults.count ≤ l.number;
-  shown : take 20 (faulty_from l.fn.number (slice_split (λ byte. byte == 10) l.fn.text)) ≡ l.faults.shown.items ++ take (20 - l.faults.count) (faulty_from l.number (lines_left l.rest));
-  counted : length (faulty_from l.fn.number (slice_split (λ byte. byte == 10) l.fn.text)) ≡ l.faults.count + length (faulty_from l.number (lines_left l.rest));
+  shown : take 20 (faulty_from l.fn.number (slice_split (λ byte. byte == 10) l.fn.text))
+      ≡ l.faults.shown.items ++ take (20 - l.faults.count) (faulty_from l.number (lines_left l.rest));
+  counted : length (faulty_from l.fn.number (slice_split (λ byte. byte == 10) l.fn.text))
+      ≡ l.faults.count + length (faulty_from l.number (lines_left l.rest));
 }
 
 abbrev pub decreases-loop-rest : goal.decreases-loop-rest

@@ -9,7 +9,8 @@ use Rattle.rv_refusal.proofs.key_line.first_line_named.Given as goal
 abbrev pub invariant-loop-rest : goal.invariant-loop-rest
 invariant-loop-rest l = record {
   numbered : IfSome l.rest (λ rest. l.number + length rest.now ≤ length l.text + 1);
-  first : first_from (is_wanted l.wanted) 1 None (slice_split (λ byte. byte == 10) l.text) ≡ first_from (is_wanted l.wanted) l.number (option_copied l.table) (lines_left l.rest);
+  first : first_from (is_wanted l.wanted) 1 None (slice_split (λ byte. byte == 10) l.text)
+      ≡ first_from (is_wanted l.wanted) l.number (option_copied l.table) (lines_left l.rest);
 }
 
 abbrev pub decreases-loop-rest : goal.decreases-loop-rest

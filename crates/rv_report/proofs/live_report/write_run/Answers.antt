@@ -10,7 +10,9 @@ returns-then-has_failed-clause-report g c =
       c.run_to_end-run.result.totals.stop,
       _,
       traced_report traced,
-      said_in_part _ _ c.if-has_failed.true traced.trace (says_extends c.after-out.ensures.failed c.after-out.ensures.known c.has_failed.ensures (search rules) (rw c.shown.ensures at c.say_totals.ensures)),
+      said_in_part _ _ c.if-has_failed.true traced.trace
+          (says_extends c.after-out.ensures.failed c.after-out.ensures.known c.has_failed.ensures (search rules)
+          (rw c.shown.ensures at c.say_totals.ensures)),
     )
 
 pub returns-clause-report : goal.returns-clause-report
@@ -18,7 +20,9 @@ returns-clause-report g c =
     let traced = c.run_to_end-run.ensures in (
       _,
       traced_report traced,
-      said_to_the_end _ _ c.if-has_failed.false traced.trace (says_extends c.after-out.ensures.failed c.after-out.ensures.known c.has_failed.ensures (search rules) (rw c.shown.ensures at c.say_totals.ensures)),
+      said_to_the_end _ _ c.if-has_failed.false traced.trace
+          (says_extends c.after-out.ensures.failed c.after-out.ensures.known c.has_failed.ensures (search rules)
+          (rw c.shown.ensures at c.say_totals.ensures)),
     )
 
 pub returns-then-has_failed-clause-learned : goal.returns-then-has_failed-clause-learned

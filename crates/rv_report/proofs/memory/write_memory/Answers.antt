@@ -21,4 +21,6 @@ pub returns : goal.returns
 unfolding texts_below seen_memory_lines
 returns g c =
     let all : c.loop-number.number ≡ c.args.words = omega arith in
-    says_same (ap (texts_below (line_in (layout_of c.args.hardware.now.values) (seen c.args.hardware.now).ram c.args.address)) all) c.loop-number.invariant
+    says_same (ap
+    (texts_below (line_in (layout_of c.args.hardware.now.values) (seen c.args.hardware.now).ram c.args.address))
+    all) c.loop-number.invariant

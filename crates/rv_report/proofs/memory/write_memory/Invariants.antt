@@ -6,4 +6,6 @@ use Rattle.rv_report.proofs.memory.write_memory.Given as goal
 
 -- the words so far are written
 abbrev pub invariant-loop-number : goal.invariant-loop-number
-invariant-loop-number g l = Says g.W.Write.contents l.initial.out l.out (texts_below (line_in (layout_of l.hardware.values) (seen l.hardware).ram l.address) l.number)
+invariant-loop-number g l =
+    Says g.W.Write.contents l.initial.out l.out
+    (texts_below (line_in (layout_of l.hardware.values) (seen l.hardware).ram l.address) l.number)

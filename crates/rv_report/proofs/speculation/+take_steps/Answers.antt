@@ -33,23 +33,29 @@ left_with steps rest step before middle after steps_are middle_is after_is =
 
 pub returns-then-is_wrong-clause-wrong : goal.returns-then-is_wrong-clause-wrong
 returns-then-is_wrong-clause-wrong t c =
-    wrong_with c.args.steps.now _ c.step-item.result c.args.next c.first_pc.result c.take_steps-others.result true c.args.predictions.now.items c.take_step-is_wrong.new.predictions.items
-    (apart c.args.steps.now c.step-item.result c.in-len1-up.len_at_least c.step-item.is) c.first_pc.ensures (sym c.if-is_wrong.true ∙ c.take_step-is_wrong.ensures.wrong)
+    wrong_with c.args.steps.now _ c.step-item.result c.args.next c.first_pc.result c.take_steps-others.result true
+    c.args.predictions.now.items c.take_step-is_wrong.new.predictions.items
+    (apart c.args.steps.now c.step-item.result c.in-len1-up.len_at_least c.step-item.is) c.first_pc.ensures
+    (sym c.if-is_wrong.true ∙ c.take_step-is_wrong.ensures.wrong)
     (ap (λ (ring : Buffer (Option ℕ)). ring.items) c.take_step-is_wrong.ensures.left) c.take_steps-others.ensures.wrong
 
 pub returns-then-is_wrong-clause-left : goal.returns-then-is_wrong-clause-left
 returns-then-is_wrong-clause-left t c =
     left_with c.args.steps.now _ c.step-item.result c.args.predictions.now c.take_step-is_wrong.new.predictions c.take_steps-others.new.predictions
-    (apart c.args.steps.now c.step-item.result c.in-len1-up.len_at_least c.step-item.is) c.take_step-is_wrong.ensures.left c.take_steps-others.ensures.left
+    (apart c.args.steps.now c.step-item.result c.in-len1-up.len_at_least c.step-item.is)
+    c.take_step-is_wrong.ensures.left c.take_steps-others.ensures.left
 
 pub returns-else-is_wrong-clause-wrong : goal.returns-else-is_wrong-clause-wrong
 returns-else-is_wrong-clause-wrong t c =
     none_more c.take_steps-others.result
-    ∙ wrong_with c.args.steps.now _ c.step-item.result c.args.next c.first_pc.result c.take_steps-others.result false c.args.predictions.now.items c.take_step-is_wrong.new.predictions.items
-    (apart c.args.steps.now c.step-item.result c.in-len1-up.len_at_least c.step-item.is) c.first_pc.ensures (sym c.if-is_wrong.false ∙ c.take_step-is_wrong.ensures.wrong)
+    ∙ wrong_with c.args.steps.now _ c.step-item.result c.args.next c.first_pc.result c.take_steps-others.result false
+    c.args.predictions.now.items c.take_step-is_wrong.new.predictions.items
+    (apart c.args.steps.now c.step-item.result c.in-len1-up.len_at_least c.step-item.is) c.first_pc.ensures
+    (sym c.if-is_wrong.false ∙ c.take_step-is_wrong.ensures.wrong)
     (ap (λ (ring : Buffer (Option ℕ)). ring.items) c.take_step-is_wrong.ensures.left) c.take_steps-others.ensures.wrong
 
 pub returns-else-is_wrong-clause-left : goal.returns-else-is_wrong-clause-left
 returns-else-is_wrong-clause-left t c =
     left_with c.args.steps.now _ c.step-item.result c.args.predictions.now c.take_step-is_wrong.new.predictions c.take_steps-others.new.predictions
-    (apart c.args.steps.now c.step-item.result c.in-len1-up.len_at_least c.step-item.is) c.take_step-is_wrong.ensures.left c.take_steps-others.ensures.left
+    (apart c.args.steps.now c.step-item.result c.in-len1-up.len_at_least c.step-item.is)
+    c.take_step-is_wrong.ensures.left c.take_steps-others.ensures.left

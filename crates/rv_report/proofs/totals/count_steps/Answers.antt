@@ -28,7 +28,9 @@ count-requires-clause-interrupts c =
     omega (arith, few, c.loop-step-test.true)
 
 -- a count goes on by the next step
-counted_more : (p : Step → Bool) (steps : List Step) (place : ℕ) (step other : Step) (old new : ℕ) → place < length steps → step ≡ get_or steps place other → old ≡ count_by p (take place steps) → new ≡ old + (if p step then 1 else 0) → new ≡ count_by p (take (place + 1) steps)
+counted_more : (p : Step → Bool) (steps : List Step) (place : ℕ) (step other : Step) (old new : ℕ) →
+    place < length steps → step ≡ get_or steps place other → old ≡ count_by p (take place steps) →
+    new ≡ old + (if p step then 1 else 0) → new ≡ count_by p (take (place + 1) steps)
 counted_more p steps place step other old new here is before more =
     more ∙ (λ i. before i + (if p (is i) then 1 else 0)) ∙ sym (count_by-more p steps place other here)
 

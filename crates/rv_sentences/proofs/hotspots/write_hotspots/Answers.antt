@@ -8,4 +8,6 @@ pub returns : goal.returns
 unfolding hotspots_text
 returns g c =
     says_both c.put.ensures
-    (says_both (says_same (ap (flat_map (hotspot_text c.args.listing.now c.args.all c.args.outcomes.now c.args.stores.now)) (c.as_slice.ensures.value ∙ c.greatest_lines-hotspots.ensures)) c.write_each.ensures) c.write_idle.ensures)
+    (says_both (says_same
+    (ap (flat_map (hotspot_text c.args.listing.now c.args.all c.args.outcomes.now c.args.stores.now))
+    (c.as_slice.ensures.value ∙ c.greatest_lines-hotspots.ensures)) c.write_each.ensures) c.write_idle.ensures)

@@ -6,4 +6,6 @@ use Rattle.rv_sentences.proofs.worst.write_each.Given as goal
 
 -- the lines so far are written
 abbrev pub invariant-loop-counted_line : goal.invariant-loop-counted_line
-invariant-loop-counted_line g l = Says g.W.Write.contents l.initial.out l.out (flat_map (worst_line l.listing l.branches) (take l.counted_line-index l.worst))
+invariant-loop-counted_line g l =
+    Says g.W.Write.contents l.initial.out l.out
+    (flat_map (worst_line l.listing l.branches) (take l.counted_line-index l.worst))

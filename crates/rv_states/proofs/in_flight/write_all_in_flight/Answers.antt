@@ -11,7 +11,8 @@ pub loop-row-preserved : goal.loop-row-preserved
 loop-row-preserved g c =
     let here : c.loop-row.row-index < length c.args.rows.now = omega arith in
     let more = c.write_if_in_flight-written.ensures in
-    given_on json_in_flight c.args.rows.now here c.loop-row.invariant _ (given_at json_in_flight c.args.rows.now _ c.row-item.result here c.row-item.is) more.said more.count more.few
+    given_on json_in_flight c.args.rows.now here c.loop-row.invariant _
+    (given_at json_in_flight c.args.rows.now _ c.row-item.result here c.row-item.is) more.said more.count more.few
 
 pub returns : goal.returns
 returns g c = given_all json_in_flight c.args.rows.now (omega arith) c.loop-row.invariant

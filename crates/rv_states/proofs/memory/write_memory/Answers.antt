@@ -12,7 +12,8 @@ loop-number-init g c = says_nothing _
 pub loop-number-preserved : goal.loop-number-preserved
 loop-number-preserved g c =
     let line = says_same (ap (memory_line c.args.hardware.now) c.word_address.ensures) c.write_memory_line.ensures in
-    says_below (λ number. memory_line c.args.hardware.now (word_address c.values-values.result.now.ram_base number)) c.loop-number.number c.loop-number.invariant line
+    says_below (λ number. memory_line c.args.hardware.now (word_address c.values-values.result.now.ram_base number))
+    c.loop-number.number c.loop-number.invariant line
 
 pub returns : goal.returns
 unfolding texts_below memory_lines

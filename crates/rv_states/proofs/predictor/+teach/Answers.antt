@@ -7,7 +7,8 @@ use Rattle.rv_hardware.specs.declared.step.Step.{Step}
 use Rattle.rv_states.specs.Predictor.{after_lessons}
 use Rattle.rv_states.proofs.predictor.+teach.Goals as goal
 
-after-both : (predictor : DescribedPredictor) (xs ys : List Lesson) → after_lessons predictor (xs ++ ys) ≡ after_lessons (after_lessons predictor xs) ys
+after-both : (predictor : DescribedPredictor) (xs ys : List Lesson) →
+    after_lessons predictor (xs ++ ys) ≡ after_lessons (after_lessons predictor xs) ys
 after-both predictor [] ys = refl
 after-both predictor (x ∷ xs) ys = after-both (after_lessons predictor (x ∷ [])) xs ys
 
@@ -28,5 +29,6 @@ taught_on steps rest step next first before middle after steps_are first_is midd
 
 pub returns-in-len1-up : goal.returns-in-len1-up
 returns-in-len1-up t c =
-    taught_on c.args.steps.now _ c.step-item.result c.args.next c.first_pc.result c.args.predictor.now c.teach_step.new.predictor c.teach.new.predictor
+    taught_on c.args.steps.now _ c.step-item.result c.args.next c.first_pc.result c.args.predictor.now
+    c.teach_step.new.predictor c.teach.new.predictor
     (apart c.args.steps.now c.step-item.result c.in-len1-up.len_at_least c.step-item.is) c.first_pc.ensures c.teach_step.ensures c.teach.ensures

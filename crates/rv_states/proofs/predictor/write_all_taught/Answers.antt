@@ -11,7 +11,9 @@ pub loop-step-preserved : goal.loop-step-preserved
 loop-step-preserved g c =
     let here : c.loop-step.step-index < length c.args.steps.now = omega arith in
     let more = c.write_taught-written.ensures in
-    given_on (place_taught c.args.tables.now) c.args.steps.now here c.loop-step.invariant _ (given_at (place_taught c.args.tables.now) c.args.steps.now _ c.step-item.result here c.step-item.is) more.said more.count more.few
+    given_on (place_taught c.args.tables.now) c.args.steps.now here c.loop-step.invariant _
+    (given_at (place_taught c.args.tables.now) c.args.steps.now _ c.step-item.result here c.step-item.is) more.said
+    more.count more.few
 
 pub returns : goal.returns
 returns g c = given_all (place_taught c.args.tables.now) c.args.steps.now (omega arith) c.loop-step.invariant

@@ -8,7 +8,8 @@ use Rattle.rv_states.proofs.predictor.write_asked_at.Goals as goal
 pub returns-in-Some-clause-said : goal.returns-in-Some-clause-said
 returns-in-Some-clause-said g c =
     let values = asked_in c.args.predictor.now c.args.cycle in
-    says_same (ap (values_from c.args.written) (found_given values c.args.front.now.entries _ _ (sym c.in-Some.ensures))) c.write_asked_of.ensures.said
+    says_same (ap (values_from c.args.written)
+    (found_given values c.args.front.now.entries _ _ (sym c.in-Some.ensures))) c.write_asked_of.ensures.said
 
 pub returns-in-Some-clause-count : goal.returns-in-Some-clause-count
 returns-in-Some-clause-count g c =

@@ -16,4 +16,5 @@ follow_numbers-requires c = record {
 pub returns : goal.returns
 returns c =
     subst (λ h. IsNumberedOn c.args.cycle c.args.steps.now h c.args.table.now c.follow_numbers.new.self) c.hardware.view_is
-    (numbered_on (hardware_shown c.hardware.inside) c.args.cycle c.args.steps.now c.args.table.now c.follow_numbers.new.self c.follow_numbers.ensures.followed)
+    (numbered_on (hardware_shown c.hardware.inside) c.args.cycle c.args.steps.now c.args.table.now
+    c.follow_numbers.new.self c.follow_numbers.ensures.followed)

@@ -8,5 +8,7 @@ invariant_of-self c =
     let reason = c.args.event.now.reason in
     record {
       adds_up = c.add_cycles.ensures.sum ∙ ap (λ n. n + more) c.args.self.now.adds_up;
-      within = within-made reason.address c.args.self.now.cycles more reason.cause c.args.self.now.words.words.items c.add_word.new.words.words.items c.add_word.ensures.words c.args.self.now.within;
+      within =
+          within-made reason.address c.args.self.now.cycles more reason.cause c.args.self.now.words.words.items
+          c.add_word.new.words.words.items c.add_word.ensures.words c.args.self.now.within;
     }

@@ -21,7 +21,14 @@ returns-clause-known c events =
     let seen = c.see_shown.new.seen in
     let items =
     with_items_is path.ways c.see_shown.new.ways
-    (omega (arith, c.see_shown.auto.ways, c.as_mut_slice.ensures.len, path.ways.ok.0, ap (λ (ws : List Way). length ws) c.as_mut_slice.ensures.value)) in
+    (omega (
+      arith,
+      c.see_shown.auto.ways,
+      c.as_mut_slice.ensures.len,
+      path.ways.ok.0,
+      ap
+          (λ (ws : List Way). length ws) c.as_mut_slice.ensures.value,
+    )) in
     let Is = λ (holds : List UnitHold) (ways : List Way). IsSeen (setting_by cycle holds before) steps after (drop path.dropped ways) now seen in
     let is =
     subst (λ (holds : List UnitHold). Is holds path.ways.items) c.as_slice.ensures.value
@@ -42,7 +49,8 @@ returns-clause-made c =
     let before = path.before in
     let old = path.window.events.items in (
       ap (λ (window : Window). window.events.items) c.take.ensures.window ∙ c.see_shown.ensures.items
-          ∙ (λ i. old ++ made_in (setting_by cycle (c.as_slice.ensures.value i) before) (drop path.dropped (c.as_mut_slice.ensures.value i)) cycle.steps cycle.after),
+          ∙ (λ i. old ++ made_in (setting_by cycle (c.as_slice.ensures.value i) before)
+          (drop path.dropped (c.as_mut_slice.ensures.value i)) cycle.steps cycle.after),
       ap (λ (window : Window). window.root) c.take.ensures.window,
       ap (λ (window : Window). window.account) c.take.ensures.window,
     )

@@ -16,7 +16,9 @@ returns-clause-known c events =
     ended.ways
     ∙ (λ i. still_in_flight rows (drop (put.others.1 i) (put.others.0 i).items))
     ∙ ap (still_in_flight rows) fetched.ways
-    ∙ (λ i. still_in_flight rows (drop (held.others.1 i) (held.others.0 i).items ++ ways_by (held.others.6 i).fetch (length rows - length (drop (held.others.1 i) (held.others.0 i).items)))) in
+    ∙ (λ i. still_in_flight rows
+    (drop (held.others.1 i) (held.others.0 i).items
+    ++ ways_by (held.others.6 i).fetch (length rows - length (drop (held.others.1 i) (held.others.0 i).items)))) in
     let holds = (λ i. (ended.others.0 i).items) ∙ (λ i. (put.others.3 i).items) ∙ (λ i. (fetched.others.0 i).items) ∙ held.holds in
     let before =
     ended.others.1 ∙ put.before ∙ (λ i. before_with number steps (fetched.others.5 i) (fetched.others.2 i))

@@ -8,4 +8,6 @@ add_path-requires c = record {
 
 pub returns-clause-room : goal.returns-clause-room
 returns-clause-room c =
-    c.add_path.ensures.room 1 (c.begin_at.ensures.room (length c.walk-beyond.new.path.items + 1) (omega (arith, c.in_ok-reserve-2.ensures.room, c.len.ensures)))
+    c.add_path.ensures.room 1
+    (c.begin_at.ensures.room (length c.walk-beyond.new.path.items + 1)
+    (omega (arith, c.in_ok-reserve-2.ensures.room, c.len.ensures)))

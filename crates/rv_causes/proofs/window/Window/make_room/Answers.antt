@@ -14,7 +14,8 @@ returns-clause-window c = λ pass all is.
       | then-len-le1+in_ok-move_root w ↦
           let root = w.only.ensures ∙ ap (λ (points : List Point). slice_get points 0) w.as_slice-then-len-le1.ensures.value in
           subst (λ (window : Window). IsWindow window all) (sym w.self-is)
-          (window_met old w.move_root.new.self c.as_slice.result.now c.meet-place.result w.only.result c.meet-place.new.wanted.items c.args.live.now.items c.as_slice.ensures.value root
+          (window_met old w.move_root.new.self c.as_slice.result.now c.meet-place.result w.only.result
+          c.meet-place.new.wanted.items c.args.live.now.items c.as_slice.ensures.value root
           w.in_ok-move_root.ensures.moved all c.meet-place.ensures.come pass is)
       | else-len-le1 w ↦ subst (λ (window : Window). IsWindow window all) (sym w.self-is) is
     ])
@@ -28,7 +29,8 @@ returns-clause-pass c = λ pass.
           let root = w.only.ensures ∙ ap (λ (points : List Point). slice_get points 0) w.as_slice-then-len-le1.ensures.value in
           let few : length c.meet-place.new.wanted.items ≤ 1 = omega (arith, c.len.ensures, w.if-len-le1.true) in
           subst (λ (window : Window). AllPass window c.args.live.now.items) (sym w.self-is)
-          (pass_met old w.move_root.new.self c.as_slice.result.now c.meet-place.result w.only.result c.meet-place.new.wanted.items c.args.live.now.items c.as_slice.ensures.value root
+          (pass_met old w.move_root.new.self c.as_slice.result.now c.meet-place.result w.only.result
+          c.meet-place.new.wanted.items c.args.live.now.items c.as_slice.ensures.value root
           w.in_ok-move_root.ensures.moved few c.meet-place.ensures.covers)
       | else-len-le1 w ↦ subst (λ (window : Window). AllPass window c.args.live.now.items) (sym w.self-is) pass
     ])

@@ -19,15 +19,23 @@ add-requires-clause-fits c =
 
 pub returns-clause-words : goal.returns-clause-words
 returns-clause-words c =
-    (λ i. set c.place_of-place.new.self.words.items c.place_of-place.result ((c.add.ensures ∙ ap (with_more c.args.cause c.args.cycles) c.index_mut.ensures.value) i))
+    (λ i. set c.place_of-place.new.self.words.items c.place_of-place.result
+    ((c.add.ensures ∙ ap (with_more c.args.cause c.args.cycles) c.index_mut.ensures.value) i))
     ∙ sym (c.place_of-place.ensures.changes (with_more c.args.cause c.args.cycles) c.index_mut.result.now)
 
 pub returns-clause-few : goal.returns-clause-few
-returns-clause-few c = omega (arith, ap length (returns-clause-words c), length-change c.args.address (with_more c.args.cause c.args.cycles) c.args.self.now.words.items)
+returns-clause-few c =
+    omega (
+      arith,
+      ap length (returns-clause-words c),
+      length-change c.args.address
+          (with_more c.args.cause c.args.cycles) c.args.self.now.words.items,
+    )
 
 pub invariant_of-self : goal.invariant_of-self
 invariant_of-self c = record {
   order = in_order-made c.args.address (with_more c.args.cause c.args.cycles) (λ w. refl) c.args.self.now.words.items _ c.place_of-place.ensures.order
-      ((λ i. set c.place_of-place.new.self.words.items c.place_of-place.result ((c.add.ensures ∙ ap (with_more c.args.cause c.args.cycles) c.index_mut.ensures.value) i))
+      ((λ i. set c.place_of-place.new.self.words.items c.place_of-place.result
+      ((c.add.ensures ∙ ap (with_more c.args.cause c.args.cycles) c.index_mut.ensures.value) i))
       ∙ sym (c.place_of-place.ensures.changes (with_more c.args.cause c.args.cycles) c.index_mut.result.now));
 }

@@ -7,8 +7,11 @@ use Rattle.rv_causes.proofs.word_cycles.Words.cycles_at.Goals as goal
 pub returns-in-Ok : goal.returns-in-Ok
 returns-in-Ok c =
     ap (λ (w : WordCycles). w.cycles) c.index.ensures ∙
-    cycles-there c.args.address c.args.self.now.words.items c.in-Ok.place (subst (IsPlaceOf c.args.address c.in-Ok.place) c.as_slice.ensures.value c.in-Ok.ensures.found) c.index.result.now
+    cycles-there c.args.address c.args.self.now.words.items c.in-Ok.place
+    (subst (IsPlaceOf c.args.address c.in-Ok.place) c.as_slice.ensures.value c.in-Ok.ensures.found)
+    c.index.result.now
 
 pub returns-in-Err : goal.returns-in-Err
 returns-in-Err c =
-    cycles-none c.args.address c.args.self.now.words.items c.in-Err.field-0 (subst (IsPlaceFor c.args.address c.in-Err.field-0) c.as_slice.ensures.value c.in-Err.ensures.absent)
+    cycles-none c.args.address c.args.self.now.words.items c.in-Err.field-0
+    (subst (IsPlaceFor c.args.address c.in-Err.field-0) c.as_slice.ensures.value c.in-Err.ensures.absent)

@@ -20,7 +20,8 @@ returns-clause-words c =
     let here = rw inside at c.index_mut.ensures.value in
     let costs : c.self.inside.costs ≡ c.args.self.now.costs = ap (λ (p : Profiled). p.costs) c.self.view_is ∙ c.place_of-place.ensures.costs in
     let now = c.add.ensures ∙ (λ i. added (costs i) c.args.passage.now (here i)) in
-    (λ i. set (inside i) c.place_of-place.result (now i)) ∙ sym (c.place_of-place.ensures.changes (added c.args.self.now.costs c.args.passage.now) c.index_mut.result.now)
+    (λ i. set (inside i) c.place_of-place.result (now i))
+    ∙ sym (c.place_of-place.ensures.changes (added c.args.self.now.costs c.args.passage.now) c.index_mut.result.now)
 
 pub invariant_of-self : goal.invariant_of-self
 invariant_of-self c =
@@ -28,5 +29,8 @@ invariant_of-self c =
     let here = rw inside at c.index_mut.ensures.value in
     let costs : c.self.inside.costs ≡ c.args.self.now.costs = ap (λ (p : Profiled). p.costs) c.self.view_is ∙ c.place_of-place.ensures.costs in
     let now = c.add.ensures ∙ (λ i. added (costs i) c.args.passage.now (here i)) in
-    in_order-made c.args.passage.now.pc (added c.args.self.now.costs c.args.passage.now) (added-address c.args.self.now.costs c.args.passage.now) c.args.self.now.words _ c.place_of-place.ensures.order
-    ((λ i. set (inside i) c.place_of-place.result (now i)) ∙ sym (c.place_of-place.ensures.changes (added c.args.self.now.costs c.args.passage.now) c.index_mut.result.now))
+    in_order-made c.args.passage.now.pc (added c.args.self.now.costs c.args.passage.now)
+    (added-address c.args.self.now.costs c.args.passage.now) c.args.self.now.words _ c.place_of-place.ensures.order
+    ((λ i. set (inside i) c.place_of-place.result (now i))
+    ∙ sym (c.place_of-place.ensures.changes (added c.args.self.now.costs c.args.passage.now)
+    c.index_mut.result.now))

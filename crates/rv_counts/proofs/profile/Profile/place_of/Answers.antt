@@ -22,14 +22,16 @@ returns-in-Err-clause-words c =
     let inside = ap (λ (p : Profiled). p.words) c.self.view_is in
     let same : c.as_slice.result.now ≡ c.args.self.now.words = c.as_slice.ensures.value ∙ inside in
     let made : c.begin_at.new.words.items ≡ insert c.args.self.now.words c.in-Err.place (nothing_at c.args.address) = c.begin_at.ensures.items ∙ ap (λ words. insert words c.in-Err.place (nothing_at c.args.address)) inside in
-    made ∙ begun-new c.args.address c.args.self.now.words c.in-Err.place (subst (IsPlaceFor c.args.address c.in-Err.place) same c.in-Err.ensures.absent)
+    made ∙ begun-new c.args.address c.args.self.now.words c.in-Err.place
+    (subst (IsPlaceFor c.args.address c.in-Err.place) same c.in-Err.ensures.absent)
 
 pub returns-in-Err-clause-changes : goal.returns-in-Err-clause-changes
 returns-in-Err-clause-changes c =
     let inside = ap (λ (p : Profiled). p.words) c.self.view_is in
     let same : c.as_slice.result.now ≡ c.args.self.now.words = c.as_slice.ensures.value ∙ inside in
     let made : c.begin_at.new.words.items ≡ insert c.args.self.now.words c.in-Err.place (nothing_at c.args.address) = c.begin_at.ensures.items ∙ ap (λ words. insert words c.in-Err.place (nothing_at c.args.address)) inside in
-    change-made c.args.address c.args.self.now.words c.in-Err.place (subst (IsPlaceFor c.args.address c.in-Err.place) same c.in-Err.ensures.absent) c.begin_at.new.words.items made
+    change-made c.args.address c.args.self.now.words c.in-Err.place
+    (subst (IsPlaceFor c.args.address c.in-Err.place) same c.in-Err.ensures.absent) c.begin_at.new.words.items made
 
 pub invariant_of-self : goal.invariant_of-self
 invariant_of-self c =

@@ -30,7 +30,8 @@ returns-clause-seen g c start seen next on =
     let numbered = c.follow-2.ensures in
     let is = c.read_cycle.ensures in
     let made =
-    subst (λ (one : CycleRead). IsFollowed (made_shown one (known_of_path old.path [])) old.path.window c.follow.new.self.window) is followed.made in (
+    subst (λ (one : CycleRead). IsFollowed (made_shown one (known_of_path old.path [])) old.path.window
+    c.follow.new.self.window) is followed.made in (
       marking_on next old new on.0 refl refl
           (pathing_on next (cycle_of c.read_cycle.result) old.path c.follow.new.self is on.0.path followed.known followed.made)
           made numbered.followed numbered.begun,

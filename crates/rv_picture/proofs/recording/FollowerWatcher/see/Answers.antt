@@ -10,4 +10,5 @@ follow-requires-clause-few g c = let (start, seen, before, shown, so_far) = c.re
 
 pub returns : goal.returns
 returns g c start seen before shown so_far =
-    recording_on shown so_far (passages_of c.follow.new.table) c.follow.ensures.followed c.follow.ensures.fetched c.follow.ensures.retired c.note.new.stalls.items c.note.ensures
+    recording_on shown so_far (passages_of c.follow.new.table) c.follow.ensures.followed c.follow.ensures.fetched
+    c.follow.ensures.retired c.note.new.stalls.items c.note.ensures

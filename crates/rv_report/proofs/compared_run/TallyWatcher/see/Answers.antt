@@ -25,9 +25,13 @@ returns g c start seen before shown both =
     let rob_is = ap (λ (h : Hardware). h.rob) c.hardware.view_is in
     let front_is = ap (λ (h : Hardware). h.front) c.hardware.view_is in
     let speculated =
-    c.follow-2.ensures.followed ∙ ap (λ (h : Hardware). speculated_after c.args.cycle c.args.steps.now h.rob h.front h.pc c.args.self.now.speculation) c.hardware.view_is in
+    c.follow-2.ensures.followed
+    ∙ ap (λ (h : Hardware). speculated_after c.args.cycle c.args.steps.now h.rob h.front h.pc
+    c.args.self.now.speculation) c.hardware.view_is in
     let happened = c.follow.ensures ∙ ap (λ end. counted_after c.args.cycle c.args.steps.now end c.args.self.now.events) c.drain_end.ensures in
     let few : length c.args.hardware.now.rob.entries ≤ 256 = omega (arith, c.in_buffer.ensures.counted, c.in_buffer.ensures.few) in (
-      tallied_on shown both.0 c.count_all.new.self c.follow-2.new.self c.follow.new.self c.count_all.ensures speculated happened c.follow-2.ensures.fetched c.follow-2.ensures.mispredicted,
-      placed_on shown both.1 inside.values.now inside.rob.now inside.front.now values_are rob_is front_is few c.placed-self.result c.placed-self.ensures,
+      tallied_on shown both.0 c.count_all.new.self c.follow-2.new.self c.follow.new.self c.count_all.ensures speculated
+          happened c.follow-2.ensures.fetched c.follow-2.ensures.mispredicted,
+      placed_on shown both.1 inside.values.now inside.rob.now inside.front.now values_are rob_is front_is few
+          c.placed-self.result c.placed-self.ensures,
     )

@@ -7,15 +7,33 @@ use Rattle.rv_report.proofs.totals.StepCounts.count_all.Goals as goal
 
 pub overflow_add-self : goal.overflow_add-self
 overflow_add-self c =
-    omega (arith, count_by-le-length is_retirement c.args.steps.now, ap (λ (counts : StepCounts). counts.retired) c.count_steps-more.ensures, c.requires.room.retired)
+    omega (
+      arith,
+      count_by-le-length is_retirement c.args.steps.now,
+      ap
+          (λ (counts : StepCounts). counts.retired) c.count_steps-more.ensures,
+      c.requires.room.retired,
+    )
 
 pub overflow_add-self-2 : goal.overflow_add-self-2
 overflow_add-self-2 c =
-    omega (arith, count_by-le-length is_trap c.args.steps.now, ap (λ (counts : StepCounts). counts.traps) c.count_steps-more.ensures, c.requires.room.traps)
+    omega (
+      arith,
+      count_by-le-length is_trap c.args.steps.now,
+      ap
+          (λ (counts : StepCounts). counts.traps) c.count_steps-more.ensures,
+      c.requires.room.traps,
+    )
 
 pub overflow_add-self-3 : goal.overflow_add-self-3
 overflow_add-self-3 c =
-    omega (arith, count_by-le-length is_interrupt c.args.steps.now, ap (λ (counts : StepCounts). counts.interrupts) c.count_steps-more.ensures, c.requires.room.interrupts)
+    omega (
+      arith,
+      count_by-le-length is_interrupt c.args.steps.now,
+      ap
+          (λ (counts : StepCounts). counts.interrupts) c.count_steps-more.ensures,
+      c.requires.room.interrupts,
+    )
 
 pub returns : goal.returns
 returns c = ap (both_counts c.args.self.now) c.count_steps-more.ensures

@@ -35,6 +35,7 @@ returns g c start seen before shown viewing =
     let rows_are = rows_now g.V.View.has_seen g.V.View.text shown viewing c.follow_on.ensures c.rows.result.now c.rows.ensures in
     let few = few_now g.V.View.has_seen g.V.View.text shown viewing c.follow_on.ensures c.rows.result.now c.rows.ensures in
     let (more, says, text_is) = c.see.ensures.said start.view seen (record { shown = shown; rows_are = rows_are; few = few }) viewing.sees in
-    viewing_on g.V.View.has_seen g.V.View.text shown viewing c.follow_on.ensures c.drop_ended.ensures.opened (omega (arith, c.drop_ended.ensures.rows)) (omega (arith, c.drop_ended.ensures.interrupts))
+    viewing_on g.V.View.has_seen g.V.View.text shown viewing c.follow_on.ensures c.drop_ended.ensures.opened
+    (omega (arith, c.drop_ended.ensures.rows)) (omega (arith, c.drop_ended.ensures.interrupts))
     (c.see.ensures.seen start.view seen (record { shown = shown; rows_are = rows_are; few = few }) viewing.sees)
     (says_extends c.after-out.ensures.failed c.after-out.ensures.known c.has_failed-self.ensures (search rules) says) text_is
