@@ -1,7 +1,7 @@
 // Stands between the program and the C library, through which alone it asks for memory, reads and writes, and makes one call fail.
 //
 // HOSTILE_CALL says which sort of call: request (of memory), read (of standard input) or write (of standard output). HOSTILE_AT is
-// the number of the one that fails, from 1, or 0 for none; with ".." behind it all later ones fail too. HOSTILE_WAY says how a read or
+// the number of the one that fails, from 1, or 0 for none; with ".." after it all later ones fail too. HOSTILE_WAY says how a read or
 // write fails: error (EIO), none (it moves nothing) or short (it moves one byte). At the end the number of such calls is written on
 // descriptor 9, where that is open.
 #define _GNU_SOURCE
