@@ -96,9 +96,9 @@ pub(crate) fn run_tallied<S: Simulated>(
         (guided (S.hardware pipeline.new) (known predictor.new)) result }
 {
     let hardware = pipeline.shown();
-    let registers = *hardware.registers;
     let drain_end = hardware.drain_end();
     let in_flight = in_flight(&hardware);
+    let registers = *hardware.registers;
     let explainer = Explainer {
         tally,
         registers,

@@ -158,13 +158,15 @@ pub fn run_totals(
     let hardware = pipeline.shown();
     // No more are in the reorder buffer than it may hold.
     let _ = in_buffer(&hardware);
+    let events = EventCounter::begin(&hardware);
+    let places = no_places(&options.shown, &hardware);
     let speculation = Speculation::begin(alloc, hardware.rob, hardware.front)?;
     let steps = Vec::with_capacity(alloc, 8)?;
     let mut tally = Tally {
         counts: StepCounts::default(),
-        events: EventCounter::begin(&hardware),
-        places: no_places(&options.shown, &hardware),
         speculation,
+        events,
+        places,
     };
     let ended = pipeline.watch(
         predictor,

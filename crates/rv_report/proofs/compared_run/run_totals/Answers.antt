@@ -21,9 +21,9 @@ pub losses-requires : goal.losses-requires
 losses-requires g c =
     let zeros = c.default.ensures in
     let none : c.default.result ≡ counts_of [] = λ i. record { retired = zeros.0 i; traps = zeros.1.0 i; interrupts = zeros.1.1 i } in
-    let begun = tallied_nothing c.args.arrivals.now _ c.default.result c.in_ok-speculation.speculation c.begin-2.result none (c.in_ok-speculation.ensures.speculated ∙ ap speculated_at (c.hardware.view_is ∙ c.shown-hardware.ensures)) c.in_ok-speculation.ensures.few (c.begin-2.ensures ∙ ap (λ (h : Hardware). events_so_far h.values (drain_end h) no_events) c.shown-hardware.ensures) in
+    let begun = tallied_nothing c.args.arrivals.now _ c.default.result c.in_ok-speculation.speculation c.begin-events.result none (c.in_ok-speculation.ensures.speculated ∙ ap speculated_at (c.hardware.view_is ∙ c.shown-hardware.ensures)) c.in_ok-speculation.ensures.few (c.begin-events.ensures ∙ ap (λ (h : Hardware). events_so_far h.values (drain_end h) no_events) c.shown-hardware.ensures) in
     let few : length c.args.pipeline.rob.entries ≤ 256 = omega (arith, c.in_buffer.ensures.counted, ap (λ (h : Hardware). length h.rob.entries) c.shown-hardware.ensures, c.in_buffer.ensures.few) in
-    let placed = placed_nothing c.args.arrivals.now c.args.options.now.shown _ c.no_places.result (c.no_places.ensures ∙ ap (λ (h : Hardware). places_shown c.args.options.now.shown h [] h) c.shown-hardware.ensures) few in
+    let placed = placed_nothing c.args.arrivals.now c.args.options.now.shown _ c.no_places-places.result (c.no_places-places.ensures ∙ ap (λ (h : Hardware). places_shown c.args.options.now.shown h [] h) c.shown-hardware.ensures) few in
     room_at_end (c.watch-ended.ensures.seen None (begun, placed)).0 c.count_in_flight.result
     c.count_in_flight.ensures.few c.is_exhausted.ensures.within
 
@@ -31,9 +31,9 @@ pub returns-clause-run : goal.returns-clause-run
 returns-clause-run g c =
     let zeros = c.default.ensures in
     let none : c.default.result ≡ counts_of [] = λ i. record { retired = zeros.0 i; traps = zeros.1.0 i; interrupts = zeros.1.1 i } in
-    let begun = tallied_nothing c.args.arrivals.now _ c.default.result c.in_ok-speculation.speculation c.begin-2.result none (c.in_ok-speculation.ensures.speculated ∙ ap speculated_at (c.hardware.view_is ∙ c.shown-hardware.ensures)) c.in_ok-speculation.ensures.few (c.begin-2.ensures ∙ ap (λ (h : Hardware). events_so_far h.values (drain_end h) no_events) c.shown-hardware.ensures) in
+    let begun = tallied_nothing c.args.arrivals.now _ c.default.result c.in_ok-speculation.speculation c.begin-events.result none (c.in_ok-speculation.ensures.speculated ∙ ap speculated_at (c.hardware.view_is ∙ c.shown-hardware.ensures)) c.in_ok-speculation.ensures.few (c.begin-events.ensures ∙ ap (λ (h : Hardware). events_so_far h.values (drain_end h) no_events) c.shown-hardware.ensures) in
     let few : length c.args.pipeline.rob.entries ≤ 256 = omega (arith, c.in_buffer.ensures.counted, ap (λ (h : Hardware). length h.rob.entries) c.shown-hardware.ensures, c.in_buffer.ensures.few) in
-    let placed = placed_nothing c.args.arrivals.now c.args.options.now.shown _ c.no_places.result (c.no_places.ensures ∙ ap (λ (h : Hardware). places_shown c.args.options.now.shown h [] h) c.shown-hardware.ensures) few in
+    let placed = placed_nothing c.args.arrivals.now c.args.options.now.shown _ c.no_places-places.result (c.no_places-places.ensures ∙ ap (λ (h : Hardware). places_shown c.args.options.now.shown h [] h) c.shown-hardware.ensures) few in
     let run = c.watch-ended.ensures in
     let both = run.seen None (begun, placed) in
     tallied_to_the_end both.0 c.args.options.now c.count_in_flight.result run.passes run.counted
@@ -41,8 +41,8 @@ returns-clause-run g c =
     (c.count_in_flight.ensures.count ∙ ap (λ (h : Hardware). in_flight h.rob h.front) c.shown-left.ensures)
     c.losses.ensures refl
     (c.words.ensures ∙ ap (words_of c.args.options.now.shown) c.shown-left.ensures)
-    (placed_at_end c.args.options.now.shown c.no_places.result _
-    (c.no_places.ensures
+    (placed_at_end c.args.options.now.shown c.no_places-places.result _
+    (c.no_places-places.ensures
     ∙ ap (λ (h : Hardware). places_shown c.args.options.now.shown h [] h) c.shown-hardware.ensures) both.1)
     both.1.places_add_up
     (lost_for (subst Reachable (c.hardware.view_is ∙ c.shown-hardware.ensures) c.hardware.invariant.reached)
