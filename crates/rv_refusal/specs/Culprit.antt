@@ -167,7 +167,7 @@ unless_empty [] other = other
 unless_empty (first ∷ rest) other = first ∷ rest
 
 -- The tokens of a line from the one at fault on: a symbol that was defined before; an operand; or the statement, and in
--- a line without one its label.
+-- a line without one its label. Where a line defines several symbols, none is named.
 unfoldable pub culprit_on : AsmFault → List Token → Option (List Token)
 culprit_on fault.DuplicateSymbol tokens = definition_on tokens
 culprit_on fault tokens =

@@ -2,7 +2,7 @@ use crate::refusal::{Refused, check_whole};
 use std::test::Fail;
 
 // Assembly texts that are refused, with the line that is shown of each.
-static REFUSED: [Refused; 21] = [
+static REFUSED: [Refused; 18] = [
     Refused {
         job: b"rob = 8\n%%\nnop\n\tslli x1, x1, 32 # \xc3\xa4\n",
         why: b"\
@@ -122,33 +122,6 @@ nearest: loop, lop
         why: b"\
 line 2 of the job, line 2 of its assembly: DuplicateSymbol
     b: .equ a, 1
-expected: a symbol that is not defined above
-",
-    },
-    Refused {
-        job: b"a: b: a: nop\n",
-        why: b"\
-line 1 of the job, line 1 of its assembly: DuplicateSymbol
-    a: b: a: nop
-          ^
-expected: a symbol that is not defined above
-",
-    },
-    Refused {
-        job: b"b: a : a :",
-        why: b"\
-line 1 of the job, line 1 of its assembly: DuplicateSymbol
-    b: a : a :
-           ^
-expected: a symbol that is not defined above
-",
-    },
-    Refused {
-        job: b"a: b: .equ a, 1",
-        why: b"\
-line 1 of the job, line 1 of its assembly: DuplicateSymbol
-    a: b: .equ a, 1
-               ^
 expected: a symbol that is not defined above
 ",
     },
