@@ -121,7 +121,7 @@ fn pipeline_at(
 }
 
 // What is explained of a hundred cycles of a program at an address, unless it crashed its crash alone.
-fn explained(rt: &impl Abort, alloc: Global, base: u32, program: &[u8]) -> Vec<u8> {
+fn explained_at(rt: &impl Abort, alloc: Global, base: u32, program: &[u8]) -> Vec<u8> {
     let mut values = Values::standard();
     values.ram_base = base;
     let description = described(rt, values);
@@ -154,7 +154,7 @@ const HANDLER_AT_4: [u8; 12] = [
 // The least address that is a handler's: no word of RAM is there, so the program traps again and again, at that address.
 #[test]
 fn a_handler_at_4_is_one(rt: HostRuntime) {
-    let output = explained(&rt, rt.alloc(), 0x8000_0000, &HANDLER_AT_4);
+    let output = explained_at(&rt, rt.alloc(), 0x8000_0000, &HANDLER_AT_4);
     let ending = b"The run was cut off at its limit of cycles, and the program stood at 00000004";
     assert!(&rt; output.as_slice().starts_with(ending));
 }
@@ -168,7 +168,7 @@ const SECOND_TURN: [u8; 20] = [
 // The call finds no handler, and the program goes on at its own first word, at address 0. The second turn ends at the breakpoint.
 #[test]
 fn a_run_that_ended_at_a_breakpoint_did_not_crash(rt: HostRuntime) {
-    let output = explained(&rt, rt.alloc(), 0, &SECOND_TURN);
+    let output = explained_at(&rt, rt.alloc(), 0, &SECOND_TURN);
     let ending = b"The run ended at a breakpoint, at 00000010";
     assert!(&rt; output.as_slice().starts_with(ending));
 }
@@ -181,7 +181,7 @@ const SECOND_IS_LATER: [u8; 16] = [
 // The sum waits for its first operand in cycle 3, and then for the quotient, its second one, from cycle 4 up to its broadcast in 20.
 #[test]
 fn of_two_operands_the_first_that_is_missing_is_awaited(rt: HostRuntime) {
-    let output = explained(&rt, rt.alloc(), 0x8000_0000, &SECOND_IS_LATER);
+    let output = explained_at(&rt, rt.alloc(), 0x8000_0000, &SECOND_IS_LATER);
     let awaited =
         b"Awaited most, for 17 of 24 cycles: 80000004, which no line of the program fills";
     assert!(&rt; has_part(output.as_slice(), awaited));
@@ -224,7 +224,7 @@ static LONGEST: [(u32, &[u8], &[u8]); 3] = [
 #[test]
 fn the_line_that_stood_longest_at_the_head_is_named_with_what_it_did(rt: HostRuntime) {
     for (base, program, line) in &LONGEST {
-        let output = explained(&rt, rt.alloc(), *base, program);
+        let output = explained_at(&rt, rt.alloc(), *base, program);
         assert!(&rt; has_part(output.as_slice(), line));
     }
 }
@@ -237,7 +237,7 @@ const STORE_THAT_HITS: [u8; 16] = [
 // The load brought the line in, to which the store is drained.
 #[test]
 fn a_drain_into_a_line_that_is_there_hits(rt: HostRuntime) {
-    let output = explained(&rt, rt.alloc(), 0x8000_0000, &STORE_THAT_HITS);
+    let output = explained_at(&rt, rt.alloc(), 0x8000_0000, &STORE_THAT_HITS);
     let drains = b"drains: 1, of them 1 at the cost of a hit, 0 at that of a miss";
     assert!(&rt; has_part(output.as_slice(), drains));
 }
