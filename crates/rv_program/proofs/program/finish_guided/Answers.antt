@@ -11,4 +11,4 @@ returns-clause-ended g c =
     let ended = rw unwritten at c.finish-ended.ensures in
     let own = c.requires.described ∙ ap untaught_of c.requires.own in
     ended_with contents c.args.task.now c.args.output c.pass_on-ended.result.1 _ _ c.pass_on-ended.result.0
-    ended own c.pass_on-ended.ensures.passed c.report-status.ensures.reported c.report-status.ensures.status
+    ended own c.pass_on-ended.ensures.passed c.report-status-2.ensures.reported c.report-status-2.ensures.status
