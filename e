@@ -1,1 +1,0 @@
-error: assembly line 1: BadOperands
