@@ -357,7 +357,7 @@ def read_step(kind, cells):
 
 
 def end(number, _):
-    """Ends a script that is told to end, as Ctrl-C does: what it made for itself is removed."""
+    """Ends a script on SIGTERM or SIGHUP, as Ctrl-C does: what it made for itself is removed."""
     sys.exit(128 + number)
 
 

@@ -6,7 +6,7 @@ const [trial, small] = process.argv.slice(2, 4).map((path) => new WebAssembly.Mo
 const { failing, longest } = JSON.parse(readFileSync(process.argv[4], "utf8"));
 const STACK = 1 << 20;
 let wrong = 0, deepest = 0;
-const tell = (line) => {
+const report = (line) => {
   wrong += 1;
   console.log(line);
 };
@@ -60,33 +60,33 @@ const isCut = (ended, ample) => isFault(ended, 4, "error: output") && ended.outp
 
 for (const { name, words, job } of failing) {
   const input = Buffer.from(job, "base64"), ample = call(trial, words, input);
-  let told = 0;
+  let reported = 0;
   const fail = (kind, at, later, way) => call(trial, words, input, { kind, at, later, way });
   for (let at = 1; at <= ample.calls.request; at++) {
     for (const later of [false, true]) {
       const ended = fail("request", at, later, "error");
-      if (isSilent(ended, 5, "error: memory")) told += 1;
-      else if (!same(ended, ample)) tell(`${name}: request ${at}${later ? ".." : ""} refused: status ${ended.status}, ${ended.errors}`);
+      if (isSilent(ended, 5, "error: memory")) reported += 1;
+      else if (!same(ended, ample)) report(`${name}: request ${at}${later ? ".." : ""} refused: status ${ended.status}, ${ended.errors}`);
     }
   }
-  if (told === 0) tell(`${name}: no refused request was reported`);
+  if (reported === 0) report(`${name}: no refused request was reported`);
   for (let at = 1; at <= ample.calls.read; at++) {
-    if (!isSilent(fail("read", at, false, "error"), 4, "error: input")) tell(`${name}: read ${at} fails`);
-    if (!same(fail("read", at, false, "short"), ample)) tell(`${name}: read ${at} is short`);
+    if (!isSilent(fail("read", at, false, "error"), 4, "error: input")) report(`${name}: read ${at} fails`);
+    if (!same(fail("read", at, false, "short"), ample)) report(`${name}: read ${at} is short`);
   }
   for (let at = 1; at <= ample.calls.write; at++) {
-    for (const way of ["error", "none"]) if (!isCut(fail("write", at, false, way), ample)) tell(`${name}: write ${at}, ${way}`);
+    for (const way of ["error", "none"]) if (!isCut(fail("write", at, false, way), ample)) report(`${name}: write ${at}, ${way}`);
   }
-  for (const kind of ["read", "write"]) if (!same(fail(kind, 1, true, "short"), ample)) tell(`${name}: each ${kind} is short`);
+  for (const kind of ["read", "write"]) if (!same(fail(kind, 1, true, "short"), ample)) report(`${name}: each ${kind} is short`);
   const { request, read, write } = ample.calls;
-  if (!request || !read || !write) tell(`${name}: nothing was tried`);
-  console.log(`${name}: ${request} requests, of which ${told} of ${2 * request} refusals were reported, ${read} reads, ${write} writes`);
+  if (!request || !read || !write) report(`${name}: nothing was tried`);
+  console.log(`${name}: ${request} requests, of which ${reported} of ${2 * request} refusals were reported, ${read} reads, ${write} writes`);
 }
 
 for (const { name, words, path, status, output, errors } of longest) {
   const ended = call(trial, words, readFileSync(path));
   const digest = createHash("sha256").update(ended.output).digest("hex");
-  if (ended.status !== status || ended.errors !== errors || digest !== output) tell(`${name}: status ${ended.status}, ${ended.output.length} bytes, ${ended.errors}`);
+  if (ended.status !== status || ended.errors !== errors || digest !== output) report(`${name}: status ${ended.status}, ${ended.output.length} bytes, ${ended.errors}`);
   console.log(`${name}: as the program, in ${(ended.memory / 1e6).toFixed(0)} MB`);
 }
 
@@ -99,13 +99,13 @@ for (let count = 1; count <= 2000; count++) {
     held.push(process.memoryUsage().rss);
   }
 }
-if (held[3] - held[0] > 64e6) tell(`2,000 calls hold ${held.map((it) => `${(it / 1e6).toFixed(0)} MB`).join(", ")} after each 500`);
+if (held[3] - held[0] > 64e6) report(`2,000 calls hold ${held.map((it) => `${(it / 1e6).toFixed(0)} MB`).join(", ")} after each 500`);
 console.log(`2,000 calls: ${(held[0] / 1e6).toFixed(0)} MB after 500, ${(held[3] / 1e6).toFixed(0)} MB after all`);
 
 // What overflows the stack ends by a trap, and by no answer.
 const traps = (name, action) => {
   try {
-    tell(`${name}: it did not trap, and answered ${action()}`);
+    report(`${name}: it did not trap, and answered ${action()}`);
   } catch (trapped) {
     if (!(trapped instanceof WebAssembly.RuntimeError || trapped instanceof RangeError)) throw trapped;
     console.log(`${name}: ${trapped.message}`);
@@ -115,14 +115,14 @@ const none = () => 0, host = { word: () => -1, read: none, write: none, refuses:
 const fresh = () => new WebAssembly.Instance(trial, { host }).exports, alone = fresh();
 traps("a stack of 64 frames of 16 KiB", () => fresh().try_stack(64));
 traps("the program on a stack of 8 KiB", () => call(small, often.words, text).status);
-if (fresh().try_stack(48) !== (48 * 49) / 2) tell("48 frames of 16 KiB do not fit");
+if (fresh().try_stack(48) !== (48 * 49) / 2) report("48 frames of 16 KiB do not fit");
 
 for (let seed = 1; seed <= 4; seed++) {
   const step = alone.try_heap(seed, 20000);
-  if (step) tell(`the heap, ${seed}: step ${step}`);
+  if (step) report(`the heap, ${seed}: step ${step}`);
 }
 for (const [wanted, isThere] of [[0n, 1], [1n, 1], [1n << 31n, 1], [(1n << 31n) + 1n, 0], [1n << 32n, 0], [(1n << 32n) + 16n, 0], [(1n << 63n) - 1n, 0]]) {
-  if (alone.try_request(wanted) !== isThere) tell(`a request of ${wanted} bytes is ${isThere ? "refused" : "granted"}`);
+  if (alone.try_request(wanted) !== isThere) report(`a request of ${wanted} bytes is ${isThere ? "refused" : "granted"}`);
 }
 const corners = [0n, 1n, 2n, 63n, 64n, 65n, 127n, 0xffffffffn, 1n << 32n, (1n << 64n) - 1n, 0x123456789abcdef0fedcba9876543210n, (1n << 128n) - 1n, 1n << 127n];
 for (const a of corners) {
@@ -130,7 +130,7 @@ for (const a of corners) {
     [a * b, a << (b & 127n), a >> (b & 127n)].forEach((right, operation) => {
       const place = alone.try_wide(operation, ...[a, a >> 64n, b, b >> 64n].map((it) => BigInt.asIntN(64, it))) >>> 0;
       const [low, high] = new BigUint64Array(alone.memory.buffer, place, 2);
-      if ((high << 64n | low) !== BigInt.asUintN(128, right)) tell(`128 bits, operation ${operation} of ${a} and ${b}`);
+      if ((high << 64n | low) !== BigInt.asUintN(128, right)) report(`128 bits, operation ${operation} of ${a} and ${b}`);
     });
   }
 }

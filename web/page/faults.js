@@ -33,7 +33,7 @@ class Refusal {
     if (this.faults.length === 0) this.guess(job);
   }
 
-  // The shown line stands behind four blanks; from the caret on the columns are those of the token.
+  // The shown line stands after four blanks; from the caret on the columns are those of the token.
   putColumns(fault, shown, caret, source) {
     const at = Math.max(0, source.indexOf(shown.slice(4).trimEnd()));
     fault.from = at + caret.indexOf("^") - 4;

@@ -23,7 +23,7 @@ class Caller {
     each.tell(made);
   }
 
-  // Ends what is under way: all who wait are told so by this name.
+  // Ends what is under way: all who wait get this name.
   end(name, why) {
     this.worker.terminate();
     const waiting = this.waiting;

@@ -108,8 +108,8 @@ class Keys:
             place = self.browser.tell(f"(() => {{ const box = document.querySelector('#picture-rows [data-number=\"{number}\"] [data-cycle=\"{cycle}\"]').getBoundingClientRect(); return [box.left + 4, box.top + 4]; }})()")
             self.browser.point(1, 1)
             self.browser.point(*place)
-            told = self.browser.tell(f"document.querySelector('#picture-rows [data-number=\"{number}\"] [data-cycle=\"{cycle}\"]').title")
-            return self.same("tip of a point", " ".join(told.split()), f"In cycle {cycle}: " + " ".join(Sentences(self.facts, cycle).of(number).split()))
+            tip = self.browser.tell(f"document.querySelector('#picture-rows [data-number=\"{number}\"] [data-cycle=\"{cycle}\"]').title")
+            return self.same("tip of a point", " ".join(tip.split()), f"In cycle {cycle}: " + " ".join(Sentences(self.facts, cycle).of(number).split()))
 
     def hidden(self):
         """Without what was squashed the picture has the rows of the others."""

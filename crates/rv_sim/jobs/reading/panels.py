@@ -219,8 +219,8 @@ class Panels:
         misses = {each["address"] // size * size: each for each in self.window.accesses if each["cycle"] <= self.cycle and self.window.outcome(each["cost"]).startswith("miss")}
         for cell in (cell for row in rows for cell in row["cells"][1:] if cell["text"] != "-"):
             by = misses.get(int(cell["text"].rstrip("*"), 16))
-            told = (f"brought by #{by['number']} in cycle {by['cycle']}" in cell["tip"]) if by else "brought by" not in cell["tip"]
-            self.same(f"who brought line {cell['text']}", (cell["tip"], told), (cell["tip"], True))
+            is_said = (f"brought by #{by['number']} in cycle {by['cycle']}" in cell["tip"]) if by else "brought by" not in cell["tip"]
+            self.same(f"who brought line {cell['text']}", (cell["tip"], is_said), (cell["tip"], True))
         dirty = [cell["text"] for row in rows for cell in row["cells"][1:] if ("dirty" in cell["marks"]) != cell["text"].endswith("*")]
         self.same("lines whose form does not say whether they are dirty", dirty, [])
 

@@ -62,9 +62,9 @@ def compare_stays(lines, text, share, same):
     every = sum(stays.values())
     waits = [(stays[name], WAITS[name].replace("a store's", "an older store's")) for name in ORDER if name in WAITS]
     two = [(count, what) for count, what in sorted(waits, key=lambda wait: -wait[0])[:2] if count]
-    told = ", ".join(f"{count} waiting for {what} ({share(count, every)[1]}%)" for count, what in two)
+    listed = ", ".join(f"{count} waiting for {what} ({share(count, every)[1]}%)" for count, what in two)
     printed = re.findall(r"^cycles of instructions in flight: (\d+), of them (.*)$", text, re.M)
-    same("greatest waits", printed, [(str(every), told)] if two else [])
+    same("greatest waits", printed, [(str(every), listed)] if two else [])
     same("cycles in flight", re.findall(r"^Where the (\d+) cycles of instructions in flight went:$", text, re.M), [str(every)] if every else [])
     printed = re.findall(r"^(waiting for [a-z' ]*[a-z]|in execution) +(\d+) +(\d+\.\d)%  (#*)$", text, re.M)
     same("stays", printed, [(LINES[name], *share(stays[name], every)) for name in ORDER if stays[name]])
