@@ -39,6 +39,9 @@ function showSentences({ output }) {
 
 const isOfCycles = (name) => name === "busy" || name.startsWith("stall ");
 
+// A part of all in percent, to the nearest tenth, half of one upwards, as `explain` has it.
+function percent(part, all) { return (Math.floor((2000 * part + all) / (2 * all)) / 10).toFixed(1); }
+
 // Where the cycles of a run went, as a bar.
 function cycleBar(counts) {
   const total = Number(counts.get("cycles")) || 1, bar = element("div", { className: "cycle-bar", role: "img" }), words = [];
@@ -47,7 +50,7 @@ function cycleBar(counts) {
     if (!isOfCycles(name) || count === 0) continue;
     const share = (100 * count) / total;
     words.push(name + " " + count);
-    const shown = share > 12 ? name + " " + count : share > 4 ? count : "", title = name + ": " + counted(count, "cycle") + ", " + share.toFixed(1) + " %";
+    const shown = share > 12 ? name + " " + count : share > 4 ? count : "", title = name + ": " + counted(count, "cycle") + ", " + percent(count, total) + " %";
     bar.append(element("span", { className: name.replace("stall ", ""), textContent: shown, title, style: "width: " + share + "%" }));
   }
   bar.setAttribute("aria-label", "Where the cycles went: " + words.join(", "));

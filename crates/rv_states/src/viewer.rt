@@ -5,7 +5,7 @@ pub(crate) const BEFORE: &[u8] = br#"<!DOCTYPE html>
 <html lang="en">
 <head>
 <meta charset="utf-8">
-<meta http-equiv="Content-Security-Policy" content="default-src 'none'; script-src 'sha256-UiGCAxSRtHkSh2cYUdcMy3ZGsm0XP/fsERholZV4kbw='; style-src 'sha256-X+nUqAhUw+vtWP6m1C4DgGO+9ykT4W+yJnN2clUTuyQ='; img-src data:; frame-src 'self' file:; base-uri 'none'; form-action 'none'">
+<meta http-equiv="Content-Security-Policy" content="default-src 'none'; script-src 'sha256-zEqppLiY2e3BBIm+oWhLnaJao4ZVzDpyfsVWDqqqtXo='; style-src 'sha256-X+nUqAhUw+vtWP6m1C4DgGO+9ykT4W+yJnN2clUTuyQ='; img-src data:; frame-src 'self' file:; base-uri 'none'; form-action 'none'">
 <meta name="viewport" content="width=device-width, initial-scale=1">
 <title>rv_sim: a run, cycle by cycle</title>
 <style>
@@ -310,6 +310,8 @@ function numbered(numbers) {
   return listed(runs.flatMap((run) => run.length < 3 ? run.map((number) => "#" + number) : "#" + run[0] + " to #" + run[run.length - 1]));
 }
 function counted(number, word) { return number + " " + word + (number === 1 ? "" : "s"); }
+// A part of all in percent, to the nearest tenth, half of one upwards, as the program has it.
+function percent(part, all) { return (Math.floor((2000 * part + all) / (2 * all)) / 10).toFixed(1); }
 
 // An instruction by its number and statement.
 function called(run, number) {
@@ -815,7 +817,7 @@ function showCache(view) {
 function showAccesses(view) {
   const { run, place } = view, until = run.accesses.filter((access) => access.place <= place);
   const hits = until.filter((access) => !isMiss(access)).length;
-  note("accesses-note", until.length ? "hits " + hits + " of " + until.length + ", " + (100 * hits / until.length).toFixed(1) + "%" : "none yet");
+  note("accesses-note", until.length ? "hits " + hits + " of " + until.length + ", " + percent(hits, until.length) + "%" : "none yet");
   const cycle = run.cycleOf(place), ends = { retired: "retires", squashed: "squashed", trapped: "traps" };
   fill("accesses", until.slice(-40).reverse().map((access) => {
     const { left, end } = run.table[access.number] || {}, known = end !== undefined && (left <= cycle || !settings.quiz);
@@ -1654,7 +1656,7 @@ function showCounts(view) {
   const numbers = { cycles: counts.cycles, retired: here.retired, traps: here.traps, interrupts: here.interrupted };
   draw("counted", Object.entries(numbers).map(([name, value]) => element("span", { "data-fact": name },
     name + (run.first > 0 && name !== "cycles" && name !== "retired" ? " here " : " ") + value)));
-  const total = Math.max(1, counts.cycles), share = (value) => (100 * value / total).toFixed(1);
+  const total = Math.max(1, counts.cycles), share = (value) => percent(value, total);
   // (a part too narrow for its name has it in its tip)
   draw("stack", parts.filter(([, value]) => value > 0).map(([name, value]) =>
     element("span", { class: "part " + name, style: "width:" + share(value) + "%", title: name + ": " + share(value) + "% of the cycles" }, share(value) > 2.6 * name.length ? name : "")));
@@ -1983,8 +1985,7 @@ function showPath() {
   note("path-note", end === undefined ? "no step here" : "to " + eventWords(end) + " in " + end.at);
   const from = "The page begins with cycle " + run.first + ": the path is counted from there, and what came before is not known.";
   note("path-words", run.first > 0 ? from : "");
-  // (a share is rounded down, as the program has it)
-  const share = (cycles) => all === 0 ? "-" : (Math.floor(1000 * cycles / all) / 10).toFixed(1) + "%";
+  const share = (cycles) => all === 0 ? "-" : percent(cycles, all) + "%";
   fill("causes", shares.map(({ cause, cycles }) => row({}, element("td", {}, badge(cause)), heading(cause), cycles, share(cycles),
     wide(span("bar sort-" + sortOf(cause), "", { style: "width:" + share(cycles) })))), 6, 5);
 }

@@ -90,7 +90,7 @@ function showCache(view) {
 function showAccesses(view) {
   const { run, place } = view, until = run.accesses.filter((access) => access.place <= place);
   const hits = until.filter((access) => !isMiss(access)).length;
-  note("accesses-note", until.length ? "hits " + hits + " of " + until.length + ", " + (100 * hits / until.length).toFixed(1) + "%" : "none yet");
+  note("accesses-note", until.length ? "hits " + hits + " of " + until.length + ", " + percent(hits, until.length) + "%" : "none yet");
   const cycle = run.cycleOf(place), ends = { retired: "retires", squashed: "squashed", trapped: "traps" };
   fill("accesses", until.slice(-40).reverse().map((access) => {
     const { left, end } = run.table[access.number] || {}, known = end !== undefined && (left <= cycle || !settings.quiz);

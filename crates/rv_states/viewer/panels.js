@@ -188,7 +188,7 @@ function showCounts(view) {
   const numbers = { cycles: counts.cycles, retired: here.retired, traps: here.traps, interrupts: here.interrupted };
   draw("counted", Object.entries(numbers).map(([name, value]) => element("span", { "data-fact": name },
     name + (run.first > 0 && name !== "cycles" && name !== "retired" ? " here " : " ") + value)));
-  const total = Math.max(1, counts.cycles), share = (value) => (100 * value / total).toFixed(1);
+  const total = Math.max(1, counts.cycles), share = (value) => percent(value, total);
   // (a part too narrow for its name has it in its tip)
   draw("stack", parts.filter(([, value]) => value > 0).map(([name, value]) =>
     element("span", { class: "part " + name, style: "width:" + share(value) + "%", title: name + ": " + share(value) + "% of the cycles" }, share(value) > 2.6 * name.length ? name : "")));

@@ -73,8 +73,7 @@ function showPath() {
   note("path-note", end === undefined ? "no step here" : "to " + eventWords(end) + " in " + end.at);
   const from = "The page begins with cycle " + run.first + ": the path is counted from there, and what came before is not known.";
   note("path-words", run.first > 0 ? from : "");
-  // (a share is rounded down, as the program has it)
-  const share = (cycles) => all === 0 ? "-" : (Math.floor(1000 * cycles / all) / 10).toFixed(1) + "%";
+  const share = (cycles) => all === 0 ? "-" : percent(cycles, all) + "%";
   fill("causes", shares.map(({ cause, cycles }) => row({}, element("td", {}, badge(cause)), heading(cause), cycles, share(cycles),
     wide(span("bar sort-" + sortOf(cause), "", { style: "width:" + share(cycles) })))), 6, 5);
 }

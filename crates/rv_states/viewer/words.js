@@ -30,6 +30,8 @@ function numbered(numbers) {
   return listed(runs.flatMap((run) => run.length < 3 ? run.map((number) => "#" + number) : "#" + run[0] + " to #" + run[run.length - 1]));
 }
 function counted(number, word) { return number + " " + word + (number === 1 ? "" : "s"); }
+// A part of all in percent, to the nearest tenth, half of one upwards, as the program has it.
+function percent(part, all) { return (Math.floor((2000 * part + all) / (2 * all)) / 10).toFixed(1); }
 
 // An instruction by its number and statement.
 function called(run, number) {

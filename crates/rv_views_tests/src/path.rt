@@ -83,15 +83,15 @@ const BRANCH: [u8; 12] = [
 const BRANCH_PATH: &[u8] = b"\
 cycles 7\n\
 before the first event 0 0.0 %\n\
-after the last step 1 14.2 %\n\
-refill: wrong prediction 2 28.5 %\n\
-front end 1 14.2 %\n\
-dispatch to issue 1 14.2 %\n\
-execution: alu 1 14.2 %\n\
-commit 1 14.2 %\n\
+after the last step 1 14.3 %\n\
+refill: wrong prediction 2 28.6 %\n\
+front end 1 14.3 %\n\
+dispatch to issue 1 14.3 %\n\
+execution: alu 1 14.3 %\n\
+commit 1 14.3 %\n\
 The lines of the program with the most cycles on the path:\n\
 80000000, line 1: beq x0, x0, 8\n       cycles 6 85.7 %\n\
-\x20      refill: wrong prediction 2 28.5 %\n       front end 1 14.2 %\n       dispatch to issue 1 14.2 %\n";
+\x20      refill: wrong prediction 2 28.6 %\n       front end 1 14.3 %\n       dispatch to issue 1 14.3 %\n";
 
 #[test]
 fn what_follows_a_wrong_prediction_is_a_refill(rt: HostRuntime) {
@@ -108,17 +108,17 @@ const PAIR: [u8; 12] = [
 const PAIR_PATH: &[u8] = b"\
 cycles 6\n\
 before the first event 0 0.0 %\n\
-after the last step 1 16.6 %\n\
-front end 1 16.6 %\n\
-dispatch to issue 1 16.6 %\n\
-execution: alu 1 16.6 %\n\
-common data bus full 1 16.6 %\n\
-commit 1 16.6 %\n\
+after the last step 1 16.7 %\n\
+front end 1 16.7 %\n\
+dispatch to issue 1 16.7 %\n\
+execution: alu 1 16.7 %\n\
+common data bus full 1 16.7 %\n\
+commit 1 16.7 %\n\
 The lines of the program with the most cycles on the path:\n\
 80000000, line 1: addi x1, x0, 1\n       cycles 3 50.0 %\n\
-\x20      front end 1 16.6 %\n       dispatch to issue 1 16.6 %\n       execution: alu 1 16.6 %\n\
+\x20      front end 1 16.7 %\n       dispatch to issue 1 16.7 %\n       execution: alu 1 16.7 %\n\
 80000004, which no line of the program fills\n       cycles 2 33.3 %\n\
-\x20      common data bus full 1 16.6 %\n       commit 1 16.6 %\n";
+\x20      common data bus full 1 16.7 %\n       commit 1 16.7 %\n";
 
 #[test]
 fn a_result_waits_for_a_full_bus(rt: HostRuntime) {
@@ -140,7 +140,7 @@ cycles 52\n\
 before the first event 0 0.0 %\n\
 after the last step 1 1.9 %\n\
 port: a store 23 44.2 %\n\
-lines written back 20 38.4 %\n\
+lines written back 20 38.5 %\n\
 refill: serialising instruction 2 3.8 %\n\
 front end 1 1.9 %\n\
 dispatch to issue 1 1.9 %\n\
@@ -149,13 +149,13 @@ execution: alu 1 1.9 %\n\
 execution: mem 1 1.9 %\n\
 commit 1 1.9 %\n\
 The lines of the program with the most cycles on the path:\n\
-8000000c, line 4: fence.i\n       cycles 34 65.3 %\n\
-\x20      lines written back 20 38.4 %\n       port: a store 12 23.0 %\n       refill: serialising instruction 2 3.8 %\n\
-80000008, line 3: sw x0, 64(x5)\n       cycles 11 21.1 %\n\
-\x20      port: a store 11 21.1 %\n\
-80000000, line 1: lui x5, 0x80001\n       cycles 3 5.7 %\n\
+8000000c, line 4: fence.i\n       cycles 34 65.4 %\n\
+\x20      lines written back 20 38.5 %\n       port: a store 12 23.1 %\n       refill: serialising instruction 2 3.8 %\n\
+80000008, line 3: sw x0, 64(x5)\n       cycles 11 21.2 %\n\
+\x20      port: a store 11 21.2 %\n\
+80000000, line 1: lui x5, 0x80001\n       cycles 3 5.8 %\n\
 \x20      front end 1 1.9 %\n       dispatch to issue 1 1.9 %\n       execution: alu 1 1.9 %\n\
-80000004, line 2: sw x0, 0(x5)\n       cycles 3 5.7 %\n\
+80000004, line 2: sw x0, 0(x5)\n       cycles 3 5.8 %\n\
 \x20      operand 1 1.9 %\n       execution: mem 1 1.9 %\n       commit 1 1.9 %\n";
 
 #[test]

@@ -157,7 +157,8 @@ def sentence_of(known, event):
 
 
 def percent(cycles, total):
-    return f"{1000 * cycles // total // 10}.{1000 * cycles // total % 10}%" if total else "-"
+    tenths = (2000 * cycles + total) // (2 * total) if total else 0
+    return f"{tenths // 10}.{tenths % 10}%" if total else "-"
 
 
 class PathCheck:
