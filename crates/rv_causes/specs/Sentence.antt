@@ -1,11 +1,11 @@
 -- The sentences that say what most cycles of a path are on account of.
-use Rattle.std.specs.Prelude.{ℕ, nat_lt, if◌then◌else◌, List, ◌++◌, codes, take, Option, Some, None}
+use Rattle.std.specs.Prelude.{ℕ, nat_lt, ◌==◌, if◌then◌else◌, List, [], ◌++◌, codes, take, Option, Some, None}
 use Rattle.std.specs.List.{flat_map, fold, slice_index_or}
 use Rattle.rv_source.specs.Listing.{Listed}
 use Rattle.rv_source.specs.PlaceText.{place_text}
 use Rattle.rv_causes.specs.Account.{Accounted}
 use Rattle.rv_causes.specs.Cause.{cause_name, place_of}
-use Rattle.rv_causes.specs.Text.{percent_text, ranked}
+use Rattle.rv_causes.specs.Text.{percent_text, ranked, tenths_of}
 use Rattle.rv_causes.specs.declared.{cause.Cause.Cause, text.Share.Share, word_cycles.WordCycles.WordCycles}
 
 -- how many cycles of a word a cause has
@@ -30,12 +30,13 @@ unfoldable pub most_text : Listed → Option WordCycles → List ℕ
 most_text listing None = codes "\n"
 most_text listing (Some word) = codes ", most at " ++ place_text listing word.address
 
--- the sentence of a cause
+-- the sentence of a cause, unless its share rounds to nothing
 unfoldable pub sentence : Listed → ℕ → List WordCycles → Share → List ℕ
 sentence listing cycles words share =
+    if tenths_of share.cycles cycles == 0 then [] else
     codes "On the critical path, " ++ (percent_text share.cycles cycles ++ (codes " % of the cycles: " ++
     (cause_name share.cause ++ most_text listing (most_of share.cause words))))
 
--- those of the three greatest causes, a line for each
+-- those of the three greatest causes, a line for each that has one
 abbrev pub sentences : Listed → Accounted → List ℕ
 sentences listing account = flat_map (sentence listing account.cycles account.words) (take 3 (ranked account.causes))

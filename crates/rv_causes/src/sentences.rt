@@ -2,13 +2,13 @@ ghost use Rattle.std.specs.Prelude.{◌≡◌, take};
 ghost use Rattle.std.specs.List.{flat_map};
 ghost use Rattle.std.specs.Option.{option_copied};
 ghost use Rattle.rv_causes.specs.Sentence.{cycles_of, most_cycles, most_of, most_text, sentence, sentences};
-ghost use Rattle.rv_causes.specs.Text.{percent_text, ranked};
+ghost use Rattle.rv_causes.specs.Text.{percent_text, ranked, tenths_of};
 ghost use Rattle.rv_causes.specs.Window.{accounted};
 ghost use Rattle.rv_text.specs.Said.{Says};
 
 use crate::account::Account;
 use crate::cause::Cause;
-use crate::text::{Share, write_percent};
+use crate::text::{Share, tenths_of, write_percent};
 use crate::word_cycles::WordCycles;
 use rv_source::{Listing, write_place};
 use rv_text::Sink;
@@ -58,7 +58,7 @@ fn write_most<W: Write>(out: &mut Sink<'_, W>, listing: &Listing, most: Option<&
     }
 }
 
-// Writes the sentence of a cause, of so many cycles of a path and its words.
+// Writes the sentence of a cause, of so many cycles of a path and its words, unless its share rounds to nothing.
 #[tactic(auto, using(rv_text::proofs::Saying::saying), unfolding(crate::specs::Sentence::sentence))]
 fn write_sentence<W: Write>(
     out: &mut Sink<'_, W>,
@@ -69,6 +69,9 @@ fn write_sentence<W: Write>(
 )
     ensures { Says W.contents out.old out.new (sentence listing.now cycles words.now share.now) }
 {
+    if tenths_of(share.cycles, cycles) == 0 {
+        return;
+    }
     out.put(b"On the critical path, ");
     write_percent(out, share.cycles, cycles);
     out.put(b" % of the cycles: ");
