@@ -1,11 +1,11 @@
 -- The known names that are near an unknown one.
-use Rattle.std.specs.Prelude.{ℕ, List, [], ◌∷◌, ◌++◌, codes, map, take, if◌then◌else◌}
+use Rattle.std.specs.Prelude.{ℕ, List, [], ◌∷◌, ◌++◌, codes, map, take, Bool, ◌||◌, if◌then◌else◌}
 use Rattle.std.specs.{List.filter, List.flat_map, List.list_any, Option.option_map_or, Str.bytes_eq}
 use Rattle.std.specs.Char.{to_ascii_lowercase}
 use Rattle.rv_asm.specs.Layout.{body_of}
 use Rattle.rv_asm.specs.Token.{Token}
 use Rattle.rv_asm.specs.declared.fault.AsmFault.{AsmFault}
-use Rattle.rv_asm.specs.declared.fault.AsmFault.TheVariants.{UnknownSymbol}
+use Rattle.rv_asm.specs.declared.fault.AsmFault.TheVariants.{UnknownMnemonic, UnknownSymbol}
 use Rattle.rv_describe.specs.Near.{is_near}
 use Rattle.rv_refusal.specs.Names.{known_names, unknown_name}
 
@@ -33,8 +33,19 @@ hint_line name known =
     then codes "names are written in small letters: " ++ (in_small_letters name ++ codes "\n")
     else names_line (nearest name known)
 
+-- a directive of other assemblers, whose number is the exponent of a power of two
+abbrev pub aligns_to_power : List ℕ → Bool
+aligns_to_power name = bytes_eq name (codes ".align") || bytes_eq name (codes ".p2align")
+
+-- the line on an unknown mnemonic
+unfoldable pub mnemonic_line : List ℕ → List (List ℕ) → List ℕ
+mnemonic_line name known =
+    if aligns_to_power name then codes "nearest: .balign, in bytes: .balign 4 for .align 2, .balign 8 for .align 3\n"
+    else hint_line name known
+
 -- the line on an unknown name of assembly; that of a symbol may have capital letters
 unfoldable pub known_line : AsmFault → List ℕ → List (List ℕ) → List ℕ
+known_line UnknownMnemonic name known = mnemonic_line name known
 known_line UnknownSymbol name known = names_line (nearest name known)
 known_line _ name known = hint_line name known
 

@@ -1,13 +1,14 @@
 ghost use Rattle.std.specs.Prelude.{◌≡◌, ◌++◌, OnOk, map, option_copied};
 ghost use Rattle.rv_asm.specs.Read.{tokens_in};
 ghost use Rattle.rv_refusal.specs.Names.{known_names, names_csr, unknown_name};
-ghost use Rattle.rv_refusal.specs.Near.{known_line, nearest_line};
+ghost use Rattle.rv_refusal.specs.Near.{aligns_to_power, known_line, mnemonic_line, nearest_line};
 
 use crate::culprit::operand_of_fault;
 use crate::names::{add_mnemonics, csrs, registers};
 use crate::near::{add_hint, add_nearest};
 use crate::statement::{after_labels, first_name};
 use crate::symbols::add_symbols;
+use crate::text::add_text;
 use rv_asm::{AsmFault, Form, Operation, Token, form_named};
 use std::alloc::{AllocError, Global};
 
@@ -56,6 +57,33 @@ fn add_known_names<'a>(
     }
 }
 
+// Whether a name is a directive of other assemblers, whose number is the exponent of a power of two.
+fn aligns_to_power(name: &[u8]) -> bool
+    ensures { result ≡ aligns_to_power name.now }
+{
+    name == b".align".as_slice() || name == b".p2align".as_slice()
+}
+
+// Appends the line on an unknown mnemonic.
+#[tactic(auto, unfolding(crate::specs::Near::mnemonic_line))]
+fn add_mnemonic_line(
+    alloc: Global,
+    out: &mut Vec<u8>,
+    name: &[u8],
+    known: &[&[u8]],
+) -> Result<(), AllocError>
+    ensures { OnOk result (out.new.items
+        ≡ out.old.items ++ mnemonic_line name.now (map (λ other. other.now) known.now)) }
+{
+    if aligns_to_power(name) {
+        return add_text(
+            out,
+            b"nearest: .balign, in bytes: .balign 4 for .align 2, .balign 8 for .align 3\n",
+        );
+    }
+    add_hint(alloc, out, name, known)
+}
+
 // Appends the line on an unknown name by those that may stand where a fault of an assembly is reported.
 #[tactic(auto, unfolding(crate::specs::Near::known_line))]
 fn add_known(
@@ -71,6 +99,7 @@ fn add_known(
     let mut known = Vec::new(alloc);
     add_known_names(alloc, &mut known, fault, assembly)?;
     match fault {
+        AsmFault::UnknownMnemonic => add_mnemonic_line(alloc, out, name, known.as_slice()),
         AsmFault::UnknownSymbol => add_nearest(alloc, out, name, known.as_slice()),
         _ => add_hint(alloc, out, name, known.as_slice()),
     }

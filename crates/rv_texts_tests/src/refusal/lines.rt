@@ -2,7 +2,7 @@ use crate::refusal::{Refused, check_whole};
 use std::test::Fail;
 
 // Assembly texts that are refused, with the line that is shown of each.
-static REFUSED: [Refused; 18] = [
+static REFUSED: [Refused; 20] = [
     Refused {
         job: b"rob = 8\n%%\nnop\n\tslli x1, x1, 32 # \xc3\xa4\n",
         why: b"\
@@ -30,6 +30,26 @@ line 2 of the job, line 1 of its assembly: UnknownMnemonic
     ^
 expected: a statement that begins with an instruction or a directive
 nearest: .word
+",
+    },
+    Refused {
+        job: b".align 2\n",
+        why: b"\
+line 1 of the job, line 1 of its assembly: UnknownMnemonic
+    .align 2
+    ^
+expected: a statement that begins with an instruction or a directive
+nearest: .balign, in bytes: .balign 4 for .align 2, .balign 8 for .align 3
+",
+    },
+    Refused {
+        job: b".p2align 2\n",
+        why: b"\
+line 1 of the job, line 1 of its assembly: UnknownMnemonic
+    .p2align 2
+    ^
+expected: a statement that begins with an instruction or a directive
+nearest: .balign, in bytes: .balign 4 for .align 2, .balign 8 for .align 3
 ",
     },
     Refused {
