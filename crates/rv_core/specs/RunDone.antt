@@ -1,7 +1,8 @@
 -- What a run reports, and what it reports where there is no memory for the steps of a further cycle.
 use Rattle.std.specs.Prelude.{◌≡◌, ℕ, ◌<◌, List, length, Result, MatchResult}
 use Rattle.rv_isa.specs.declared.lines.Arrival.{Arrival}
-use Rattle.rv_hardware.specs.Guided.{GuidedCycles, GuidedHardware}
+use Rattle.rv_front.specs.Guide.{Guide}
+use Rattle.rv_hardware.specs.Guided.{GuidedCycles, GuidedHardware, guided}
 use Rattle.rv_hardware.specs.Hardware.{Hardware}
 use Rattle.rv_hardware.specs.Promise.{IsPromised, Reported}
 use Rattle.rv_hardware.specs.Report.{Report}
@@ -34,11 +35,12 @@ IsCutShort arrivals limit old new done =
     × IsRun arrivals old new reports done.steps.items done.stalls done.busy done.cycles done.longest_gap
     × NoneStops reports × (length reports < limit)
 
--- a run that ended, or one that out of memory cut short
-abbrev pub IsDone : List Arrival → ℕ → GuidedHardware → GuidedHardware → Result Outcome OutOfMemory → Type 0
-IsDone arrivals limit old new done =
-    MatchResult done (λ outcome. IsOutcome arrivals limit old new outcome)
-    (λ short. IsCutShort arrivals limit old new short)
+-- a run that ended, or one that out of memory cut short, from hardware and what was known of its predictor to both as
+-- they are then
+abbrev pub IsDone : List Arrival → ℕ → Hardware → Guide → Hardware → Guide → Result Outcome OutOfMemory → Type 0
+IsDone arrivals limit old taught new learned done =
+    MatchResult done (λ outcome. IsOutcome arrivals limit (guided old taught) (guided new learned) outcome)
+    (λ short. IsCutShort arrivals limit (guided old taught) (guided new learned) short)
 
 -- what a run reports that ended
 abbrev pub reported : Outcome → Reported

@@ -11,7 +11,8 @@ use Rattle.rv_watch.specs.declared.progress.Progress.{Progress}
 use Rattle.rv_watch.proofs.Shown.{cycles_shown, moments_counted, shown_steps-push}
 use Rattle.rv_core.specs.Counted.{IsCountedRun}
 use Rattle.rv_core.specs.declared.counting.Counted.{Counted}
-use Rattle.rv_hardware.specs.Guided.{GuidedHardware}
+use Rattle.rv_front.specs.Guide.{Guide}
+use Rattle.rv_hardware.specs.Guided.{GuidedHardware, guided}
 use Rattle.rv_hardware.specs.Hardware.{Hardware}
 use Rattle.rv_hardware.specs.History.{History, Moment, reports_of}
 use Rattle.rv_hardware.specs.Run.{IsStop, steps_of}
@@ -126,12 +127,14 @@ traced_to_the_end {moments = moments} {failed = failed} {before = before} {after
     })
 
 -- what a run came to whose steps were counted, where no trace is asked for
-pub counted_to_the_end : {arrivals : List Arrival} {options : Options} {old
-    new : GuidedHardware} {run : Counted} {totals : Totals} → IsCountedRun arrivals options.limit old new run →
+pub counted_to_the_end : {arrivals : List Arrival} {options : Options} {old new : Hardware}
+    {taught learned : Guide} {run : Counted} {totals : Totals} →
+    IsCountedRun arrivals options.limit old taught new learned run →
     options.trace ≡ false
     → totals ≡ totals_with run.progress
     (record { retired = run.retired; traps = run.traps; interrupts = run.interrupts }) run.stop →
-    (output : Option (List ℕ)) → IsTraced arrivals options old new totals false output output
+    (output : Option (List ℕ)) →
+    IsTraced arrivals options (guided old taught) (guided new learned) totals false output output
 counted_to_the_end {run = run} counted off is output = rw is (record {
   reports = reports_of counted.moments;
   cycles = cycles_shown counted.passes;

@@ -1,21 +1,21 @@
-use Rattle.rv_core.proofs.Words.{[], sym, subst, arith, IsCutShort, IsOutcome, OutOfMemory, Outcome}
+use Rattle.rv_core.proofs.Words.{[], sym, subst, arith, guided, IsCutShort, IsOutcome, OutOfMemory, Outcome}
 use Rattle.rv_core.proofs.RunCycles.{run_of_none}
 use Rattle.rv_core.proofs.cycles.not_run.Goals as goal
 
 pub returns-then-limit-eq0 : goal.returns-then-limit-eq0
-returns-then-limit-eq0 c arrivals h =
-    subst (λ (o : Outcome). IsOutcome arrivals c.args.limit h h o) (sym c.outcome.ensures) (
+returns-then-limit-eq0 c arrivals h guide =
+    subst (λ (o : Outcome). IsOutcome arrivals c.args.limit (guided h guide) (guided h guide) o) (sym c.outcome.ensures) (
       [],
-      run_of_none arrivals h c.new-progress.result c.new-steps.result.items c.new-progress.ensures
+      run_of_none arrivals (guided h guide) c.new-progress.result c.new-steps.result.items c.new-progress.ensures
           c.new-steps.ensures.items,
       (tt, sym c.if-limit-eq0.true),
     )
 
 pub returns : goal.returns
-returns c arrivals h =
-    subst (λ (o : OutOfMemory). IsCutShort arrivals c.args.limit h h o) (sym c.out_of_memory.ensures) (
+returns c arrivals h guide =
+    subst (λ (o : OutOfMemory). IsCutShort arrivals c.args.limit (guided h guide) (guided h guide) o) (sym c.out_of_memory.ensures) (
       [],
-      run_of_none arrivals h c.new-progress.result c.new-steps.result.items c.new-progress.ensures
+      run_of_none arrivals (guided h guide) c.new-progress.result c.new-steps.result.items c.new-progress.ensures
           c.new-steps.ensures.items,
       tt,
       omega (arith, c.if-limit-eq0.false),
