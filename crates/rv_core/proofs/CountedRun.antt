@@ -6,7 +6,6 @@ use Rattle.std.specs.Prelude.{Bool, cond, count_by}
 use Rattle.std.proofs.lemmas.List.Sums.{sum_by-cons}
 use Rattle.rv_hardware.specs.Step.{is_interrupt, is_retirement, is_trap}
 use Rattle.rv_hardware.specs.declared.step.Step.TheVariants.{Interrupt, Retired, Trap}
-use Rattle.rv_hardware.specs.Run.{Reachable}
 use Rattle.rv_core.specs.Counted.{AreCounts, IsCountedRun}
 use Rattle.rv_core.specs.Steps.{HasRoom, Takes}
 use Rattle.rv_core.specs.declared.counting.Counted.{Counted}
@@ -120,7 +119,7 @@ module _ (arrivals : List Arrival) (old : GuidedHardware) where
     -- one more cycle, whose steps were taken
     module _ {after : Hardware} {predictor : Guide} {progress' : Progress} {steps' : Steps} {stop : Option Stop}
         (next : TakesNextCycle arrivals now.hardware now.predictor after predictor steps steps' progress progress' stop)
-        (reached : Reachable now.hardware) (within : now.hardware.cycle < 2 ^ 40) where
+        (within : now.hardware.cycle < 2 ^ 40) where
       taken_with : (before : Option (List ℕ)) → Takes uncounted steps (steps_of (reports_of counting.moments)) →
           Takes uncounted steps' (steps_of (reports_of (counting.moments ++ record { report = next.report; after = after } ∷ [])))
       taken_with before taken =
@@ -133,12 +132,12 @@ module _ (arrivals : List Arrival) (old : GuidedHardware) where
       -- with one that does not stop, the run goes on
       pub counting_on : stop ≡ None → IsCounting (guided after predictor) progress' steps'
       counting_on goes =
-          watching_on HasTaken arrivals old uncounted None counting (next_reported next) refl refl reached refl within taken_with goes
+          watching_on HasTaken arrivals old uncounted None counting (next_reported next) refl refl next.reached refl within taken_with goes
 
       -- and with one that stops it is over
       pub counted_to_stop : (limit : ℕ) (reason : Stop) → stop ≡ Some reason → progress.cycles < limit →
           (run : Counted) → AreCounts progress' steps' reason run →
           IsCountedRun arrivals limit old.hardware old.predictor after predictor run
       counted_to_stop limit reason is short run are =
-          counted_by (watched_to_stop HasTaken arrivals old uncounted None counting (next_reported next) refl refl reached refl within taken_with
+          counted_by (watched_to_stop HasTaken arrivals old uncounted None counting (next_reported next) refl refl next.reached refl within taken_with
           {Refusal = Unit {0}} limit reason is short) run are

@@ -55,8 +55,6 @@ pub fn count_run(
         if pipeline.is_exhausted() {
             return counts(progress, &steps, Stop::Exhausted);
         }
-        // Of hardware that a reset and cycles lead to, what it does is known.
-        let _ = pipeline.cycles_done();
         if let Some(stop) = run_cycle(&mut progress, pipeline, predictor, arrivals, &mut steps) {
             return counts(progress, &steps, stop);
         }

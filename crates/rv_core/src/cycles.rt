@@ -6,7 +6,7 @@ ghost use Rattle.rv_hardware.specs.Headline.{IsTrueStop};
 ghost use Rattle.rv_hardware.specs.Seen.{layout_of, seen};
 ghost use Rattle.rv_watch.specs.Progress.{IsBounded, progress_after};
 ghost use Rattle.rv_core.specs.Taking.{TakesNextCycle};
-ghost use Rattle.rv_core.specs.RunDone.{IsDone, KeepsItsPromise};
+ghost use Rattle.rv_core.specs.RunDone.{IsDone, KeepsItsPromise, reported, reported_so_far, reported_with};
 ghost use Rattle.rv_core.specs.Steps.{HasRoom};
 ghost use Rattle.rv_core.specs.Reported.{report_with};
 ghost use Rattle.rv_hardware.specs.Run.{is_silent as has_no_step};
@@ -150,14 +150,8 @@ fn count(progress: &mut Progress, is_silent: bool, end: &CycleEnd)
 }
 
 fn outcome(progress: Progress, steps: Vec<Step>, stop: Stop) -> Outcome
-    ensures { result ≡ record {
-      steps = steps;
-      stalls = progress.stalls;
-      busy = progress.busy;
-      cycles = progress.cycles;
-      longest_gap = progress.longest_gap;
-      stop = stop;
-    } }
+    ensures counts { reported result ≡ reported_with progress steps.items }
+    ensures stop { result.stop ≡ stop }
 {
     Outcome {
         steps,
@@ -170,13 +164,7 @@ fn outcome(progress: Progress, steps: Vec<Step>, stop: Stop) -> Outcome
 }
 
 fn out_of_memory(progress: Progress, steps: Vec<Step>) -> OutOfMemory
-    ensures { result ≡ record {
-      steps = steps;
-      stalls = progress.stalls;
-      busy = progress.busy;
-      cycles = progress.cycles;
-      longest_gap = progress.longest_gap;
-    } }
+    ensures { reported_so_far result ≡ reported_with progress steps.items }
 {
     OutOfMemory {
         steps,

@@ -96,19 +96,6 @@ impl Pipeline {
             TakesDue lines self.old.cycle (seen self.old) result.steps.items }
         ensures stall { self.old.cycle < 2 ^ 40 → is_some result.stall ≡ (result.dispatched == 0) }
     {
-        // Of hardware that a reset and cycles lead to, the headline and the laws hold.
-        let _ = self.cycles_done();
-        self.next_cycle(predictor, lines)
-    }
-
-    fn next_cycle(&mut self, predictor: &mut dyn Predictor, lines: Lines) -> CycleReport
-        ensures cycled { self.old.cycle < 2 ^ 40 →
-            DoesCycle lines self.old (known predictor.old) (report_of_cycle result) self.new (known predictor.new) }
-        ensures exhausted { self.old.cycle ≡ 2 ^ 40 →
-            (self.new ≡ self.old) × (report_of_cycle result ≡ exhausted_report)
-            × (known predictor.new ≡ known predictor.old) }
-    {
-        self.steps.clear();
         if self.is_exhausted() {
             return CycleReport {
                 steps: ArrayVec::new(),
@@ -117,6 +104,17 @@ impl Pipeline {
                 stop: Some(Stop::Exhausted),
             };
         }
+        self.next_cycle(predictor, lines)
+    }
+
+    // One of the cycles that are counted, of hardware that a reset and cycles lead to.
+    fn next_cycle(&mut self, predictor: &mut dyn Predictor, lines: Lines) -> CycleReport
+        requires { self.old.cycle < 2 ^ 40 }
+        ensures cycled { DoesCycle lines self.old (known predictor.old) (report_of_cycle result)
+            self.new (known predictor.new) }
+        ensures reached { Reachable self.old }
+    {
+        self.steps.clear();
         let end = self.parts.advance(lines, predictor, &mut self.steps);
         CycleReport {
             steps: listed(self.steps.as_slice()),

@@ -27,7 +27,7 @@ counts-requires g c = sorts_fit c.args.arrivals.now _ c.loop.invariant.0
 pub counts-requires-in-Some : goal.counts-requires-in-Some
 counts-requires-in-Some g c =
     let within = leb-false 1099511627776 c.loop.pipeline.cycle (sym c.is_exhausted.ensures.exhausted ∙ c.if-is_exhausted.false) in
-    taken_fit c.args.arrivals.now _ c.loop.invariant.0 c.run_cycle.ensures c.cycles_done.ensures.reached within
+    taken_fit c.args.arrivals.now _ c.loop.invariant.0 c.run_cycle.ensures within
 
 pub counts-requires-2 : goal.counts-requires-2
 counts-requires-2 g c = sorts_fit c.args.arrivals.now _ c.loop.invariant.0
@@ -43,14 +43,14 @@ returns-then-is_exhausted g c =
 pub returns-in-Some : goal.returns-in-Some
 returns-in-Some g c =
     let within = leb-false 1099511627776 c.loop.pipeline.cycle (sym c.is_exhausted.ensures.exhausted ∙ c.if-is_exhausted.false) in
-    counted_to_stop c.args.arrivals.now _ c.loop.invariant.0 c.run_cycle.ensures c.cycles_done.ensures.reached within
+    counted_to_stop c.args.arrivals.now _ c.loop.invariant.0 c.run_cycle.ensures within
     c.args.limit c.in-Some.stop c.in-Some.is (omega (arith, c.loop.invariant.1, c.loop-test.true)) _ c.counts-in-Some.ensures
 
 pub loop-preserved : goal.loop-preserved
 loop-preserved g c =
     let within = leb-false 1099511627776 c.loop.pipeline.cycle (sym c.is_exhausted.ensures.exhausted ∙ c.if-is_exhausted.false) in
     let next = c.run_cycle.ensures in (
-      counting_on c.args.arrivals.now _ c.loop.invariant.0 next c.cycles_done.ensures.reached within c.in_default.is,
+      counting_on c.args.arrivals.now _ c.loop.invariant.0 next within c.in_default.is,
       ap (λ (p : Progress). p.cycles) next.counted ∙ ap (λ n. n + 1) c.loop.invariant.1,
     )
 
