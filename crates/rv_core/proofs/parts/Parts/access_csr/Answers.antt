@@ -1,5 +1,5 @@
 use Rattle.rv_core.proofs.Words.{◌≡◌, ap, refl, Hardware, hardware_of}
-use Rattle.rv_core.proofs.Retired.Roles.{kept_as, kept_from, kept_serial, kept_trapped}
+use Rattle.rv_core.proofs.Retired.Roles.{kept_as, kept_from, kept_serialising, kept_trapped}
 use Rattle.rv_core.proofs.Retired.Serial.{sound_apart}
 use Rattle.rv_core.proofs.parts.Parts.access_csr.Goals as goal
 
@@ -15,7 +15,7 @@ returns-in-Ok-clause-kept c =
     let rob : now.rob ≡ c.args.self.now.rob = ap (λ (h : Hardware). h.rob) c.self.view_is in
     kept_from c.args.self.now now c.serialise.new.self
     (kept_as c.args.self.now now (ap (λ (h : Hardware). h.values) c.self.view_is) (ap (λ (h : Hardware). h.cycle) c.self.view_is) rob)
-    rob (kept_serial now c.serialise.new.self _ _ c.serialise.ensures.hardware)
+    rob (kept_serialising now c.serialise.new.self _ _ c.serialise.ensures.hardware)
 
 pub returns-in-Err-clause-kept : goal.returns-in-Err-clause-kept
 returns-in-Err-clause-kept c =

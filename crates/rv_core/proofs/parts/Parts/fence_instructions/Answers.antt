@@ -3,7 +3,7 @@ use Rattle.rv_core.proofs.Words.{Some, sym, ap, ◌∙◌, subst, true≢false, 
 use Rattle.rv_core.proofs.Words.{IsHead, IsSound, hardware_of, Inside}
 use Rattle.rv_core.proofs.Retired.Fence.{fence_waits_for_cache, fence_waits_for_stores, fence_waits_for_port}
 use Rattle.rv_core.proofs.Retired.Fence.{queue_beside_fence, takes_time}
-use Rattle.rv_core.proofs.Retired.Roles.{kept, kept_as, kept_from, kept_serial}
+use Rattle.rv_core.proofs.Retired.Roles.{kept, kept_as, kept_from, kept_serialising}
 use Rattle.rv_core.proofs.Retired.Serial.{sound_apart}
 use Rattle.rv_core.proofs.parts.Parts.fence_instructions.Goals as goal
 use Rattle.rv_core.proofs.parts.Parts.fence_instructions.Goals.{then-not-is_empty-via-then-not-is_empty}
@@ -64,4 +64,4 @@ returns-clause-kept c =
     let rob : now.rob ≡ c.args.self.now.rob = ap (λ (h : Hardware). h.rob) is in
     kept_from c.args.self.now now c.serialise.new.self
     (kept_as c.args.self.now now (ap (λ (h : Hardware). h.values) is) (ap (λ (h : Hardware). h.cycle) is) rob) rob
-    (kept_serial now c.serialise.new.self _ _ c.serialise.ensures.hardware)
+    (kept_serialising now c.serialise.new.self _ _ c.serialise.ensures.hardware)
