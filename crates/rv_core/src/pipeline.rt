@@ -85,7 +85,8 @@ impl Pipeline {
     /// that has done 2^40 cycles does nothing, and stops as exhausted.
     pub fn cycle(&mut self, predictor: &mut dyn Predictor, lines: Lines) -> CycleReport
         ensures cycled { self.old.cycle < 2 ^ 40 →
-            DoesCycle lines self.old (known predictor.old) (report_of_cycle result) self.new (known predictor.new) }
+            DoesCycle lines self.old (known predictor.old) (report_of_cycle result)
+            self.new (known predictor.new) }
         ensures exhausted { self.old.cycle ≡ 2 ^ 40 →
             (self.new ≡ self.old) × (report_of_cycle result ≡ exhausted_report)
             × (known predictor.new ≡ known predictor.old) }
