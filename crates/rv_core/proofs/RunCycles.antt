@@ -20,7 +20,7 @@ module _ (arrivals : List Arrival) {progress : Progress} {steps : List Step} {do
   -- what is reported of no cycle
   pub run_of_none : (h : GuidedHardware) → progress ≡ progress_of [] → steps ≡ [] →
       done ≡ reported_with progress steps → IsRun arrivals h h [] done
-  run_of_none h counted none is = run_of_cycles {h} {h} ended counted none is
+  run_of_none h counted none is = run_of_cycles ended counted none is
 
 -- ---- a cycle of a run
 

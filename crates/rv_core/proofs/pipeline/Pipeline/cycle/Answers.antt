@@ -1,15 +1,16 @@
 use Rattle.rv_core.proofs.Words.{◌≡◌, ℕ, Bool, true, false, is_some, IfSome, ◌==◌, Some, None, Option, refl, due, Stall}
-use Rattle.rv_core.proofs.Words.{◌^◌, ◌<◌, nat_le, sym, ◌∙◌, arith, leb-false, leb-true, report_of_cycle}
+use Rattle.rv_core.proofs.Words.{◌^◌, ◌<◌, nat_le, arith, report_of_cycle}
 use Rattle.rv_hardware.proofs.AnyPrediction.{any_cycle}
 use Rattle.rv_hardware.proofs.Headline.Cycle.{headline_of_cycle}
 use Rattle.rv_hardware.proofs.Laws.Counts.{IsCounted}
 use Rattle.rv_hardware.proofs.Marks.History.{reachable_has_history}
 use Rattle.rv_hardware.proofs.Laws.OfCycles.{cycle_is_counted, due_interrupt_is_taken}
+use Rattle.rv_core.proofs.Exhausted.{all_done, cycle_left}
 use Rattle.rv_core.proofs.pipeline.Pipeline.cycle.Goals as goal
 
 -- a pipeline that is exhausted has no cycle left
 none_left : {A : Type 0} {cycle : ℕ} {all : Bool} → all ≡ nat_le (2 ^ 40) cycle → all ≡ true → cycle < 2 ^ 40 → A
-none_left {cycle = cycle} is done counted = absurd (omega (arith, leb-true (2 ^ 40) cycle (sym is ∙ done), counted))
+none_left is done counted = absurd (omega (arith, all_done is done, counted))
 
 pub returns-then-is_exhausted-clause-cycled : goal.returns-then-is_exhausted-clause-cycled
 returns-then-is_exhausted-clause-cycled g c = none_left c.is_exhausted.ensures.exhausted c.if-is_exhausted.true
@@ -24,12 +25,11 @@ pub returns-then-is_exhausted-clause-stall : goal.returns-then-is_exhausted-clau
 returns-then-is_exhausted-clause-stall g c = none_left c.is_exhausted.ensures.exhausted c.if-is_exhausted.true
 
 pub next_cycle-requires : goal.next_cycle-requires
-next_cycle-requires g c =
-    leb-false (2 ^ 40) c.args.self.now.cycle (sym c.is_exhausted.ensures.exhausted ∙ c.if-is_exhausted.false)
+next_cycle-requires g c = cycle_left c.is_exhausted.ensures.exhausted c.if-is_exhausted.false
 
 pub returns-clause-exhausted : goal.returns-clause-exhausted
 returns-clause-exhausted g c all =
-    absurd (omega (arith, all, leb-false (2 ^ 40) c.args.self.now.cycle (sym c.is_exhausted.ensures.exhausted ∙ c.if-is_exhausted.false)))
+    absurd (omega (arith, all, cycle_left c.is_exhausted.ensures.exhausted c.if-is_exhausted.false))
 
 pub returns-clause-true_cycle : goal.returns-clause-true_cycle
 returns-clause-true_cycle g c counted =
