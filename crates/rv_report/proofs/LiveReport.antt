@@ -103,7 +103,8 @@ module _ {seen : Watched} {cycle : ℕ} {steps : List Step} {after : Hardware} {
       HasTraced counts' failed' (with_shown seen shown).moments before now
   traced_on counts' failed' now counted wrote =
       let so_far = steps_of (reports_of seen.moments) in
-      let all : steps_of (reports_of (with_shown seen shown).moments) ≡ so_far ++ steps = shown_steps-push seen.moments _ ∙ ap (λ l. so_far ++ l) (sym shown.steps_are) in
+      let all : steps_of (reports_of (with_shown seen shown).moments) ≡ so_far ++ steps =
+      shown_steps-push seen.moments _ ∙ ap (λ l. so_far ++ l) (sym shown.steps_are) in
       record {
         counted = counted ∙ ap (λ c. both_counts c (counts_of steps)) traced.counted ∙ sym (ap counts_of all ∙ counts_of-append so_far steps);
         trace = subst (IsSaid failed' before now) (sym (ap trace_lines all ∙ trace_of-append true so_far steps)) wrote;
