@@ -6,7 +6,6 @@ use Rattle.std.specs.Prelude.{Bool, cond, count_by}
 use Rattle.std.proofs.lemmas.List.Sums.{sum_by-cons}
 use Rattle.rv_hardware.specs.Step.{is_interrupt, is_retirement, is_trap}
 use Rattle.rv_hardware.specs.declared.step.Step.TheVariants.{Interrupt, Retired, Trap}
-use Rattle.rv_hardware.specs.Run.{Reachable}
 use Rattle.rv_core.specs.Counted.{AreCounts, IsCountedRun}
 use Rattle.rv_core.specs.Steps.{HasRoom, Takes}
 use Rattle.rv_core.specs.declared.counting.Counted.{Counted}
@@ -75,7 +74,8 @@ module _ (arrivals : List Arrival) (old : GuidedHardware) where
   -- what a run came to whose steps were taken
   counted_by : {limit : ℕ} {new : GuidedHardware} {progress : Progress} {stop : Stop} {steps : Steps}
       → IsWatchedRun {Refusal = Unit {0}} HasTaken arrivals limit old new progress (Ok stop) uncounted steps None None
-      → (run : Counted) → AreCounts progress steps stop run → IsCountedRun arrivals limit old new run
+      → (run : Counted) → AreCounts progress steps stop run →
+      IsCountedRun arrivals limit old.hardware old.predictor new.hardware new.predictor run
   counted_by {limit = limit} {new = new} watched run are =
       let all = steps_of (reports_of watched.moments) in
       let taken : Takes uncounted _ all = watched.seen None (takes_none uncounted) in
@@ -111,14 +111,15 @@ module _ (arrivals : List Arrival) (old : GuidedHardware) where
 
     -- it ended between two cycles
     pub counted_to : (limit : ℕ) (stop : Stop) → IsStop limit (reports_of counting.moments) now.hardware stop →
-        (run : Counted) → AreCounts progress steps stop run → IsCountedRun arrivals limit old now run
+        (run : Counted) → AreCounts progress steps stop run →
+        IsCountedRun arrivals limit old.hardware old.predictor now.hardware now.predictor run
     counted_to limit stop ends run are =
         counted_by (watched_to HasTaken arrivals old uncounted None counting {Refusal = Unit {0}} limit (Ok stop) ends) run are
 
     -- one more cycle, whose steps were taken
     module _ {after : Hardware} {predictor : Guide} {progress' : Progress} {steps' : Steps} {stop : Option Stop}
-        (next : TakesNextCycle arrivals now (guided after predictor) steps steps' progress progress' stop)
-        (reached : Reachable now.hardware) (within : now.hardware.cycle < 2 ^ 40) where
+        (next : TakesNextCycle arrivals now.hardware now.predictor after predictor steps steps' progress progress' stop)
+        (within : now.hardware.cycle < 2 ^ 40) where
       taken_with : (before : Option (List ℕ)) → Takes uncounted steps (steps_of (reports_of counting.moments)) →
           Takes uncounted steps' (steps_of (reports_of (counting.moments ++ record { report = next.report; after = after } ∷ [])))
       taken_with before taken =
@@ -131,11 +132,12 @@ module _ (arrivals : List Arrival) (old : GuidedHardware) where
       -- with one that does not stop, the run goes on
       pub counting_on : stop ≡ None → IsCounting (guided after predictor) progress' steps'
       counting_on goes =
-          watching_on HasTaken arrivals old uncounted None counting (next_reported next) refl refl reached refl within taken_with goes
+          watching_on HasTaken arrivals old uncounted None counting (next_reported next) refl refl next.reached refl within taken_with goes
 
       -- and with one that stops it is over
       pub counted_to_stop : (limit : ℕ) (reason : Stop) → stop ≡ Some reason → progress.cycles < limit →
-          (run : Counted) → AreCounts progress' steps' reason run → IsCountedRun arrivals limit old (guided after predictor) run
+          (run : Counted) → AreCounts progress' steps' reason run →
+          IsCountedRun arrivals limit old.hardware old.predictor after predictor run
       counted_to_stop limit reason is short run are =
-          counted_by (watched_to_stop HasTaken arrivals old uncounted None counting (next_reported next) refl refl reached refl within taken_with
+          counted_by (watched_to_stop HasTaken arrivals old uncounted None counting (next_reported next) refl refl next.reached refl within taken_with
           {Refusal = Unit {0}} limit reason is short) run are

@@ -1,4 +1,4 @@
--- A guided cycle or run of a value is one of each value that stands for the same hardware.
+-- A guided cycle from hardware is one from the same hardware, and one with the same report.
 use Rattle.rv_core.proofs.Words.{◌≡◌, subst, Lines, Hardware, Report, Guide, GuidedHardware, IsGuidedCycle, guided}
 
 -- a cycle from the same hardware

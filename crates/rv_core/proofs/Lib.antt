@@ -1,5 +1,6 @@
 mod Words
 mod CountedRun
+mod Exhausted
 mod Guiding
 mod Issued
 mod Loads

@@ -1,30 +1,28 @@
 -- The promise is kept by the run of the described hardware, and the reason why it stops is true.
 use Rattle.rv_core.proofs.Words.{ℕ, List, sym, subst, Arrival, Stop, OnlyLastStops, IsTrueStop, Report, IsStop}
-use Rattle.rv_core.proofs.Words.{Reachable, layout_of, seen, IfOk, MatchResult, Result, GuidedHardware, StallCounts}
-use Rattle.rv_core.proofs.Words.{Step, IsCutShort, IsOutcome, IsRun, KeepsPromise, reported, reported_so_far}
+use Rattle.rv_core.proofs.Words.{Reachable, layout_of, seen, IfOk, MatchResult, Result, GuidedHardware}
+use Rattle.rv_core.proofs.Words.{IsCutShort, IsOutcome, IsRun, KeepsPromise, reported, reported_so_far}
 use Rattle.rv_core.proofs.Words.{OutOfMemory, Outcome}
 use Rattle.std.proofs.lemmas.Result.{MatchResult-weaker}
+use Rattle.rv_hardware.specs.Promise.{Reported}
 use Rattle.rv_hardware.proofs.AnyPrediction.{cycles_of}
 use Rattle.rv_hardware.proofs.Gap.Run.{none_stops-only_last, is_stop-only_last}
 use Rattle.rv_hardware.proofs.Headline.Stops.{headline_of_stop}
 use Rattle.rv_hardware.proofs.Promise.{promise_of_run}
 
 module _ (arrivals : List Arrival) (limit : ℕ) (old new : GuidedHardware) (reached : Reachable old.hardware) where
-  module _ {reports : List Report} {steps : List Step} {stalls : StallCounts} {busy cycles gap : ℕ}
-      (run : IsRun arrivals old new reports steps stalls busy cycles gap) where
-    promise_of : OnlyLastStops reports →
-        KeepsPromise arrivals old.hardware new.hardware
-        (record { steps = steps; stalls = stalls; busy = busy; cycles = cycles; longest_gap = gap })
-    promise_of only = rw (run.steps_are, run.stalls_are, run.busy_is, run.cycles_are, run.longest_gap_is)
+  module _ {reports : List Report} {done : Reported} (run : IsRun arrivals old new reports done) where
+    promise_of : OnlyLastStops reports → KeepsPromise arrivals old.hardware new.hardware done
+    promise_of only = subst (KeepsPromise arrivals old.hardware new.hardware) (sym run.reported_is)
         (promise_of_run reached (cycles_of run.cycled) only)
 
     stop_of : (reason : Stop) → IsStop limit reports new.hardware reason →
-        IsTrueStop (layout_of old.hardware.values) arrivals limit old.hardware.cycle new.hardware.cycle steps
+        IsTrueStop (layout_of old.hardware.values) arrivals limit old.hardware.cycle new.hardware.cycle done.steps
         (seen new.hardware) reason
     stop_of reason stops =
-        subst (λ (done : List Step). IsTrueStop
-        (layout_of old.hardware.values) arrivals limit old.hardware.cycle new.hardware.cycle done (seen new.hardware) reason)
-        (sym run.steps_are)
+        subst (λ (all : Reported). IsTrueStop (layout_of old.hardware.values) arrivals limit old.hardware.cycle
+        new.hardware.cycle all.steps (seen new.hardware) reason)
+        (sym run.reported_is)
         (headline_of_stop arrivals limit old.hardware new.hardware reports reason reached (cycles_of run.cycled) stops)
 
   module _ (ended : Result Outcome OutOfMemory)

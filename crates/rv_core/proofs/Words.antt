@@ -121,7 +121,7 @@ pub use Rattle.rv_watch.specs.Progress.{IsBounded, IsCommitStop, IsNextCycle, la
 pub use Rattle.rv_watch.specs.Progress.{silence_after, silence_from}
 pub use Rattle.rv_core.specs.Reached.{IsBegun}
 pub use Rattle.rv_core.specs.Retiring.{registers_with, with_commit, without_target}
-pub use Rattle.rv_core.specs.RunDone.{IsCutShort, IsDone, IsOutcome, IsRun, KeepsPromise, reported, reported_so_far}
+pub use Rattle.rv_core.specs.RunDone.{IsCutShort, IsDone, IsOutcome, IsRun, KeepsPromise, reported, reported_so_far, reported_with}
 pub use Rattle.rv_core.specs.Soundness.{AreSoundEntries, AreSoundStores, IsDecoded, IsDescribedCache, IsLegalAccess}
 pub use Rattle.rv_core.specs.Soundness.{IsLegalWrite, IsRetiredStore, IsSoundEntry, IsSoundHardware, message_of}
 pub use Rattle.rv_core.specs.Ties.{AreTied, bus_of, checkpoints_of, operand_of, pending_from, pending_of, pool_of_kind}

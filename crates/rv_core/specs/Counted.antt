@@ -2,7 +2,9 @@
 use Rattle.std.specs.Prelude.{◌≡◌, ℕ, ◌+◌, List, count_by}
 use Rattle.rv_isa.specs.declared.lines.Arrival.{Arrival}
 use Rattle.rv_arch.specs.declared.outcome.Stop.{Stop}
-use Rattle.rv_hardware.specs.Guided.{GuidedHardware}
+use Rattle.rv_front.specs.Guide.{Guide}
+use Rattle.rv_hardware.specs.Guided.{guided}
+use Rattle.rv_hardware.specs.Hardware.{Hardware}
 use Rattle.rv_hardware.specs.History.{History, Moment, reports_of}
 use Rattle.rv_hardware.specs.Run.{IsStop, steps_of}
 use Rattle.rv_hardware.specs.Step.{is_interrupt, is_retirement, is_trap}
@@ -19,12 +21,14 @@ pub record AreCounts (progress : Progress) (steps : Steps) (stop : Stop) (run : 
   pub traps : run.traps ≡ steps.traps
   pub interrupts : run.interrupts ≡ steps.interrupts
 
--- a run of at most `limit` cycles that ended: its cycles are counted, and its steps by their sort
-pub record IsCountedRun (arrivals : List Arrival) (limit : ℕ) (old new : GuidedHardware) (run : Counted) : Type 0 where
+-- a run of at most `limit` cycles that ended, from hardware and what was known of its predictor to both as they are then:
+-- its cycles are counted, and its steps by their sort
+pub record IsCountedRun (arrivals : List Arrival) (limit : ℕ) (old : Hardware) (taught : Guide) (new : Hardware)
+    (learned : Guide) (run : Counted) : Type 0 where
   pub moments : List Moment
-  pub passes : History arrivals old moments new
+  pub passes : History arrivals (guided old taught) moments (guided new learned)
   pub progress : run.progress ≡ progress_of (reports_of moments)
-  pub ends : IsStop limit (reports_of moments) new.hardware run.stop
+  pub ends : IsStop limit (reports_of moments) new run.stop
   pub retired : run.retired ≡ count_by is_retirement (steps_of (reports_of moments))
   pub traps : run.traps ≡ count_by is_trap (steps_of (reports_of moments))
   pub interrupts : run.interrupts ≡ count_by is_interrupt (steps_of (reports_of moments))

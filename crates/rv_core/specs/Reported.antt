@@ -6,7 +6,8 @@ use Rattle.rv_arch.specs.State.{State}
 use Rattle.rv_arch.specs.Trap.{interrupt_cause}
 use Rattle.rv_arch.specs.declared.outcome.Stop.TheVariants.{Exhausted}
 use Rattle.rv_hardware.specs.Dispatch.{Dispatching}
-use Rattle.rv_hardware.specs.Guided.{GuidedHardware, IsGuidedCycle}
+use Rattle.rv_front.specs.Guide.{Guide}
+use Rattle.rv_hardware.specs.Guided.{IsGuidedCycle, guided}
 use Rattle.rv_hardware.specs.Hardware.{Hardware}
 use Rattle.rv_hardware.specs.Repeated.{Turn, GoesOn, Ends}
 use Rattle.rv_hardware.specs.Report.{Report}
@@ -30,11 +31,15 @@ dispatch_left (Some reason) h dispatched =
 abbrev pub report_with : List Step → CycleEnd → Report
 report_with steps end = record { steps = steps; dispatched = end.dispatched; stall = end.stall; stop = end.stop }
 
--- a cycle led from the one hardware to the other, and its steps, eight at most, were taken
-abbrev pub TakesCycle : Lines → GuidedHardware → GuidedHardware → Steps → Steps → CycleEnd → Type 0
-TakesCycle lines old new before after end =
+-- a cycle led from hardware and what was known of its predictor to both as they are then
+abbrev pub DoesCycle : Lines → Hardware → Guide → Report → Hardware → Guide → Type 0
+DoesCycle lines old taught report new learned = IsGuidedCycle lines (guided old taught) report (guided new learned)
+
+-- such a cycle, whose steps, eight at most, were taken
+abbrev pub TakesCycle : Lines → Hardware → Guide → Hardware → Guide → Steps → Steps → CycleEnd → Type 0
+TakesCycle lines old taught new learned before after end =
     (steps : List Step) × Takes before after steps × (length steps ≤ 8)
-    × IsGuidedCycle lines old (report_with steps end) new
+    × DoesCycle lines old taught (report_with steps end) new learned
 
 -- what a cycle of a pipeline reports
 abbrev pub report_of_cycle : CycleReport → Report

@@ -1,5 +1,4 @@
 ghost use Rattle.std.specs.Prelude.{◌+◌, ◌≤◌};
-ghost use Rattle.rv_hardware.specs.Guided.{guided};
 ghost use Rattle.rv_core.specs.Counted.{AreCounts, IsCountedRun};
 
 use crate::cycles::run_cycle;
@@ -47,8 +46,8 @@ pub fn count_run(
     arrivals: &Arrivals,
     limit: u64,
 ) -> Counted
-    ensures { IsCountedRun arrivals.now limit (guided pipeline.old (known predictor.old))
-        (guided pipeline.new (known predictor.new)) result }
+    ensures { IsCountedRun arrivals.now limit pipeline.old (known predictor.old)
+        pipeline.new (known predictor.new) result }
 {
     let mut steps = Steps::counting();
     let mut progress = Progress::new();
@@ -56,8 +55,6 @@ pub fn count_run(
         if pipeline.is_exhausted() {
             return counts(progress, &steps, Stop::Exhausted);
         }
-        // Of hardware that a reset and cycles lead to, what it does is known.
-        let _ = pipeline.cycles_done();
         if let Some(stop) = run_cycle(&mut progress, pipeline, predictor, arrivals, &mut steps) {
             return counts(progress, &steps, stop);
         }

@@ -1,11 +1,12 @@
 ghost use Rattle.std.specs.Prelude.{◌≡◌, ◌+◌, ◌^◌, ◌<◌, ◌≤◌, vec_capacity, List, IfOk};
 ghost use Rattle.rv_isa.specs.declared.lines.Arrival.{Arrival};
-ghost use Rattle.rv_hardware.specs.Guided.{GuidedHardware, guided};
+ghost use Rattle.rv_front.specs.Guide.{Guide};
+ghost use Rattle.rv_hardware.specs.Hardware.{Hardware};
 ghost use Rattle.rv_hardware.specs.Headline.{IsTrueStop};
 ghost use Rattle.rv_hardware.specs.Seen.{layout_of, seen};
 ghost use Rattle.rv_watch.specs.Progress.{IsBounded, progress_after};
 ghost use Rattle.rv_core.specs.Taking.{TakesNextCycle};
-ghost use Rattle.rv_core.specs.RunDone.{IsDone, KeepsItsPromise};
+ghost use Rattle.rv_core.specs.RunDone.{IsDone, KeepsItsPromise, reported, reported_so_far, reported_with};
 ghost use Rattle.rv_core.specs.Steps.{HasRoom};
 ghost use Rattle.rv_core.specs.Reported.{report_with};
 ghost use Rattle.rv_hardware.specs.Run.{is_silent as has_no_step};
@@ -39,8 +40,8 @@ pub fn run(
     arrivals: &Arrivals,
     limit: u64,
 ) -> Result<Outcome, OutOfMemory>
-    ensures cycles { IsDone arrivals.now limit (guided pipeline.old (known predictor.old))
-        (guided pipeline.new (known predictor.new)) result }
+    ensures cycles { IsDone arrivals.now limit pipeline.old (known predictor.old)
+        pipeline.new (known predictor.new) result }
     ensures promised { KeepsItsPromise arrivals.now pipeline.old pipeline.new result }
     ensures stopped { IfOk result (λ outcome. IsTrueStop (layout_of pipeline.old.values) arrivals.now limit
         pipeline.old.cycle pipeline.new.cycle outcome.steps.items (seen pipeline.new) outcome.stop) }
@@ -57,8 +58,7 @@ fn run_cycles(
     arrivals: &Arrivals,
     limit: u64,
 ) -> Result<Outcome, OutOfMemory>
-    ensures { IsDone arrivals.now limit (guided pipeline.old (known predictor.old))
-        (guided pipeline.new (known predictor.new)) result }
+    ensures { IsDone arrivals.now limit pipeline.old (known predictor.old) pipeline.new (known predictor.new) result }
 {
     let Ok(list) = Vec::with_capacity(alloc, 8) else {
         return not_run(alloc, limit);
@@ -68,7 +68,8 @@ fn run_cycles(
 
 // What a run comes to for whose first cycle there is no memory. One of no cycle needs none.
 fn not_run(alloc: Global, limit: u64) -> Result<Outcome, OutOfMemory>
-    ensures { (arrivals : List Arrival) (h : GuidedHardware) → IsDone arrivals limit h h result }
+    ensures { (arrivals : List Arrival) (h : Hardware) (guide : Guide) →
+        IsDone arrivals limit h guide h guide result }
 {
     let progress = Progress::new();
     let steps = Vec::new(alloc);
@@ -88,8 +89,7 @@ fn collect(
     list: Vec<Step>,
 ) -> Result<Outcome, OutOfMemory>
     requires room { 8 ≤ vec_capacity list }
-    ensures { IsDone arrivals.now limit (guided pipeline.old (known predictor.old))
-        (guided pipeline.new (known predictor.new)) result }
+    ensures { IsDone arrivals.now limit pipeline.old (known predictor.old) pipeline.new (known predictor.new) result }
 {
     let mut collector = Collector::new(alloc);
     let ended = watch(
@@ -121,8 +121,8 @@ pub(crate) fn run_cycle(
     requires room { HasRoom steps.old 8 }
     requires bounded { IsBounded progress.old }
     requires countable { progress.old.cycles < 18446744073709551615 }
-    ensures { TakesNextCycle arrivals.now (guided pipeline.old (known predictor.old))
-        (guided pipeline.new (known predictor.new)) steps.old steps.new progress.old progress.new result }
+    ensures { TakesNextCycle arrivals.now pipeline.old (known predictor.old) pipeline.new (known predictor.new)
+        steps.old steps.new progress.old progress.new result }
 {
     let before = steps.count;
     let end = pipeline.advance(predictor, arrivals.at(pipeline.cycles_done()), steps);
@@ -150,14 +150,8 @@ fn count(progress: &mut Progress, is_silent: bool, end: &CycleEnd)
 }
 
 fn outcome(progress: Progress, steps: Vec<Step>, stop: Stop) -> Outcome
-    ensures { result ≡ record {
-      steps = steps;
-      stalls = progress.stalls;
-      busy = progress.busy;
-      cycles = progress.cycles;
-      longest_gap = progress.longest_gap;
-      stop = stop;
-    } }
+    ensures counts { reported result ≡ reported_with progress steps.items }
+    ensures stop { result.stop ≡ stop }
 {
     Outcome {
         steps,
@@ -170,13 +164,7 @@ fn outcome(progress: Progress, steps: Vec<Step>, stop: Stop) -> Outcome
 }
 
 fn out_of_memory(progress: Progress, steps: Vec<Step>) -> OutOfMemory
-    ensures { result ≡ record {
-      steps = steps;
-      stalls = progress.stalls;
-      busy = progress.busy;
-      cycles = progress.cycles;
-      longest_gap = progress.longest_gap;
-    } }
+    ensures { reported_so_far result ≡ reported_with progress steps.items }
 {
     OutOfMemory {
         steps,

@@ -7,7 +7,6 @@ ghost use Rattle.rv_rename.specs.Renaming.{cleared};
 ghost use Rattle.rv_stations.specs.Pool.{squashed as squashed_pool};
 ghost use Rattle.rv_stores.specs.Store.{is_committed};
 ghost use Rattle.rv_units.specs.Bus.{squashed as squashed_bus};
-ghost use Rattle.rv_hardware.specs.Guided.{guided};
 ghost use Rattle.rv_hardware.specs.Run.{Reachable};
 ghost use Rattle.rv_hardware.specs.Reset.{reset_hardware};
 ghost use Rattle.rv_hardware.specs.Squash.{flushed};
@@ -128,8 +127,8 @@ impl Parts {
         requires numbers { self.old.rob.retired ≤ 8 * self.old.cycle }
         requires room { HasRoom steps.old 8 }
         requires reached { Reachable self.old }
-        ensures cycle { TakesCycle lines (guided self.old (known predictor.old))
-            (guided self.new (known predictor.new)) steps.old steps.new result }
+        ensures cycle { TakesCycle lines self.old (known predictor.old) self.new (known predictor.new)
+            steps.old steps.new result }
         ensures stop { IsCommitStop result.stop }
         ensures numbers { self.new.rob.retired ≤ 8 * self.new.cycle }
     {

@@ -1,12 +1,11 @@
 ghost use Rattle.std.specs.Prelude.{◌≡◌, ◌+◌, ◌^◌, ◌<◌, ◌≤◌, ◌↔◌, ◌==◌, false, None, is_some, length, nat_le, IsTrue, IfOk, IfErr};
 ghost use Rattle.rv_isa.specs.Description.{IsLegal};
-ghost use Rattle.rv_hardware.specs.Guided.{IsGuidedCycle, guided};
 ghost use Rattle.rv_hardware.specs.Headline.{IsTrueCycle};
 ghost use Rattle.rv_hardware.specs.Run.{Reachable};
 ghost use Rattle.rv_hardware.specs.Reset.{IsLoadable, reset_hardware};
 ghost use Rattle.rv_hardware.specs.Seen.{layout_of, seen};
 ghost use Rattle.rv_core.specs.Steps.{HasRoom};
-ghost use Rattle.rv_core.specs.Reported.{TakesCycle, TakesDue, exhausted_report, report_of_cycle};
+ghost use Rattle.rv_core.specs.Reported.{DoesCycle, TakesCycle, TakesDue, exhausted_report, report_of_cycle};
 ghost use Rattle.rv_watch.specs.Progress.{IsCommitStop};
 ghost use Rattle.rv_core.specs.declared.errors.NewError.TheVariants as refusal;
 
@@ -86,8 +85,8 @@ impl Pipeline {
     /// that has done 2^40 cycles does nothing, and stops as exhausted.
     pub fn cycle(&mut self, predictor: &mut dyn Predictor, lines: Lines) -> CycleReport
         ensures cycled { self.old.cycle < 2 ^ 40 →
-            IsGuidedCycle lines (guided self.old (known predictor.old)) (report_of_cycle result)
-            (guided self.new (known predictor.new)) }
+            DoesCycle lines self.old (known predictor.old) (report_of_cycle result)
+            self.new (known predictor.new) }
         ensures exhausted { self.old.cycle ≡ 2 ^ 40 →
             (self.new ≡ self.old) × (report_of_cycle result ≡ exhausted_report)
             × (known predictor.new ≡ known predictor.old) }
@@ -98,20 +97,6 @@ impl Pipeline {
             TakesDue lines self.old.cycle (seen self.old) result.steps.items }
         ensures stall { self.old.cycle < 2 ^ 40 → is_some result.stall ≡ (result.dispatched == 0) }
     {
-        // Of hardware that a reset and cycles lead to, the headline and the laws hold.
-        let _ = self.cycles_done();
-        self.next_cycle(predictor, lines)
-    }
-
-    fn next_cycle(&mut self, predictor: &mut dyn Predictor, lines: Lines) -> CycleReport
-        ensures cycled { self.old.cycle < 2 ^ 40 →
-            IsGuidedCycle lines (guided self.old (known predictor.old)) (report_of_cycle result)
-            (guided self.new (known predictor.new)) }
-        ensures exhausted { self.old.cycle ≡ 2 ^ 40 →
-            (self.new ≡ self.old) × (report_of_cycle result ≡ exhausted_report)
-            × (known predictor.new ≡ known predictor.old) }
-    {
-        self.steps.clear();
         if self.is_exhausted() {
             return CycleReport {
                 steps: ArrayVec::new(),
@@ -120,6 +105,17 @@ impl Pipeline {
                 stop: Some(Stop::Exhausted),
             };
         }
+        self.next_cycle(predictor, lines)
+    }
+
+    // One of the cycles that are counted, of hardware that a reset and cycles lead to.
+    fn next_cycle(&mut self, predictor: &mut dyn Predictor, lines: Lines) -> CycleReport
+        requires { self.old.cycle < 2 ^ 40 }
+        ensures cycled { DoesCycle lines self.old (known predictor.old) (report_of_cycle result)
+            self.new (known predictor.new) }
+        ensures reached { Reachable self.old }
+    {
+        self.steps.clear();
         let end = self.parts.advance(lines, predictor, &mut self.steps);
         CycleReport {
             steps: listed(self.steps.as_slice()),
@@ -139,8 +135,8 @@ impl Pipeline {
         requires cycles { self.old.cycle < 2 ^ 40 }
         requires room { HasRoom steps.old 8 }
         ensures stop { IsCommitStop result.stop }
-        ensures cycle { TakesCycle lines (guided self.old (known predictor.old))
-            (guided self.new (known predictor.new)) steps.old steps.new result }
+        ensures cycle { TakesCycle lines self.old (known predictor.old) self.new (known predictor.new)
+            steps.old steps.new result }
     {
         self.parts.advance(lines, predictor, steps)
     }

@@ -1,10 +1,14 @@
 -- Counts of the steps so far.
-use Rattle.std.proofs.Common.{◌≡◌, ◌∙◌, ℕ, ◌+◌, ◌<◌, ◌≤◌, Bool, true, false, List, length, take, get_or, count_by, refl, arith, length-take-le}
+use Rattle.std.proofs.Common.{◌≡◌, ◌∙◌, ℕ, ◌+◌, ◌<◌, ◌≤◌, Bool, true, false, List, [], length, take, get_or, count_by, refl, ap, sym, arith, length-take-le}
 use Rattle.std.specs.Prelude.{if◌then◌else◌}
 use Rattle.std.proofs.lemmas.List.Sums.{count_by-le-length, count_by_more_no, count_by_more_yes}
+use Rattle.rv_hardware.specs.Step.{is_interrupt, is_retirement, is_trap}
+use Rattle.rv_hardware.specs.declared.step.Step.{Step}
+use Rattle.rv_report.specs.Totals.{counts_of}
+use Rattle.rv_report.specs.declared.totals.StepCounts.{StepCounts}
 
 -- one item more is counted where it passes the test
-pub count_by-more : {X : Type 0} (p : X → Bool) (xs : List X) (place : ℕ) (other : X) → place < length xs →
+count_by-more : {X : Type 0} (p : X → Bool) (xs : List X) (place : ℕ) (other : X) → place < length xs →
     count_by p (take (place + 1) xs) ≡ count_by p (take place xs) + (if p (get_or xs place other) then 1 else 0)
 count_by-more p xs place other here = go (p (get_or xs place other)) refl
   where
@@ -12,7 +16,51 @@ count_by-more p xs place other here = go (p (get_or xs place other)) refl
     go true is = count_by_more_yes p xs place other here is
     go false is = count_by_more_no p xs place other here is ∙ omega arith
 
--- no more of the first ones pass a test than there are
-pub count_by-few : {X : Type 0} (p : X → Bool) (xs : List X) (place count : ℕ) → place ≤ length xs →
-    count ≡ count_by p (take place xs) → count ≤ place
-count_by-few p xs place count within is = omega (arith, is, count_by-le-length p (take place xs), length-take-le place xs within)
+-- no more steps are counted of a sort than there are
+pub record AreFew (most : ℕ) (counts : StepCounts) : Type 0 where
+  pub retired : counts.retired ≤ most
+  pub traps : counts.traps ≤ most
+  pub interrupts : counts.interrupts ≤ most
+
+-- the counts of no step
+pub counts_nothing : {counts : StepCounts} → (counts.retired ≡ 0) × ((counts.traps ≡ 0) × (counts.interrupts ≡ 0)) →
+    counts ≡ counts_of []
+counts_nothing zeros = λ i. record { retired = zeros.0 i; traps = zeros.1.0 i; interrupts = zeros.1.1 i }
+
+-- the counts of some steps
+pub counts_few : {counts : StepCounts} (steps : List Step) → counts ≡ counts_of steps → AreFew (length steps) counts
+counts_few steps is = rw is (record {
+  retired = count_by-le-length is_retirement steps;
+  traps = count_by-le-length is_trap steps;
+  interrupts = count_by-le-length is_interrupt steps;
+})
+
+-- the counts of the first steps
+module _ {counts : StepCounts} (steps : List Step) (place : ℕ) (here : place < length steps)
+    (so_far : counts ≡ counts_of (take place steps)) where
+  pub counts_so_far : AreFew place counts
+  counts_so_far =
+      let few = counts_few (take place steps) so_far in
+      let taken = length-take-le place steps (omega (arith, here)) in
+      record {
+        retired = omega (arith, few.retired, taken);
+        traps = omega (arith, few.traps, taken);
+        interrupts = omega (arith, few.interrupts, taken);
+      }
+
+  more : (p : Step → Bool) (step : Step) (old new : ℕ) → step ≡ get_or steps place step →
+      old ≡ count_by p (take place steps) → new ≡ old + (if p step then 1 else 0) → new ≡ count_by p (take (place + 1) steps)
+  more p step old new is before counted =
+      counted ∙ (λ i. before i + (if p (is i) then 1 else 0)) ∙ sym (count_by-more p steps place step here)
+
+  -- with the next step
+  pub counts_with : {counts' : StepCounts} (step : Step) → step ≡ get_or steps place step →
+      counts'.retired ≡ counts.retired + (if is_retirement step then 1 else 0) →
+      counts'.traps ≡ counts.traps + (if is_trap step then 1 else 0) →
+      counts'.interrupts ≡ counts.interrupts + (if is_interrupt step then 1 else 0) →
+      counts' ≡ counts_of (take (place + 1) steps)
+  counts_with step is retired traps interrupts =
+      let retired_are = more is_retirement step _ _ is (ap (λ (c : StepCounts). c.retired) so_far) retired in
+      let traps_are = more is_trap step _ _ is (ap (λ (c : StepCounts). c.traps) so_far) traps in
+      let interrupts_are = more is_interrupt step _ _ is (ap (λ (c : StepCounts). c.interrupts) so_far) interrupts in
+      λ i. record { retired = retired_are i; traps = traps_are i; interrupts = interrupts_are i }

@@ -1,3 +1,4 @@
+mod Begun
 mod Counts
 pub mod InOrder
 mod Learned

@@ -11,7 +11,8 @@ use Rattle.rv_watch.specs.declared.progress.Progress.{Progress}
 use Rattle.rv_watch.proofs.Shown.{cycles_shown, moments_counted, shown_steps-push}
 use Rattle.rv_core.specs.Counted.{IsCountedRun}
 use Rattle.rv_core.specs.declared.counting.Counted.{Counted}
-use Rattle.rv_hardware.specs.Guided.{GuidedHardware}
+use Rattle.rv_front.specs.Guide.{Guide}
+use Rattle.rv_hardware.specs.Guided.{GuidedHardware, guided}
 use Rattle.rv_hardware.specs.Hardware.{Hardware}
 use Rattle.rv_hardware.specs.History.{History, Moment, reports_of}
 use Rattle.rv_hardware.specs.Run.{IsStop, steps_of}
@@ -102,7 +103,8 @@ module _ {seen : Watched} {cycle : ℕ} {steps : List Step} {after : Hardware} {
       HasTraced counts' failed' (with_shown seen shown).moments before now
   traced_on counts' failed' now counted wrote =
       let so_far = steps_of (reports_of seen.moments) in
-      let all : steps_of (reports_of (with_shown seen shown).moments) ≡ so_far ++ steps = shown_steps-push seen.moments _ ∙ ap (λ l. so_far ++ l) (sym shown.steps_are) in
+      let all : steps_of (reports_of (with_shown seen shown).moments) ≡ so_far ++ steps =
+      shown_steps-push seen.moments _ ∙ ap (λ l. so_far ++ l) (sym shown.steps_are) in
       record {
         counted = counted ∙ ap (λ c. both_counts c (counts_of steps)) traced.counted ∙ sym (ap counts_of all ∙ counts_of-append so_far steps);
         trace = subst (IsSaid failed' before now) (sym (ap trace_lines all ∙ trace_of-append true so_far steps)) wrote;
@@ -126,12 +128,14 @@ traced_to_the_end {moments = moments} {failed = failed} {before = before} {after
     })
 
 -- what a run came to whose steps were counted, where no trace is asked for
-pub counted_to_the_end : {arrivals : List Arrival} {options : Options} {old
-    new : GuidedHardware} {run : Counted} {totals : Totals} → IsCountedRun arrivals options.limit old new run →
+pub counted_to_the_end : {arrivals : List Arrival} {options : Options} {old new : Hardware}
+    {taught learned : Guide} {run : Counted} {totals : Totals} →
+    IsCountedRun arrivals options.limit old taught new learned run →
     options.trace ≡ false
     → totals ≡ totals_with run.progress
     (record { retired = run.retired; traps = run.traps; interrupts = run.interrupts }) run.stop →
-    (output : Option (List ℕ)) → IsTraced arrivals options old new totals false output output
+    (output : Option (List ℕ)) →
+    IsTraced arrivals options (guided old taught) (guided new learned) totals false output output
 counted_to_the_end {run = run} counted off is output = rw is (record {
   reports = reports_of counted.moments;
   cycles = cycles_shown counted.passes;

@@ -56,7 +56,9 @@ module _ {seen : Watched} {cycle : ℕ} {steps : List Step} {after : Hardware} {
   countable : length after.rob.entries ≤ 256 → CanPlace after.values cycle steps after.rob after.front so_far
   countable few =
       let wide = ap (λ (v : Values). v.dispatch_width) placed_now.values in
-      let counted = places_counted seen.first.hardware seen.moments seen.now.hardware has.places_add_up (omega (arith, wide, placed_now.wide)) has.few_before in
+      let few_places : seen.now.hardware.values.dispatch_width ≤ 8 = omega (arith, wide, placed_now.wide) in
+      let counted =
+      places_counted seen.first.hardware seen.moments seen.now.hardware has.places_add_up few_places has.few_before in
       let more = few_seen placed_now cycle (length seen.now.hardware.rob.entries) steps shown.number refl shown.steps_are has.few_in_flight in
       record {
         before = has.few_in_flight;

@@ -221,7 +221,9 @@ module _ {arrivals : List Arrival} {old new : GuidedHardware} {moments : List
       rw tallied.counted (omega (arith, count_by-le-length is_retirement all, count_by-le-length is_trap all, tallied.steps_few, few, within))
 
   -- what a run came to that ended
-  pub tallied_to_the_end : {progress : Progress} {stop : Stop} {totals : Totals} {losses : Losses} {did : Events} {words : Columns (Option ℕ)} {places : Option RunPlaces} (options : TableOptions) (left : ℕ) → History arrivals old moments new → progress ≡ progress_of (reports_of moments)
+  pub tallied_to_the_end : {progress : Progress} {stop : Stop} {totals : Totals} {losses : Losses} {did : Events}
+      {words : Columns (Option ℕ)} {places : Option RunPlaces} (options : TableOptions) (left : ℕ) →
+      History arrivals old moments new → progress ≡ progress_of (reports_of moments)
       → IsStop options.limit (reports_of moments) new.hardware stop → totals ≡ totals_with progress counts stop →
       left ≡ in_flight new.hardware.rob new.hardware.front → losses ≡ losses_with s counts left →
       did ≡ events.counts → words ≡ words_of options.shown new.hardware

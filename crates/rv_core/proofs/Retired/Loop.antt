@@ -97,8 +97,8 @@ committed_all start h old new done left before none =
 -- before a further turn of a width of eight at most, one more instruction can be counted, and one more step has room
 module _ {start h : Hardware} {old new : Steps} {done left : ℕ} (before : AreCommitted start h old new done left) (few : done < 8) where
   -- fewer instructions than eight for each cycle, this one included, have retired so far
-  pub counts_one : start.rob.retired ≤ 8 * start.cycle → h.rob.retired < 8 * h.cycle + 8
-  counts_one numbers = omega (arith, before.retired, before.cycle, numbers, few)
+  pub few_retired : start.rob.retired ≤ 8 * start.cycle → h.rob.retired < 8 * h.cycle + 8
+  few_retired numbers = omega (arith, before.retired, before.cycle, numbers, few)
 
   -- room for eight steps before the phase leaves room for one now
   pub has_room : HasRoom old 8 → HasRoom new 1

@@ -62,9 +62,9 @@ kept_from h now next before rob after = record {
 }
 
 -- a serialising head that retires, with a pc and registers, and flushes everything keeps it
-pub kept_serial : (h next : Hardware) (pc : ℕ) (registers : List ℕ) →
+pub kept_serialising : (h next : Hardware) (pc : ℕ) (registers : List ℕ) →
     next ≡ flushed (record h { pc = pc; registers = registers; rob = head_retired h.rob }) → IsKept h next
-kept_serial h next pc registers is = rw is (record { values = refl; cycle = refl; retired = retires_one h.rob h.rob.entries })
+kept_serialising h next pc registers is = rw is (record { values = refl; cycle = refl; retired = retires_one h.rob h.rob.entries })
 
 -- a trap keeps it
 pub kept_trapped : (h next : Hardware) (cause value : ℕ) → next ≡ with_trap cause value h → IsKept h next
@@ -106,9 +106,9 @@ turn_of_stale h e steps head stale =
     ∙ rw stale refl
 
 -- a head that does not serialise finishes by its result
-pub turn_plain : (e : Entry) (instruction : Option Instr) (c : Committing) → is_serialising instruction ≡ false →
+pub turn_not_serialising : (e : Entry) (instruction : Option Instr) (c : Committing) → is_serialising instruction ≡ false →
     head_turn e instruction c ≡ finish_broadcast e (broadcast_of e.stage) c
-turn_plain e instruction c is = grind arith
+turn_not_serialising e instruction c is = grind arith
 
 -- a fresh head that does not serialise finishes by its result
 pub turn_finishes : (h : Hardware) (e : Entry) (steps : List Step) (result : Option Message) → IsHead h e →
@@ -116,7 +116,7 @@ pub turn_finishes : (h : Hardware) (e : Entry) (steps : List Step) (result : Opt
     broadcast_of e.stage ≡ result →
     commit_turn set.contains (committing h steps) ≡ finish_broadcast e result (committing h steps)
 turn_finishes h e steps result head fresh plain known =
-    turn_of_head h e steps head fresh ∙ turn_plain e e.instruction (committing h steps) plain
+    turn_of_head h e steps head fresh ∙ turn_not_serialising e e.instruction (committing h steps) plain
     ∙ ap (λ o. finish_broadcast e o (committing h steps)) known
 
 -- a result with a fault is a trap
@@ -146,8 +146,8 @@ pub ended_as : (h : Hardware) (steps : List Step) (step : Option Step) →
 ended_as h steps step = grind arith
 
 -- a serialising head waits for no result
-pub waits_not : (instruction : Option Instr) → role_of instruction ≡ WaitsForResult → is_serialising instruction ≡ true → ⊥
-waits_not instruction is serial = grind arith
+pub serialising_waits_not : (instruction : Option Instr) → role_of instruction ≡ WaitsForResult → is_serialising instruction ≡ true → ⊥
+serialising_waits_not instruction is serial = grind arith
 
 -- a head that accesses a CSR executes, which ends the phase
 pub turn_accesses : (e : Entry) (instruction : Option Instr) (access : Access) (c : Committing) →

@@ -1,7 +1,7 @@
 -- The hardware of which a serialising head has left is sound, and so it is with other CSRs and stale words.
-use Rattle.rv_core.proofs.Words.{◌≡◌, ℕ, ◌+◌, ◌*◌, ◌<◌, List, ◌∷◌, length, Option, ap, ◌∙◌, arith, length-set}
+use Rattle.rv_core.proofs.Words.{◌≡◌, ℕ, ◌+◌, ◌*◌, ◌<◌, List, ◌∷◌, length, Option, ap, ◌∙◌, subst, arith, length-set}
 use Rattle.rv_core.proofs.Words.{Store as QueuedStore, ReorderBuffer, head_retired, Entry, Hardware, AreBelow-weaken}
-use Rattle.rv_core.proofs.Words.{registers_with, IsSoundHardware, IsSound, StaleWords, Inside}
+use Rattle.rv_core.proofs.Words.{registers_with, IsSoundHardware, IsSound, IsKept, StaleWords, Inside, hardware_of}
 use Rattle.rv_arch.specs.Csr.{Kept}
 use Rattle.rv_core.proofs.Retired.Head.{buffer_after}
 use Rattle.rv_core.proofs.Retired.Sound.{entries_after_head}
@@ -52,3 +52,9 @@ sound_apart p csrs stale before base size = record {
   stale_base = base ∙ before.stale_base;
   stale_size = size ∙ before.stale_size;
 }
+
+-- nor on what no turn changes
+pub kept_apart : (p : Inside) (csrs : Kept) (stale : StaleWords) (h next : Hardware) → hardware_of p ≡ h →
+    IsKept (hardware_of (record p { csrs = csrs; stale = stale })) next → IsKept h next
+kept_apart p csrs stale h next is kept =
+    subst (λ (x : Hardware). IsKept x next) is (record { values = kept.values; cycle = kept.cycle; retired = kept.retired })

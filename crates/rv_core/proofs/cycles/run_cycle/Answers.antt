@@ -7,5 +7,6 @@ pub returns : goal.returns
 returns g c =
     let done = c.advance-end.ensures.cycle in
     next_cycle c.at.result c.advance-end.result done
+    c.cycles_done.ensures.reached
     (c.at.ensures ∙ ap (lines_at c.args.arrivals.now) c.cycles_done.ensures.number) c.advance-end.ensures.stop
     (c.count.ensures done.0 (silent_by done.1))

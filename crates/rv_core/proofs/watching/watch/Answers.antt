@@ -1,10 +1,11 @@
-use Rattle.rv_core.proofs.Words.{◌+◌, is_some, refl, sym, ap, ◌∙◌, arith, leb-false, leb-true, Err, Ok, Exhausted, Limit, Progress}
+use Rattle.rv_core.proofs.Words.{◌+◌, is_some, refl, ap, ◌∙◌, arith, Err, Ok, Exhausted, Limit, Progress}
 use Rattle.rv_watch.proofs.Shown.{bounded_so_far, ended_as, shown_now, so_many_shown, watched_to, watched_to_stop}
 use Rattle.rv_core.specs.Steps.{room_of}
 use Rattle.rv_core.specs.declared.steps.Steps.{Steps}
 use Rattle.rv_core.proofs.RunCycles.{next_reported}
 use Rattle.rv_core.proofs.Taken.{listed_anew}
 use Rattle.rv_watch.proofs.Shown.{watching_nothing, watching_on, watching_still}
+use Rattle.rv_core.proofs.Exhausted.{all_done, cycle_left}
 use Rattle.rv_core.proofs.watching.watch.Goals as goal
 
 pub loop-init : goal.loop-init
@@ -31,7 +32,7 @@ returns-then-is_exhausted g c =
     let way = c.loop.invariant.0 in
     let count = so_many_shown g.T.Watcher.has_seen c.args.arrivals.now _ c.args.watcher.now _ way c.loop.counter
     c.loop.invariant.1 in
-    let over = leb-true 1099511627776 c.loop.pipeline.cycle (sym c.is_exhausted.ensures.exhausted ∙ c.if-is_exhausted.true) in
+    let over = all_done c.is_exhausted.ensures.exhausted c.if-is_exhausted.true in
     ended_as c.finished.ensures.progress c.finished.ensures.stop
     (watched_to g.T.Watcher.has_seen c.args.arrivals.now _ c.args.watcher.now _ way c.args.limit (Ok Exhausted)
     (way.none_stops, omega (arith, count, c.loop-test.true), omega (arith, over, c.is_exhausted.ensures.within)))
@@ -50,7 +51,7 @@ pub show-requires-clause-shown : goal.show-requires-clause-shown
 show-requires-clause-shown g c =
     let way = watching_still g.T.Watcher.has_seen c.args.arrivals.now _ c.args.watcher.now _ c.loop.invariant.0
     c.make_room.ensures.kept in
-    let within = leb-false 1099511627776 c.loop.pipeline.cycle (sym c.is_exhausted.ensures.exhausted ∙ c.if-is_exhausted.false) in
+    let within = cycle_left c.is_exhausted.ensures.exhausted c.if-is_exhausted.false in
     let number = c.cycles_done-cycle.ensures.number in (
       c.args.watcher.now,
       _,
@@ -66,7 +67,7 @@ pub returns-in-Some : goal.returns-in-Some
 returns-in-Some g c =
     let way = watching_still g.T.Watcher.has_seen c.args.arrivals.now _ c.args.watcher.now _ c.loop.invariant.0
     c.make_room.ensures.kept in
-    let within = leb-false 1099511627776 c.loop.pipeline.cycle (sym c.is_exhausted.ensures.exhausted ∙ c.if-is_exhausted.false) in
+    let within = cycle_left c.is_exhausted.ensures.exhausted c.if-is_exhausted.false in
     let number = c.cycles_done-cycle.ensures.number in
     let next = c.run_cycle-stop.ensures in
     let steps_are = c.as_slice.ensures
@@ -83,7 +84,7 @@ pub loop-preserved : goal.loop-preserved
 loop-preserved g c =
     let way = watching_still g.T.Watcher.has_seen c.args.arrivals.now _ c.args.watcher.now _ c.loop.invariant.0
     c.make_room.ensures.kept in
-    let within = leb-false 1099511627776 c.loop.pipeline.cycle (sym c.is_exhausted.ensures.exhausted ∙ c.if-is_exhausted.false) in
+    let within = cycle_left c.is_exhausted.ensures.exhausted c.if-is_exhausted.false in
     let number = c.cycles_done-cycle.ensures.number in
     let next = c.run_cycle-stop.ensures in
     let steps_are = c.as_slice.ensures

@@ -1,17 +1,15 @@
-use Rattle.std.proofs.Common.{◌≡◌, ◌∙◌, ◌≤◌, [], None, ap, arith, length, refl, subst}
+use Rattle.std.proofs.Common.{◌∙◌, [], None, ap, refl, subst}
 use Rattle.rv_watch.proofs.Shown.{stops_by}
 use Rattle.rv_counts.proofs.LossReasons.{lost_for}
-use Rattle.rv_hardware.specs.Draining.{drain_end}
 use Rattle.rv_hardware.specs.Hardware.{Hardware}
 use Rattle.rv_hardware.specs.Run.{Reachable}
 use Rattle.rv_passage.proofs.InFlight.{short_buffers}
-use Rattle.rv_report.specs.Events.{events_so_far, no_events}
 use Rattle.rv_report.specs.Shown.{places_shown, words_of}
-use Rattle.rv_report.specs.Speculation.{in_flight, speculated_at}
-use Rattle.rv_report.specs.Totals.{counts_of}
+use Rattle.rv_report.specs.Speculation.{in_flight}
+use Rattle.rv_report.proofs.Begun.{begins_tallied, few_in_buffer}
 use Rattle.rv_report.proofs.Learned.{taught_by_run}
-use Rattle.rv_report.proofs.Placed.{placed_at_end, placed_nothing}
-use Rattle.rv_report.proofs.Tallied.{room_at_end, tallied_nothing, tallied_to_the_end}
+use Rattle.rv_report.proofs.Placed.{placed_at_end}
+use Rattle.rv_report.proofs.Tallied.{room_at_end, tallied_to_the_end}
 use Rattle.rv_report.proofs.compared_run.run_totals.Goals as goal
 
 pub begin-requires : goal.begin-requires
@@ -19,32 +17,30 @@ begin-requires g c = short_buffers c.hardware.invariant.reached refl refl
 
 pub losses-requires : goal.losses-requires
 losses-requires g c =
-    let zeros = c.default.ensures in
-    let none : c.default.result ≡ counts_of [] = λ i. record { retired = zeros.0 i; traps = zeros.1.0 i; interrupts = zeros.1.1 i } in
-    let begun = tallied_nothing c.args.arrivals.now _ c.default.result c.in_ok-speculation.speculation c.begin-events.result none (c.in_ok-speculation.ensures.speculated ∙ ap speculated_at (c.hardware.view_is ∙ c.shown-hardware.ensures)) c.in_ok-speculation.ensures.few (c.begin-events.ensures ∙ ap (λ (h : Hardware). events_so_far h.values (drain_end h) no_events) c.shown-hardware.ensures) in
-    let few : length c.args.pipeline.rob.entries ≤ 256 = omega (arith, c.in_buffer.ensures.counted, ap (λ (h : Hardware). length h.rob.entries) c.shown-hardware.ensures, c.in_buffer.ensures.few) in
-    let placed = placed_nothing c.args.arrivals.now c.args.options.now.shown _ c.no_places-places.result (c.no_places-places.ensures ∙ ap (λ (h : Hardware). places_shown c.args.options.now.shown h [] h) c.shown-hardware.ensures) few in
-    room_at_end (c.watch-ended.ensures.seen None (begun, placed)).0 c.count_in_flight.result
-    c.count_in_flight.ensures.few c.is_exhausted.ensures.within
+    let begun =
+    begins_tallied c.args.arrivals.now _ c.args.options.now.shown c.hardware.view_is c.shown-hardware.ensures
+    c.default.ensures c.in_ok-speculation.ensures.speculated c.in_ok-speculation.ensures.few c.begin-events.ensures
+    c.no_places-places.ensures (few_in_buffer c.shown-hardware.ensures c.in_buffer.ensures.counted c.in_buffer.ensures.few) in
+    room_at_end (c.watch-ended.ensures.seen None begun).0 c.count_in_flight.result c.count_in_flight.ensures.few
+    c.is_exhausted.ensures.within
 
 pub returns-clause-run : goal.returns-clause-run
 returns-clause-run g c =
-    let zeros = c.default.ensures in
-    let none : c.default.result ≡ counts_of [] = λ i. record { retired = zeros.0 i; traps = zeros.1.0 i; interrupts = zeros.1.1 i } in
-    let begun = tallied_nothing c.args.arrivals.now _ c.default.result c.in_ok-speculation.speculation c.begin-events.result none (c.in_ok-speculation.ensures.speculated ∙ ap speculated_at (c.hardware.view_is ∙ c.shown-hardware.ensures)) c.in_ok-speculation.ensures.few (c.begin-events.ensures ∙ ap (λ (h : Hardware). events_so_far h.values (drain_end h) no_events) c.shown-hardware.ensures) in
-    let few : length c.args.pipeline.rob.entries ≤ 256 = omega (arith, c.in_buffer.ensures.counted, ap (λ (h : Hardware). length h.rob.entries) c.shown-hardware.ensures, c.in_buffer.ensures.few) in
-    let placed = placed_nothing c.args.arrivals.now c.args.options.now.shown _ c.no_places-places.result (c.no_places-places.ensures ∙ ap (λ (h : Hardware). places_shown c.args.options.now.shown h [] h) c.shown-hardware.ensures) few in
+    let begun =
+    begins_tallied c.args.arrivals.now _ c.args.options.now.shown c.hardware.view_is c.shown-hardware.ensures
+    c.default.ensures c.in_ok-speculation.ensures.speculated c.in_ok-speculation.ensures.few c.begin-events.ensures
+    c.no_places-places.ensures (few_in_buffer c.shown-hardware.ensures c.in_buffer.ensures.counted c.in_buffer.ensures.few) in
     let run = c.watch-ended.ensures in
-    let both = run.seen None (begun, placed) in
-    tallied_to_the_end both.0 c.args.options.now c.count_in_flight.result run.passes run.counted
+    let tallied = run.seen None begun in
+    tallied_to_the_end tallied.0 c.args.options.now c.count_in_flight.result run.passes run.counted
     (stops_by run c.in-Ok.stop c.in-Ok.is) c.new.ensures
     (c.count_in_flight.ensures.count ∙ ap (λ (h : Hardware). in_flight h.rob h.front) c.shown-left.ensures)
     c.losses.ensures refl
     (c.words.ensures ∙ ap (words_of c.args.options.now.shown) c.shown-left.ensures)
     (placed_at_end c.args.options.now.shown c.no_places-places.result _
     (c.no_places-places.ensures
-    ∙ ap (λ (h : Hardware). places_shown c.args.options.now.shown h [] h) c.shown-hardware.ensures) both.1)
-    both.1.places_add_up
+    ∙ ap (λ (h : Hardware). places_shown c.args.options.now.shown h [] h) c.shown-hardware.ensures) tallied.1)
+    tallied.1.places_add_up
     (lost_for (subst Reachable (c.hardware.view_is ∙ c.shown-hardware.ensures) c.hardware.invariant.reached)
     run.passes c.is_exhausted.ensures.within)
 

@@ -7,55 +7,65 @@ use Rattle.rv_hardware.specs.declared.step.Step.{Step}
 use Rattle.rv_report.specs.Speculation.{is_wrong, without_all, without_ended, wrong_in}
 use Rattle.rv_report.proofs.speculation.+take_steps.Goals as goal
 
-apart : (steps : List Step) (step : Step) → 1 ≤ length steps → step ≡ get_or steps 0 step → steps ≡ step ∷ take (length steps - 1) (drop 1 steps)
+-- the steps after the first one
+abbrev others_of : List Step → List Step
+others_of steps = take (length steps - 1) (drop 1 steps)
+
+apart : (steps : List Step) (step : Step) → 1 ≤ length steps → step ≡ get_or steps 0 step → steps ≡ step ∷ others_of steps
 apart [] step some is = absurd (omega (arith, some))
 apart (first ∷ rest) step some is =
     let count : suc (length rest) - 1 ≡ length rest = omega arith in
     λ i. sym is i ∷ sym (ap (λ n. take n rest) count ∙ take-length rest) i
 
-wrong_with : (steps rest : List Step) (step : Step) (next first others : ℕ) (wrong : Bool) (before after : List (Option ℕ)) → steps ≡ step ∷ rest
-    → first ≡ first_pc rest next → wrong ≡ is_wrong step first before → after ≡ without_ended step before → others ≡ wrong_in rest next after
-    → others + (if wrong then 1 else 0) ≡ wrong_in steps next before
-wrong_with steps rest step next first others wrong before after steps_are first_is wrong_is after_is others_are =
-    (λ i. (others_are ∙ ap (wrong_in rest next) after_is) i + (if (wrong_is ∙ ap (λ pc. is_wrong step pc before) first_is) i then 1 else 0))
-    ∙ ap (λ all. wrong_in all next before) (sym steps_are)
+-- the wrong predictions of the first step and of the others
+wrong_with : (steps : List Step) (step : Step) (next first others : ℕ) (wrong : Bool) (before after : List (Option ℕ)) →
+    1 ≤ length steps → step ≡ get_or steps 0 step → first ≡ first_pc (others_of steps) next →
+    wrong ≡ is_wrong step first before → after ≡ without_ended step before →
+    others ≡ wrong_in (others_of steps) next after → others + (if wrong then 1 else 0) ≡ wrong_in steps next before
+wrong_with steps step next first others wrong before after some is first_is wrong_is after_is others_are =
+    let rest = others_of steps in
+    let these = wrong_is ∙ ap (λ pc. is_wrong step pc before) first_is in
+    (λ i. (others_are ∙ ap (wrong_in rest next) after_is) i + (if these i then 1 else 0))
+    ∙ ap (λ all. wrong_in all next before) (sym (apart steps step some is))
 
 none_more : (count : ℕ) → count ≡ count + 0
 none_more count = omega arith
 
-left_with : (steps rest : List Step) (step : Step) (before middle after : Buffer (Option ℕ)) → steps ≡ step ∷ rest
-    → middle ≡ buffer (without_ended step before.items) before.capacity → after ≡ buffer (without_all rest middle.items) middle.capacity
-    → after ≡ buffer (without_all steps before.items) before.capacity
-left_with steps rest step before middle after steps_are middle_is after_is =
+-- what the first step and the others leave
+left_with : (steps : List Step) (step : Step) (before middle after : Buffer (Option ℕ)) →
+    1 ≤ length steps → step ≡ get_or steps 0 step → middle ≡ buffer (without_ended step before.items) before.capacity →
+    after ≡ buffer (without_all (others_of steps) middle.items) middle.capacity →
+    after ≡ buffer (without_all steps before.items) before.capacity
+left_with steps step before middle after some is middle_is after_is =
     after_is
-    ∙ ap (λ (ring : Buffer (Option ℕ)). buffer (without_all rest ring.items) ring.capacity) middle_is
-    ∙ ap (λ all. buffer (without_all all before.items) before.capacity) (sym steps_are)
+    ∙ ap (λ (ring : Buffer (Option ℕ)). buffer (without_all (others_of steps) ring.items) ring.capacity) middle_is
+    ∙ ap (λ all. buffer (without_all all before.items) before.capacity) (sym (apart steps step some is))
 
 pub returns-then-is_wrong-clause-wrong : goal.returns-then-is_wrong-clause-wrong
 returns-then-is_wrong-clause-wrong t c =
-    wrong_with c.args.steps.now _ c.step-item.result c.args.next c.first_pc.result c.take_steps-others.result true
+    wrong_with c.args.steps.now c.step-item.result c.args.next c.first_pc.result c.take_steps-others.result true
     c.args.predictions.now.items c.take_step-is_wrong.new.predictions.items
-    (apart c.args.steps.now c.step-item.result c.in-len1-up.len_at_least c.step-item.is) c.first_pc.ensures
+    c.in-len1-up.len_at_least c.step-item.is c.first_pc.ensures
     (sym c.if-is_wrong.true ∙ c.take_step-is_wrong.ensures.wrong)
     (ap (λ (ring : Buffer (Option ℕ)). ring.items) c.take_step-is_wrong.ensures.left) c.take_steps-others.ensures.wrong
 
 pub returns-then-is_wrong-clause-left : goal.returns-then-is_wrong-clause-left
 returns-then-is_wrong-clause-left t c =
-    left_with c.args.steps.now _ c.step-item.result c.args.predictions.now c.take_step-is_wrong.new.predictions c.take_steps-others.new.predictions
-    (apart c.args.steps.now c.step-item.result c.in-len1-up.len_at_least c.step-item.is)
+    left_with c.args.steps.now c.step-item.result c.args.predictions.now c.take_step-is_wrong.new.predictions c.take_steps-others.new.predictions
+    c.in-len1-up.len_at_least c.step-item.is
     c.take_step-is_wrong.ensures.left c.take_steps-others.ensures.left
 
 pub returns-else-is_wrong-clause-wrong : goal.returns-else-is_wrong-clause-wrong
 returns-else-is_wrong-clause-wrong t c =
     none_more c.take_steps-others.result
-    ∙ wrong_with c.args.steps.now _ c.step-item.result c.args.next c.first_pc.result c.take_steps-others.result false
+    ∙ wrong_with c.args.steps.now c.step-item.result c.args.next c.first_pc.result c.take_steps-others.result false
     c.args.predictions.now.items c.take_step-is_wrong.new.predictions.items
-    (apart c.args.steps.now c.step-item.result c.in-len1-up.len_at_least c.step-item.is) c.first_pc.ensures
+    c.in-len1-up.len_at_least c.step-item.is c.first_pc.ensures
     (sym c.if-is_wrong.false ∙ c.take_step-is_wrong.ensures.wrong)
     (ap (λ (ring : Buffer (Option ℕ)). ring.items) c.take_step-is_wrong.ensures.left) c.take_steps-others.ensures.wrong
 
 pub returns-else-is_wrong-clause-left : goal.returns-else-is_wrong-clause-left
 returns-else-is_wrong-clause-left t c =
-    left_with c.args.steps.now _ c.step-item.result c.args.predictions.now c.take_step-is_wrong.new.predictions c.take_steps-others.new.predictions
-    (apart c.args.steps.now c.step-item.result c.in-len1-up.len_at_least c.step-item.is)
+    left_with c.args.steps.now c.step-item.result c.args.predictions.now c.take_step-is_wrong.new.predictions c.take_steps-others.new.predictions
+    c.in-len1-up.len_at_least c.step-item.is
     c.take_step-is_wrong.ensures.left c.take_steps-others.ensures.left

@@ -1,6 +1,6 @@
-use Rattle.rv_core.proofs.Words.{◌≡◌, ap, refl, Hardware, hardware_of}
-use Rattle.rv_core.proofs.Retired.Roles.{kept_as, kept_from, kept_serial, kept_trapped}
-use Rattle.rv_core.proofs.Retired.Serial.{sound_apart}
+use Rattle.rv_core.proofs.Words.{refl}
+use Rattle.rv_core.proofs.Retired.Roles.{kept_serialising, kept_trapped}
+use Rattle.rv_core.proofs.Retired.Serial.{kept_apart, sound_apart}
 use Rattle.rv_core.proofs.parts.Parts.access_csr.Goals as goal
 
 pub invariant_of-self : goal.invariant_of-self
@@ -11,16 +11,10 @@ invariant_of-self-in-Err c = sound_apart c.self.inside c.csr_access.new.self c.s
 
 pub returns-in-Ok-clause-kept : goal.returns-in-Ok-clause-kept
 returns-in-Ok-clause-kept c =
-    let now = hardware_of (record c.self.inside { csrs = c.csr_access.new.self }) in
-    let rob : now.rob ≡ c.args.self.now.rob = ap (λ (h : Hardware). h.rob) c.self.view_is in
-    kept_from c.args.self.now now c.serialise.new.self
-    (kept_as c.args.self.now now (ap (λ (h : Hardware). h.values) c.self.view_is) (ap (λ (h : Hardware). h.cycle) c.self.view_is) rob)
-    rob (kept_serial now c.serialise.new.self _ _ c.serialise.ensures.hardware)
+    kept_apart c.self.inside c.csr_access.new.self c.self.inside.stale c.args.self.now c.serialise.new.self c.self.view_is
+    (kept_serialising _ c.serialise.new.self _ _ c.serialise.ensures.hardware)
 
 pub returns-in-Err-clause-kept : goal.returns-in-Err-clause-kept
 returns-in-Err-clause-kept c =
-    let now = hardware_of (record c.self.inside { csrs = c.csr_access.new.self }) in
-    let rob : now.rob ≡ c.args.self.now.rob = ap (λ (h : Hardware). h.rob) c.self.view_is in
-    kept_from c.args.self.now now c.trap.new.self
-    (kept_as c.args.self.now now (ap (λ (h : Hardware). h.values) c.self.view_is) (ap (λ (h : Hardware). h.cycle) c.self.view_is) rob)
-    rob (kept_trapped now c.trap.new.self _ _ c.trap.ensures.hardware)
+    kept_apart c.self.inside c.csr_access.new.self c.self.inside.stale c.args.self.now c.trap.new.self c.self.view_is
+    (kept_trapped _ c.trap.new.self _ _ c.trap.ensures.hardware)

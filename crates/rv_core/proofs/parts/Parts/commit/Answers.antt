@@ -3,7 +3,7 @@ use Rattle.rv_core.proofs.Words.{arith, Committing, commit, commit_unless, Hardw
 use Rattle.rv_core.proofs.Words.{and_step, committing, turn_left}
 use Rattle.std.specs.FinSet as set
 use Rattle.rv_core.specs.Steps.{Takes}
-use Rattle.rv_core.proofs.Retired.Loop.{none_committed, committed_all, committed_whole, committed_more, counts_one}
+use Rattle.rv_core.proofs.Retired.Loop.{none_committed, committed_all, committed_whole, committed_more, few_retired}
 use Rattle.rv_core.proofs.Retired.Loop.{has_room, interrupt_fits, interrupted, steps_with}
 use Rattle.rv_core.proofs.Retired.Taught.{none_taught, taught_all, taught_at_end, teaching_begins, teaching_goes}
 use Rattle.rv_core.proofs.parts.Parts.commit.Goals as goal
@@ -124,7 +124,7 @@ overflow_add-code g c = interrupt_fits c.in-Some.code c.in-Some.ensures.code
 pub commit_head-requires-clause-retired : goal.commit_head-requires-clause-retired
 commit_head-requires-clause-retired g c =
     let few : c.loop.counter < 8 = omega (arith, c.loop-test.true, c.self.invariant.sound.legal.pipeline.commit_width) in
-    counts_one c.loop.invariant.0 few c.requires.numbers
+    few_retired c.loop.invariant.0 few c.requires.numbers
 
 pub commit_head-requires-clause-room : goal.commit_head-requires-clause-room
 commit_head-requires-clause-room g c =

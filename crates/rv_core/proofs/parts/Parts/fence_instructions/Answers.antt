@@ -1,10 +1,10 @@
 use Rattle.rv_core.proofs.Words.{◌≡◌, Bool, false, filter, is_committed, committing, with_write_back, StaleWords, []}
-use Rattle.rv_core.proofs.Words.{Some, sym, ap, ◌∙◌, subst, true≢false, FenceI, Entry, Hardware, Ends, IsTrue, Queue}
+use Rattle.rv_core.proofs.Words.{Some, sym, refl, ap, ◌∙◌, subst, true≢false, FenceI, Entry, Hardware, Ends, IsTrue, Queue}
 use Rattle.rv_core.proofs.Words.{IsHead, IsSound, hardware_of, Inside}
 use Rattle.rv_core.proofs.Retired.Fence.{fence_waits_for_cache, fence_waits_for_stores, fence_waits_for_port}
 use Rattle.rv_core.proofs.Retired.Fence.{queue_beside_fence, takes_time}
-use Rattle.rv_core.proofs.Retired.Roles.{kept, kept_as, kept_from, kept_serial}
-use Rattle.rv_core.proofs.Retired.Serial.{sound_apart}
+use Rattle.rv_core.proofs.Retired.Roles.{kept, kept_as, kept_from, kept_serialising}
+use Rattle.rv_core.proofs.Retired.Serial.{kept_apart, sound_apart}
 use Rattle.rv_core.proofs.parts.Parts.fence_instructions.Goals as goal
 use Rattle.rv_core.proofs.parts.Parts.fence_instructions.Goals.{then-not-is_empty-via-then-not-is_empty}
 use Rattle.rv_core.proofs.parts.Parts.fence_instructions.Goals.{then-not-is_empty-via-else-not-is_empty+then-not-is_port_idle}
@@ -59,9 +59,8 @@ invariant_of-self c =
 
 pub returns-clause-kept : goal.returns-clause-kept
 returns-clause-kept c =
-    let now = hardware_of (record c.self-2.inside { stale = c.clear.new.self }) in
-    let is : hardware_of c.self-2.inside ≡ with_write_back c.args.self.now = c.self-2.view_is ∙ c.write_back.ensures.hardware in
-    let rob : now.rob ≡ c.args.self.now.rob = ap (λ (h : Hardware). h.rob) is in
-    kept_from c.args.self.now now c.serialise.new.self
-    (kept_as c.args.self.now now (ap (λ (h : Hardware). h.values) is) (ap (λ (h : Hardware). h.cycle) is) rob) rob
-    (kept_serial now c.serialise.new.self _ _ c.serialise.ensures.hardware)
+    let before = c.args.self.now in
+    let wrote = with_write_back before in
+    kept_from before wrote c.serialise.new.self (kept_as before wrote refl refl refl) refl
+    (kept_apart c.self-2.inside c.self-2.inside.csrs c.clear.new.self wrote c.serialise.new.self
+    (c.self-2.view_is ∙ c.write_back.ensures.hardware) (kept_serialising _ c.serialise.new.self _ _ c.serialise.ensures.hardware))

@@ -2,7 +2,7 @@ use Rattle.rv_core.proofs.Words.{◌≡◌, List, slice_get, sym, ap, ◌∙◌,
 use Rattle.rv_core.proofs.Words.{committing}
 use Rattle.std.specs.FinSet as set
 use Rattle.rv_core.specs.HeadTurn.{role_of}
-use Rattle.rv_core.proofs.Retired.Roles.{ends_with_none, first_is_head, kept, turn_of_head, turn_accesses, waits_not}
+use Rattle.rv_core.proofs.Retired.Roles.{ends_with_none, first_is_head, kept, turn_of_head, turn_accesses, serialising_waits_not}
 use Rattle.rv_core.proofs.parts.Parts.serial_head.Goals as goal
 use Rattle.rv_core.proofs.parts.Parts.serial_head.Goals.{After-role_of, In-Some}
 
@@ -37,7 +37,7 @@ returns-in-CsrAccess-clause-turn c steps =
 pub returns-in-WaitsForResult-clause-turn : goal.returns-in-WaitsForResult-clause-turn
 returns-in-WaitsForResult-clause-turn c steps =
     let at = goal.at.returns-in-WaitsForResult-clause-turn c in
-    absurd (waits_not c.in-Some.head.now.instruction
+    absurd (serialising_waits_not c.in-Some.head.now.instruction
     (sym (c.role_of.ensures ∙ ap role_of c.instruction.ensures) ∙ c.in-WaitsForResult.is)
     (c.requires.serial c.in-Some.head.now (head at.In-Some)))
 

@@ -1,24 +1,20 @@
-use Rattle.rv_core.proofs.Words.{◌≡◌, ◌^◌, ◌≤◌, false, length, nat_le, sym, ap, ◌∙◌, subst, arith, leb-false}
-use Rattle.rv_core.proofs.Words.{leb-true, Hardware, by_cycle, report_with}
+use Rattle.rv_core.proofs.Words.{◌≡◌, ◌≤◌, length, sym, ap, ◌∙◌, subst, arith, by_cycle, report_with}
 use Rattle.rv_hardware.proofs.AnyPrediction.{any_cycle}
 use Rattle.rv_core.proofs.Guiding.{cycle_from, cycle_with}
 use Rattle.rv_core.proofs.Taken.{listed_anew}
 use Rattle.rv_core.proofs.pipeline.Pipeline.next_cycle.Goals as goal
 
-pub invariant_of-self-2 : goal.invariant_of-self-2
-invariant_of-self-2 g c =
-    let counted : nat_le (2 ^ 40) c.self.inside.parts.value.cycle ≡ false =
-    sym c.is_exhausted.ensures.exhausted ∙ c.if-is_exhausted.false in
-    record {
-      reached = by_cycle c.self.invariant.reached (leb-false _ _ counted)
-          (any_cycle (rw c.deref_mut.ensures.value at c.advance-end.ensures.cycle.3.cycle));
-      numbers = c.advance-end.ensures.numbers;
-      lists = c.advance-end.ensures.cycle.1.kept ∙ c.clear.ensures.kept ∙ c.self.invariant.lists;
-      has_room = c.advance-end.ensures.cycle.1.room ∙ c.clear.ensures.capacity ∙ c.self.invariant.has_room;
-    }
+pub invariant_of-self : goal.invariant_of-self
+invariant_of-self g c = record {
+  reached = by_cycle c.self.invariant.reached (rw (← c.self.view_is) at c.requires)
+      (any_cycle (rw c.deref_mut.ensures.value at c.advance-end.ensures.cycle.3.cycle));
+  numbers = c.advance-end.ensures.numbers;
+  lists = c.advance-end.ensures.cycle.1.kept ∙ c.clear.ensures.kept ∙ c.self.invariant.lists;
+  has_room = c.advance-end.ensures.cycle.1.room ∙ c.clear.ensures.capacity ∙ c.self.invariant.has_room;
+}
 
 pub returns-clause-cycled : goal.returns-clause-cycled
-returns-clause-cycled g c = λ counted.
+returns-clause-cycled g c =
     let end = c.advance-end.result in
     let done = c.advance-end.ensures.cycle in
     let listed : c.listed.result.items ≡ done.0 =
@@ -34,13 +30,3 @@ listed-requires g c =
 
 pub advance-end-requires-clause-room : goal.advance-end-requires-clause-room
 advance-end-requires-clause-room g c = c.clear.ensures.room (omega (arith, c.self.invariant.has_room))
-
-pub returns-then-is_exhausted-clause-cycled : goal.returns-then-is_exhausted-clause-cycled
-returns-then-is_exhausted-clause-cycled g c = λ counted.
-    let over = leb-true (2 ^ 40) c.self.inside.parts.value.cycle (sym c.is_exhausted.ensures.exhausted ∙ c.if-is_exhausted.true) in
-    absurd (omega (arith, counted, over, ap (λ (h : Hardware). h.cycle) c.self.view_is))
-
-pub returns-clause-exhausted : goal.returns-clause-exhausted
-returns-clause-exhausted g c = λ all.
-    let within = leb-false (2 ^ 40) c.self.inside.parts.value.cycle (sym c.is_exhausted.ensures.exhausted ∙ c.if-is_exhausted.false) in
-    absurd (omega (arith, all, within, ap (λ (h : Hardware). h.cycle) c.self.view_is))
