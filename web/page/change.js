@@ -74,7 +74,7 @@ function changeTables({ before, now }) {
 
 function changeButtons({ before, isKept }) {
   const kept = element("input", { type: "checkbox", id: "keep", checked: isKept, onchange: () => { runs.isKept = kept.checked; } });
-  const back = element("button", { type: "button", textContent: "Take the job before back", onclick: () => setJob(before.job) });
+  const back = element("button", { type: "button", textContent: "Take the job before back", onclick: () => { another(); setJob(before.job); } });
   return element("p", { className: "line" }, element("label", {}, kept, " keep the first run for further changes"), " ", back);
 }
 

@@ -9,8 +9,10 @@ import struct
 import subprocess
 import tempfile
 import time
+from pathlib import Path
 
-KEYS = {"Enter": "\ue007", "ArrowUp": "\ue013", "Ctrl": "\ue009", "Alt": "\ue00a"}
+from driver import DrivenPage
+
 EVENTS = ["log.entryAdded", "network.beforeRequestSent"]
 # what the page's policy refused is said on the console
 VIOLATIONS = "() => addEventListener('securitypolicyviolation', (event) => console.error('refused by the policy: ' + event.violatedDirective))"
@@ -61,10 +63,17 @@ class Socket:
 
 
 class Firefox:
-    def __init__(self):
+    """A Firefox without a window, with these preferences."""
+
+    def __init__(self, is_dark=False, **preferences):
         self.profile = tempfile.TemporaryDirectory(ignore_cleanup_errors=True)
+        folder, written = Path(self.profile.name), {"layout.css.prefers-color-scheme.content-override": 0 if is_dark else 1, **preferences}
+        (folder / "user.js").write_text("".join(f"user_pref({json.dumps(name)}, {json.dumps(value)});\n" for name, value in written.items()))
         words = [find_firefox(), "--headless", "--no-remote", "--profile", self.profile.name, "--remote-debugging-port=0", "about:blank"]
-        self.process = subprocess.Popen(words, stdout=subprocess.DEVNULL, stderr=subprocess.PIPE, text=True)
+        # (into a file: a pipe that nobody reads would stop a browser that has much to say)
+        self.said = folder / "said"
+        with self.said.open("w") as said:
+            self.process = subprocess.Popen(words, stdout=subprocess.DEVNULL, stderr=said)
         try:
             self.begin()
         except BaseException:
@@ -72,11 +81,19 @@ class Firefox:
             raise
 
     def begin(self):
-        port = next(int(found[1]) for found in (re.search(r"BiDi listening on ws://127.0.0.1:(\d+)", line) for line in self.process.stderr) if found)
-        self.socket, self.count, self.reports = Socket(port), 0, []
+        self.socket, self.count, self.reports = Socket(self.port()), 0, []
         self.send("session.new", capabilities={})
         self.send("session.subscribe", events=EVENTS)
         self.send("script.addPreloadScript", functionDeclaration=VIOLATIONS)
+
+    def port(self, seconds=60):
+        """The port that it says it listens at."""
+        end = time.monotonic() + seconds
+        while not (found := re.search(r"BiDi listening on ws://127.0.0.1:(\d+)", self.said.read_text(errors="replace"))):
+            if time.monotonic() > end or self.process.poll() is not None:
+                raise RuntimeError(f"Firefox does not begin within {seconds} s: {self.said.read_text(errors='replace')[-500:]}")
+            time.sleep(0.05)
+        return int(found[1])
 
     def __enter__(self):
         return self
@@ -115,7 +132,7 @@ class Firefox:
         return FirefoxPage(self, context)
 
 
-class FirefoxPage:
+class FirefoxPage(DrivenPage):
     def __init__(self, browser, context):
         self.browser, self.context = browser, context
 
@@ -125,24 +142,15 @@ class FirefoxPage:
             raise RuntimeError(f"{expression[:200]}: {answer['exceptionDetails']['text']}")
         return plain(answer["result"])
 
-    def wait(self, expression, seconds=20):
-        end = time.monotonic() + seconds
-        while True:
-            value = self.ask(expression)
-            if value:
-                return value
-            if time.monotonic() > end:
-                raise RuntimeError(f"within {seconds} s it does not become true: {expression}")
-            time.sleep(0.03)
+    def act(self, actions):
+        self.browser.send("input.performActions", context=self.context, actions=actions)
 
-    def key(self, name, *modifiers):
-        held = [KEYS[each] for each in modifiers]
-        pressed = [*held, KEYS.get(name, name)]
-        actions = [{"type": "keyDown", "value": each} for each in pressed] + [{"type": "keyUp", "value": each} for each in reversed(pressed)]
-        self.browser.send("input.performActions", context=self.context, actions=[{"type": "key", "id": "keys", "actions": actions}])
+    def picture(self, path):
+        Path(path).write_bytes(base64.b64decode(self.browser.send("browsingContext.captureScreenshot", context=self.context)["data"]))
 
-    def type(self, text):
-        self.ask(f"document.execCommand('insertText', false, {json.dumps(text)})")
+    def printed(self, path, **words):
+        """Writes the page as it is printed into a file."""
+        Path(path).write_bytes(base64.b64decode(self.browser.send("browsingContext.print", context=self.context, **words)["data"]))
 
     def close(self):
         self.browser.send("browsingContext.close", context=self.context)

@@ -3,6 +3,7 @@ const MOST_TEXT = 1 << 18;     // bytes of a job that the page takes
 const MOST_TEXT_LINES = 20000; // and lines, since a browser draws no longer text while one types
 const MOST_ADDRESS = 200000;   // letters of an address that it reads
 const KEPT_ADDRESS = 16000;    // letters of an address that it writes while one types
+const TOO_LONG = "#too-long";  // the address of a job that has more
 
 class TooMuch extends Error {}
 

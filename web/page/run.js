@@ -1,5 +1,5 @@
 // What happens when the job changes: it is checked while one types, run, and shown. A later change ends what an earlier one began.
-const PROBE = 20000; // cycles of a first call, by which the time of a long run is estimated
+const PROBE = 20000; // cycles of a first call, which bounds the time of a long run: no later call is slower
 let runner, checker, turn = 0, results = new Map(), isStale = false;
 
 // Puts the text of a refusal into its box. The line at fault and the caret below it are not wrapped, so that it stands below the token; they
@@ -43,9 +43,10 @@ function refuseJob(refusal) {
   return false;
 }
 
+// (a screen reader may read nothing within what is busy: the line that says how a run goes stands apart)
 function setBusy(isBusy) {
   byId("stop").disabled = !isBusy;
-  byId("result").setAttribute("aria-busy", String(isBusy));
+  byId("panel").setAttribute("aria-busy", String(isBusy));
   if (!isBusy) expectFor(0);
 }
 
@@ -67,7 +68,7 @@ async function wholeRun(text) {
   if (first.status !== 0 || countsOf(textOf(first.output.subarray(0, 400))).get("stop") !== "limit") return first;
   const expected = (first.ms * most) / PROBE;
   expectFor(expected);
-  if (expected >= 300) say("Running up to " + counted(most, "cycle") + ", about " + Math.ceil(expected / 1000) + " s");
+  if (expected >= 300) say("Running up to " + counted(most, "cycle") + ", at most about " + Math.ceil(expected / 1000) + " s");
   return runner.call(["run", "--limit", String(most)], text);
 }
 
@@ -127,7 +128,7 @@ async function resultOf(view, mine) {
 
 // Where nothing is shown yet, and the job does not run, as one that is refused.
 function showNothing() {
-  if (byId("shown").firstChild || byId("result").getAttribute("aria-busy") === "true") return;
+  if (byId("shown").firstChild || byId("panel").getAttribute("aria-busy") === "true") return;
   byId("shown").append(element("p", { className: "note", textContent: "Nothing to show: the job as it stands has not run." }));
 }
 

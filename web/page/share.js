@@ -1,6 +1,9 @@
 // The address holds the job, as long as it is not too long for that: so a link shares it, and going back or loading again loses nothing.
 // After #: example=NAME or job=DEFLATED, machines=DEFLATED, view, limit, from, cycles of a view, retired, cycle, follow and path.
-let exampleName = "", addressed = "";
+let exampleName = "", addressed = "", isAnother = false;
+
+// Another job takes the place of the one that stands here, which is then one step back.
+const another = () => { isAnother = true; };
 
 function optionWords() {
   const words = [];
@@ -28,14 +31,14 @@ async function addressOf() {
 const writeAddress = later(400, async () => {
   const address = await addressOf();
   // (an address that was changed by hand is read, and not written over)
-  if (address === addressed || location.hash !== addressed) return;
-  if (!putAddress(address.length <= KEPT_ADDRESS ? address : "#too-long")) setTimeout(writeAddress, 10000);
+  if (address === addressed || location.hash !== addressed) { isAnother = false; return; }
+  if (!putAddress(address.length <= KEPT_ADDRESS ? address : TOO_LONG)) setTimeout(writeAddress, 10000);
 });
 
 // Answers whether the browser took the address: one that was asked too often refuses for a while (WebKit after 100 times in 10 seconds).
 function putAddress(address) {
-  try { history.replaceState(null, "", address); } catch { return false; }
-  addressed = address;
+  try { history[isAnother ? "pushState" : "replaceState"](null, "", address); } catch { return false; }
+  [addressed, isAnother] = [address, false];
   return true;
 }
 
@@ -55,7 +58,7 @@ async function copyLink() {
   if (address.length > MOST_ADDRESS) return refuse("The job is too long for a link (" + size + "): save it as a file.");
   const isThere = putAddress(address), holds = ": the job stands in it, in " + size + ".";
   if (await copying) return say("The link is copied" + holds);
-  say(isThere ? "The link stands in the address of the page" + holds : "The browser took no link; try again in ten seconds.", !isThere);
+  say(isThere ? "Nothing was copied, but the link stands in the address of the page" + holds : "The browser took no link; try again in ten seconds.", !isThere);
 }
 
 // Reads the address: answers whether a job stood there. What is no job is refused, and said.
@@ -63,7 +66,8 @@ async function readAddress() {
   const text = location.hash.slice(1);
   addressed = location.hash;
   refuse("");
-  if (text === "" || text === "too-long") return false;
+  if (addressed === TOO_LONG) refuse("The job that stood here was too long for the address, and is not kept. Save such a job as a file.");
+  if (text === "" || addressed === TOO_LONG) return false;
   if (text.length > MOST_ADDRESS) {
     refuse("The address was refused: it has " + counted(text.length, "character") + ", and " + grouped(MOST_ADDRESS) + " are read.");
     return false;
@@ -117,6 +121,7 @@ async function openFile(file) {
   const text = textOf(new Uint8Array(bytes)).replace(/^\ufeff/, "");
   const why = isGreat ? counted(file.size, "byte") + " (the page takes " + grouped(MOST_TEXT) + ")" : whyTooLong(text);
   if (why !== "") return refuse("The file " + file.name + " was refused: it has " + why + ".");
+  another();
   exampleName = "";
   byId("examples").selectedIndex = 0;
   if (/\.toml$/.test(file.name)) return setJob({ ...jobNow(), description: text });

@@ -125,8 +125,8 @@ function listen() {
   byId("save").onclick = () => save((exampleName.split("/").pop() || "program") + ".job", joined(jobNow()));
   byId("open").onclick = () => byId("file").click();
   byId("file").onchange = () => { if (byId("file").files[0]) openFile(byId("file").files[0]); byId("file").value = ""; };
-  byId("examples").onchange = () => { refuse(""); if (byId("examples").value) loadExample(byId("examples").value); };
-  byId("machine").onchange = () => { const name = byId("machine").value; byId("machine").selectedIndex = 0; loadExample(name); };
+  byId("examples").onchange = () => { refuse(""); if (byId("examples").value) { another(); loadExample(byId("examples").value); } };
+  byId("machine").onchange = () => { const name = byId("machine").value; byId("machine").selectedIndex = 0; another(); loadExample(name); };
   byId("show-job").onclick = () => shortcut("j");
   byId("as-form").onclick = () => setForm(true);
   byId("as-text").onclick = () => setForm(false);
@@ -140,6 +140,8 @@ function listen() {
   addEventListener("beforeprint", printParts);
   addEventListener("afterprint", () => document.querySelectorAll("pre.printed").forEach((each) => each.remove()));
   addEventListener("hashchange", () => { if (location.hash !== addressed) readAddress(); });
+  // (a job that the address does not hold would be lost)
+  addEventListener("beforeunload", (event) => { if (addressed === TOO_LONG) { event.preventDefault(); event.returnValue = true; } });
   addEventListener("keydown", (event) => {
     const key = event.ctrlKey && event.key === "Enter" ? event.key : keyWithAlt(event);
     if (key) { event.preventDefault(); shortcut(key); }

@@ -10,9 +10,8 @@ import tempfile
 import time
 from pathlib import Path
 
-KEYS = {"Enter": "\ue007", "Tab": "\ue004", "Escape": "\ue00c", "ArrowLeft": "\ue012", "ArrowUp": "\ue013", "ArrowRight": "\ue014", "ArrowDown": "\ue015",
-        "PageUp": "\ue00e", "PageDown": "\ue00f", "End": "\ue010", "Home": "\ue011", "Ctrl": "\ue009", "Alt": "\ue00a", "Shift": "\ue008"}
-ELEMENT = "element-6066-11e4-a52e-4f735466cecf"
+from driver import DrivenPage
+
 # (the driver names no browser of its own on every system)
 BROWSERS = ("/usr/lib/*/webkit2gtk-4.1/MiniBrowser", "/usr/libexec/webkit2gtk-4.1/MiniBrowser", "/usr/lib/*/webkitgtk-6.0/MiniBrowser")
 SCREEN = "3840x2160x24"
@@ -116,7 +115,7 @@ class WebKit:
         return self.page
 
 
-class WebKitPage:
+class WebKitPage(DrivenPage):
     def __init__(self, browser, handle, frame=None):
         self.browser, self.handle, self.frame_of = browser, handle, frame
 
@@ -151,24 +150,8 @@ class WebKitPage:
     def frame(self, selector="iframe"):
         return WebKitPage(self.browser, self.handle, selector)
 
-    def wait(self, expression, seconds=20):
-        end = time.monotonic() + seconds
-        while True:
-            value = self.ask(expression)
-            if value:
-                return value
-            if time.monotonic() > end:
-                raise RuntimeError(f"within {seconds} s it does not become true: {expression}")
-            time.sleep(0.03)
-
-    def key(self, name, *modifiers):
-        held = [KEYS[each] for each in modifiers]
-        pressed = [*held, KEYS.get(name, name)]
-        actions = [{"type": "keyDown", "value": each} for each in pressed] + [{"type": "keyUp", "value": each} for each in reversed(pressed)]
-        self.command("POST", "/actions", actions=[{"type": "key", "id": "keys", "actions": actions}])
-
-    def type(self, text):
-        self.ask(f"document.execCommand('insertText', false, {json.dumps(text)})")
+    def act(self, actions):
+        self.command("POST", "/actions", actions=actions)
 
     def picture(self, path):
         Path(path).write_bytes(base64.b64decode(self.command("GET", "/screenshot")))
