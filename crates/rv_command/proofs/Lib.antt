@@ -2,3 +2,4 @@ mod Flags
 mod Numbers
 mod Parses
 mod Subcommands
+mod Texts

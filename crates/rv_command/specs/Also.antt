@@ -1,9 +1,9 @@
 -- What `--also` asks for.
-use Rattle.std.specs.Prelude.{ℕ, ◌+◌, ◌==◌, nat_lt, Bool, true, false, ◌||◌, if◌then◌else◌, List, [], drop, get_or, length, position, take, slice_get, Option, Some, None, codes, is_some, ok_or, option_and_then, unwrap_or, Result, Ok, Err}
+use Rattle.std.specs.Prelude.{ℕ, ◌+◌, ◌==◌, nat_lt, Bool, true, false, ◌||◌, if◌then◌else◌, List, drop, length, position, take, slice_get, Option, Some, None, codes, is_some, ok_or, option_and_then, Result, Ok, Err}
 use Rattle.std.specs.{Option.option_map, Option.option_map_or, Str.bytes_eq}
-use Rattle.clap.specs.Words.{Row, Text, all_of}
+use Rattle.clap.specs.Words.{Row, Text}
 use Rattle.rv_asm.specs.Statement.{and_then}
-use Rattle.rv_asm.specs.Token.{Lexeme, Token, Number, first_lexeme}
+use Rattle.rv_asm.specs.Token.{Token, Number}
 use Rattle.rv_isa.specs.Choice.{predictor_named, recovery_named}
 use Rattle.rv_isa.specs.Key.{order, text_of}
 use Rattle.rv_isa.specs.declared.keys.Key.{Key}
@@ -11,6 +11,8 @@ use Rattle.rv_isa.specs.declared.keys.Key.TheVariants as key
 use Rattle.rv_sensitivity.specs.Setting.{change_of, says_how_fast}
 use Rattle.rv_sensitivity.specs.declared.setting.{KeyValue.KeyValue, Setting.Setting, Settings.Settings}
 use Rattle.rv_sensitivity.specs.declared.setting.KeyValue.TheVariants as value
+use Rattle.rv_command.specs.Given.{texts_of}
+use Rattle.rv_command.specs.LoneToken.{lone_token}
 use Rattle.rv_command.specs.declared.also_fault.{AlsoFault.AlsoFault, Reason.Reason}
 use Rattle.rv_command.specs.declared.also_fault.Reason.TheVariants.{TooMany, UnknownKey, OtherKey, NoValue, WrongValue, SetTwice}
 
@@ -21,11 +23,7 @@ number_by _ = None
 
 -- the number that a text is, as the assembler reads numbers
 abbrev pub number_named : Text → Option ℕ
-number_named text =
-    if length text == 0 then None
-    else option_and_then
-    (λ (lexeme : Lexeme). if lexeme.size == length text then option_and_then number_by lexeme.token else None)
-    (first_lexeme (get_or text 0 0) text)
+number_named text = option_and_then number_by (lone_token text)
 
 -- the truth value that a text is
 abbrev pub truth_named : Text → Option Bool
@@ -122,10 +120,6 @@ settings_of texts =
     (λ two. and_then (column_of texts 2) (λ three. and_then (column_of texts 3) (λ four.
     set_once (record { first = one; second = two; third = three; fourth = four })))))
 
--- the texts that the matches hold
-abbrev pub texts_in : List Row → List Text
-texts_in rows = unwrap_or (all_of (codes "also") rows) []
-
--- their settings, or what is wrong with them
+-- those that the matches hold
 abbrev pub also_in : List Row → Result Settings AlsoFault
-also_in rows = settings_of (texts_in rows)
+also_in rows = settings_of (texts_of (codes "also") rows)

@@ -5,8 +5,9 @@ use Rattle.clap.specs.Words.{Row, Text}
 use Rattle.rv_describe.specs.Near.{nearest_keys}
 use Rattle.rv_isa.specs.Key.{text_of}
 use Rattle.rv_isa.specs.declared.keys.Key.{Key}
-use Rattle.rv_command.specs.Also.{is_equals, settings_of, texts_in}
+use Rattle.rv_command.specs.Also.{is_equals, settings_of}
 use Rattle.rv_command.specs.AlsoFault.{reason_text}
+use Rattle.rv_command.specs.Given.{texts_of}
 use Rattle.rv_command.specs.declared.also_fault.{AlsoFault.AlsoFault, Reason.Reason}
 use Rattle.rv_command.specs.declared.also_fault.Reason.TheVariants.{UnknownKey}
 
@@ -48,4 +49,4 @@ also_line texts = option_map_or (fault_line texts) (result_err (settings_of text
 
 -- the same of those that the matches hold
 abbrev pub line_in : List Row → Text
-line_in rows = also_line (texts_in rows)
+line_in rows = also_line (texts_of (codes "also") rows)

@@ -4,4 +4,6 @@ pub mod Shown
 pub mod Also
 pub mod AlsoFault
 pub mod AlsoLine
+pub mod Given
+pub mod LoneToken
 pub mod ShowLine

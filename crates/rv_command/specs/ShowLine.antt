@@ -1,7 +1,8 @@
 -- What is said of the texts of `--show`, where one names nothing or is one too many.
-use Rattle.std.specs.Prelude.{Bool, List, [], ◌++◌, slice_get, codes, is_none, unwrap_or}
+use Rattle.std.specs.Prelude.{Bool, List, [], ◌++◌, slice_get, codes, is_none}
 use Rattle.std.specs.{List.find, Option.option_map_or}
-use Rattle.clap.specs.Words.{Row, Text, all_of}
+use Rattle.clap.specs.Words.{Row, Text}
+use Rattle.rv_command.specs.Given.{texts_of}
 use Rattle.rv_command.specs.Shown.{shown_of}
 
 -- what `--show` takes
@@ -28,4 +29,4 @@ show_line texts =
 
 -- the same of those that the matches hold
 abbrev pub line_in : List Row → Text
-line_in rows = show_line (unwrap_or (all_of (codes "show") rows) [])
+line_in rows = show_line (texts_of (codes "show") rows)

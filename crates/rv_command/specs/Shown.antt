@@ -1,9 +1,11 @@
 -- What `--show` names.
-use Rattle.std.specs.Prelude.{ℕ, ◌%◌, ◌==◌, nat_lt, if◌then◌else◌, List, [], length, get_or, slice_get, Option, Some, None, codes, option_and_then, unwrap_or}
+use Rattle.std.specs.Prelude.{ℕ, ◌%◌, ◌==◌, nat_lt, if◌then◌else◌, List, length, slice_get, Option, Some, None, codes, option_and_then}
 use Rattle.std.specs.{Option.option_map, Option.option_map_or, Str.bytes_eq}
-use Rattle.clap.specs.Words.{Row, Text, all_of}
+use Rattle.clap.specs.Words.{Row, Text}
 use Rattle.rv_asm.specs.Names.{register_named}
-use Rattle.rv_asm.specs.Token.{Lexeme, Token, Name, Number, first_lexeme}
+use Rattle.rv_asm.specs.Token.{Token, Name, Number}
+use Rattle.rv_command.specs.Given.{texts_of}
+use Rattle.rv_command.specs.LoneToken.{lone_token}
 use Rattle.rv_command.specs.declared.shown.{Shown.Shown, ShownColumns.ShownColumns}
 use Rattle.rv_command.specs.declared.shown.Shown.TheVariants.{Register, Word, Places}
 
@@ -19,11 +21,7 @@ shown_by _ = None
 
 -- what a text names that is one token
 abbrev pub shown_of : Text → Option Shown
-shown_of text =
-    if length text == 0 then None
-    else option_and_then
-    (λ (lexeme : Lexeme). if lexeme.size == length text then option_and_then shown_by lexeme.token else None)
-    (first_lexeme (get_or text 0 0) text)
+shown_of text = option_and_then shown_by (lone_token text)
 
 -- the column of the text at a place: none where there is no text, and no answer where that names nothing
 abbrev pub column_of : List Text → ℕ → Option (Option Shown)
@@ -39,4 +37,4 @@ columns_of texts =
 
 -- those that the matches hold
 abbrev pub columns_in : List Row → Option ShownColumns
-columns_in rows = columns_of (unwrap_or (all_of (codes "show") rows) [])
+columns_in rows = columns_of (texts_of (codes "show") rows)

@@ -9,8 +9,9 @@ ghost use Rattle.rv_command.specs.Also.{made, no_setting, number_by, number_name
 ghost use Rattle.rv_command.specs.Also.{settings_of, taken, tried_key, truth_named, value_at};
 
 use crate::also_fault::{AlsoFault, Reason};
+use crate::lone_token::lone_token;
 use clap::ArgMatches;
-use rv_asm::{Token, first_lexeme};
+use rv_asm::Token;
 use rv_isa::{Key, PredictorKind, Recovery, all_keys};
 use rv_sensitivity::{KeyValue, Setting, Settings, says_how_fast};
 
@@ -31,14 +32,7 @@ fn number_by(token: Token<'_>) -> Option<u32>
 fn number_named(text: &[u8]) -> Option<u32>
     ensures { result ≡ number_named text.now }
 {
-    if text.is_empty() {
-        return None;
-    }
-    let lexeme = first_lexeme(text)?;
-    if lexeme.size != text.len() {
-        return None;
-    }
-    number_by(lexeme.token?)
+    number_by(lone_token(text)?)
 }
 
 fn truth_named(text: &[u8]) -> Option<bool>

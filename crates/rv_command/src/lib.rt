@@ -8,6 +8,7 @@ mod also_line;
 mod arguments;
 mod command;
 mod help;
+mod lone_token;
 mod refused;
 mod show_line;
 mod shown;

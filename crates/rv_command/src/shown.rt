@@ -3,8 +3,9 @@ ghost use Rattle.clap.specs.Words.{found_of, rows_of};
 ghost use Rattle.rv_asm.specs.Read.{token_of};
 ghost use Rattle.rv_command.specs.Shown.{column_of, columns_in, columns_of, name_shown, shown_by, shown_of};
 
+use crate::lone_token::lone_token;
 use clap::ArgMatches;
-use rv_asm::{Token, first_lexeme, register_named};
+use rv_asm::{Token, register_named};
 use rv_isa::Reg;
 
 /// What a table shows of a run besides its counts.
@@ -62,15 +63,7 @@ fn shown_by(token: Token<'_>) -> Option<Shown>
 pub(crate) fn named(text: &str) -> Option<Shown>
     ensures { result ≡ shown_of text.now }
 {
-    let bytes = text.as_bytes();
-    if bytes.is_empty() {
-        return None;
-    }
-    let lexeme = first_lexeme(bytes)?;
-    if lexeme.size != bytes.len() {
-        return None;
-    }
-    shown_by(lexeme.token?)
+    shown_by(lone_token(text.as_bytes())?)
 }
 
 // What the text at a place names, where one is there.

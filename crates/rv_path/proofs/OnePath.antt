@@ -3,12 +3,13 @@ use Rattle.std.proofs.Common.{◌≡◌, ◌∙◌, ℕ, List, length, ap, sym}
 use Rattle.rv_isa.specs.declared.lines.Arrival.{Arrival}
 use Rattle.rv_passage.proofs.OneRun.{one_run}
 use Rattle.rv_causes.specs.Path.{account_of_run}
-use Rattle.rv_path.specs.Run.{HasOnePath}
+use Rattle.rv_path.specs.Run.{IsPath}
 use Rattle.rv_causes.specs.Lines.{account_text}
 use Rattle.rv_source.specs.Listing.{Listed}
+use Rattle.rv_view.specs.Run.{HasOneText}
 
 -- of a run of described hardware there is one text of its path
-pub one_path : (arrivals : List Arrival) (limit : ℕ) (listing : Listed) → HasOnePath arrivals limit listing
+pub one_path : (arrivals : List Arrival) (limit : ℕ) (listing : Listed) → HasOneText limit (IsPath arrivals limit listing)
 one_path arrivals limit listing h predictor new new' stop stop' text text' within is is' =
     let one = is.accounted in
     let other = is'.accounted in

@@ -1,6 +1,6 @@
 -- The marks of a window of cycles of a run: the events of instructions in it that are on the path to the run's last
 -- retirement, trap or interrupt.
-use Rattle.std.specs.Prelude.{◌≡◌, ℕ, ◌+◌, ◌-◌, ◌^◌, ◌≤◌, List, filter, length, map, take}
+use Rattle.std.specs.Prelude.{◌≡◌, ℕ, ◌+◌, ◌-◌, List, filter, length, map, take}
 use Rattle.rv_isa.specs.declared.lines.Arrival.{Arrival}
 use Rattle.rv_arch.specs.declared.outcome.Stop.{Stop}
 use Rattle.rv_causes.specs.Marked.{is_marked}
@@ -8,9 +8,7 @@ use Rattle.rv_causes.specs.Numbering.{number_in}
 use Rattle.rv_causes.specs.Path.{known_of, path_of}
 use Rattle.rv_causes.specs.declared.event.Event.{Event}
 use Rattle.rv_drawing.specs.declared.mark.Mark.{Mark}
-use Rattle.rv_front.specs.Predictors.{guide_of}
-use Rattle.rv_front.specs.declared.predictors.DescribedPredictor.{DescribedPredictor}
-use Rattle.rv_hardware.specs.Guided.{GuidedHardware, guided}
+use Rattle.rv_hardware.specs.Guided.{GuidedHardware}
 use Rattle.rv_hardware.specs.Hardware.{Hardware}
 use Rattle.rv_hardware.specs.History.{Moment}
 use Rattle.rv_passage.specs.EndedRun.{IsEndedRun}
@@ -38,12 +36,3 @@ pub record IsMarked (arrivals : List Arrival) (from cycles : ℕ) (old new : Gui
   pub stop : Stop
   pub run : IsEndedRun arrivals (from + cycles) old moments new stop
   pub marks_are : marks ≡ marks_of_run from old.hardware moments
-
--- of hardware that a described predictor guides there are the marks of one path, whatever it leaves
-abbrev pub HasOneMarking : List Arrival → ℕ → ℕ → Type 0
-HasOneMarking arrivals from cycles =
-    (h : Hardware) (predictor : DescribedPredictor) (new new' : GuidedHardware) (marks marks' : List Mark) →
-    h.cycle + (from + cycles) ≤ 2 ^ 40 →
-    IsMarked arrivals from cycles (guided h (guide_of predictor)) new marks →
-    IsMarked arrivals from cycles (guided h (guide_of predictor)) new' marks' →
-    marks ≡ marks'

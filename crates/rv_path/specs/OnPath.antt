@@ -19,5 +19,6 @@ read_by cycle = record {
   after = read_of cycle.hardware.now;
 }
 
+-- a path is that of the cycles so far
 abbrev pub IsOnPath : Path → Watched → Type 0
 IsOnPath path seen = IsKnown path (known_of seen.first.hardware (cycles_seen seen))

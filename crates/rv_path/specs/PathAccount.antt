@@ -1,11 +1,8 @@
 -- The account of a run's path.
-use Rattle.std.specs.Prelude.{◌≡◌, ℕ, ◌+◌, ◌^◌, ◌≤◌, List}
+use Rattle.std.specs.Prelude.{ℕ, List}
 use Rattle.rv_isa.specs.declared.lines.Arrival.{Arrival}
 use Rattle.rv_arch.specs.declared.outcome.Stop.{Stop}
-use Rattle.rv_front.specs.Predictors.{guide_of}
-use Rattle.rv_front.specs.declared.predictors.DescribedPredictor.{DescribedPredictor}
-use Rattle.rv_hardware.specs.Guided.{GuidedHardware, guided}
-use Rattle.rv_hardware.specs.Hardware.{Hardware}
+use Rattle.rv_hardware.specs.Guided.{GuidedHardware}
 use Rattle.rv_causes.specs.Account.{Accounted}
 use Rattle.rv_path.specs.Run.{IsAccounted}
 
@@ -14,12 +11,3 @@ pub record IsPathAccount (arrivals : List Arrival) (limit : ℕ) (old new : Guid
     (account : Accounted) : Type 0 where
   pub stop : Stop
   pub accounted : IsAccounted arrivals limit old new stop account.cycles account
-
--- of hardware that a described predictor guides there is one account, whatever it leaves
-abbrev pub HasOneAccount : List Arrival → ℕ → Type 0
-HasOneAccount arrivals limit =
-    (h : Hardware) (predictor : DescribedPredictor) (new new' : GuidedHardware) (account account' : Accounted) →
-    h.cycle + limit ≤ 2 ^ 40 →
-    IsPathAccount arrivals limit (guided h (guide_of predictor)) new account →
-    IsPathAccount arrivals limit (guided h (guide_of predictor)) new' account' →
-    account ≡ account'

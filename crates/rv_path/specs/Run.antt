@@ -33,11 +33,9 @@ pub record IsPath (arrivals : List Arrival) (limit : ℕ) (listing : Listed) (ol
   pub accounted : IsAccounted arrivals limit old new stop cycles account
   pub text_is : text ≡ account_text listing cycles account
 
--- of hardware that a described predictor guides there is one path, whatever it leaves
-abbrev pub HasOnePath : List Arrival → ℕ → Listed → Type 0
-HasOnePath arrivals limit listing =
-    (h : Hardware) (predictor : DescribedPredictor) (new new' : GuidedHardware) (stop stop' : Stop)
-    (text text' : List ℕ) → h.cycle + limit ≤ 2 ^ 40 →
-    IsPath arrivals limit listing (guided h (guide_of predictor)) new stop text →
-    IsPath arrivals limit listing (guided h (guide_of predictor)) new' stop' text' →
-    (stop ≡ stop') × (text ≡ text')
+-- of a run of at most so many cycles there is one answer of a kind, where a described predictor guides it
+abbrev pub HasOneAnswer : {A : Type 0} → ℕ → (GuidedHardware → GuidedHardware → A → Type 0) → Type 0
+HasOneAnswer {A} limit Is =
+    (h : Hardware) (predictor : DescribedPredictor) (new new' : GuidedHardware) (answer answer' : A) →
+    h.cycle + limit ≤ 2 ^ 40 → Is (guided h (guide_of predictor)) new answer →
+    Is (guided h (guide_of predictor)) new' answer' → answer ≡ answer'

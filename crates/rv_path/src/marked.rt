@@ -1,6 +1,7 @@
-ghost use Rattle.std.specs.Prelude.{IfOk, OnErr};
+ghost use Rattle.std.specs.Prelude.{◌+◌, IfOk, OnErr};
 ghost use Rattle.rv_hardware.specs.Guided.{guided};
-ghost use Rattle.rv_path.specs.Marking.{HasOneMarking, IsMarked};
+ghost use Rattle.rv_path.specs.Marking.{IsMarked};
+ghost use Rattle.rv_path.specs.Run.{HasOneAnswer};
 ghost use Rattle.rv_view.specs.Run.{HasRun};
 
 use crate::marking::run_marked;
@@ -28,7 +29,7 @@ pub fn path_marks<S: Simulated>(
         (guided (S.hardware pipeline.old) (known predictor.old))
         (guided (S.hardware pipeline.new) (known predictor.new)) marks.items) }
     // With a described predictor the marks are a function of what they are of.
-    ensures one_marking { HasOneMarking arrivals.now from cycles }
+    ensures one_marking { HasOneAnswer (from + cycles) (IsMarked arrivals.now from cycles) }
     ensures run { OnErr result (HasRun arrivals.now (guided (S.hardware pipeline.old) (known predictor.old))
         (guided (S.hardware pipeline.new) (known predictor.new))) }
 {

@@ -1,6 +1,7 @@
 ghost use Rattle.std.specs.Prelude.{◌≡◌, take, IfOk, OnErr};
 ghost use Rattle.rv_hardware.specs.Guided.{guided};
-ghost use Rattle.rv_path.specs.PathAccount.{HasOneAccount, IsPathAccount};
+ghost use Rattle.rv_path.specs.PathAccount.{IsPathAccount};
+ghost use Rattle.rv_path.specs.Run.{HasOneAnswer};
 ghost use Rattle.rv_causes.specs.Text.{ranked};
 ghost use Rattle.rv_view.specs.Run.{HasRun};
 
@@ -78,7 +79,7 @@ pub fn account_path<S: Simulated>(
         (guided (S.hardware pipeline.old) (known predictor.old))
         (guided (S.hardware pipeline.new) (known predictor.new)) path) }
     // With a described predictor the account is a function of what it is the account of.
-    ensures one_account { HasOneAccount arrivals.now limit }
+    ensures one_account { HasOneAnswer limit (IsPathAccount arrivals.now limit) }
     ensures run { OnErr result (HasRun arrivals.now (guided (S.hardware pipeline.old) (known predictor.old))
         (guided (S.hardware pipeline.new) (known predictor.new))) }
 {

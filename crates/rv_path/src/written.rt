@@ -1,10 +1,10 @@
 ghost use Rattle.std.specs.Prelude.{◌≡◌, Err};
 ghost use Rattle.rv_hardware.specs.Guided.{guided};
 ghost use Rattle.rv_causes.specs.Causes.{CausesAreSo};
-ghost use Rattle.rv_path.specs.Run.{HasOnePath, IsPath};
+ghost use Rattle.rv_path.specs.Run.{IsPath};
 ghost use Rattle.rv_causes.specs.Within.{ComesInTime};
 ghost use Rattle.rv_text.specs.IsText.{IsText};
-ghost use Rattle.rv_view.specs.Run.{HasRun};
+ghost use Rattle.rv_view.specs.Run.{HasOneText, HasRun};
 
 use crate::running::run_accounted;
 use rv_arch::Stop;
@@ -46,7 +46,7 @@ pub fn write_path<S: Simulated, W: Write>(
         (guided (S.hardware pipeline.new) (known predictor.new)))
         result (W.contents writer.old) (W.contents writer.new) }
     // With a described predictor the path is a function of what it is the path of.
-    ensures one_path { HasOnePath arrivals.now limit listing.now }
+    ensures one_path { HasOneText limit (IsPath arrivals.now limit listing.now) }
     // No event waited for one that came after it: all that is known of a run lies within its cycles.
     ensures in_time { ComesInTime }
     // Each event waited for an older one, and what the cause that is named says is so of the two.

@@ -1,17 +1,19 @@
 -- What the texts are made of is JSON, or a part of it.
-use Rattle.std.proofs.Common.{◌≡◌, ◌∙◌, ℕ, suc, ◌+◌, ◌==◌, ◌||◌, ◌&&◌, nat_le, Bool, true, false, not, if◌then◌else◌, List, [], ◌∷◌, ◌++◌, codes, refl, sym, ap, subst, append_assoc, append-nil, add-one}
+use Rattle.std.proofs.Common.{◌≡◌, ◌∙◌, ℕ, suc, ◌==◌, ◌||◌, ◌&&◌, nat_le, Bool, true, false, not, if◌then◌else◌, List, [], ◌∷◌, ◌++◌, codes, refl, sym, ap, subst, append_assoc, append-nil, add-one}
 use Rattle.std.specs.List.{flat_map, list_all}
 use Rattle.std.proofs.lemmas.Bool.{and_from, and_parts}
 use Rattle.rv_text.specs.Plain.{plain_byte}
 use Rattle.rv_states.specs.Grammar.{AreCharacters, AreLines, AreMembers, AreValues, IsJson, IsMember, IsString, empty_array, escaped, further_member, further_value, is_unescaped, line, named, no_characters, no_lines, no_members, no_values, unescaped}
 use Rattle.rv_states.specs.Grammar as grammar
 use Rattle.rv_states.specs.Json.{Json, also, array, begins, comma_at, json_byte, key, numeral, opens, quoted, string, truth, values_from}
+use Rattle.rv_states.proofs.Each.{each_of}
 use Rattle.rv_states.proofs.Numerals.{numeral_is_number}
 
--- a number, and a truth value
+-- a number is JSON
 pub number : (n : ℕ) → IsJson (numeral n)
 number n = grammar.number (numeral n) (numeral_is_number n)
 
+-- and so is a truth value
 pub truth_of : (value : Bool) → IsJson (truth value)
 unfolding truth
 truth_of true = grammar.truth
@@ -26,6 +28,7 @@ plain (byte ∷ bytes) all =
 a_string : (text : List ℕ) → list_all is_unescaped text ≡ true → IsString (codes "\"" ++ (text ++ codes "\""))
 a_string text all = grammar.in_quotes text (plain text all)
 
+-- they are JSON in quotes
 pub in_quotes : (text : List ℕ) → list_all is_unescaped text ≡ true → IsJson (quoted text)
 unfolding quoted
 in_quotes text all = grammar.string _ (a_string text all)
@@ -58,9 +61,9 @@ byte_of byte =
     one_of (byte == 92) (λ _. escaped 53 99 [] refl no_characters) (λ no_backslash. shown byte no_quote no_backslash)))))
 
 bytes_of : (text : List ℕ) → AreCharacters (flat_map json_byte text)
-bytes_of [] = no_characters
-bytes_of (byte ∷ bytes) = both_characters (byte_of byte) (bytes_of bytes)
+bytes_of text = each_of AreCharacters no_characters (λ xs ys. both_characters {xs = xs} {ys = ys}) json_byte byte_of text
 
+-- any text as a string is JSON
 pub string_of : (text : List ℕ) → IsJson (string text)
 unfolding string
 string_of text = grammar.string _ (grammar.in_quotes _ (bytes_of text))
@@ -77,22 +80,18 @@ further_values place (value ∷ values) all =
     subst (λ n. AreValues (codes "," ++ (value ++ values_from n values))) (sym (add-one (suc place)))
     (further_value value (values_from (suc (suc place)) values) all.0 (further_values (suc place) values all.1))
 
+-- an array of JSON is JSON
 pub array_of : (values : List Json) → AllJson values → IsJson (array values)
 unfolding array comma_at
 array_of [] all = empty_array
 array_of (value ∷ values) all =
     subst IsJson (ap (λ l. codes "[" ++ l) (sym (append_assoc value (values_from 1 values) (codes "]")))) (grammar.array value (values_from 1 values) all.0 (further_values 0 values all.1))
 
--- further members of an object
+-- members after members are members
 pub both : {xs ys : List ℕ} → AreMembers xs → AreMembers ys → AreMembers (xs ++ ys)
 both no_members after = after
 both {ys = ys} (further_member first others is more) after =
     subst AreMembers (ap (λ l. codes "," ++ l) (sym (append_assoc first others ys))) (further_member first (others ++ ys) is (both more after))
-
--- those of items one after the other
-pub members_each : {X : Type 0} (text : X → List ℕ) → ((x : X) → AreMembers (text x)) → (xs : List X) → AreMembers (flat_map text xs)
-members_each text are [] = no_members
-members_each text are (x ∷ xs) = both (are x) (members_each text are xs)
 
 -- a member of a name that needs no escape
 member_text : List ℕ → List ℕ → List ℕ
@@ -102,6 +101,7 @@ a_member : (name : List ℕ) {value : List ℕ} → list_all is_unescaped name �
 unfolding member_text
 a_member name {value} all is = named (codes "\"" ++ (name ++ codes "\"")) value (a_string name all) is
 
+-- such a name with a value is one
 pub member : (name : List ℕ) {value : List ℕ} → list_all is_unescaped name ≡ true → IsJson value → AreMembers (also name value)
 unfolding member_text key also
 member name {value} all is =
@@ -116,11 +116,13 @@ pub record IsOpen (text : List ℕ) : Type 0 where
   pub are : AreMembers others
   pub text_is : text ≡ codes "{" ++ (first ++ others)
 
+-- a brace and a member
 pub beginning : (name : List ℕ) {value : List ℕ} → list_all is_unescaped name ≡ true → IsJson value → IsOpen (begins name value)
 unfolding member_text opens begins
 beginning name {value} all is =
     record { first = member_text name value; others = []; is = a_member name all is; are = no_members; text_is = simp (append_assoc, append-nil) }
 
+-- an open object with members more is still open
 pub begun : {xs ys : List ℕ} → IsOpen xs → AreMembers ys → IsOpen (xs ++ ys)
 begun {ys = ys} front more = record {
   first = front.first;
@@ -136,9 +138,11 @@ pub record Closes (end text : List ℕ) : Type 0 where
   pub are : AreMembers members
   pub text_is : text ≡ members ++ (codes "}" ++ end)
 
+-- a brace closes it
 pub closes : {end : List ℕ} → Closes end (codes "}" ++ end)
 closes = record { members = []; are = no_members; text_is = refl }
 
+-- and so do members and what closes it
 pub more : {end xs ys : List ℕ} → AreMembers xs → Closes end ys → Closes end (xs ++ ys)
 more {end = end} {xs = xs} first rest = record {
   members = xs ++ rest.members;
@@ -152,7 +156,7 @@ pub last : {end : List ℕ} (name : List ℕ) {value : List ℕ} → list_all is
 unfolding also
 last {end = end} name {value} all is = subst (Closes end) (append_assoc (key name) value (codes "}" ++ end)) (more (member name all is) closes)
 
--- an object is JSON, and with a line feed after it a line
+-- a whole object
 whole : List ℕ → List ℕ → List ℕ
 whole first others = codes "{" ++ (first ++ (others ++ codes "}"))
 
@@ -166,30 +170,30 @@ whole_json : {end xs ys : List ℕ} (front : IsOpen xs) (rest : Closes end ys) �
 unfolding whole
 whole_json front rest = grammar.object front.first (front.others ++ rest.members) front.is (both front.are rest.are)
 
+-- an open object and what closes it are JSON
 pub object : {xs ys : List ℕ} → IsOpen xs → Closes [] ys → IsJson (xs ++ ys)
 object front rest = subst IsJson (sym (append-nil _) ∙ whole_is front rest) (whole_json front rest)
 
+-- and with a line feed after it a line
 pub object_line : {xs ys : List ℕ} → IsOpen xs → Closes (codes "\n") ys → AreLines (xs ++ ys)
 object_line front rest = subst AreLines (whole_is front rest) (line _ [] (whole_json front rest) no_lines)
 
--- lines
+-- a value and a line feed are a line
 pub one_line : {value : List ℕ} → IsJson value → AreLines (value ++ codes "\n")
 one_line {value} is = line value [] is no_lines
 
+-- lines after lines are lines
 pub lines_both : {xs ys : List ℕ} → AreLines xs → AreLines ys → AreLines (xs ++ ys)
 lines_both no_lines after = after
 lines_both {ys = ys} (line value others is more) after =
     subst AreLines (sym (append_assoc value (codes "\n" ++ others) ys)) (line value (others ++ ys) is (lines_both more after))
 
-pub lines_each : {X : Type 0} (text : X → List ℕ) → ((x : X) → AreLines (text x)) → (xs : List X) → AreLines (flat_map text xs)
-lines_each text are [] = no_lines
-lines_each text are (x ∷ xs) = lines_both (are x) (lines_each text are xs)
-
--- lines where something holds, else none, and the other way round
+-- lines where something holds, else none
 pub lines_where : (shown : Bool) {text : List ℕ} → AreLines text → AreLines (if shown then text else [])
 lines_where true are = are
 lines_where false are = no_lines
 
+-- none where something holds, else lines
 pub lines_unless : (hidden : Bool) {text : List ℕ} → AreLines text → AreLines (if hidden then [] else text)
 lines_unless true are = no_lines
 lines_unless false are = are

@@ -1,4 +1,5 @@
 mod Arrays
+mod Each
 mod Given
 mod Grammar
 mod JsonParts

@@ -2,26 +2,23 @@
 use Rattle.std.proofs.Common.{◌≡◌, ◌∙◌, ℕ, zero, suc, ◌+◌, ◌<◌, ◌==◌, ◌||◌, ◌&&◌, nat_le, Bool, true, false, if◌then◌else◌, List, [], ◌∷◌, ◌++◌, refl, ap, arith}
 use Rattle.std.specs.Prelude.{codes, map}
 use Rattle.std.specs.Int.Digits.{AllBelowBase, digits_of}
-use Rattle.std.specs.List.{flat_map, list_any}
+use Rattle.std.specs.List.{list_any}
 use Rattle.std.proofs.lemmas.Bool.{or_from}
 use Rattle.std.proofs.lemmas.Int.Digits.{all_below_base_digits_of}
 use Rattle.std.proofs.lemmas.List.Folds.{list_any-append}
 use Rattle.rv_text.specs.Plain.{plain_byte}
 use Rattle.rv_states.specs.Json.{Json, also, array, begins, comma_at, json_byte, key, numeral, opens, quoted, string, truth, values_from}
 use Rattle.rv_states.specs.Markup.{HasNoMarkup, is_markup}
+use Rattle.rv_states.proofs.Each.{each_of}
 
--- a text that is computed
+-- a text of whose bytes none has one
 pub plain : {text : List ℕ} → list_any is_markup text ≡ false → HasNoMarkup text
 plain none = record { none = none }
 
+-- one text after another
 pub both : {xs ys : List ℕ} → HasNoMarkup xs → HasNoMarkup ys → HasNoMarkup (xs ++ ys)
 both {xs = xs} {ys = ys} first second =
     plain (list_any-append is_markup xs ys ∙ ap (λ b. b || list_any is_markup ys) first.none ∙ second.none)
-
--- texts one after the other
-pub each : {X : Type 0} (text : X → List ℕ) → ((x : X) → HasNoMarkup (text x)) → (xs : List X) → HasNoMarkup (flat_map text xs)
-each text none [] = plain refl
-each text none (x ∷ xs) = both (none x) (each text none xs)
 
 -- one of two texts
 pub either : (first : Bool) {xs ys : List ℕ} → HasNoMarkup xs → HasNoMarkup ys → HasNoMarkup (if first then xs else ys)
@@ -50,29 +47,34 @@ digits : (ds : List ℕ) → AllBelowBase 10 ds → list_any is_markup (map (λ 
 digits [] below = refl
 digits (d ∷ ds) below = or_from _ _ (digit d below.0) (digits ds below.1)
 
+-- a number
 pub number : (n : ℕ) → HasNoMarkup (numeral n)
 unfolding numeral
 number zero = plain refl
 number (suc n) = plain (digits (digits_of 10 (suc n)) (all_below_base_digits_of 10 (suc n) (omega arith)))
 
--- JSON's parts
+-- a truth value
 pub truth_of : (value : Bool) → HasNoMarkup (truth value)
 unfolding truth
 truth_of true = plain refl
 truth_of false = plain refl
 
+-- a text in quotes
 pub in_quotes : {text : List ℕ} → HasNoMarkup text → HasNoMarkup (quoted text)
 unfolding quoted
 in_quotes none = both {xs = codes "\""} (plain refl) (both none (plain refl))
 
+-- a further name
 pub named : (name : List ℕ) → list_any is_markup name ≡ false → HasNoMarkup (key name)
 unfolding key
 named name none = both {xs = codes ",\""} (plain refl) (both {xs = name} {ys = codes "\":"} (plain none) (plain refl))
 
+-- a member of such a name
 pub member : (name : List ℕ) {value : List ℕ} → list_any is_markup name ≡ false → HasNoMarkup value → HasNoMarkup (also name value)
 unfolding also
 member name none value = both (named name none) value
 
+-- the beginning of an object
 pub beginning : (name : List ℕ) {value : List ℕ} → list_any is_markup name ≡ false → HasNoMarkup value → HasNoMarkup (begins name value)
 unfolding opens begins
 beginning name none value = both (both {xs = codes "{\""} (plain refl) (both {xs = name} {ys = codes "\":"} (plain none) (plain refl))) value
@@ -91,6 +93,7 @@ values_of : (place : ℕ) (values : List Json) → AllPlain values → HasNoMark
 values_of place [] none = plain refl
 values_of place (value ∷ values) none = both (both (comma place) none.0) (values_of (place + 1) values none.1)
 
+-- an array
 pub array_of : (values : List Json) → AllPlain values → HasNoMarkup (array values)
 unfolding array
 array_of values none = both {xs = codes "["} (plain refl) (both (values_of 0 values none) (plain refl))
@@ -108,6 +111,9 @@ byte_of byte =
     (unless (byte == 38) (plain refl) (λ no_ampersand. unless (byte == 60) (plain refl) (λ no_less. unless (byte == 62) (plain refl) (λ no_greater.
     either (byte == 92) (plain refl) (shown byte no_ampersand no_less no_greater)))))
 
+-- any text as a string
 pub string_of : (text : List ℕ) → HasNoMarkup (string text)
 unfolding string
-string_of text = both {xs = codes "\""} (plain refl) (both (each json_byte byte_of text) (plain refl))
+string_of text =
+    let bytes = each_of HasNoMarkup (plain refl) (λ xs ys. both {xs = xs} {ys = ys}) json_byte byte_of text in
+    both {xs = codes "\""} (plain refl) (both bytes (plain refl))

@@ -5,6 +5,7 @@ use Rattle.rv_states.specs.Grammar.{AreLines, AreMembers, IsJson}
 use Rattle.rv_states.specs.Grammar as rule
 use Rattle.rv_states.specs.Json.{Json, also, also_some, array, begins, key, numeral, quoted, string, truth}
 use Rattle.rv_states.specs.Markup.{HasNoMarkup}
+use Rattle.rv_states.proofs.Each.{each_of}
 use Rattle.rv_states.proofs.Grammar.{AllJson, Closes, IsOpen}
 use Rattle.rv_states.proofs.Grammar as grammar
 use Rattle.rv_states.proofs.Names.{is_safe_byte, no_markup, unescaped}
@@ -69,10 +70,7 @@ both first second = record { is = grammar.both first.is second.is; plain = marku
 -- and so are those of each item
 pub members_each : {X : Type 0} (text : X → List ℕ) → ((x : X) → IsSafe AreMembers (text x)) → (xs : List X)
     → IsSafe AreMembers (flat_map text xs)
-members_each text are xs = record {
-  is = grammar.members_each text (λ x. (are x).is) xs;
-  plain = markup.each text (λ x. (are x).plain) xs;
-}
+members_each text are xs = each_of (IsSafe AreMembers) no_members (λ xs ys. both {xs = xs} {ys = ys}) text are xs
 
 -- a member of a name of the format's own
 pub member : (name : List ℕ) {value : List ℕ} → list_all is_safe_byte name ≡ true → IsSafe IsJson value
@@ -150,10 +148,7 @@ lines_both first second = record { is = grammar.lines_both first.is second.is; p
 -- and so are those of each item
 pub lines_each : {X : Type 0} (text : X → List ℕ) → ((x : X) → IsSafe AreLines (text x)) → (xs : List X)
     → IsSafe AreLines (flat_map text xs)
-lines_each text are xs = record {
-  is = grammar.lines_each text (λ x. (are x).is) xs;
-  plain = markup.each text (λ x. (are x).plain) xs;
-}
+lines_each text are xs = each_of (IsSafe AreLines) no_lines (λ xs ys. lines_both {xs = xs} {ys = ys}) text are xs
 
 -- lines where something holds, else none, and the other way round
 pub lines_where : (shown : Bool) {text : List ℕ} → IsSafe AreLines text → IsSafe AreLines (if shown then text else [])

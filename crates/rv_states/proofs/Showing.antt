@@ -19,7 +19,7 @@ use Rattle.rv_hardware.specs.declared.step.Step.{Step}
 use Rattle.rv_passage.specs.EndedRun.{IsEndedRun}
 use Rattle.rv_passage.specs.Numbers.{Numbers, numbers_in_flight, numbers_of, plain, plainly}
 use Rattle.rv_passage.specs.Passage.{is_in_flight}
-use Rattle.rv_passage.specs.Table.{CanCount, Passages, after_cycle, passages_of, still_open, table_at}
+use Rattle.rv_passage.specs.Table.{Passages, after_cycle, passages_of, still_open, table_at}
 use Rattle.rv_passage.specs.Walk.{FollowedCycle, walk}
 use Rattle.rv_passage.specs.declared.passage.Passage.{Passage}
 use Rattle.rv_passage.specs.declared.table.Table.{Table}
@@ -42,7 +42,7 @@ use Rattle.rv_states.specs.Step.{step_json}
 use Rattle.rv_states.specs.Stop.{stop_line}
 use Rattle.rv_states.specs.declared.form.Form.{Form}
 use Rattle.rv_states.proofs.JsonStates.{states_are}
-use Rattle.rv_view.specs.Following.{BeginsAt, IsFollowedOn, IsNumberedOn}
+use Rattle.rv_view.specs.Following.{BeginsAt, CanFollowCycle, IsFollowedOn, IsNumberedOn}
 use Rattle.rv_view.specs.Viewing.{cycle_shown, cycles_seen}
 use Rattle.rv_view.proofs.EndedView.{cycles_seen-push}
 
@@ -153,11 +153,15 @@ module _ {seen : Watched} {cycle : ℕ} {steps : List Step} {after : Hardware} {
     {from from' : ℕ} {untaught predictor : DescribedPredictor} {table : Table} {was failed : Bool}
     {before mid : Option (List ℕ)}
     (showing : IsShowing from from' untaught predictor table was failed seen before mid) where
-  -- the counts of the table can go on
-  pub can_count_on : CanCount (passages_of table)
-  can_count_on = record {
-    fetched = omega (arith, showing.followed.fetched, shown.number, shown.counted);
-    retired = omega (arith, showing.followed.retired, shown.number, shown.counted);
+  -- the table can follow it
+  pub can_follow : CanFollowCycle steps table
+  can_follow = record {
+    room = showing.followed.room.room;
+    countable = record {
+      fetched = omega (arith, showing.followed.fetched, shown.number, shown.counted);
+      retired = omega (arith, showing.followed.retired, shown.number, shown.counted);
+    };
+    few = shown.few;
   }
 
   abbrev last : FollowedCycle

@@ -1,12 +1,14 @@
 -- What a table begins with, and a cycle of it, in terms of the hardware that has the buffers.
-use Rattle.std.proofs.Common.{◌≡◌, ℕ, ◌≤◌, List, length, vec_capacity, arith}
+use Rattle.std.proofs.Common.{◌≡◌, ℕ, ◌≤◌, List, length, vec_capacity, arith, refl}
 use Rattle.std.specs.Prelude.{IfOk, Result, Ok, Err}
 use Rattle.rv_hardware.specs.Hardware.{Hardware}
+use Rattle.rv_hardware.specs.Run.{Reachable}
 use Rattle.rv_hardware.specs.declared.step.Step.{Step}
-use Rattle.rv_passage.specs.Followed.{HasFollowedCycle, HasFollowedNumbers}
+use Rattle.rv_passage.specs.Followed.{CanFollow, HasFollowedCycle, HasFollowedNumbers}
 use Rattle.rv_passage.specs.Table.{HasRoom, passages_of, table_at}
 use Rattle.rv_passage.specs.declared.table.Table.{Table}
-use Rattle.rv_view.specs.Following.{BeginsAt, IsFollowedOn, IsNumberedOn}
+use Rattle.rv_passage.proofs.InFlight.{short_buffers}
+use Rattle.rv_view.specs.Following.{BeginsAt, CanFollowCycle, IsFollowedOn, IsNumberedOn}
 
 module _ (h : Hardware) where
   -- where a table began with what is in the buffers, it begins with what is in flight in the hardware
@@ -17,6 +19,11 @@ module _ (h : Hardware) where
   begins_at (Err error) is few room rows interrupts = tt
   begins_at (Ok table) is few room rows interrupts =
       record { passages = is; few = few; room = record { room = room; rows = rows; interrupts = interrupts } }
+
+  -- where a table can follow a cycle, it can follow one that led to the buffers
+  pub can_follow_to : {steps : List Step} {table : Table} → Reachable h → CanFollowCycle steps table → CanFollow steps h.rob h.front table
+  can_follow_to reached can =
+      record { short = short_buffers reached refl refl; room = can.room; countable = can.countable; few = can.few }
 
   module _ (cycle : ℕ) (steps : List Step) where
     -- where a table has followed a cycle that led to the buffers and the pc, it has followed one that led to the hardware

@@ -7,6 +7,7 @@ use Rattle.rv_hardware.specs.Run.{Reachable, by_cycle}
 use Rattle.rv_hardware.proofs.AnyPrediction.{any_cycle}
 use Rattle.rv_watch.proofs.Shown.{cycle_counts, moments_counted}
 
+-- it is so of what the cycles of a history leave, where there are no more than a run may have
 pub reached_by : {arrivals : List Arrival} {old new : GuidedHardware} {moments : List Moment} → Reachable old.hardware
     → History arrivals old moments new → new.hardware.cycle ≤ 2 ^ 40 → Reachable new.hardware
 reached_by reached ended within = reached

@@ -11,7 +11,7 @@ use Rattle.rv_hardware.specs.History.{Moment}
 use Rattle.rv_hardware.specs.declared.step.Step.{Step}
 use Rattle.rv_passage.specs.Passage.{in_flight}
 use Rattle.rv_passage.specs.Shown.{AreStill}
-use Rattle.rv_passage.specs.Table.{CanCount, Passages, passages_of, still_open, with_steps}
+use Rattle.rv_passage.specs.Table.{Passages, passages_of, still_open, with_steps}
 use Rattle.rv_passage.specs.Walk.{FollowedCycle}
 use Rattle.rv_passage.specs.declared.passage.Passage.{Passage}
 use Rattle.rv_passage.specs.declared.table.Table.{Table}
@@ -20,7 +20,7 @@ use Rattle.rv_passage.proofs.Shown.{open-still}
 use Rattle.rv_passage.proofs.Walk.{walk-push}
 use Rattle.rv_text.specs.Said.{Extends}
 use Rattle.rv_text.proofs.Saying.{extends_both, extends_nothing, extends_same}
-use Rattle.rv_view.specs.Following.{FollowsFrom, IsFollowedOn}
+use Rattle.rv_view.specs.Following.{CanFollowCycle, FollowsFrom, IsFollowedOn}
 use Rattle.rv_view.specs.Viewing.{IsViewing, Saying, Seeing, cycle_shown, cycles_seen}
 use Rattle.rv_view.specs.declared.following.Following.{Following}
 
@@ -50,9 +50,13 @@ module _ {V : Type 0} (has_seen : Seeing V) (text : Saying V) where
   module _ {seen : Watched} {cycle : ℕ} {steps : List Step} {after : Hardware} {progress : Progress}
       (shown : IsShown seen cycle steps after progress) {start view : V} {was failed : Bool} {table : Table}
       {before mid : Option (List ℕ)} (viewing : Viewing start view was failed table seen before mid) where
-    -- the counts of the table can go on
-    pub can_count_on : CanCount (passages_of table)
-    can_count_on = can_count viewing.kept.followed (omega (arith, shown.number, shown.counted))
+    -- the table can follow it
+    pub can_follow : CanFollowCycle steps table
+    can_follow = record {
+      room = viewing.kept.room.room;
+      countable = can_count viewing.kept.followed (omega (arith, shown.number, shown.counted));
+      few = shown.few;
+    }
 
     -- each of its rows is still what it stands as at the end of the next cycle
     pub still_on : AreStill cycle (with_steps steps after.pc (passages_of table)).rows (in_flight after)

@@ -4,7 +4,7 @@ use Rattle.rv_hardware.specs.Hardware.{Hardware}
 use Rattle.rv_hardware.specs.declared.step.Step.{Step}
 use Rattle.rv_passage.specs.Followed.{IsRoomy}
 use Rattle.rv_passage.specs.Numbers.{numbers_of}
-use Rattle.rv_passage.specs.Table.{after_cycle, passages_of, still_open, table_at}
+use Rattle.rv_passage.specs.Table.{CanCount, HasRoom, after_cycle, passages_of, still_open, table_at}
 use Rattle.rv_passage.specs.declared.table.Table.{Table}
 use Rattle.rv_view.specs.declared.following.Following.{Following}
 
@@ -18,6 +18,12 @@ pub record BeginsAt (h : Hardware) (table : Table) : Type 0 where
 pub record FollowsFrom (h : Hardware) (following : Following) : Type 0 where
   pub table : BeginsAt h following.table
   pub steps : 8 ≤ vec_capacity following.steps
+
+-- a table can follow a cycle with these steps
+pub record CanFollowCycle (steps : List Step) (table : Table) : Type 0 where
+  pub room : HasRoom table
+  pub countable : CanCount (passages_of table)
+  pub few : length steps ≤ 8
 
 -- a table after a cycle with these steps, which left the hardware; its room is no less, and at most so much is counted
 pub record IsFollowedOn (cycle : ℕ) (steps : List Step) (after : Hardware) (old new : Table) : Type 0 where

@@ -1,8 +1,8 @@
-ghost use Rattle.std.specs.Prelude.{◌≡◌, ◌≤◌, IfOk, length};
+ghost use Rattle.std.specs.Prelude.{◌≡◌, IfOk};
 ghost use Rattle.rv_passage.specs.Passage.{in_flight};
 ghost use Rattle.rv_passage.specs.Shown.{AreStill};
-ghost use Rattle.rv_passage.specs.Table.{CanCount, HasRoom, passages_of, with_steps};
-ghost use Rattle.rv_view.specs.Following.{BeginsAt, FollowsFrom, IsFollowedOn, IsNumberedOn};
+ghost use Rattle.rv_passage.specs.Table.{passages_of, with_steps};
+ghost use Rattle.rv_view.specs.Following.{BeginsAt, CanFollowCycle, FollowsFrom, IsFollowedOn, IsNumberedOn};
 
 use rv_hardware::Step;
 use rv_passage::{Passage, Table};
@@ -45,9 +45,7 @@ pub fn begin_table<S: Simulated>(alloc: Global, pipeline: &S) -> Result<Table, A
 
 /// Follows instructions through a cycle that had these steps, and left the hardware. Asks for no memory.
 pub fn follow(table: &mut Table, cycle: u64, steps: &[Step], hardware: &ShownHardware<'_>)
-    requires room { HasRoom table.old }
-    requires countable { CanCount (passages_of table.old) }
-    requires few { length steps.now ≤ 8 }
+    requires { CanFollowCycle steps.now table.old }
     ensures { IsFollowedOn cycle steps.now hardware.now table.old table.new }
 {
     table.follow(cycle, steps, hardware.rob, hardware.front, hardware.pc);
@@ -55,9 +53,7 @@ pub fn follow(table: &mut Table, cycle: u64, steps: &[Step], hardware: &ShownHar
 
 /// The same of a table whose rows show what was in flight before the cycle.
 pub fn follow_on(table: &mut Table, cycle: u64, steps: &[Step], hardware: &ShownHardware<'_>)
-    requires room { HasRoom table.old }
-    requires countable { CanCount (passages_of table.old) }
-    requires few { length steps.now ≤ 8 }
+    requires ready { CanFollowCycle steps.now table.old }
     requires still { AreStill cycle (with_steps steps.now hardware.now.pc (passages_of table.old)).rows
         (in_flight hardware.now) }
     ensures { IsFollowedOn cycle steps.now hardware.now table.old table.new }
@@ -69,9 +65,7 @@ pub fn follow_on(table: &mut Table, cycle: u64, steps: &[Step], hardware: &Shown
 /// shown: what else the table says of them may be what an earlier cycle left. The next cycle that `follow` follows
 /// gives that too. Asks for no memory.
 pub fn follow_numbers(table: &mut Table, cycle: u64, steps: &[Step], hardware: &ShownHardware<'_>)
-    requires room { HasRoom table.old }
-    requires countable { CanCount (passages_of table.old) }
-    requires few { length steps.now ≤ 8 }
+    requires { CanFollowCycle steps.now table.old }
     ensures { IsNumberedOn cycle steps.now hardware.now table.old table.new }
 {
     table.follow_numbers(cycle, steps, hardware.rob, hardware.front, hardware.pc);

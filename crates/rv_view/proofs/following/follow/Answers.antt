@@ -1,17 +1,11 @@
-use Rattle.std.proofs.Common.{refl, subst}
-use Rattle.rv_passage.proofs.InFlight.{short_buffers}
+use Rattle.std.proofs.Common.{subst}
 use Rattle.rv_view.specs.Following.{IsFollowedOn}
-use Rattle.rv_view.proofs.Begun.{followed_on}
+use Rattle.rv_view.proofs.Begun.{can_follow_to, followed_on}
 use Rattle.rv_watch.specs.Shown.{hardware_shown}
 use Rattle.rv_view.proofs.following.follow.Goals as goal
 
 pub follow-requires : goal.follow-requires
-follow-requires c = record {
-  short = short_buffers c.hardware.invariant.reached refl refl;
-  room = c.requires.room;
-  countable = c.requires.countable;
-  few = c.requires.few;
-}
+follow-requires c = can_follow_to (hardware_shown c.hardware.inside) c.hardware.invariant.reached c.requires
 
 pub returns : goal.returns
 returns c =

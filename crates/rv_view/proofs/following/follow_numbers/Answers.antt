@@ -1,17 +1,11 @@
-use Rattle.std.proofs.Common.{refl, subst}
-use Rattle.rv_passage.proofs.InFlight.{short_buffers}
+use Rattle.std.proofs.Common.{subst}
 use Rattle.rv_view.specs.Following.{IsNumberedOn}
-use Rattle.rv_view.proofs.Begun.{numbered_on}
+use Rattle.rv_view.proofs.Begun.{can_follow_to, numbered_on}
 use Rattle.rv_watch.specs.Shown.{hardware_shown}
 use Rattle.rv_view.proofs.following.follow_numbers.Goals as goal
 
 pub follow_numbers-requires : goal.follow_numbers-requires
-follow_numbers-requires c = record {
-  short = short_buffers c.hardware.invariant.reached refl refl;
-  room = c.requires.room;
-  countable = c.requires.countable;
-  few = c.requires.few;
-}
+follow_numbers-requires c = can_follow_to (hardware_shown c.hardware.inside) c.hardware.invariant.reached c.requires
 
 pub returns : goal.returns
 returns c =

@@ -1,21 +1,15 @@
-use Rattle.std.proofs.Common.{refl, subst, sym}
+use Rattle.std.proofs.Common.{subst, sym}
 use Rattle.rv_passage.specs.Passage.{in_flight}
 use Rattle.rv_passage.specs.Shown.{AreStill}
 use Rattle.rv_passage.specs.Table.{passages_of, with_steps}
 use Rattle.rv_hardware.specs.Hardware.{Hardware}
-use Rattle.rv_passage.proofs.InFlight.{short_buffers}
 use Rattle.rv_view.specs.Following.{IsFollowedOn}
-use Rattle.rv_view.proofs.Begun.{followed_on}
+use Rattle.rv_view.proofs.Begun.{can_follow_to, followed_on}
 use Rattle.rv_watch.specs.Shown.{hardware_shown}
 use Rattle.rv_view.proofs.following.follow_on.Goals as goal
 
 pub follow_on-requires-clause-ready : goal.follow_on-requires-clause-ready
-follow_on-requires-clause-ready c = record {
-  short = short_buffers c.hardware.invariant.reached refl refl;
-  room = c.requires.room;
-  countable = c.requires.countable;
-  few = c.requires.few;
-}
+follow_on-requires-clause-ready c = can_follow_to (hardware_shown c.hardware.inside) c.hardware.invariant.reached c.requires.ready
 
 pub follow_on-requires-clause-still : goal.follow_on-requires-clause-still
 follow_on-requires-clause-still c =

@@ -1,17 +1,11 @@
 use Rattle.std.proofs.Common.{arith, rules}
 use Rattle.rv_text.proofs.Saying.{says_extends}
-use Rattle.rv_view.proofs.Viewing.{can_count_on, few_now, rows_now, still_on, viewing_on}
+use Rattle.rv_view.proofs.Viewing.{can_follow, few_now, rows_now, still_on, viewing_on}
 use Rattle.rv_view.proofs.viewed.FollowerWatcher.see.Goals as goal
 
-pub follow_on-requires-clause-room : goal.follow_on-requires-clause-room
-follow_on-requires-clause-room g c = let (start, seen, before, shown, viewing) = c.requires.shown in viewing.kept.room.room
-
-pub follow_on-requires-clause-countable : goal.follow_on-requires-clause-countable
-follow_on-requires-clause-countable g c =
-    let (start, seen, before, shown, viewing) = c.requires.shown in can_count_on g.V.View.has_seen g.V.View.text shown viewing
-
-pub follow_on-requires-clause-few : goal.follow_on-requires-clause-few
-follow_on-requires-clause-few g c = let (start, seen, before, shown, viewing) = c.requires.shown in shown.few
+pub follow_on-requires-clause-ready : goal.follow_on-requires-clause-ready
+follow_on-requires-clause-ready g c =
+    let (start, seen, before, shown, viewing) = c.requires.shown in can_follow g.V.View.has_seen g.V.View.text shown viewing
 
 pub follow_on-requires-clause-still : goal.follow_on-requires-clause-still
 follow_on-requires-clause-still g c =
