@@ -1,4 +1,4 @@
-ghost use Rattle.std.specs.Prelude.{◌≡◌, ◌+◌, ◌<◌, ◌≤◌, [], ◌∷◌, ◌++◌, length, option_copied, take, vec_capacity, IfSome};
+ghost use Rattle.std.specs.Prelude.{◌≡◌, ◌+◌, ◌<◌, ◌≤◌, ◌++◌, length, option_copied, replicate, take, vec_capacity, IfSome};
 ghost use Rattle.std.specs.Option.{option_to_list};
 ghost use Rattle.std.specs.List.{list_all};
 ghost use Rattle.rv_passage.specs.Passage.{is_in_flight};
@@ -11,15 +11,26 @@ use crate::event::Event;
 use crate::way::Way;
 use rv_passage::Passage;
 
-// Appends those of a word that one event fetched.
-#[inline(never)]
-fn push_word(fetch: &Event, ways: &mut Vec<Way>)
-    requires room { length ways.old.items < vec_capacity ways.old }
-    ensures items { ways.new.items ≡ ways.old.items ++ way_from fetch.now ∷ [] }
-    ensures few { length ways.new.items ≤ length ways.old.items + 1 }
+// Appends so many, each with the same events.
+fn push_all(count: usize, way: &Way, ways: &mut Vec<Way>)
+    requires room { length ways.old.items + count ≤ vec_capacity ways.old }
+    ensures items { ways.new.items ≡ ways.old.items ++ replicate count way.now }
     ensures capacity { vec_capacity ways.old ≤ vec_capacity ways.new }
 {
-    ways.push_reserved(Way::from(*fetch));
+    if count > 0 {
+        ways.push_reserved(*way);
+        push_all(count - 1, way, ways);
+    }
+}
+
+// Appends those of so many words that one event fetched, made once for all.
+#[inline(never)]
+fn push_words(count: usize, fetch: &Event, ways: &mut Vec<Way>)
+    requires room { length ways.old.items + count ≤ vec_capacity ways.old }
+    ensures items { ways.new.items ≡ ways.old.items ++ replicate count (way_from fetch.now) }
+    ensures capacity { vec_capacity ways.old ≤ vec_capacity ways.new }
+{
+    push_all(count, &Way::from(*fetch), ways);
 }
 
 /// Appends so many that begin with one event, if there is one.
@@ -28,12 +39,8 @@ pub(crate) fn push_fetched(count: usize, event: &Option<Event>, ways: &mut Vec<W
     ensures items { ways.new.items ≡ ways.old.items ++ ways_by event.now count }
     ensures capacity { vec_capacity ways.old ≤ vec_capacity ways.new }
 {
-    let Some(fetch) = event else {
-        return;
-    };
-    if count > 0 {
-        push_word(fetch, ways);
-        push_fetched(count - 1, event, ways);
+    if let Some(fetch) = event {
+        push_words(count, fetch, ways);
     }
 }
 

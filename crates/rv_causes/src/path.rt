@@ -27,7 +27,7 @@ use std::mem::swap;
 const MOST_IN_CYCLE: usize = 576;
 
 /// How many events a window has room for at first: it drops what all paths share where it is full.
-const WINDOW: usize = 8192;
+const WINDOW: usize = 2048;
 
 /// The most new events of a cycle beside one of each instruction that was in flight before it.
 const MOST_BESIDE: usize = 6;

@@ -125,7 +125,7 @@ pub(crate) fn is_sought(sought: Sought, row: &Passage) -> bool
         Sought::Ended => is_end(row.ending),
         Sought::Number(number) => row.number == number,
         Sought::Stationed(kind, cycle) => {
-            is_before(cycle, row.dispatched) && !is_before(cycle, row.issued()) && uses(kind, row)
+            !is_before(cycle, row.issued()) && is_before(cycle, row.dispatched) && uses(kind, row)
         }
         Sought::IssuedIn(kind, cycle) => is_at(cycle, row.issued()) && uses(kind, row),
         Sought::IssuedBefore(kind, cycle) => is_just_before(cycle, row.issued()) && uses(kind, row),
