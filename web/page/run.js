@@ -45,6 +45,7 @@ function refuseJob(refusal) {
 
 // (a screen reader may read nothing within what is busy: the line that says how a run goes stands apart)
 function setBusy(isBusy) {
+  if (!isBusy && document.activeElement === byId("stop")) byId("run").focus(); // (a button that is disabled loses the focus)
   byId("stop").disabled = !isBusy;
   byId("panel").setAttribute("aria-busy", String(isBusy));
   if (!isBusy) expectFor(0);

@@ -12,6 +12,7 @@ function urlOf(bytes, type) {
 function clearShown() {
   pictures.forEach((url) => URL.revokeObjectURL(url));
   pictures = [];
+  if (byId("shown").contains(document.activeElement)) byId("shown").focus({ preventScroll: true });
   byId("shown").replaceChildren();
 }
 
