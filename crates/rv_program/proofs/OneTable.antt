@@ -2,7 +2,7 @@
 use Rattle.std.proofs.Common.{◌≡◌, ◌∙◌, ◌+◌, ◌^◌, ◌≤◌, List, [], ◌∷◌, ◌++◌, map, refl, sym, ap, arith}
 use Rattle.rv_front.specs.Predictors.{guide_of}
 use Rattle.rv_front.specs.declared.predictors.DescribedPredictor.{DescribedPredictor}
-use Rattle.rv_hardware.specs.Guided.{guided}
+use Rattle.rv_hardware.specs.Guided.{GuidedHardware, guided}
 use Rattle.rv_hardware.specs.Hardware.{Hardware}
 use Rattle.rv_hardware.specs.History.{reports_of}
 use Rattle.rv_isa.specs.declared.lines.Arrival.{Arrival}
@@ -19,19 +19,23 @@ use Rattle.rv_report.specs.declared.{losses.ComparedRun.ComparedRun}
 use Rattle.rv_program.specs.Comparison.{AreRuns, IsAtMostOneText, IsComparisonTable, IsRun, another, nothing}
 use Rattle.rv_program.specs.CoreReport.{hardware_of}
 
+ended_run : {arrivals : List Arrival} {options : TableOptions} {old : GuidedHardware} {run : ComparedRun} (is : RunsTo arrivals options old run)
+    → IsEndedRun arrivals options.limit old is.moments is.new run.totals.stop
+ended_run is = record { passes = is.cycles; stops = is.stops }
+
 -- a run of hardware with a described predictor comes to one thing
 pub came_to_once : {arrivals : List Arrival} {options : TableOptions} {h : Hardware} {predictor : DescribedPredictor}
     (run run' : ComparedRun) → h.cycle + options.limit ≤ 2 ^ 40
     → RunsTo arrivals options (guided h (guide_of predictor)) run → RunsTo arrivals options (guided h (guide_of predictor)) run' → run ≡ run'
 came_to_once {arrivals} {options} {h} {predictor} run run' within is is' =
-    let ended : IsEndedRun arrivals options.limit (guided h (guide_of predictor)) is.moments is.new run.totals.stop = record { passes = is.cycles; stops = is.stops } in
-    let ended' : IsEndedRun arrivals options.limit (guided h (guide_of predictor)) is'.moments is'.new run'.totals.stop = record { passes = is'.cycles; stops = is'.stops } in
-    let same = one_run within ended ended' in
-    let totals : run.totals ≡ run'.totals = is.totals_are ∙ (λ i. totals_at (reports_of (same.moments_are i)) (same.reasons i)) ∙ sym is'.totals_are in
+    let same = one_run within (ended_run is) (ended_run is') in
+    let totals : run.totals ≡ run'.totals =
+    is.totals_are ∙ (λ i. totals_at (reports_of (same.moments_are i)) (same.reasons i)) ∙ sym is'.totals_are in
     let losses : run.losses ≡ run'.losses = is.losses_are ∙ (λ i. losses_of h (same.moments_are i) (same.ends i).hardware) ∙ sym is'.losses_are in
     let events : run.events ≡ run'.events = is.events_are ∙ (λ i. events_in h.values h (same.moments_are i)) ∙ sym is'.events_are in
     let words : run.words ≡ run'.words = is.words_are ∙ (λ i. words_of options.shown (same.ends i).hardware) ∙ sym is'.words_are in
-    let places : run.places ≡ run'.places = is.places_are ∙ (λ i. places_shown options.shown h (same.moments_are i) (same.ends i).hardware) ∙ sym is'.places_are in
+    let places : run.places ≡ run'.places =
+    is.places_are ∙ (λ i. places_shown options.shown h (same.moments_are i) (same.ends i).hardware) ∙ sym is'.places_are in
     λ i. record { totals = totals i; losses = losses i; events = events i; words = words i; places = places i }
 
 module _ (options : TableOptions) where

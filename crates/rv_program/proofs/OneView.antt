@@ -7,7 +7,9 @@ use Rattle.rv_explain.specs.declared.figures.Figures.{Figures}
 use Rattle.rv_front.specs.Predictors.{described, guide_of}
 use Rattle.rv_front.specs.declared.predictors.DescribedPredictor.{DescribedPredictor}
 use Rattle.rv_job.specs.declared.{job.Job.Job, listed_job.ListedJob.ListedJob}
+use Rattle.rv_hardware.specs.Guided.{GuidedHardware, guided}
 use Rattle.rv_log.proofs.OneLog.{one_log}
+use Rattle.rv_log.specs.Log.{IsLog}
 use Rattle.rv_picture.proofs.OnePicture.{one_picture}
 use Rattle.rv_picture.specs.Picture.{IsPicture}
 use Rattle.rv_picture.specs.declared.picture.{RunEnd.RunEnd, View.View}
@@ -16,8 +18,11 @@ use Rattle.rv_profile.specs.Run.{IsProfile}
 use Rattle.rv_path.proofs.OneAccount.{one_account}
 use Rattle.rv_path.proofs.OneMarking.{one_marking}
 use Rattle.rv_path.proofs.OnePath.{one_path}
+use Rattle.rv_path.specs.Run.{IsPath}
 use Rattle.rv_causes.specs.Account.{Accounted}
 use Rattle.rv_states.proofs.OneText.{one_text}
+use Rattle.rv_states.specs.States.{IsStates}
+use Rattle.rv_view.specs.Run.{HasOneText}
 use Rattle.rv_program.specs.AskedPath.{AreMarksOf, IsAccountOf, IsAskedFor}
 use Rattle.rv_program.specs.CoreReport.{IsAtMostOne, hardware_of}
 use Rattle.rv_program.specs.RunView.{IsViewOf, limit_of}
@@ -51,24 +56,36 @@ account_once job limit path account account' within = asked_once path (IsAccount
     one_account job.arrivals limit (hardware_of job) (own job) is.0 is'.0 a b (omega (arith, within)) is.1 is'.1)
 
 module _ (listed : ListedJob) (predictor : DescribedPredictor) where
+  -- where a run has one text of a kind, this job's has
+  once : {T : Type 0} (limit : ℕ) (Is : GuidedHardware → GuidedHardware → T → List ℕ → Type 0) → HasOneText limit Is → limit ≤ 2 ^ 40 →
+      (new new' : GuidedHardware) (end end' : T) (text text' : List ℕ) →
+      Is (guided (hardware_of listed.job) (guide_of predictor)) new end text →
+      Is (guided (hardware_of listed.job) (guide_of predictor)) new' end' text' → (end ≡ end') × (text ≡ text')
+  once limit Is one within new new' end end' text text' is is' =
+      one (hardware_of listed.job) predictor new new' end end' text text' (omega (arith, within)) is is'
+
   picture_once : (view : View) (path : Bool) → view.from + view.cycles ≤ 2 ^ 40 →
       IsAtMostOne (IsViewOf listed (guide_of predictor) (Picture view path))
   picture_once view path within ended ended' text text' is is' =
       let (marks, asked, shows) = is.shows in
       let (marks', asked', shows') = is'.shows in
+      let Is = λ (m : Option (List Mark)). IsPicture listed.job.arrivals view m listed.listing in
       let same = marks_once listed.job view path marks' marks within asked' asked in
-      one_picture listed.job.arrivals view marks listed.listing
-      (hardware_of listed.job) predictor is.end is'.end ended ended' text text' (omega (arith, within)) shows
-      (subst (λ m. IsPicture listed.job.arrivals view m listed.listing _ is'.end ended' text') same shows')
+      once (view.from + view.cycles) (Is marks) (one_picture listed.job.arrivals view marks listed.listing) within
+      is.end is'.end ended ended' text text' shows (subst (λ m. Is m _ is'.end ended' text') same shows')
 
   log_once : (limit : ℕ) → limit ≤ 2 ^ 40 → IsAtMostOne (IsViewOf listed (guide_of predictor) (Log limit))
   log_once limit within ended ended' text text' is is' =
-      let same = one_log listed.job.arrivals limit listed.listing (hardware_of listed.job) predictor is.end is'.end ended.stop ended'.stop text text' (omega (arith, within)) is.shows.0 is'.shows.0 in
+      let Is = IsLog listed.job.arrivals limit listed.listing in
+      let one = once limit Is (one_log listed.job.arrivals limit listed.listing) within in
+      let same = one is.end is'.end ended.stop ended'.stop text text' is.shows.0 is'.shows.0 in
       (whole same.0 is.shows.1 is'.shows.1, same.1)
 
   states_once : (stretch : Stretch) → stretch.limit ≤ 2 ^ 40 → IsAtMostOne (IsViewOf listed (guide_of predictor) (States stretch))
   states_once stretch within ended ended' text text' is is' =
-      let same = one_text listed.job.arrivals stretch.from stretch.limit stretch.form listed.listing (hardware_of listed.job) predictor is.end is'.end ended.stop ended'.stop text text' (omega (arith, within)) is.shows.0 is'.shows.0 in
+      let Is = IsStates listed.job.arrivals stretch.from stretch.limit stretch.form listed.listing in
+      let one = once stretch.limit Is (one_text listed.job.arrivals stretch.from stretch.limit stretch.form listed.listing) within in
+      let same = one is.end is'.end ended.stop ended'.stop text text' is.shows.0 is'.shows.0 in
       (whole same.0 is.shows.1 is'.shows.1, same.1)
 
   explanation_once : (figures : Figures) (path : Bool) (limit : ℕ) → limit ≤ 2 ^ 40 →
@@ -77,9 +94,10 @@ module _ (listed : ListedJob) (predictor : DescribedPredictor) where
       let (account, asked, shows, none) = is.shows in
       let (account', asked', shows', none') = is'.shows in
       let found = account_once listed.job limit path account' account within asked' asked in
-      let same = one_explanation listed.job.arrivals limit figures listed.job.description account listed.listing (hardware_of listed.job) predictor is.end is'.end ended.stop ended'.stop text text' (omega (arith, within)) shows
-      (subst (λ a. IsExplanation listed.job.arrivals limit figures listed.job.description a listed.listing _ is'.end
-      ended'.stop text') found shows') in
+      let Is = λ (a : Option Accounted). IsExplanation listed.job.arrivals limit figures listed.job.description a listed.listing in
+      let one = one_explanation listed.job.arrivals limit figures listed.job.description account listed.listing in
+      let same = once limit (Is account) one within is.end is'.end ended.stop ended'.stop text text' shows
+      (subst (λ a. Is a _ is'.end ended'.stop text') found shows') in
       (whole same.0 none none', same.1)
 
   profile_once : (path : Bool) (limit : ℕ) → limit ≤ 2 ^ 40 → IsAtMostOne (IsViewOf listed (guide_of predictor) (Profile path limit))
@@ -87,13 +105,17 @@ module _ (listed : ListedJob) (predictor : DescribedPredictor) where
       let (account, asked, shows, none) = is.shows in
       let (account', asked', shows', none') = is'.shows in
       let found = account_once listed.job limit path account' account within asked' asked in
-      let same = one_profile listed.job.arrivals limit listed.job.description account listed.listing (hardware_of listed.job) predictor is.end is'.end ended.stop ended'.stop text text' (omega (arith, within)) shows
-      (subst (λ a. IsProfile listed.job.arrivals limit listed.job.description a listed.listing _ is'.end ended'.stop text') found shows') in
+      let Is = λ (a : Option Accounted). IsProfile listed.job.arrivals limit listed.job.description a listed.listing in
+      let one = one_profile listed.job.arrivals limit listed.job.description account listed.listing in
+      let same = once limit (Is account) one within is.end is'.end ended.stop ended'.stop text text' shows
+      (subst (λ a. Is a _ is'.end ended'.stop text') found shows') in
       (whole same.0 none none', same.1)
 
   path_once : (limit : ℕ) → limit ≤ 2 ^ 40 → IsAtMostOne (IsViewOf listed (guide_of predictor) (Path limit))
   path_once limit within ended ended' text text' is is' =
-      let same = one_path listed.job.arrivals limit listed.listing (hardware_of listed.job) predictor is.end is'.end ended.stop ended'.stop text text' (omega (arith, within)) is.shows.0 is'.shows.0 in
+      let Is = IsPath listed.job.arrivals limit listed.listing in
+      let one = once limit Is (one_path listed.job.arrivals limit listed.listing) within in
+      let same = one is.end is'.end ended.stop ended'.stop text text' is.shows.0 is'.shows.0 in
       (whole same.0 is.shows.1 is'.shows.1, same.1)
 
 -- a job has one view of each kind

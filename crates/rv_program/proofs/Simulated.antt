@@ -79,11 +79,11 @@ values_kept {arrivals} sound (cycled {old = old} {middle = middle} {report = rep
     values_kept goes.sound rest ∙ goes.values_are
 
 -- the report of a run of the core
-pub run_simulated : (job : Job) (predictor : Guide) (options asked : Options) (values : Values) (old : Hardware) (stop : Stop) (text : List ℕ)
+pub run_simulated : {asked : Options} {values : Values} {old : Hardware} {stop : Stop} {text : List ℕ} (job : Job) (predictor : Guide) (options : Options)
     → values ≡ job.description → IsLegal values → IsLoadable job.description job.image.base job.image.bytes job.image.start → old ≡ hardware_of job
     → asked ≡ shown values.report options → IsRunReport job.arrivals asked (guided old predictor) stop text →
     IsSimulation job predictor options stop text
-run_simulated job predictor options asked values old stop text values_are values_legal loadable old_is asked_is run =
+run_simulated {asked} {values} {old} {stop} {text} job predictor options values_are values_legal loadable old_is asked_is run =
     let legal = subst IsLegal values_are values_legal in
     let options_are : asked ≡ shown job.description.report options = asked_is ∙ ap (λ (v : Values). shown v.report options) values_are in
     let cycles = subst (λ (h : Hardware). GuidedCycles job.arrivals (guided h predictor) run.reports run.new) old_is run.cycles in

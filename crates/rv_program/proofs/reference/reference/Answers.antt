@@ -9,13 +9,13 @@ returns-in_err-machine g c = answered_on (IsReferenceReport c.args.job.now c.arg
 
 pub returns-in_err-write_reference : goal.returns-in_err-write_reference
 returns-in_err-write_reference g c =
-    let report = run_referred c.args.job.now c.args.options.now c.with_dump-options.result c.values-values.result c.as_slice.result.now c.in_ok-machine.machine c.run_reference-outcome.new.reference c.run_reference-outcome.result
-    c.values-values.ensures.values c.as_slice.ensures c.with_dump-options.ensures c.in_ok-machine.ensures.reset c.run_reference-outcome.ensures in
+    let report = run_referred c.args.job.now c.args.options.now c.values-values.ensures.values c.as_slice.ensures
+    c.with_dump-options.ensures c.in_ok-machine.ensures.reset c.run_reference-outcome.ensures in
     answered_on (IsReferenceReport c.args.job.now c.args.options.now) _ _ _ _ c.from_residual-in_err-write_reference.ensures.1
     (_, _, report, c.in_err-write_reference.ensures)
 
 pub returns : goal.returns
 returns g c =
-    let report = run_referred c.args.job.now c.args.options.now c.with_dump-options.result c.values-values.result c.as_slice.result.now c.in_ok-machine.machine c.run_reference-outcome.new.reference c.run_reference-outcome.result
-    c.values-values.ensures.values c.as_slice.ensures c.with_dump-options.ensures c.in_ok-machine.ensures.reset c.run_reference-outcome.ensures in
+    let report = run_referred c.args.job.now c.args.options.now c.values-values.ensures.values c.as_slice.ensures
+    c.with_dump-options.ensures c.in_ok-machine.ensures.reset c.run_reference-outcome.ensures in
     (_, report, c.in_ok-write_reference.ensures)

@@ -13,10 +13,12 @@ returns-in_err-steps-clause-report g c = answered_on (IsSimulation c.args.job.no
 pub returns-in_err-write_run-clause-report : goal.returns-in_err-write_run-clause-report
 returns-in_err-write_run-clause-report g c =
     let (stop, text, run, written) = c.in_err-write_run.ensures.report in
-    let report = run_simulated c.args.job.now _ c.args.options.now c.with_dump-options.result c.values.result c.in-Ok.pipeline stop text c.values.ensures.values c.values.ensures.legal c.in-Ok.ensures.fits c.in-Ok.ensures.made c.with_dump-options.ensures run in
+    let report = run_simulated c.args.job.now _ c.args.options.now c.values.ensures.values c.values.ensures.legal
+    c.in-Ok.ensures.fits c.in-Ok.ensures.made c.with_dump-options.ensures run in
     let before = g.W.Write.contents c.args.writer.now in
     let after = g.W.Write.contents c.write_run.new.writer in
-    let ended = answered_on (IsSimulation c.args.job.now _ c.args.options.now) _ _ before after c.from_residual-in_err-write_run.ensures.1 (stop, text, report, written) in
+    let ended = answered_on (IsSimulation c.args.job.now _ c.args.options.now) _ _ before after
+    c.from_residual-in_err-write_run.ensures.1 (stop, text, report, written) in
     -- the box is lent
     subst (λ lent. IsAnswer (IsSimulation c.args.job.now ((goal.Predictor-dyn g lent).known lent.1) c.args.options.now)
     c.from_residual-in_err-write_run.result before after) c.deref_box_mut-1.ensures.value.1 ended
@@ -24,7 +26,8 @@ returns-in_err-write_run-clause-report g c =
 pub returns-clause-report : goal.returns-clause-report
 returns-clause-report g c =
     let (text, run, written) = c.in_ok-write_run.ensures.report in
-    let report = run_simulated c.args.job.now _ c.args.options.now c.with_dump-options.result c.values.result c.in-Ok.pipeline c.in_ok-write_run.field-0 text c.values.ensures.values c.values.ensures.legal c.in-Ok.ensures.fits c.in-Ok.ensures.made c.with_dump-options.ensures run in
+    let report = run_simulated c.args.job.now _ c.args.options.now c.values.ensures.values c.values.ensures.legal
+    c.in-Ok.ensures.fits c.in-Ok.ensures.made c.with_dump-options.ensures run in
     let before = g.W.Write.contents c.args.writer.now in
     let after = g.W.Write.contents c.write_run.new.writer in
     -- the box is lent
