@@ -268,6 +268,8 @@ def compare(assembly, descriptions, *, limit=None, show=()):
     for i in range(0, len(descriptions), MOST_MACHINES):
         block = descriptions[i:i + MOST_MACHINES]
         text = "".join(f"{toml(it)}\n%%\n" for it in block) + assembly
+        if len(re.findall(r"(?m)^%%\r?$", text)) != len(block):
+            raise ValueError("a line %% stands in the assembly or in a description")
         try:
             rows += numbers(read_table(call(["compare", *words], text)))
         except Failed as fault:

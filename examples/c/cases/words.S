@@ -5,6 +5,7 @@ _start: la sp, x
  jalr a5
  jr 4(t0)
  jalr t1, 8(t2)
+ jalr t0, 0(t1)
  fence rw,w
  fence.tso
  fence
