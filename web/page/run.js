@@ -1,5 +1,5 @@
 // What happens when the job changes: it is checked while one types, run, and shown. A later change ends what an earlier one began.
-const PROBE = 20000; // cycles of a first call, which bounds the time of a long run: no later call is slower
+const PROBE = 20000; // cycles of a first call, the slowest of a browser, by which the time of a long run is estimated
 let runner, checker, turn = 0, results = new Map(), isStale = false;
 
 // Puts the text of a refusal into its box. The line at fault and the caret below it are not wrapped, so that it stands below the token; they
