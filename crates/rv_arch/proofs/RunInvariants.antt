@@ -24,6 +24,7 @@ pub record Steps (arrivals : List Arrival) (stamp : ℕ) (old new : Machine) (ou
   pub layout : new.layout ≡ old.layout
   pub lines : new.lines ≡ lines_at arrivals stamp
 
+-- a step with the lines of a stamp, which leaves the layout and holds those lines, is one of the machine
 pub steps_by : (arrivals : List Arrival) (stamp : ℕ) (old new : Machine) {outcome : RefStep} {lines : Lines} → lines ≡ lines_at arrivals stamp →
     Step old.layout old.state lines outcome new.state → new.layout ≡ old.layout → new.lines ≡ lines → Steps arrivals stamp old new outcome
 steps_by arrivals stamp old new levels step layout lines = record { step = rw levels at step; layout = layout; lines = lines ∙ levels }
@@ -34,11 +35,13 @@ pub record Went (arrivals : List Arrival) (stamps : List ℕ) (outcomes : List R
   pub layout : new.layout ≡ old.layout
   pub lines : new.lines ≡ lines_through arrivals old.lines stamps
 
+-- through no stamps, the machine stays as it is
 pub went_nowhere : (arrivals : List Arrival) (m : Machine) → Went arrivals [] [] m m
 went_nowhere arrivals m = record { run = ended; layout = refl; lines = refl }
 
 module _ {arrivals : List Arrival} {stamps : List ℕ} {outcomes : List RefStep} {old mid new : Machine} {stamp : ℕ} {outcome : RefStep}
     (before : Went arrivals stamps outcomes old mid) (now : Steps arrivals stamp mid new outcome) where
+  -- a step more that finds no stale word, and the machine went through one stamp more
   pub went_more : is_stale outcome ≡ false → Went arrivals (stamps ++ stamp ∷ []) (outcomes ++ outcome ∷ []) old new
   went_more fresh = record {
     run = run_more stamp before.run (rw before.layout at now.step) fresh;
@@ -50,12 +53,15 @@ module _ {arrivals : List Arrival} {stamps : List ℕ} {outcomes : List RefStep}
   pub went_to_stale : is_stale outcome ≡ true → Run old.layout arrivals old.state stamps outcomes new.state
   went_to_stale found = rw (stale_keeps now.step found) before.run
 
+  -- a step that finds a stale word can be taken again, and finds it at the same address
   pub again_stale : is_stale outcome ≡ true → Step old.layout new.state (lines_at arrivals stamp) (step.Stale new.state.pc) new.state
   again_stale found = rw (← before.layout) (stale_again now.step found)
 
+  -- a step that finds a stale word can be taken again, with the same outcome
   pub once_stale : is_stale outcome ≡ true → Step old.layout new.state (lines_at arrivals stamp) outcome new.state
   once_stale found = rw (← before.layout) (stale_once now.step found)
 
+  -- after one stamp more, the lines are those of all stamps through it
   pub lines_after_step : new.lines ≡ lines_through arrivals old.lines (stamps ++ stamp ∷ [])
   lines_after_step = now.lines ∙ sym (lines_through_more arrivals old.lines stamps stamp)
 
@@ -74,6 +80,7 @@ pub record IsCounted (arrivals : List Arrival) (steps : ℕ) (old new : Machine)
   pub unbroken : HasNoBreakpoint outcomes
   pub going : counts.stop ≡ stop.Limit
 
+-- before any step, nothing is counted
 pub counted_none : (arrivals : List Arrival) (m : Machine) (counts : RefOutcome) →
     counts ≡ record { steps = 0; retired = 0; traps = 0; interrupts = 0; stop = stop.Limit } → IsCounted arrivals 0 m m counts
 counted_none arrivals m counts e = record {
@@ -108,6 +115,7 @@ unbroken_more outcomes outcome before now = list_any-append is_breakpoint outcom
 
 module _ {arrivals : List Arrival} {n : ℕ} {old mid new : Machine} {outcome : RefStep} {counts counts' : RefOutcome}
     (before : IsCounted arrivals n old mid counts) (now : Steps arrivals n mid new outcome) where
+  -- where neither a stale word nor a breakpoint ends the run, a step more is a step more counted
   pub counted_more : is_stale outcome ≡ false → CountsOne counts counts' outcome → counts'.stop ≡ counts.stop →
       is_breakpoint outcome ≡ false → IsCounted arrivals (n + 1) old new counts'
   counted_more fresh one same_stop unbroken = record {
@@ -125,6 +133,7 @@ module _ {arrivals : List Arrival} {n : ℕ} {old mid new : Machine} {outcome : 
     going = same_stop ∙ before.going;
   }
 
+  -- a step to a breakpoint ends the run there, and is counted
   pub counted_to_breakpoint : (limit : ℕ) → n < limit → is_stale outcome ≡ false → CountsOne counts counts' outcome →
       is_breakpoint outcome ≡ true → IsRunTo arrivals limit old new (record counts' { stop = stop.Breakpoint })
   counted_to_breakpoint limit below fresh one broken =
@@ -145,6 +154,7 @@ module _ {arrivals : List Arrival} {n : ℕ} {old mid new : Machine} {outcome : 
 
 module _ {arrivals : List Arrival} {n : ℕ} {old mid new : Machine} {outcome : RefStep} {counts : RefOutcome}
     (before : IsCounted arrivals n old mid counts) (now : Steps arrivals n mid new outcome) where
+  -- a step that finds a stale word ends the run at its address, and is not counted
   pub counted_to_stale : (limit pc : ℕ) → n < limit → outcome ≡ step.Stale pc →
       IsRunTo arrivals limit old new (record counts { stop = stop.Stale pc })
   counted_to_stale limit pc below is =
@@ -163,6 +173,7 @@ module _ {arrivals : List Arrival} {n : ℕ} {old mid new : Machine} {outcome : 
         lines = rw (before.steps_counted, range_more) lines;
       }
 
+-- where as many steps are counted as may be taken, the run ends at its limit
 pub counted_to_limit : {arrivals : List Arrival} {n : ℕ} {old new : Machine} {counts : RefOutcome} →
     IsCounted arrivals n old new counts → (limit : ℕ) → n ≤ limit → limit ≤ n → IsRunTo arrivals limit old new counts
 counted_to_limit counted limit at_most at_least = record {

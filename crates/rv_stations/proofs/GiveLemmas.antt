@@ -72,6 +72,7 @@ like_lanes seq tags long =
     ∙ like_mask seq tags)
 
 module _ (seq value : ℕ) (tags values : List ℕ) where
+  -- the lanes that are left still have their tags and values; each other has given up the tag that was the number for its value
   pub record Giving (left woken : ℕ) (now_tags now_values : List ℕ) : Type 0 where
     pub rest_tags : (i : ℕ) → i < 8 → bit_at left i ≡ 1 → get_or now_tags i 0 ≡ get_or tags i 0
     pub rest_values : (i : ℕ) → i < 8 → bit_at left i ≡ 1 → get_or now_values i 0 ≡ get_or values i 0
