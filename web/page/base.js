@@ -30,8 +30,13 @@ function save(name, bytes) {
   setTimeout(() => URL.revokeObjectURL(url), 10000);
 }
 
-// What was refused stays to be read until the job is changed.
-const refuse = (text) => { byId("refused").textContent = text; };
+// What was refused stays to be read until the job is changed; so does a note.
+function refuse(text, isNote = false) {
+  byId("refused").textContent = text;
+  byId("refused").classList.toggle("note", isNote);
+}
+
+const note = (text) => refuse(text, true);
 
 // What the page says of itself: one line, read aloud.
 function say(text, isFault) {

@@ -2,6 +2,7 @@
 // may be long; where a line is too long for that, the textarea shows its own text.
 const LINE = 20;          // pixels, as in editor.css; more where the browser enlarges text alone
 const LONGEST_LINE = 2000;
+const MANY_LINES = 300;   // Chromium puts lines into a textarea one by one, which takes 17 s for 8,000: the page puts so many in itself
 
 class Editor {
   constructor(root, wordsOf, changed) {
@@ -18,25 +19,54 @@ class Editor {
     this.area.maxLength = MOST_TEXT;
     this.area.addEventListener("input", () => { this.read(); changed(); });
     this.area.addEventListener("scroll", () => this.draw());
-    this.area.addEventListener("paste", (event) => this.refuseLong(event, event.clipboardData));
-    this.area.addEventListener("drop", (event) => { if (event.dataTransfer.files.length === 0) this.refuseLong(event, event.dataTransfer); });
+    this.area.addEventListener("paste", (event) => this.paste(event, changed));
+    this.area.addEventListener("keydown", (event) => { if ((event.ctrlKey || event.metaKey) && !event.shiftKey && event.key === "z") this.unpaste(event, changed); });
+    this.area.addEventListener("drop", (event) => { if (event.dataTransfer.files.length === 0) this.refuseLong(event, this.text + event.dataTransfer.getData("text")); });
     new ResizeObserver(() => this.draw()).observe(this.area);
     this.read();
   }
 
-  get text() { return this.area.value; }
+  // (In a textarea whose text ends with a line break, Chromium takes 17 s to select or to copy 8,000 lines: the last one stands apart, where
+  // it ends no empty line.)
+  get text() { const { value } = this.area; return this.isEnded && /[^\n]$/.test(value) ? value + "\n" : value; }
 
   set text(text) {
-    if (this.area.value === text) return;
-    this.area.value = text;
+    if (this.text === text) return;
+    this.isEnded = /[^\n]\n$/.test(text);
+    this.area.value = this.isEnded ? text.slice(0, -1) : text;
     this.read();
   }
 
-  refuseLong(event, data) {
-    const text = data.getData("text"), why = whyTooLong(text) || (text.length + this.area.textLength > MOST_TEXT ? whyTooLong(this.text + text) : "");
+  // Refuses what would come to a text that is too long.
+  refuseLong(event, text) {
+    const why = whyTooLong(text);
     if (why === "") return;
     event.preventDefault();
-    refuse("A text was refused: " + why + ".");
+    refuse("A text was refused: with it there would be " + why + ".");
+  }
+
+  paste(event, changed) {
+    const { selectionStart, selectionEnd, value } = this.area, before = this.text, text = event.clipboardData.getData("text").replace(/\r\n?/g, "\n");
+    const put = value.slice(0, selectionStart) + text + value.slice(selectionEnd), after = this.isEnded && /[^\n]$/.test(put) ? put + "\n" : put;
+    this.refuseLong(event, after);
+    if (event.defaultPrevented || text.split("\n", MANY_LINES).length < MANY_LINES) return;
+    event.preventDefault();
+    this.text = after;
+    this.area.setSelectionRange(selectionStart + text.length, selectionStart + text.length);
+    this.pasted = { before, selectionStart, selectionEnd, after };
+    this.area.scrollTop = this.text.slice(0, this.area.selectionStart).split("\n").length * this.lineHeight - this.area.clientHeight;
+    changed();
+  }
+
+  // What the page put in itself the browser does not take back.
+  unpaste(event, changed) {
+    if (!this.pasted || this.text !== this.pasted.after) return;
+    event.preventDefault();
+    const { before, selectionStart, selectionEnd } = this.pasted;
+    this.pasted = undefined;
+    this.text = before;
+    this.area.setSelectionRange(selectionStart, selectionEnd);
+    changed();
   }
 
   get lineHeight() { return this.probe.getBoundingClientRect().height || LINE; }

@@ -76,6 +76,14 @@ FAINT = """(() => {
   return faint.join("; ");
 })()"""
 
+# The colour of the ground of the picture that is seen, and of the page.
+GROUND = """(async () => {
+  const seen = [...document.querySelectorAll("#shown img")].find((each) => each.getClientRects().length > 0), canvas = document.createElement("canvas").getContext("2d");
+  await seen.decode();
+  canvas.drawImage(seen, 0, 0);
+  return ["rgb(" + [...canvas.getImageData(1, 1, 1, 1).data].slice(0, 3).join(", ") + ")", getComputedStyle(document.body).backgroundColor];
+})()"""
+
 # What scrolls, and cannot be scrolled by keys: nothing in it takes the focus. (Chromium and Firefox give it to such a box, WebKit does not.)
 UNREACHED = """[...document.querySelectorAll("body *")].filter((each) => {
   const { overflowX, overflowY } = getComputedStyle(each), scrolls = (way) => way === "auto" || way === "scroll";

@@ -1,9 +1,18 @@
-// The address holds the job, as long as it is not too long for that: so a link shares it, and going back or loading again loses nothing.
+// The address holds the job, as long as it is not too long for that: so a link shares it, and going back or loading again loses nothing. One
+// that is too long stands in the state of its place in the browser's history, to which going back leads as well.
 // After #: example=NAME or job=DEFLATED, machines=DEFLATED, view, limit, from, cycles of a view, retired, cycle, follow and path.
-let exampleName = "", addressed = "", isAnother = false;
+let exampleName = "", addressed = "", isAnother = false, isWritten = true;
 
-// Another job takes the place of the one that stands here, which is then one step back.
-const another = () => { isAnother = true; };
+// Another job takes the place of the one that stands here, which is then one step back: also where the address has it not, or not yet.
+function another() {
+  const isLong = addressed === TOO_LONG;
+  // (a browser that was asked for an address too often refuses for a while)
+  if (!isAnother && !isWritten) try { history.replaceState(stateNow(), "", TOO_LONG); addressed = TOO_LONG; } catch { /* as it stood last */ }
+  if (!isAnother && isLong) note("The job before, too long for the address, is kept in this tab: going back one step (Alt+Left) leads to it.");
+  [isAnother, isWritten] = [true, true];
+}
+
+const stateNow = () => ({ job: jobNow(), machines: furtherText() });
 
 function optionWords() {
   const words = [];
@@ -31,14 +40,14 @@ async function addressOf() {
 const writeAddress = later(400, async () => {
   const address = await addressOf();
   // (an address that was changed by hand is read, and not written over)
-  if (address === addressed || location.hash !== addressed) { isAnother = false; return; }
+  if (address === addressed || location.hash !== addressed) { [isAnother, isWritten] = [false, true]; return; }
   if (!putAddress(address.length <= KEPT_ADDRESS ? address : TOO_LONG)) setTimeout(writeAddress, 10000);
 });
 
 // Answers whether the browser took the address: one that was asked too often refuses for a while (WebKit after 100 times in 10 seconds).
 function putAddress(address) {
-  try { history[isAnother ? "pushState" : "replaceState"](null, "", address); } catch { return false; }
-  [addressed, isAnother] = [address, false];
+  try { history[isAnother ? "pushState" : "replaceState"](address === TOO_LONG ? stateNow() : null, "", address); } catch { return false; }
+  [addressed, isAnother, isWritten] = [address, false, true];
   return true;
 }
 
@@ -64,10 +73,10 @@ async function copyLink() {
 // Reads the address: answers whether a job stood there. What is no job is refused, and said.
 async function readAddress() {
   const text = location.hash.slice(1);
-  addressed = location.hash;
+  [addressed, isAnother, isWritten] = [location.hash, false, true];
   refuse("");
-  if (addressed === TOO_LONG) refuse("The job that stood here was too long for the address, and is not kept. Save such a job as a file.");
-  if (text === "" || addressed === TOO_LONG) return false;
+  if (addressed === TOO_LONG) return readState();
+  if (text === "") return false;
   if (text.length > MOST_ADDRESS) {
     refuse("The address was refused: it has " + counted(text.length, "character") + ", and " + grouped(MOST_ADDRESS) + " are read.");
     return false;
@@ -83,11 +92,7 @@ async function readAddress() {
   try {
     const text = await inflated(words.get("job")), machines = words.has("machines") ? await inflated(words.get("machines")) : "";
     if (whyTooLong(text + machines) !== "") throw new TooMuch("it has " + whyTooLong(text + machines));
-    const job = cut(text);
-    exampleName = "";
-    byId("examples").selectedIndex = 0;
-    forget();
-    setJob(job, machines);
+    takeJob(cut(text), machines);
     return true;
   } catch (error) {
     refuse("The job in the address was refused: " + (error instanceof TooMuch ? error.message : "it cannot be unpacked") + ".");
@@ -96,6 +101,20 @@ async function readAddress() {
 }
 
 function plainName(text) { try { return decodeURIComponent(text); } catch { return text; } }
+
+// A job that is too long for the address, from the history of the tab.
+function readState() {
+  if (!history.state) { refuse("The job that stood here was too long for the address, and is not kept. Save such a job as a file."); return false; }
+  takeJob(history.state.job, history.state.machines);
+  return true;
+}
+
+function takeJob(job, machines) {
+  exampleName = "";
+  byId("examples").selectedIndex = 0;
+  forget();
+  setJob(job, machines);
+}
 
 // What the address does not say is as at first.
 function readOptions(words) {

@@ -108,8 +108,11 @@ function goToLine(line) {
   editors.assembly.goTo(line);
 }
 
+// A picture in the colours of the day, and in those of the night, of which the style sheet shows one: WebKit tells no picture which it is.
 function picture(bytes, words) {
-  return element("img", { src: urlOf(bytes, "image/svg+xml"), alt: words });
+  const ofNight = textOf(bytes).replace("@media (prefers-color-scheme:dark)", "@media all");
+  const drawn = (className, svg) => element("img", { className, src: urlOf(svg, "image/svg+xml"), alt: words });
+  return element("div", {}, drawn("day", bytes), drawn("night", ofNight));
 }
 
 function showPicture({ output, errors }) {

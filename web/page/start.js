@@ -8,6 +8,7 @@ const changedSoon = later(150, () => run(true));
 
 function jobChanged() {
   refuse("");
+  isWritten = false;
   checker.stop();
   setStale(true);
   form.read(editors.description.text);
@@ -140,6 +141,8 @@ function listen() {
   addEventListener("beforeprint", printParts);
   addEventListener("afterprint", () => document.querySelectorAll("pre.printed").forEach((each) => each.remove()));
   addEventListener("hashchange", () => { if (location.hash !== addressed) readAddress(); });
+  // (from one job that the address does not hold to another one)
+  addEventListener("popstate", () => { if (location.hash === TOO_LONG && addressed === TOO_LONG) readAddress(); });
   // (a job that the address does not hold would be lost)
   addEventListener("beforeunload", (event) => { if (addressed === TOO_LONG) { event.preventDefault(); event.returnValue = true; } });
   addEventListener("keydown", (event) => {
