@@ -55,11 +55,14 @@ function sheet(heads, rows, caption) {
     element("thead", {}, element("tr", {}, ...heads.map(head))), element("tbody", {}, ...rows.map(row)));
 }
 
+// Counts of which less is neither better nor worse by itself: a core that waits more is less busy.
+const UNJUDGED = ["retired", "traps", "interrupts", "busy"];
+
 // By how much a count changed, with a bar; nothing where it did not, or is no number.
 function changedBy(name, by, most) {
   if (!Number.isFinite(by) || by === 0) return "";
   const text = name === "cpi" ? (by > 0 ? "+" : "\u2212") + Math.abs(by).toFixed(3) : signed(by);
-  const bar = element("span", { className: "bar " + (by < 0 ? "less" : "more"), style: "width: " + (5 * Math.abs(by)) / most + "rem" });
+  const bar = element("span", { className: "bar" + (UNJUDGED.includes(name) ? "" : by < 0 ? " less" : " more"), style: "width: " + (5 * Math.abs(by)) / most + "rem" });
   return element("span", { className: "by" }, bar, text);
 }
 

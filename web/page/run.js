@@ -78,12 +78,19 @@ function setStale(on) {
   byId("result").classList.toggle("stale", on);
 }
 
+// What one does with a run that was cut off: asks why, or lets it go on up to the greatest limit.
+function waysOn() {
+  const button = (textContent, onclick) => element("button", { type: "button", className: "link", textContent, onclick });
+  const why = button("why?", () => chooseView("explain")), further = button("up to " + grouped(MOST_CYCLES), () => takeLimit(MOST_CYCLES));
+  return [" ", why, ...(limit() < MOST_CYCLES ? [" ", further] : [])];
+}
+
 function showSummary(report, ms) {
   const counts = countsOf(report), stop = counts.get("stop");
-  const why = stop === "breakpoint" ? "" : stop === "limit" ? "cut off at " + counted(Number(counts.get("cycles")), "cycle") + ", see Explain" : "stop " + stop;
+  const isCut = stop === "limit", why = stop === "breakpoint" ? "" : isCut ? "cut off at " + counted(Number(counts.get("cycles")), "cycle") : "stop " + stop;
   byId("summary").replaceChildren(
     element("b", { textContent: grouped(counts.get("cycles")) }), " cycles ", element("b", { textContent: grouped(counts.get("retired")) }), " retired ",
-    element("b", { textContent: counts.get("cpi") }), " CPI", ...(why ? [" ", element("em", { textContent: why })] : []));
+    element("b", { textContent: counts.get("cpi") }), " CPI", ...(why ? [" ", element("em", { textContent: why })] : []), ...(isCut ? waysOn() : []));
   byId("changed").textContent = changeText();
   say("Done in " + Math.max(1, Math.round(ms)) + " ms.");
 }

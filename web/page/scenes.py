@@ -76,6 +76,15 @@ FAINT = """(() => {
   return faint.join("; ");
 })()"""
 
+# The numbers and choices of the bar and of the job's heads that are wider than their fields.
+CUT_NAMES = """[...document.querySelectorAll("#bar input[type=number], #bar select, .head select")].filter((each) => {
+  const style = getComputedStyle(each), canvas = document.createElement("canvas").getContext("2d"), arrow = 18;
+  canvas.font = style.font;
+  const text = each.tagName === "SELECT" ? each.options[each.selectedIndex].text : each.value;
+  const room = each.offsetWidth - 2 - parseFloat(style.paddingLeft) - parseFloat(style.paddingRight) - arrow;
+  return each.getClientRects().length > 0 && canvas.measureText(text).width > room;
+}).map((each) => each.id).join()"""
+
 # The colour of the ground of the picture that is seen, and of the page.
 GROUND = """(async () => {
   const seen = [...document.querySelectorAll("#shown img")].find((each) => each.getClientRects().length > 0), canvas = document.createElement("canvas").getContext("2d");

@@ -100,6 +100,13 @@ function writeKey(key, value) {
   jobChanged();
 }
 
+function takeLimit(cycles) {
+  if (byId("summary").contains(document.activeElement)) byId("limit").focus(); // (the summary's buttons go)
+  byId("limit").value = cycles;
+  writeAddress();
+  run();
+}
+
 function stop() {
   turn += 1;
   runner.stop();
@@ -121,7 +128,7 @@ function printParts() {
 function listen() {
   byId("run").onclick = () => run();
   byId("stop").onclick = stop;
-  byId("limit").onchange = () => { byId("limit").value = limit(); writeAddress(); run(); };
+  byId("limit").onchange = () => takeLimit(limit());
   byId("share").onclick = copyLink;
   byId("save").onclick = () => save((exampleName.split("/").pop() || "program") + ".job", joined(jobNow()));
   byId("open").onclick = () => byId("file").click();

@@ -45,7 +45,8 @@ function wordsOf(view) {
 }
 
 const whole = (text, least, most, otherwise) => (/^\d+$/.test(text) ? Math.max(least, Math.min(most, Number(text))) : otherwise);
-const limit = () => whole(byId("limit").value, 1, 1000000, 100000);
+const MOST_CYCLES = 1000000;
+const limit = () => whole(byId("limit").value, 1, MOST_CYCLES, 100000);
 
 const fileOf = (view) => (view.name === "picture" && chosen.text ? "picture.txt" : view.file);
 
