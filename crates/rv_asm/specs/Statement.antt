@@ -52,6 +52,7 @@ takes place.Rd (Value (Symbol name)) = true
 takes place.Rs1 (Value (Symbol name)) = true
 takes place.Rs2 (Value (Symbol name)) = true
 takes place.Value (Value expression) = true
+takes place.Number (Value (Number number)) = true
 takes place.Known (Value (Number number)) = true
 takes place.Known (Value (Symbol name)) = true
 takes place.Target (Value (Symbol name)) = true

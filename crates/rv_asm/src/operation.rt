@@ -42,6 +42,8 @@ pub enum Place {
     Rs2,
     /// An expression.
     Value,
+    /// A number.
+    Number,
     /// A number, or a symbol of an earlier `.equ`.
     Known,
     /// A symbol, or a symbol plus or minus a number.

@@ -23,7 +23,7 @@ impl Place {
     {
         match operand {
             Operand::Value(Expression::Number(number)) => match self {
-                Place::Value | Place::Known | Place::Csr => true,
+                Place::Value | Place::Number | Place::Known | Place::Csr => true,
                 Place::UpTo(greatest) => 0 <= number && number <= i64::from(greatest),
                 Place::Multiple => matches!(number, 1 | 2 | 4 | 8 | 16),
                 _ => false,

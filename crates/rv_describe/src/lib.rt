@@ -25,6 +25,6 @@ pub use description::read_description;
 pub use description_error::DescriptionError;
 pub use document::is_toml;
 pub use field::Field;
-pub use key_range::KeyRange;
+pub use key_range::{KeyNumber, KeyRange};
 pub use near::{is_near, nearest_keys};
 pub use rv_isa::key_name;

@@ -1,5 +1,5 @@
 -- Where a caret stands below a line.
-use Rattle.std.specs.Prelude.{ℕ, zero, suc, ◌+◌, ◌-◌, ◌==◌, List, [], ◌∷◌, ◌++◌, length, replicate, codes, if◌then◌else◌, Option, Some, None, is_some, option_map}
+use Rattle.std.specs.Prelude.{ℕ, zero, suc, ◌+◌, ◌-◌, ◌==◌, Bool, List, [], ◌∷◌, ◌++◌, length, replicate, codes, if◌then◌else◌, Option, Some, None, is_some, option_map}
 use Rattle.std.specs.Option.{option_map_or}
 use Rattle.rv_asm.specs.Token.{Lexeme, Token, first_lexeme}
 use Rattle.rv_asm.specs.declared.fault.AsmFault.{AsmFault}
@@ -27,15 +27,15 @@ abbrev pub token_place : List ℕ → ℕ → ℕ
 token_place line before = distance line 0 before
 
 -- how many bytes of a line with these tokens stand before the one at fault, or before the first bytes that are no token
-unfoldable pub fault_place : AsmFault → List ℕ → List Token → Option ℕ
-fault_place BadToken line tokens = Some (token_place line (length line))
-fault_place fault line tokens =
-    option_map (λ from. token_place line (length tokens - length from)) (culprit_on fault tokens)
+unfoldable pub fault_place : AsmFault → (List ℕ → Bool) → List ℕ → List Token → Option ℕ
+fault_place BadToken defined line tokens = Some (token_place line (length line))
+fault_place fault defined line tokens =
+    option_map (λ from. token_place line (length tokens - length from)) (culprit_on fault defined tokens)
 
 -- a caret below a byte of a line that is shown
 unfoldable pub caret_below : ℕ → List ℕ
 caret_below place = codes "    " ++ (replicate place 32 ++ codes "^\n")
 
 -- the line with the caret below the token at fault, where there is one
-abbrev pub caret_line : AsmFault → List ℕ → List Token → List ℕ
-caret_line fault line tokens = option_map_or caret_below (fault_place fault line tokens) []
+abbrev pub caret_line : AsmFault → (List ℕ → Bool) → List ℕ → List Token → List ℕ
+caret_line fault defined line tokens = option_map_or caret_below (fault_place fault defined line tokens) []

@@ -7,7 +7,7 @@ use Rattle.rv_asm.specs.Layout.{body_of}
 use Rattle.rv_asm.specs.Meaning.{fits_width}
 use Rattle.rv_asm.specs.Mnemonic.{form_named}
 use Rattle.rv_asm.specs.Names.{register_named}
-use Rattle.rv_asm.specs.Operand.{Operand, Value, Indirect, Number, Symbol, is_comma, operand}
+use Rattle.rv_asm.specs.Operand.{Operand, Value, Indirect, Number, Symbol, Sum, is_comma, operand}
 use Rattle.rv_asm.specs.Read.{tokens_in}
 use Rattle.rv_asm.specs.Statement.{is_between, is_implied, takes}
 use Rattle.rv_asm.specs.Token.{Token}
@@ -108,16 +108,24 @@ abbrev pub is_too_wide : Width → Option Operand → Bool
 is_too_wide width (Some (Value (Number number))) = not (fits_width width number)
 is_too_wide width _ = false
 
--- an operand of data of a width is one for which a fault is reported
-unfoldable pub is_wrong_value : AsmFault → Width → Option Operand → Bool
-is_wrong_value fault.BadOperands width written = is_misfit place.Value written
-is_wrong_value fault.OutOfRange width written = is_too_wide width written
-is_wrong_value _ width written = false
+-- a symbol is written that is not defined
+abbrev pub is_undefined : (List ℕ → Bool) → Option Operand → Bool
+is_undefined defined (Some (Value (Symbol name))) = not (defined name)
+is_undefined defined (Some (Value (Sum name number))) = not (defined name)
+is_undefined defined _ = false
+
+-- an operand of data of a width is one for which a fault is reported, where these symbols are defined
+unfoldable pub is_wrong_value : AsmFault → (List ℕ → Bool) → Width → Option Operand → Bool
+is_wrong_value fault.BadOperands defined width written = is_misfit place.Value written
+is_wrong_value fault.UnknownSymbol defined width written = is_undefined defined written
+is_wrong_value fault.OutOfRange defined width written = is_too_wide width written
+is_wrong_value _ defined width written = false
 
 -- the operand of data of a width for which a fault is reported: the only one, or the first wrong one of several
-abbrev pub wrong_value : AsmFault → Width → List (List Token) → Option (List Token)
-wrong_value fault width (operand ∷ []) = Some operand
-wrong_value fault width operands = find (λ operand. is_wrong_value fault width (operand_at operand)) operands
+abbrev pub wrong_value : AsmFault → (List ℕ → Bool) → Width → List (List Token) → Option (List Token)
+wrong_value fault defined width (operand ∷ []) = Some operand
+wrong_value fault defined width operands =
+    find (λ operand. is_wrong_value fault defined width (operand_at operand)) operands
 
 -- the places of so many operands of a form that has the same ones in each statement
 abbrev pub fixed_places : Form → ℕ → List Place
@@ -127,16 +135,17 @@ fixed_places form.Jalr count =
     else if count == 2 then place.Rd ∷ place.Base ∷ []
     else place.Rd ∷ place.Rs1 ∷ place.Value ∷ []
 fixed_places form.Global count = place.Target ∷ []
-fixed_places form.Constant count = place.Target ∷ place.Value ∷ []
+fixed_places form.Constant count = place.Target ∷ place.Number ∷ []
 fixed_places _ count = []
 
 -- the operand of a form for which a fault is reported, of those that tokens spell
-unfoldable pub culprit_of : AsmFault → Form → List Token → Option (List Token)
-culprit_of fault (form.Instruction operation first second third) tokens =
+unfoldable pub culprit_of : AsmFault → (List ℕ → Bool) → Form → List Token → Option (List Token)
+culprit_of fault defined (form.Instruction operation first second third) tokens =
     culprit_among fault (first ∷ second ∷ third ∷ []) (operands_on tokens)
-culprit_of fault (form.Values width) tokens = wrong_value fault width (operands_on tokens)
-culprit_of fault (form.Bytes directive operand) tokens = culprit_among fault (operand ∷ []) (operands_on tokens)
-culprit_of fault form tokens =
+culprit_of fault defined (form.Values width) tokens = wrong_value fault defined width (operands_on tokens)
+culprit_of fault defined (form.Bytes directive operand) tokens =
+    culprit_among fault (operand ∷ []) (operands_on tokens)
+culprit_of fault defined form tokens =
     culprit_among fault (fixed_places form (length (slice_split is_comma tokens))) (operands_on tokens)
 
 -- these faults are reported for one of the operands
@@ -154,12 +163,12 @@ marked fault.BadRegister tokens = drop (length (before_first is_comma tokens) - 
 marked _ tokens = tokens
 
 -- the operand of a statement for which a fault is reported, from its token at fault on
-unfoldable pub operand_of_fault : AsmFault → List Token → Option (List Token)
-operand_of_fault fault (token.Name name ∷ rest) =
+unfoldable pub operand_of_fault : AsmFault → (List ℕ → Bool) → List Token → Option (List Token)
+operand_of_fault fault defined (token.Name name ∷ rest) =
     if is_of_operands fault
-    then option_and_then (λ form. option_map (marked fault) (culprit_of fault form rest)) (form_named name)
+    then option_and_then (λ form. option_map (marked fault) (culprit_of fault defined form rest)) (form_named name)
     else None
-operand_of_fault fault _ = None
+operand_of_fault fault defined _ = None
 
 -- the first one, where it has tokens, else the other one
 abbrev pub unless_empty : List Token → List Token → List Token
@@ -168,7 +177,7 @@ unless_empty (first ∷ rest) other = first ∷ rest
 
 -- The tokens of a line from the one at fault on: a symbol that was defined before; an operand; or the statement, and in
 -- a line without one its label. Where a line defines several symbols, none is named.
-unfoldable pub culprit_on : AsmFault → List Token → Option (List Token)
-culprit_on fault.DuplicateSymbol tokens = definition_on tokens
-culprit_on fault tokens =
-    Some (unwrap_or (operand_of_fault fault (body_of tokens)) (unless_empty (body_of tokens) tokens))
+unfoldable pub culprit_on : AsmFault → (List ℕ → Bool) → List Token → Option (List Token)
+culprit_on fault.DuplicateSymbol defined tokens = definition_on tokens
+culprit_on fault defined tokens =
+    Some (unwrap_or (operand_of_fault fault defined (body_of tokens)) (unless_empty (body_of tokens) tokens))

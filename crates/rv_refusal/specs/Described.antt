@@ -1,6 +1,6 @@
 -- Why a description is refused.
-use Rattle.std.specs.Prelude.{ℕ, ◌-◌, ◌==◌, List, [], ◌++◌, codes, if◌then◌else◌, Option, None, unwrap_or}
-use Rattle.std.specs.{List.slice_get, Option.option_map_or, Option.option_or, Str.bytes_eq}
+use Rattle.std.specs.Prelude.{ℕ, ◌-◌, ◌==◌, ◌&&◌, Bool, not, List, [], ◌∷◌, ◌++◌, codes, if◌then◌else◌, is_none, Option, None, unwrap_or}
+use Rattle.std.specs.{List.list_any, List.slice_get, Option.option_map_or, Option.option_or, Str.bytes_eq}
 use Rattle.rv_isa.specs.declared.keys.Key.{Key}
 use Rattle.rv_isa.specs.Key.{key_place, order, text_of}
 use Rattle.rv_describe.specs.Fault.{place_of}
@@ -8,9 +8,10 @@ use Rattle.rv_describe.specs.declared.description_error.DescriptionError.{Descri
 use Rattle.rv_describe.specs.declared.description_error.DescriptionError.TheVariants.{NotToml, UnknownKey}
 use Rattle.rv_refusal.specs.Caret.{caret_below}
 use Rattle.rv_refusal.specs.KeyLine.{KeyLine, first_named, is_none_of}
-use Rattle.rv_refusal.specs.KeyNames.{key_names}
+use Rattle.rv_refusal.specs.KeyNames.{key_names, keys_named}
 use Rattle.rv_refusal.specs.KeyDefault.{values_line}
-use Rattle.rv_refusal.specs.Near.{hint_line}
+use Rattle.rv_refusal.specs.NameOn.{table_on}
+use Rattle.rv_refusal.specs.Near.{hint_line, names_line}
 use Rattle.rv_refusal.specs.Place.{line_place, shown_line}
 use Rattle.rv_refusal.specs.TomlFault.{no_toml}
 
@@ -24,23 +25,50 @@ key_line_text found =
 abbrev pub key_at : ℕ → Option Key
 key_at place = if place == 0 then None else slice_get order (place - 1)
 
+-- the name of the table that a key stands in, empty at top level
+abbrev pub table_of : Key → List ℕ
+table_of key = unwrap_or (key_place key).table []
+
 -- the first line of a description on which a key stands, or else its table
 unfoldable pub line_of_key : Key → List ℕ → Option KeyLine
 line_of_key key part =
     option_or (first_named (λ name. bytes_eq name (text_of key)) part)
-    (first_named (λ name. bytes_eq name (unwrap_or (key_place key).table [])) part)
+    (first_named (λ name. bytes_eq name (table_of key)) part)
 
--- why a description is refused by the value at a key: the line at fault, and which values the key takes
+-- a line gives the table of a key a value that is none: it is no line of a table in brackets, and has no brace
+abbrev pub gives_no_table : Key → KeyLine → Bool
+gives_no_table key found =
+    bytes_eq found.name (table_of key)
+    && (is_none (table_on found.line) && not (list_any (λ byte. byte == 123) found.line))
+
+-- that the table of a key is a table
+unfoldable pub table_expected : Key → List ℕ
+table_expected key =
+    codes "expected: "
+    ++ (table_of key ++ (codes " is a table, as in a line '[" ++ (table_of key ++ codes "]' before those of its keys\n")))
+
+-- what was expected at the line of a key: a table, or which values the key takes
+unfoldable pub key_expected : Key → KeyLine → List ℕ
+key_expected key found = if gives_no_table key found then table_expected key else values_line key
+
+-- why a description is refused by the value at a key: the line at fault, and what was expected there
 unfoldable pub value_lines : List ℕ → Key → List ℕ
-value_lines part key = option_map_or key_line_text (line_of_key key part) [] ++ values_line key
+value_lines part key =
+    option_map_or (λ found. key_line_text found ++ key_expected key found) (line_of_key key part) (values_line key)
 
 -- what was expected in place of an unknown name
 unfoldable pub known_expected : List ℕ
 known_expected = codes "expected: a key or a table of a description\n"
 
+-- the line on an unknown name by the keys that have it in another table, or else by the known names that it may stand for
+unfoldable pub key_hint : List (List ℕ) → KeyLine → List (List ℕ) → List ℕ
+key_hint known found [] = hint_line found.name known
+key_hint known found (key ∷ keys) = names_line (key ∷ keys)
+
 -- a line with an unknown name, what was expected there, and the known names that it may stand for
 unfoldable pub unknown_line : List (List ℕ) → KeyLine → List ℕ
-unknown_line known found = key_line_text found ++ (known_expected ++ hint_line found.name known)
+unknown_line known found =
+    key_line_text found ++ (known_expected ++ key_hint known found (keys_named found.key order))
 
 -- the first line of a description with a name that is none of these
 unfoldable pub unknown_among : List (List ℕ) → List ℕ → List ℕ

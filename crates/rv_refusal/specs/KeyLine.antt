@@ -7,11 +7,13 @@ use Rattle.rv_refusal.specs.NameOn.{NameOn, key_on, table_on}
 use Rattle.rv_refusal.specs.declared.key_line.{KeyLine.KeyLine as Found, Wanted.Wanted}
 use Rattle.rv_refusal.specs.declared.key_line.Wanted.TheVariants.{Unknown, Named}
 
--- a line with its number, the name that stands there with its table's before it, and how many bytes stand before it
+-- a line with its number, the name that stands there, as it is written and with its table's before it, and how many bytes
+-- stand before it
 pub record KeyLine : Type 0 where
   pub number : ℕ
   pub line : List ℕ
   pub before : ℕ
+  pub key : List ℕ
   pub name : List ℕ
 
 -- the bytes of the line that the program holds
@@ -21,12 +23,14 @@ key_line found =
       number = found.number;
       line = found.line.now;
       before = found.before;
+      key = found.name.now;
       name = joined (option_copied found.table) found.name.now;
     }
 
 -- the line with a number, where a name stands on it in a table
 abbrev pub line_of : ℕ → Option (List ℕ) → List ℕ → NameOn → KeyLine
-line_of number table line on = record { number = number; line = line; before = on.before; name = joined table on.name }
+line_of number table line on =
+    record { number = number; line = line; before = on.before; key = on.name; name = joined table on.name }
 
 -- the line with a number, if a name stands on it: a table's, or a key's in the table that the line stands in
 unfoldable pub named_line : ℕ → Option (List ℕ) → List ℕ → Option KeyLine

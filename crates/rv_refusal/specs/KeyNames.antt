@@ -1,6 +1,6 @@
 -- The names that a description may have: its keys and its tables.
 use Rattle.std.specs.Prelude.{ℕ, List, [], ◌∷◌, ◌++◌, map, if◌then◌else◌, Option, None}
-use Rattle.std.specs.Option.{option_to_list}
+use Rattle.std.specs.{List.filter, Option.option_to_list, Str.bytes_eq}
 use Rattle.rv_isa.specs.declared.keys.Key.{Key}
 use Rattle.rv_isa.specs.Key.{key_place, order, text_of}
 use Rattle.rv_describe.specs.Unknown.{same_table}
@@ -17,3 +17,7 @@ tables_from last (key ∷ others) = new_table (key_place key).table last ++ tabl
 -- the keys with their tables' names before them, and then the tables
 abbrev pub key_names : List (List ℕ)
 key_names = map text_of order ++ tables_from None order
+
+-- of some keys those of a name, with their tables' names before them
+abbrev pub keys_named : List ℕ → List Key → List (List ℕ)
+keys_named name keys = map text_of (filter (λ key. bytes_eq name (key_place key).name) keys)

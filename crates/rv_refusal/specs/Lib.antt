@@ -12,6 +12,7 @@ pub mod KeyLine
 pub mod KeyNames
 pub mod Lines
 pub mod NameOn
+pub mod NameSet
 pub mod Names
 pub mod Near
 pub mod Operands

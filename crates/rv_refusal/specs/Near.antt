@@ -1,5 +1,5 @@
 -- The known names that are near an unknown one.
-use Rattle.std.specs.Prelude.{ℕ, List, [], ◌∷◌, ◌++◌, codes, map, take, Bool, ◌||◌, if◌then◌else◌}
+use Rattle.std.specs.Prelude.{ℕ, List, [], ◌∷◌, ◌++◌, codes, map, take, Bool, ◌||◌, if◌then◌else◌, Option, Some, None}
 use Rattle.std.specs.{List.filter, List.flat_map, List.list_any, Option.option_map_or, Str.bytes_eq}
 use Rattle.std.specs.Char.{to_ascii_lowercase}
 use Rattle.rv_asm.specs.Layout.{body_of}
@@ -8,6 +8,7 @@ use Rattle.rv_asm.specs.declared.fault.AsmFault.{AsmFault}
 use Rattle.rv_asm.specs.declared.fault.AsmFault.TheVariants.{UnknownMnemonic, UnknownSymbol}
 use Rattle.rv_describe.specs.Near.{is_near}
 use Rattle.rv_refusal.specs.Names.{known_names, unknown_name}
+use Rattle.rv_refusal.specs.NameSet.{is_one_of}
 
 -- the known names that are one edit away, and then those that are two away; at most three
 abbrev pub nearest : List ℕ → List (List ℕ) → List (List ℕ)
@@ -37,11 +38,20 @@ hint_line name known =
 abbrev pub aligns_to_power : List ℕ → Bool
 aligns_to_power name = bytes_eq name (codes ".align") || bytes_eq name (codes ".p2align")
 
+-- the directive that does what one of other assemblers does
+unfoldable pub counterpart : List ℕ → Option (List ℕ)
+counterpart name =
+    if is_one_of (codes ".set" ∷ codes ".eqv" ∷ []) name then Some (codes ".equ")
+    else (if is_one_of (codes ".long" ∷ codes ".4byte" ∷ []) name then Some (codes ".word")
+    else (if is_one_of (codes ".short" ∷ codes ".2byte" ∷ []) name then Some (codes ".half")
+    else (if is_one_of (codes ".org" ∷ codes ".fill" ∷ []) name then Some (codes ".zero")
+    else None)))
+
 -- the line on an unknown mnemonic
 unfoldable pub mnemonic_line : List ℕ → List (List ℕ) → List ℕ
 mnemonic_line name known =
     if aligns_to_power name then codes "nearest: .balign, in bytes: .balign 4 for .align 2, .balign 8 for .align 3\n"
-    else hint_line name known
+    else option_map_or (λ other. names_line (other ∷ [])) (counterpart name) (hint_line name known)
 
 -- the line on an unknown name of assembly; that of a symbol may have capital letters
 unfoldable pub known_line : AsmFault → List ℕ → List (List ℕ) → List ℕ
@@ -49,7 +59,9 @@ known_line UnknownMnemonic name known = mnemonic_line name known
 known_line UnknownSymbol name known = names_line (nearest name known)
 known_line _ name known = hint_line name known
 
--- that on the unknown name of a line at fault with these tokens, where its fault is one of a name
-unfoldable pub nearest_line : AsmFault → List Token → List ℕ → List ℕ
-nearest_line fault tokens assembly =
-    option_map_or (λ name. known_line fault name (known_names fault assembly)) (unknown_name fault (body_of tokens)) []
+-- that on the unknown name of a line at fault with these tokens, where its fault is one of a name, of an assembly that
+-- defines these symbols
+unfoldable pub nearest_line : AsmFault → (List ℕ → Bool) → List (List ℕ) → List Token → List ℕ
+nearest_line fault defined symbols tokens =
+    option_map_or (λ name. known_line fault name (known_names fault name symbols))
+    (unknown_name fault defined (body_of tokens)) []

@@ -1,9 +1,11 @@
 ghost use Rattle.std.specs.Prelude.{◌≡◌, ◌+◌, ◌<◌, ◌≤◌, ◌++◌, None, OnOk, IfSome, drop, length, replicate};
 ghost use Rattle.rv_asm.specs.Read.{tokens_in};
+ghost use Rattle.rv_refusal.specs.NameSet.{holds};
 ghost use Rattle.rv_refusal.specs.Place.{shown_line};
 ghost use Rattle.rv_refusal.specs.Caret.{caret_below, caret_line, distance, fault_place, token_place};
 
 use crate::culprit::culprit_on;
+use crate::name_set::NameSet;
 use crate::place::add_line;
 use crate::text::add_text;
 use rv_asm::{AsmFault, Token, first_lexeme};
@@ -50,13 +52,18 @@ pub(crate) fn token_place(line: &[u8], before: usize) -> usize
 
 // How many bytes of a line with these tokens stand before the one at fault, or before the first bytes that are no token.
 #[tactic(auto, unfolding(crate::specs::Caret::fault_place))]
-fn fault_place(fault: AsmFault, line: &[u8], tokens: &[Token<'_>]) -> Option<usize>
-    ensures { result ≡ fault_place fault line.now (tokens_in tokens.now) }
+fn fault_place(
+    fault: AsmFault,
+    defined: &NameSet<'_>,
+    line: &[u8],
+    tokens: &[Token<'_>],
+) -> Option<usize>
+    ensures { result ≡ fault_place fault (holds defined.now) line.now (tokens_in tokens.now) }
 {
     if let AsmFault::BadToken = fault {
         return Some(token_place(line, line.len()));
     }
-    let from = culprit_on(fault, tokens)?;
+    let from = culprit_on(fault, defined, tokens)?;
     let before = tokens.len().saturating_sub(from.len());
     Some(token_place(line, before))
 }
@@ -97,12 +104,14 @@ pub(crate) fn add_marked_line(
 pub(crate) fn add_caret_line(
     out: &mut Vec<u8>,
     fault: AsmFault,
+    defined: &NameSet<'_>,
     line: &[u8],
     tokens: &[Token<'_>],
 ) -> Result<(), AllocError>
-    ensures { OnOk result (out.new.items ≡ out.old.items ++ caret_line fault line.now (tokens_in tokens.now)) }
+    ensures { OnOk result (out.new.items
+        ≡ out.old.items ++ caret_line fault (holds defined.now) line.now (tokens_in tokens.now)) }
 {
-    match fault_place(fault, line, tokens) {
+    match fault_place(fault, defined, line, tokens) {
         Some(place) => add_caret_below(out, place),
         None => Ok(()),
     }

@@ -4,9 +4,11 @@ ghost use Rattle.rv_asm.specs.Layout.{body_of};
 ghost use Rattle.rv_asm.specs.Meaning.{fits_width};
 ghost use Rattle.rv_asm.specs.Read.{operand_of, tokens_in};
 ghost use Rattle.rv_asm.specs.Statement.{is_implied};
-ghost use Rattle.rv_refusal.specs.Culprit.{culprit_among, culprit_of, culprit_on, fixed_places, has_unknown_register, holds_register, holds_value, is_culprit, is_last, is_misfit, is_of_operands, is_past_csrs, is_too_wide, is_wrong_value, marked, may_be_out_of_range, operand_of_fault, operands_left, operands_on, unless_empty, wrong_value};
+ghost use Rattle.rv_refusal.specs.NameSet.{holds};
+ghost use Rattle.rv_refusal.specs.Culprit.{culprit_among, culprit_of, culprit_on, fixed_places, has_unknown_register, holds_register, holds_value, is_culprit, is_last, is_misfit, is_of_operands, is_past_csrs, is_too_wide, is_undefined, is_wrong_value, marked, may_be_out_of_range, operand_of_fault, operands_left, operands_on, unless_empty, wrong_value};
 
 use crate::definition::definition_on;
+use crate::name_set::NameSet;
 use crate::operand_tokens::{after_operand, from_register, operand_at, operands_on};
 use crate::statement::after_labels;
 use rv_asm::{
@@ -152,13 +154,31 @@ fn is_too_wide(width: Width, written: Option<Operand<'_>>) -> bool
     }
 }
 
+// Whether a symbol is written that is not defined.
+fn is_undefined(defined: &NameSet<'_>, written: Option<Operand<'_>>) -> bool
+    ensures { result ≡ is_undefined (holds defined.now) (option_map operand_of written.entry) }
+{
+    match written {
+        Some(Operand::Value(Expression::Symbol(name) | Expression::Sum(name, _))) => {
+            !defined.has(name)
+        }
+        _ => false,
+    }
+}
+
 // Whether an operand of data of a width is one for which a fault is reported.
 #[tactic(auto, unfolding(crate::specs::Culprit::is_wrong_value))]
-fn is_wrong_value(fault: AsmFault, width: Width, written: Option<Operand<'_>>) -> bool
-    ensures { result ≡ is_wrong_value fault width (option_map operand_of written.entry) }
+fn is_wrong_value(
+    fault: AsmFault,
+    defined: &NameSet<'_>,
+    width: Width,
+    written: Option<Operand<'_>>,
+) -> bool
+    ensures { result ≡ is_wrong_value fault (holds defined.now) width (option_map operand_of written.entry) }
 {
     match fault {
         AsmFault::BadOperands => is_misfit(Place::Value, written),
+        AsmFault::UnknownSymbol => is_undefined(defined, written),
         AsmFault::OutOfRange => is_too_wide(width, written),
         _ => false,
     }
@@ -167,17 +187,19 @@ fn is_wrong_value(fault: AsmFault, width: Width, written: Option<Operand<'_>>) -
 // The operand of data of a width for which a fault is reported: the only one, or the first wrong one of several.
 fn wrong_value<'t, 'a>(
     fault: AsmFault,
+    defined: &NameSet<'_>,
     width: Width,
     operands: Option<&'t [Token<'a>]>,
 ) -> Option<&'t [Token<'a>]>
-    ensures { option_map (λ from. tokens_in from.now) result ≡ wrong_value fault width (operands_left operands.entry) }
+    ensures { option_map (λ from. tokens_in from.now) result
+        ≡ wrong_value fault (holds defined.now) width (operands_left operands.entry) }
 {
     if after_operand(operands?).is_none() {
         return operands;
     }
     let mut rest = operands;
     while let Some(operand) = rest {
-        if is_wrong_value(fault, width, operand_at(operand)) {
+        if is_wrong_value(fault, defined, width, operand_at(operand)) {
             return Some(operand);
         }
         rest = after_operand(operand);
@@ -200,7 +222,7 @@ fn fixed_places(form: Form, count: usize) -> &'static [Place]
             _ => &[Place::Rd, Place::Rs1, Place::Value],
         },
         Form::Global => &[Place::Target],
-        Form::Constant => &[Place::Target, Place::Value],
+        Form::Constant => &[Place::Target, Place::Number],
         _ => &[],
     }
 }
@@ -209,17 +231,19 @@ fn fixed_places(form: Form, count: usize) -> &'static [Place]
 #[tactic(auto, unfolding(crate::specs::Culprit::culprit_of))]
 fn culprit_of<'t, 'a>(
     fault: AsmFault,
+    defined: &NameSet<'_>,
     form: Form,
     tokens: &'t [Token<'a>],
 ) -> Option<&'t [Token<'a>]>
-    ensures { option_map (λ from. tokens_in from.now) result ≡ culprit_of fault form (tokens_in tokens.entry.now) }
+    ensures { option_map (λ from. tokens_in from.now) result
+        ≡ culprit_of fault (holds defined.now) form (tokens_in tokens.entry.now) }
 {
     let operands = operands_on(tokens);
     match form {
         Form::Instruction(_, first, second, third) => {
             culprit_among(fault, &[first, second, third], operands)
         }
-        Form::Values(width) => wrong_value(fault, width, operands),
+        Form::Values(width) => wrong_value(fault, defined, width, operands),
         Form::Bytes(_, place) => culprit_among(fault, &[place], operands),
         Form::Nothing | Form::Jal | Form::Jalr | Form::Choice(_) | Form::Global | Form::Constant =>
             { culprit_among(fault, fixed_places(form, piece_count(tokens)), operands) }
@@ -249,13 +273,15 @@ fn marked<'t, 'a>(fault: AsmFault, tokens: &'t [Token<'a>]) -> &'t [Token<'a>]
     }
 }
 
-/// The operand of a statement for which a fault is reported, from its token at fault on.
+/// The operand of a statement for which a fault is reported, where these symbols are defined, from its token at fault on.
 #[tactic(auto, unfolding(crate::specs::Culprit::operand_of_fault))]
 pub(crate) fn operand_of_fault<'t, 'a>(
     fault: AsmFault,
+    defined: &NameSet<'_>,
     body: &'t [Token<'a>],
 ) -> Option<&'t [Token<'a>]>
-    ensures { option_map (λ from. tokens_in from.now) result ≡ operand_of_fault fault (tokens_in body.entry.now) }
+    ensures { option_map (λ from. tokens_in from.now) result
+        ≡ operand_of_fault fault (holds defined.now) (tokens_in body.entry.now) }
 {
     let [Token::Name(name), rest @ ..] = body else {
         return None;
@@ -264,7 +290,7 @@ pub(crate) fn operand_of_fault<'t, 'a>(
         return None;
     }
     let form = form_named(name)?;
-    let operand = culprit_of(fault, form, rest)?;
+    let operand = culprit_of(fault, defined, form, rest)?;
     Some(marked(fault, operand))
 }
 
@@ -282,15 +308,17 @@ fn unless_empty<'t, 'a>(tokens: &'t [Token<'a>], other: &'t [Token<'a>]) -> &'t 
 #[tactic(auto, unfolding(crate::specs::Culprit::culprit_on))]
 pub(crate) fn culprit_on<'t, 'a>(
     fault: AsmFault,
+    defined: &NameSet<'_>,
     tokens: &'t [Token<'a>],
 ) -> Option<&'t [Token<'a>]>
-    ensures { option_map (λ from. tokens_in from.now) result ≡ culprit_on fault (tokens_in tokens.entry.now) }
+    ensures { option_map (λ from. tokens_in from.now) result
+        ≡ culprit_on fault (holds defined.now) (tokens_in tokens.entry.now) }
 {
     if let AsmFault::DuplicateSymbol = fault {
         return definition_on(tokens);
     }
     let body = after_labels(tokens);
-    match operand_of_fault(fault, body) {
+    match operand_of_fault(fault, defined, body) {
         Some(operand) => Some(operand),
         None => Some(unless_empty(body, tokens)),
     }

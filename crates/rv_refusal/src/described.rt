@@ -1,16 +1,17 @@
-ghost use Rattle.std.specs.Prelude.{◌≡◌, ◌++◌, IfOk, OnOk, [], map, option_map, unwrap_or};
-ghost use Rattle.std.specs.Option.{option_map_or};
-ghost use Rattle.rv_isa.specs.Key.{key_place};
-ghost use Rattle.rv_refusal.specs.Described.{description_lines, key_at, key_line_text, known_expected, line_of_key, unknown_among, unknown_line, unknown_lines, value_lines};
+ghost use Rattle.std.specs.Prelude.{◌≡◌, ◌&&◌, ◌++◌, ◌==◌, IfOk, OnOk, is_none, map, not, option_map};
+ghost use Rattle.std.specs.{List.list_any, Str.bytes_eq};
+ghost use Rattle.rv_refusal.specs.Described.{description_lines, key_at, key_expected, key_hint, key_line_text, known_expected, line_of_key, table_expected, table_of, unknown_among, unknown_line, unknown_lines, value_lines};
 ghost use Rattle.rv_refusal.specs.KeyLine.{key_line};
+ghost use Rattle.rv_refusal.specs.NameOn.{table_on};
 
 use crate::caret::add_marked_line;
 use crate::key_default::add_values_line;
 use crate::key_line::{KeyLine, Wanted, first_named, full_name};
-use crate::key_names::{key_names, text_of};
-use crate::near::add_hint;
+use crate::key_names::{key_names, keys_named, text_of};
+use crate::name_on::table_on;
+use crate::near::{add_hint, add_names_line};
 use crate::place::add_line_place;
-use crate::text::add_text;
+use crate::text::{add_all, add_text};
 use crate::toml_fault::add_no_toml;
 use rv_describe::DescriptionError;
 use rv_isa::{Key, all_keys};
@@ -38,7 +39,7 @@ fn key_at(place: usize) -> Option<Key>
 
 // The name of the table that a key stands in, empty at top level.
 fn table_of(key: Key) -> &'static [u8]
-    ensures { result.now ≡ unwrap_or (key_place key).table [] }
+    ensures { result.now ≡ table_of key }
 {
     match key.place().table {
         Some(table) => table.as_bytes(),
@@ -58,23 +59,50 @@ fn line_of_key(alloc: Global, key: Key, part: &[u8]) -> Result<Option<KeyLine<'_
     }
 }
 
-// Appends the line at fault of a key, if it is found.
-fn add_line_of_key(
-    alloc: Global,
-    out: &mut Vec<u8>,
-    part: &[u8],
-    key: Key,
-) -> Result<(), AllocError>
-    ensures { OnOk result (out.new.items ≡ out.old.items ++ option_map_or key_line_text (line_of_key key part.now) []) }
+// Whether a line gives the table of a key a value that is none.
+fn gives_no_table(key: Key, name: &[u8], line: &[u8]) -> bool
+    ensures { result ≡ (bytes_eq name.now (table_of key)
+        && (is_none (table_on line.now) && not (list_any (λ byte. byte == 123) line.now))) }
 {
-    match line_of_key(alloc, key, part) {
-        Ok(Some(found)) => add_key_line(out, found),
-        Ok(None) => Ok(()),
-        Err(refused) => Err(refused),
-    }
+    name == table_of(key) && table_on(line).is_none() && !line.contains(&b'{')
 }
 
-// Appends why a description is refused by the value at a key: the line at fault, and which values the key takes.
+// Appends that the table of a key is a table.
+#[tactic(auto, unfolding(crate::specs::Described::table_expected))]
+fn add_table_expected(out: &mut Vec<u8>, key: Key) -> Result<(), AllocError>
+    ensures { OnOk result (out.new.items ≡ out.old.items ++ table_expected key) }
+{
+    let table = table_of(key);
+    add_all(
+        out,
+        &[
+            b"expected: ",
+            table,
+            b" is a table, as in a line '[",
+            table,
+            b"]' before those of its keys\n",
+        ],
+    )
+}
+
+// Appends what was expected at the line of a key.
+#[tactic(auto, unfolding(crate::specs::Described::key_expected))]
+fn add_key_expected(
+    alloc: Global,
+    out: &mut Vec<u8>,
+    key: Key,
+    found: KeyLine<'_>,
+) -> Result<(), AllocError>
+    ensures { OnOk result (out.new.items ≡ out.old.items ++ key_expected key (key_line found.entry)) }
+{
+    let name = full_name(alloc, found)?;
+    if gives_no_table(key, name.as_slice(), found.line) {
+        return add_table_expected(out, key);
+    }
+    add_values_line(out, key)
+}
+
+// Appends why a description is refused by the value at a key: the line at fault, and what was expected there.
 #[tactic(auto, unfolding(crate::specs::Described::value_lines))]
 fn add_value_lines(
     alloc: Global,
@@ -84,8 +112,11 @@ fn add_value_lines(
 ) -> Result<(), AllocError>
     ensures { OnOk result (out.new.items ≡ out.old.items ++ value_lines part.now key) }
 {
-    add_line_of_key(alloc, out, part, key)?;
-    add_values_line(out, key)
+    let Some(found) = line_of_key(alloc, key, part)? else {
+        return add_values_line(out, key);
+    };
+    add_key_line(out, found)?;
+    add_key_expected(alloc, out, key, found)
 }
 
 // What was expected in place of an unknown name.
@@ -94,6 +125,26 @@ fn known_expected() -> &'static [u8]
     ensures { result.now ≡ known_expected }
 {
     b"expected: a key or a table of a description\n"
+}
+
+// Appends the line on an unknown name by the keys that have it in another table, or else by the known names that it may
+// stand for.
+#[tactic(auto, unfolding(crate::specs::Described::key_hint))]
+fn add_key_hint(
+    alloc: Global,
+    out: &mut Vec<u8>,
+    known: &[&[u8]],
+    found: KeyLine<'_>,
+    keys: &[&[u8]],
+) -> Result<(), AllocError>
+    ensures { OnOk result (out.new.items ≡ out.old.items ++ key_hint (map (λ name. name.now) known.now)
+        (key_line found.entry) (map (λ name. name.now) keys.now)) }
+{
+    if keys.is_empty() {
+        let name = full_name(alloc, found)?;
+        return add_hint(alloc, out, name.as_slice(), known);
+    }
+    add_names_line(out, keys)
 }
 
 // Appends a line with an unknown name, what was expected there, and the known names that it may stand for.
@@ -109,8 +160,8 @@ fn add_unknown_line(
 {
     add_key_line(out, found)?;
     add_text(out, known_expected())?;
-    let name = full_name(alloc, found)?;
-    add_hint(alloc, out, name.as_slice(), known)
+    let keys = keys_named(alloc, found.name)?;
+    add_key_hint(alloc, out, known, found, keys.as_slice())
 }
 
 // Appends the first line of a description with a name that is none of these.

@@ -1,11 +1,11 @@
 ghost use Rattle.std.specs.Prelude.{◌≡◌, ◌++◌, OnOk};
-ghost use Rattle.rv_describe.specs.KeyRange.{key_range, quoted};
+ghost use Rattle.rv_describe.specs.KeyRange.{key_range, number_text, quoted};
 ghost use Rattle.rv_refusal.specs.KeyDefault.{key_default, truth_word, values_line};
 
 use crate::key_names::text_of;
-use crate::text::{add_all, add_number, add_text};
-use rv_describe::KeyRange;
-use rv_isa::{Key, Values};
+use crate::text::{add_all, add_text};
+use rv_describe::{KeyNumber, KeyRange};
+use rv_isa::{Key, NumberKey, Values};
 use std::alloc::AllocError;
 use std::io::Write;
 
@@ -33,6 +33,16 @@ fn add_key_range(out: &mut Vec<u8>, key: Key) -> Result<(), AllocError>
     }
 }
 
+// Appends a number that stands at a key.
+fn add_key_number(out: &mut Vec<u8>, key: NumberKey, number: u32) -> Result<(), AllocError>
+    ensures { OnOk result (out.new.items ≡ out.old.items ++ number_text key number) }
+{
+    match write!(out, "{}", KeyNumber { key, number }) {
+        Ok(()) => Ok(()),
+        Err(_) => Err(AllocError),
+    }
+}
+
 // Appends the value of a key that is missing.
 #[tactic(auto, unfolding(crate::specs::KeyDefault::key_default))]
 fn add_key_default(out: &mut Vec<u8>, key: Key) -> Result<(), AllocError>
@@ -40,7 +50,7 @@ fn add_key_default(out: &mut Vec<u8>, key: Key) -> Result<(), AllocError>
 {
     let standard = Values::standard();
     match key {
-        Key::Number(key) => add_number(out, standard.number(key) as usize),
+        Key::Number(key) => add_key_number(out, key, standard.number(key)),
         Key::Recovery => add_quoted(out, standard.recovery.name().as_bytes()),
         Key::Pipelined(kind) => { add_text(out, truth_word(standard.kinds.get(kind).pipelined)) }
         Key::PredictorKind => add_quoted(out, standard.predictor.kind.name().as_bytes()),

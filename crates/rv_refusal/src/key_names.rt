@@ -1,7 +1,7 @@
 ghost use Rattle.std.specs.Prelude.{◌≡◌, ◌++◌, IfOk, None, OnOk, map, option_copied};
-ghost use Rattle.rv_isa.specs.Key.{text_of};
+ghost use Rattle.rv_isa.specs.Key.{order, text_of};
 ghost use Rattle.rv_describe.specs.Unknown.{same_table};
-ghost use Rattle.rv_refusal.specs.KeyNames.{key_names, new_table, tables_from};
+ghost use Rattle.rv_refusal.specs.KeyNames.{key_names, keys_named, new_table, tables_from};
 
 use crate::names::add_name;
 use rv_isa::{Key, all_keys};
@@ -74,5 +74,18 @@ pub(crate) fn key_names(alloc: Global) -> Result<Vec<&'static [u8]>, AllocError>
     let mut names = Vec::new(alloc);
     add_keys(&mut names, all_keys())?;
     add_tables(&mut names, all_keys())?;
+    Ok(names)
+}
+
+/// Of all keys those of a name, with their tables' names before them.
+pub(crate) fn keys_named(alloc: Global, name: &[u8]) -> Result<Vec<&'static [u8]>, AllocError>
+    ensures { IfOk result (λ names. map (λ name. name.now) names.items ≡ keys_named name.now order) }
+{
+    let mut names = Vec::new(alloc);
+    for key in all_keys() {
+        if name == key.place().name.as_bytes() {
+            add_name(&mut names, text_of(*key))?;
+        }
+    }
     Ok(names)
 }

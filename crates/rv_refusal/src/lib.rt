@@ -17,6 +17,7 @@ mod key_line;
 mod key_names;
 mod lines;
 mod name_on;
+mod name_set;
 mod names;
 mod near;
 mod operand_tokens;

@@ -1,6 +1,6 @@
 ghost use Rattle.std.specs.Prelude.{◌≡◌, ◌++◌, ◌∷◌, [], OnOk, map};
 ghost use Rattle.rv_asm.specs.Mnemonic.{instructions, others, pseudo_instructions};
-ghost use Rattle.rv_refusal.specs.Names.{csrs, mnemonics, registers};
+ghost use Rattle.rv_refusal.specs.Names.{csrs, directives, mnemonics, registers};
 
 use std::alloc::AllocError;
 
@@ -75,6 +75,14 @@ fn others() -> &'static [&'static [u8]]
     ensures { map (λ name. name.now) result.now ≡ map (λ row. row.0) others }
 {
     &OTHERS
+}
+
+/// The directives.
+#[tactic(auto, unfolding(rv_asm::specs::Mnemonic::others))]
+pub(crate) fn directives() -> &'static [&'static [u8]]
+    ensures { map (λ name. name.now) result.now ≡ directives }
+{
+    &OTHERS[2..]
 }
 
 /// Adds a name.

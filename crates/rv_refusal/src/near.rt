@@ -52,9 +52,9 @@ fn add_others(out: &mut Vec<u8>, names: &[&[u8]]) -> Result<(), AllocError>
     Ok(())
 }
 
-// Appends the line on some names, if there are any.
+/// Appends the line on some names, if there are any.
 #[tactic(auto, unfolding(crate::specs::Near::names_line))]
-fn add_names_line(out: &mut Vec<u8>, names: &[&[u8]]) -> Result<(), AllocError>
+pub(crate) fn add_names_line(out: &mut Vec<u8>, names: &[&[u8]]) -> Result<(), AllocError>
     ensures { OnOk result (out.new.items ≡ out.old.items ++ names_line (map (λ name. name.now) names.now)) }
 {
     let [first, others @ ..] = names else {

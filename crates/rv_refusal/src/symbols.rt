@@ -1,12 +1,12 @@
-ghost use Rattle.std.specs.Prelude.{◌≡◌, ◌++◌, OnOk, map, option_copied};
+ghost use Rattle.std.specs.Prelude.{◌≡◌, ◌++◌, IfOk, OnOk, map, option_copied};
 ghost use Rattle.std.specs.Option.{option_to_list};
 ghost use Rattle.rv_asm.specs.Layout.{labels_of};
 ghost use Rattle.rv_asm.specs.Read.{tokens_in};
-ghost use Rattle.rv_refusal.specs.Names.{constant_of, symbols_of, symbols_on};
+ghost use Rattle.rv_refusal.specs.Names.{constant_of, symbols_at, symbols_of, symbols_on};
 
 use crate::names::add_name;
 use crate::statement::{after_labels, first_name, tokens_on};
-use rv_asm::{Token, first_line};
+use rv_asm::{AsmFault, Token, first_line};
 use std::alloc::{AllocError, Global};
 
 // The symbol right after `.equ`.
@@ -46,9 +46,9 @@ fn add_symbols_on<'a>(symbols: &mut Vec<&'a [u8]>, tokens: &[Token<'a>]) -> Resu
     }
 }
 
-/// Adds the symbols that the lines of a text define.
+// Adds the symbols that the lines of a text define.
 #[tactic(auto, unfolding(crate::specs::Names::symbols_of))]
-pub(crate) fn add_symbols<'a>(
+fn add_symbols<'a>(
     alloc: Global,
     symbols: &mut Vec<&'a [u8]>,
     text: &'a [u8],
@@ -63,4 +63,21 @@ pub(crate) fn add_symbols<'a>(
         rest = behind;
     }
     Ok(())
+}
+
+/// The symbols that an assembly defines, where one is reported that it does not.
+#[tactic(auto, unfolding(crate::specs::Names::symbols_at))]
+pub(crate) fn symbols_at<'a>(
+    alloc: Global,
+    fault: AsmFault,
+    assembly: &'a [u8],
+) -> Result<Vec<&'a [u8]>, AllocError>
+    ensures { IfOk result (λ symbols. map (λ symbol. symbol.now) symbols.items
+        ≡ symbols_at fault assembly.entry.now) }
+{
+    let mut symbols = Vec::new(alloc);
+    if let AsmFault::UnknownSymbol = fault {
+        add_symbols(alloc, &mut symbols, assembly)?;
+    }
+    Ok(symbols)
 }

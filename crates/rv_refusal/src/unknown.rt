@@ -1,13 +1,16 @@
 ghost use Rattle.std.specs.Prelude.{◌≡◌, ◌++◌, OnOk, map, option_copied};
 ghost use Rattle.rv_asm.specs.Read.{tokens_in};
 ghost use Rattle.rv_refusal.specs.Names.{known_names, names_csr, unknown_name};
-ghost use Rattle.rv_refusal.specs.Near.{aligns_to_power, known_line, mnemonic_line, nearest_line};
+ghost use Rattle.rv_refusal.specs.NameSet.{holds};
+ghost use Rattle.rv_refusal.specs.Near.{aligns_to_power, counterpart, known_line, mnemonic_line, nearest_line};
 
 use crate::culprit::operand_of_fault;
-use crate::names::{add_mnemonics, csrs, registers};
-use crate::near::{add_hint, add_nearest};
+use crate::key_line::is_among;
+use crate::name_on::begins_with;
+use crate::name_set::NameSet;
+use crate::names::{add_mnemonics, csrs, directives, registers};
+use crate::near::{add_hint, add_names_line, add_nearest};
 use crate::statement::{after_labels, first_name};
-use crate::symbols::add_symbols;
 use crate::text::add_text;
 use rv_asm::{AsmFault, Form, Operation, Token, form_named};
 use std::alloc::{AllocError, Global};
@@ -27,33 +30,36 @@ fn names_csr(body: &[Token<'_>]) -> bool
 
 // The name at fault in a statement.
 #[tactic(auto, unfolding(crate::specs::Names::unknown_name))]
-fn unknown_name<'a>(fault: AsmFault, body: &[Token<'a>]) -> Option<&'a [u8]>
-    ensures { option_copied result ≡ unknown_name fault (tokens_in body.now) }
+fn unknown_name<'a>(fault: AsmFault, defined: &NameSet<'_>, body: &[Token<'a>]) -> Option<&'a [u8]>
+    ensures { option_copied result ≡ unknown_name fault (holds defined.now) (tokens_in body.now) }
 {
     match fault {
         AsmFault::UnknownMnemonic => first_name(body),
         AsmFault::BadOperands if !names_csr(body) => None,
-        _ => first_name(operand_of_fault(fault, body)?),
+        _ => first_name(operand_of_fault(fault, defined, body)?),
     }
 }
 
-// Adds the names that may stand where a fault of an assembly is reported.
+// Adds the names that may stand in place of one at a fault of an assembly that defines these symbols.
 #[tactic(auto, unfolding(crate::specs::Names::known_names))]
 fn add_known_names<'a>(
-    alloc: Global,
     names: &mut Vec<&'a [u8]>,
     fault: AsmFault,
-    assembly: &'a [u8],
+    name: &[u8],
+    symbols: &[&'a [u8]],
 ) -> Result<(), AllocError>
     ensures { OnOk result (map (λ name. name.now) names.new.items
-        ≡ map (λ name. name.now) names.old.items ++ known_names fault assembly.entry.now) }
+        ≡ map (λ name. name.now) names.old.items
+        ++ known_names fault name.now (map (λ symbol. symbol.now) symbols.now)) }
 {
     match fault {
+        AsmFault::UnknownMnemonic if begins_with(b'.', name) => {
+            names.extend_from_slice(directives())
+        }
         AsmFault::UnknownMnemonic => add_mnemonics(names),
         AsmFault::BadRegister => names.extend_from_slice(registers()),
         AsmFault::BadOperands => names.extend_from_slice(csrs()),
-        AsmFault::UnknownSymbol => add_symbols(alloc, names, assembly),
-        _ => Ok(()),
+        _ => names.extend_from_slice(symbols),
     }
 }
 
@@ -62,6 +68,26 @@ fn aligns_to_power(name: &[u8]) -> bool
     ensures { result ≡ aligns_to_power name.now }
 {
     name == b".align".as_slice() || name == b".p2align".as_slice()
+}
+
+// The directive that does what one of other assemblers does.
+#[tactic(auto, unfolding(crate::specs::Near::counterpart))]
+fn counterpart(name: &[u8]) -> Option<&'static [u8]>
+    ensures { option_copied result ≡ counterpart name.now }
+{
+    if is_among(name, &[b".set", b".eqv"]) {
+        return Some(b".equ");
+    }
+    if is_among(name, &[b".long", b".4byte"]) {
+        return Some(b".word");
+    }
+    if is_among(name, &[b".short", b".2byte"]) {
+        return Some(b".half");
+    }
+    if is_among(name, &[b".org", b".fill"]) {
+        return Some(b".zero");
+    }
+    None
 }
 
 // Appends the line on an unknown mnemonic.
@@ -81,23 +107,26 @@ fn add_mnemonic_line(
             b"nearest: .balign, in bytes: .balign 4 for .align 2, .balign 8 for .align 3\n",
         );
     }
-    add_hint(alloc, out, name, known)
+    match counterpart(name) {
+        Some(other) => add_names_line(out, &[other]),
+        None => add_hint(alloc, out, name, known),
+    }
 }
 
-// Appends the line on an unknown name by those that may stand where a fault of an assembly is reported.
+// Appends the line on an unknown name by those that may stand in its place, where these symbols are defined.
 #[tactic(auto, unfolding(crate::specs::Near::known_line))]
 fn add_known(
     alloc: Global,
     out: &mut Vec<u8>,
     fault: AsmFault,
     name: &[u8],
-    assembly: &[u8],
+    symbols: &[&[u8]],
 ) -> Result<(), AllocError>
-    ensures { OnOk result (out.new.items
-        ≡ out.old.items ++ known_line fault name.now (known_names fault assembly.now)) }
+    ensures { OnOk result (out.new.items ≡ out.old.items ++ known_line fault name.now
+        (known_names fault name.now (map (λ symbol. symbol.now) symbols.now))) }
 {
     let mut known = Vec::new(alloc);
-    add_known_names(alloc, &mut known, fault, assembly)?;
+    add_known_names(&mut known, fault, name, symbols)?;
     match fault {
         AsmFault::UnknownMnemonic => add_mnemonic_line(alloc, out, name, known.as_slice()),
         AsmFault::UnknownSymbol => add_nearest(alloc, out, name, known.as_slice()),
@@ -105,19 +134,22 @@ fn add_known(
     }
 }
 
-/// Appends the line on the unknown name of a line at fault with these tokens, where its fault is one of a name.
+/// Appends the line on the unknown name of a line at fault with these tokens, where its fault is one of a name, of an
+/// assembly that defines these symbols.
 #[tactic(auto, unfolding(crate::specs::Near::nearest_line))]
 pub(crate) fn add_nearest_line(
     alloc: Global,
     out: &mut Vec<u8>,
     fault: AsmFault,
+    defined: &NameSet<'_>,
+    symbols: &[&[u8]],
     tokens: &[Token<'_>],
-    assembly: &[u8],
 ) -> Result<(), AllocError>
-    ensures { OnOk result (out.new.items ≡ out.old.items ++ nearest_line fault (tokens_in tokens.now) assembly.now) }
+    ensures { OnOk result (out.new.items ≡ out.old.items
+        ++ nearest_line fault (holds defined.now) (map (λ symbol. symbol.now) symbols.now) (tokens_in tokens.now)) }
 {
-    match unknown_name(fault, after_labels(tokens)) {
-        Some(name) => add_known(alloc, out, fault, name, assembly),
+    match unknown_name(fault, defined, after_labels(tokens)) {
+        Some(name) => add_known(alloc, out, fault, name, symbols),
         None => Ok(()),
     }
 }

@@ -88,7 +88,7 @@ static SHAPES: [(&str, &str); 16] = [
     (".globl", "\nexpected: .globl symbol, as in '.globl loop'\n"),
     (
         ".equ a",
-        "\nexpected: .equ symbol, value, as in '.equ loop, 8'\n",
+        "\nexpected: .equ symbol, number, as in '.equ loop, 8'\n",
     ),
     (
         ".word",

@@ -2,7 +2,7 @@ use crate::refusal::{Refused, check_whole};
 use std::test::Fail;
 
 // Assembly texts that are refused, with the line that is shown of each.
-static REFUSED: [Refused; 20] = [
+static REFUSED: [Refused; 33] = [
     Refused {
         job: b"rob = 8\n%%\nnop\n\tslli x1, x1, 32 # \xc3\xa4\n",
         why: b"\
@@ -50,6 +50,133 @@ line 1 of the job, line 1 of its assembly: UnknownMnemonic
     ^
 expected: a statement that begins with an instruction or a directive
 nearest: .balign, in bytes: .balign 4 for .align 2, .balign 8 for .align 3
+",
+    },
+    Refused {
+        job: b".org 5\n",
+        why: b"\
+line 1 of the job, line 1 of its assembly: UnknownMnemonic
+    .org 5
+    ^
+expected: a statement that begins with an instruction or a directive
+nearest: .zero
+",
+    },
+    Refused {
+        job: b".set a, 5\n",
+        why: b"\
+line 1 of the job, line 1 of its assembly: UnknownMnemonic
+    .set a, 5
+    ^
+expected: a statement that begins with an instruction or a directive
+nearest: .equ
+",
+    },
+    Refused {
+        job: b".eqv a, 5\n",
+        why: b"\
+line 1 of the job, line 1 of its assembly: UnknownMnemonic
+    .eqv a, 5
+    ^
+expected: a statement that begins with an instruction or a directive
+nearest: .equ
+",
+    },
+    Refused {
+        job: b".long 5\n",
+        why: b"\
+line 1 of the job, line 1 of its assembly: UnknownMnemonic
+    .long 5
+    ^
+expected: a statement that begins with an instruction or a directive
+nearest: .word
+",
+    },
+    Refused {
+        job: b".4byte 5\n",
+        why: b"\
+line 1 of the job, line 1 of its assembly: UnknownMnemonic
+    .4byte 5
+    ^
+expected: a statement that begins with an instruction or a directive
+nearest: .word
+",
+    },
+    Refused {
+        job: b".short 5\n",
+        why: b"\
+line 1 of the job, line 1 of its assembly: UnknownMnemonic
+    .short 5
+    ^
+expected: a statement that begins with an instruction or a directive
+nearest: .half
+",
+    },
+    Refused {
+        job: b".2byte 5\n",
+        why: b"\
+line 1 of the job, line 1 of its assembly: UnknownMnemonic
+    .2byte 5
+    ^
+expected: a statement that begins with an instruction or a directive
+nearest: .half
+",
+    },
+    Refused {
+        job: b".fill 5\n",
+        why: b"\
+line 1 of the job, line 1 of its assembly: UnknownMnemonic
+    .fill 5
+    ^
+expected: a statement that begins with an instruction or a directive
+nearest: .zero
+",
+    },
+    Refused {
+        job: b".rep 5\n",
+        why: b"\
+line 1 of the job, line 1 of its assembly: UnknownMnemonic
+    .rep 5
+    ^
+expected: a statement that begins with an instruction or a directive
+",
+    },
+    Refused {
+        job: b".add x1, x2, x3\n",
+        why: b"\
+line 1 of the job, line 1 of its assembly: UnknownMnemonic
+    .add x1, x2, x3
+    ^
+expected: a statement that begins with an instruction or a directive
+",
+    },
+    Refused {
+        job: b".word x5, x5\n",
+        why: b"\
+line 1 of the job, line 1 of its assembly: UnknownSymbol
+    .word x5, x5
+          ^
+expected: a symbol that a label or .equ defines
+",
+    },
+    Refused {
+        job: b"loop: .word loop, lop + 4, lop\n.equ size, 4\n.half size\n",
+        why: b"\
+line 1 of the job, line 1 of its assembly: UnknownSymbol
+    loop: .word loop, lop + 4, lop
+                      ^
+expected: a symbol that a label or .equ defines
+nearest: loop
+",
+    },
+    Refused {
+        job: b"a: .byte b, 1, c\n.equ b, 2",
+        why: b"\
+line 1 of the job, line 1 of its assembly: UnknownSymbol
+    a: .byte b, 1, c
+                   ^
+expected: a symbol that a label or .equ defines
+nearest: a, b
 ",
     },
     Refused {

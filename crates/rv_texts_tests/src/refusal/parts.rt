@@ -72,7 +72,7 @@ expected: rom_bytes is a multiple of 4096 from 0 to ram_size, by default 0
 line 2 of the job, line 2 of its description
     dump_address = 2
     ^
-expected: report.dump_address is a multiple of 4 from 0 to 4294967292, by default 0
+expected: report.dump_address is a multiple of 4 from 0x0 to 0xfffffffc, by default 0x0
 ",
     },
     Refused {
@@ -104,8 +104,39 @@ expected: predictor.kind is \"not_taken\", \"backward_taken\" or \"bimodal\", by
     },
 ];
 
+// Descriptions that give a table a value that is none, and one that gives it a value in braces.
+static TABLES: [Refused; 3] = [
+    Refused {
+        job: b"rob = 8\ncache = 4\n%%\n",
+        why: b"\
+line 2 of the job, line 2 of its description
+    cache = 4
+    ^
+expected: cache is a table, as in a line '[cache]' before those of its keys
+",
+    },
+    Refused {
+        job: b"alu = \"fast\"\n%%\n",
+        why: b"\
+line 1 of the job, line 1 of its description
+    alu = \"fast\"
+    ^
+expected: alu is a table, as in a line '[alu]' before those of its keys
+",
+    },
+    Refused {
+        job: b"cache = { sets = 3 }\n%%\n",
+        why: b"\
+line 1 of the job, line 1 of its description
+    cache = { sets = 3 }
+    ^
+expected: cache.sets is a power of two from 1 to 256, by default 16
+",
+    },
+];
+
 // Descriptions with names that are not known, one without the line's name, and one that is no TOML.
-static NAMES: [Refused; 7] = [
+static NAMES: [Refused; 10] = [
     Refused {
         job: b"\xef\xbb\xbfrbo = 8\nrob = 8\n%%\n",
         why: b"\
@@ -158,6 +189,36 @@ nearest: cache.sets, cache.hit
     Refused {
         job: b"cache = { set = 4 }\n%%\n",
         why: b"expected: keys and tables of a description\n",
+    },
+    Refused {
+        job: b"dump_words = 4\n%%\n",
+        why: b"\
+line 1 of the job, line 1 of its description
+    dump_words = 4
+    ^
+expected: a key or a table of a description
+nearest: report.dump_words
+",
+    },
+    Refused {
+        job: b"[cache]\nlatency = 4\n%%\n",
+        why: b"\
+line 2 of the job, line 2 of its description
+    latency = 4
+    ^
+expected: a key or a table of a description
+nearest: alu.latency, mul.latency, div.latency, mem.latency
+",
+    },
+    Refused {
+        job: b"[cache]\nsets = 4\nrob = 8\n%%\n",
+        why: b"\
+line 3 of the job, line 3 of its description
+    rob = 8
+    ^
+expected: a key or a table of a description
+nearest: rob
+",
     },
     Refused {
         job: b"ROB = 8\n%%\n",
@@ -264,6 +325,11 @@ fn a_refusal_shows_the_line_of_a_key_and_its_range(rt: HostRuntime) -> Result<()
 #[test]
 fn a_refusal_shows_the_line_of_an_unknown_name(rt: HostRuntime) -> Result<(), Fail> {
     check_whole(&rt, rt.alloc(), &NAMES)
+}
+
+#[test]
+fn a_refusal_says_that_a_name_is_one_of_a_table(rt: HostRuntime) -> Result<(), Fail> {
+    check_whole(&rt, rt.alloc(), &TABLES)
 }
 
 #[test]
