@@ -39,12 +39,18 @@ came_from None series = false
 came_from (Some cycle) None = false
 came_from (Some cycle) (Some series) = nat_le cycle series.last.cycle
 
+-- a higher line was taken
+unfoldable pub passed_text : Bool → List ℕ
+passed_text passed = if passed then codes "a higher one was taken, and " else []
+
+-- what stands in the way of a line whose bit in mie is 1, by mstatus.MIE
+unfoldable pub due_text : Bool → List ℕ
+due_text global = if global then codes "it is due\n" else codes "mstatus.MIE is 0\n"
+
 -- What stands in the way of a line, by whether a higher one was taken while it was high, by its bit in mie, and by mstatus.MIE.
 unfoldable pub hindrance_text : Bool → Bool → Bool → List ℕ → List ℕ
 hindrance_text passed enabled global bit =
-    if enabled
-    then (if passed then codes "a higher one was taken each time\n"
-    else (if global then codes "it is due\n" else codes "mstatus.MIE is 0\n"))
+    if enabled then passed_text passed ++ due_text global
     else (if global then codes "mie." ++ (bit ++ codes " is 0\n")
     else codes "mstatus.MIE and mie." ++ (bit ++ codes " are 0\n"))
 

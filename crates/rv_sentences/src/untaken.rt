@@ -1,6 +1,6 @@
 ghost use Rattle.std.specs.Prelude.{◌≡◌, ◌<◌, ◌++◌};
 ghost use Rattle.rv_arch.specs.Csr.{has_bit};
-ghost use Rattle.rv_sentences.specs.Untaken.{all_untaken_text, came_from, high_text, hindrance_text, untaken_text};
+ghost use Rattle.rv_sentences.specs.Untaken.{all_untaken_text, came_from, due_text, high_text, hindrance_text, passed_text, untaken_text};
 ghost use Rattle.rv_text.specs.Said.{Says};
 
 use crate::interruption::Interruption;
@@ -35,6 +35,28 @@ fn write_bit<W: Write>(out: &mut Sink<'_, W>, before: &[u8], bit: &[u8], after: 
     out.put_all(&[before, bit, after]);
 }
 
+// Writes that a higher line was taken, if one was.
+#[tactic(auto, using(rv_text::proofs::Saying::saying), unfolding(crate::specs::Untaken::passed_text))]
+fn write_passed<W: Write>(out: &mut Sink<'_, W>, passed: bool)
+    ensures { Says W.contents out.old out.new (passed_text passed) }
+{
+    if passed {
+        out.put(b"a higher one was taken, and ");
+    }
+}
+
+// Writes what stands in the way of a line whose bit in `mie` is 1.
+#[tactic(auto, using(rv_text::proofs::Saying::saying), unfolding(crate::specs::Untaken::due_text))]
+fn write_due<W: Write>(out: &mut Sink<'_, W>, global: bool)
+    ensures { Says W.contents out.old out.new (due_text global) }
+{
+    if global {
+        out.put(b"it is due\n");
+    } else {
+        out.put(b"mstatus.MIE is 0\n");
+    }
+}
+
 // Writes what stands in the way of a line.
 #[tactic(auto, using(rv_text::proofs::Saying::saying), unfolding(crate::specs::Untaken::hindrance_text))]
 fn write_hindrance<W: Write>(
@@ -47,13 +69,8 @@ fn write_hindrance<W: Write>(
     ensures { Says W.contents out.old out.new (hindrance_text passed enabled global bit.now) }
 {
     if enabled {
-        if passed {
-            out.put(b"a higher one was taken each time\n");
-        } else if global {
-            out.put(b"it is due\n");
-        } else {
-            out.put(b"mstatus.MIE is 0\n");
-        }
+        write_passed(out, passed);
+        write_due(out, global);
     } else if global {
         write_bit(out, b"mie.", bit, b" is 0\n");
     } else {

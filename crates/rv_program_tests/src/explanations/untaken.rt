@@ -21,7 +21,7 @@ static UNTAKEN: [Explained; 6] = [
     },
     Explained {
         program: PASSED,
-        line: "The timer line is high from cycle 20 on, and was never taken: a higher one was taken each time",
+        line: "The timer line is high from cycle 20 on, and was never taken: a higher one was taken, and mstatus.MIE is 0",
     },
     Explained {
         program: "ram_base = 0\n%%\n[[arrival]]\ncycle = 0\nline = \"external\"\n%%\nlui t0, 1\nsrli t0, t0, 1\ncsrw mie, t0\nl: j l",

@@ -25,7 +25,7 @@ def untaken_in(lines):
             clear = [*(["mstatus.MIE"] if not is_global else []), *([f"mie.{bit}"] if not is_enabled else [])]
             why = f"{' and '.join(clear)} {'are' if clear[1:] else 'is'} 0" if clear else "it is due"
             if is_enabled and is_passed:
-                why = "a higher one was taken each time"
+                why = f"a higher one was taken, and {why}"
             yield f"The {name} line is high from cycle {since[name]} on, and was never taken: {why}"
 
 
