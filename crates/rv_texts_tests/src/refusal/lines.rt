@@ -176,7 +176,6 @@ line 1 of the job, line 1 of its assembly: UnknownSymbol
     a: .byte b, 1, c
                    ^
 expected: a symbol that a label or .equ defines
-nearest: a, b
 ",
     },
     Refused {

@@ -45,7 +45,7 @@ expected: cache.line is a power of two from 4 to 128, by default 16
 line 1 of the job, line 1 of its description
     cache = 3
     ^
-expected: cache.sets is a power of two from 1 to 256, by default 16
+expected: cache is a table, as in a line '[cache]' before those of its keys
 ",
     },
     Refused {
