@@ -31,7 +31,7 @@ came_to_once {arrivals} {options} {h} {predictor} run run' within is is' =
     let same = one_run within (ended_run is) (ended_run is') in
     let totals : run.totals ≡ run'.totals =
     is.totals_are ∙ (λ i. totals_at (reports_of (same.moments_are i)) (same.reasons i)) ∙ sym is'.totals_are in
-    let losses : run.losses ≡ run'.losses = is.losses_are ∙ (λ i. losses_of h (same.moments_are i) (same.ends i).hardware) ∙ sym is'.losses_are in
+    let losses : run.losses ≡ run'.losses = is.losses_are ∙ (λ i. losses_of h (same.moments_are i)) ∙ sym is'.losses_are in
     let events : run.events ≡ run'.events = is.events_are ∙ (λ i. events_in h.values h (same.moments_are i)) ∙ sym is'.events_are in
     let words : run.words ≡ run'.words = is.words_are ∙ (λ i. words_of options.shown (same.ends i).hardware) ∙ sym is'.words_are in
     let places : run.places ≡ run'.places =

@@ -7,4 +7,5 @@ mod MemoryLines
 mod Placed
 mod TableRows
 mod Speculated
+mod Passed
 mod Tallied

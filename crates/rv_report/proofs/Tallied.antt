@@ -12,7 +12,7 @@ use Rattle.rv_hardware.specs.Draining.{drain_end}
 use Rattle.rv_hardware.specs.Guided.{GuidedHardware}
 use Rattle.rv_hardware.specs.Hardware.{Hardware}
 use Rattle.rv_hardware.specs.History.{History, Moment, cycled, ended, reports_of}
-use Rattle.rv_hardware.specs.Run.{IsStop, steps_of}
+use Rattle.rv_hardware.specs.Run.{IsStop, Reachable, steps_of}
 use Rattle.rv_hardware.specs.Step.{is_interrupt, is_retirement, is_trap}
 use Rattle.rv_hardware.specs.declared.step.Step.{Step}
 use Rattle.rv_report.specs.Comparison.{RunsTo}
@@ -27,6 +27,7 @@ use Rattle.rv_report.specs.declared.events.Event.TheVariants.{Branch, Load, Miss
 use Rattle.rv_counts.specs.Places.{AddUp, AreLostFor}
 use Rattle.rv_counts.specs.declared.{loads.LoadCosts.LoadCosts, run_places.RunPlaces.RunPlaces}
 use Rattle.rv_report.proofs.LiveReport.{counts_of-append}
+use Rattle.rv_report.proofs.Passed.{losses-passed}
 use Rattle.rv_report.proofs.Speculated.{speculated-push}
 
 abbrev sum_with : Events → Events → Events → Type 0
@@ -223,21 +224,22 @@ module _ {arrivals : List Arrival} {old new : GuidedHardware} {moments : List
   -- what a run came to that ended
   pub tallied_to_the_end : {progress : Progress} {stop : Stop} {totals : Totals} {losses : Losses} {did : Events}
       {words : Columns (Option ℕ)} {places : Option RunPlaces} (options : TableOptions) (left : ℕ) →
-      History arrivals old moments new → progress ≡ progress_of (reports_of moments)
+      Reachable old.hardware → new.hardware.cycle ≤ 2 ^ 40 → History arrivals old moments new → progress ≡ progress_of (reports_of moments)
       → IsStop options.limit (reports_of moments) new.hardware stop → totals ≡ totals_with progress counts stop →
       left ≡ in_flight new.hardware.rob new.hardware.front → losses ≡ losses_with s counts left →
       did ≡ events.counts → words ≡ words_of options.shown new.hardware
       → places ≡ places_shown options.shown old.hardware moments new.hardware →
       AddUp old.hardware moments new.hardware → AreLostFor arrivals old.hardware moments
       → RunsTo arrivals options old (record { totals = totals; losses = losses; events = did; words = words; places = places })
-  tallied_to_the_end {stop = stop} options left passes counted stops totals_are left_is losses_are did_are words_are
+  tallied_to_the_end {stop = stop} options left reached within passes counted stops totals_are left_is losses_are did_are words_are
       places_are add_up lost_for = rw totals_are (record {
         moments = moments;
         new = new;
         cycles = passes;
         stops = stops;
         totals_are = λ i. totals_with (counted i) (tallied.counted i) stop;
-        losses_are = losses_are ∙ (λ i. losses_with (tallied.speculated i) (tallied.counted i) (left_is i));
+        losses_are = losses_are ∙ (λ i. losses_with (tallied.speculated i) (tallied.counted i) (left_is i))
+            ∙ losses-passed reached passes within;
         words_are = words_are;
         events_are = did_are ∙ ap (λ (e : EventCounter). e.counts) tallied.happened;
         places_are = places_are;

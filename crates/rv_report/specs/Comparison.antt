@@ -30,7 +30,7 @@ pub record RunsTo (arrivals : List Arrival) (options : TableOptions) (old : Guid
   pub cycles : History arrivals old moments new
   pub stops : IsStop options.limit (reports_of moments) new.hardware run.totals.stop
   pub totals_are : run.totals ≡ totals_at (reports_of moments) run.totals.stop
-  pub losses_are : run.losses ≡ losses_of old.hardware moments new.hardware
+  pub losses_are : run.losses ≡ losses_of old.hardware moments
   pub words_are : run.words ≡ words_of options.shown new.hardware
   pub events_are : run.events ≡ events_in old.hardware.values old.hardware moments
   pub places_are : run.places ≡ places_shown options.shown old.hardware moments new.hardware

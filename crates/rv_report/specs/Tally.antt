@@ -2,6 +2,11 @@
 use Rattle.std.specs.Prelude.{◌≡◌, ℕ, ◌+◌, ◌-◌, ◌*◌, ◌≤◌, List, length, Option}
 use Rattle.std.specs.Option.{option_map}
 use Rattle.rv_watch.specs.Watching.{Watched}
+use Rattle.rv_passage.specs.declared.passage.Passage.{Passage}
+use Rattle.rv_counts.specs.Counts.{counts_of as counts_of_words}
+use Rattle.rv_counts.specs.Left.{passages_of_run}
+use Rattle.rv_counts.specs.Load.{costs_of}
+use Rattle.rv_counts.specs.declared.loads.LoadCosts.{LoadCosts}
 use Rattle.rv_counts.specs.Places.{AddUp, run_places}
 use Rattle.rv_counts.specs.declared.run_places.RunPlaces.{RunPlaces}
 use Rattle.rv_hardware.specs.Draining.{drain_end}
@@ -9,7 +14,7 @@ use Rattle.rv_hardware.specs.Hardware.{Hardware}
 use Rattle.rv_hardware.specs.History.{Moment, reports_of}
 use Rattle.rv_hardware.specs.Run.{steps_of}
 use Rattle.rv_report.specs.Events.{AreAtMost, events_in, events_so_far}
-use Rattle.rv_report.specs.Speculation.{Speculated, in_flight, speculated_at, speculated_in}
+use Rattle.rv_report.specs.Speculation.{Speculated, speculated_at, speculated_in}
 use Rattle.rv_report.specs.Totals.{counts_of}
 use Rattle.rv_report.specs.declared.{events.EventCounter.EventCounter, losses.Losses.Losses, totals.StepCounts.StepCounts}
 
@@ -20,11 +25,16 @@ losses_with s counts left = record {
   squashed = s.fetched - (counts.retired + counts.traps + left);
 }
 
--- what cycles lost that led from some hardware to other
-abbrev pub losses_of : Hardware → List Moment → Hardware → Losses
-losses_of old moments new =
-    losses_with (speculated_in (speculated_at old) moments) (counts_of (steps_of (reports_of moments)))
-    (in_flight new.rob new.front)
+-- what a profile counts of instructions as if all had one address
+abbrev pub losses_in : LoadCosts → List Passage → Losses
+losses_in costs passages = record {
+  mispredicted = (counts_of_words costs 0 passages 0).mispredicted;
+  squashed = (counts_of_words costs 0 passages 0).squashed;
+}
+
+-- what cycles lost from some hardware on: so much of all instructions that were in flight or fetched
+abbrev pub losses_of : Hardware → List Moment → Losses
+losses_of first moments = losses_in (costs_of first.values) (passages_of_run first moments)
 
 -- the cycles so far are counted, and no count is greater than they can make it
 pub record IsTallied (counts : StepCounts) (s : Speculated) (events : EventCounter) (seen : Watched) : Type 0 where

@@ -32,7 +32,8 @@ returns-clause-run g c =
     c.no_places-places.ensures (few_in_buffer c.shown-hardware.ensures c.in_buffer.ensures.counted c.in_buffer.ensures.few) in
     let run = c.watch-ended.ensures in
     let tallied = run.seen None begun in
-    tallied_to_the_end tallied.0 c.args.options.now c.count_in_flight.result run.passes run.counted
+    let reached = subst Reachable (c.hardware.view_is ∙ c.shown-hardware.ensures) c.hardware.invariant.reached in
+    tallied_to_the_end tallied.0 c.args.options.now c.count_in_flight.result reached c.is_exhausted.ensures.within run.passes run.counted
     (stops_by run c.in-Ok.stop c.in-Ok.is) c.new.ensures
     (c.count_in_flight.ensures.count ∙ ap (λ (h : Hardware). in_flight h.rob h.front) c.shown-left.ensures)
     c.losses.ensures refl
@@ -41,8 +42,7 @@ returns-clause-run g c =
     (c.no_places-places.ensures
     ∙ ap (λ (h : Hardware). places_shown c.args.options.now.shown h [] h) c.shown-hardware.ensures) tallied.1)
     tallied.1.places_add_up
-    (lost_for (subst Reachable (c.hardware.view_is ∙ c.shown-hardware.ensures) c.hardware.invariant.reached)
-    run.passes c.is_exhausted.ensures.within)
+    (lost_for reached run.passes c.is_exhausted.ensures.within)
 
 pub returns-clause-learned : goal.returns-clause-learned
 returns-clause-learned g c =
