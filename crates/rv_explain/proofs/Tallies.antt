@@ -36,6 +36,7 @@ use Rattle.rv_sentences.specs.WordCount.{count_at}
 use Rattle.rv_sentences.specs.WordNotes.{notes_of}
 use Rattle.rv_sentences.specs.Work.{is_mispredicted_branch, is_retired_branch, word_in}
 use Rattle.rv_sentences.specs.declared.{dispatches.Dispatches.Dispatches, exception.Exception.Exception, interruption.Interruption.Interruption}
+use Rattle.rv_sentences.specs.declared.work.Class.{Class}
 use Rattle.rv_sentences.specs.declared.work.Class.TheVariants.{Branch, Mispredicted}
 use Rattle.rv_sentences.proofs.DrainCounts.{drains_by-append, drains_of-le, drains_of-push}
 use Rattle.rv_sentences.proofs.DrainsGrow.{can_count_store, store_counts-push, waiting-push}
@@ -114,28 +115,44 @@ module _ (values : Values) where
       ≡ tally_of values arrivals old.hardware (moments ++ moment ∷ []) (filter has_left rows ++ left)
   tally-push {arrivals = arrivals} {old = old} {now = now} {moments = moments} moment rows left passes rows_are =
       let steps = shown_steps-push moments moment in
+      let so_far = steps_of (reports_of moments) in
+      let now_left = filter has_left rows in
+      let hit = values.cache.hit in
+      let drained = drains_of arrivals old.hardware moments in
+      let old_at = λ (class : Class). count_at (word_in class) left in
+      let new_at = λ (class : Class). count_at (word_in class) (now_left ++ left) in
       let exceptions = exceptions-push moments moment in
       let interrupts = interrupts-push moments moment in
-      let stores = with_stores_of values (stores_in now.hardware.registers moment.report.steps) (stores_of old.hardware moments) in
+      let stores =
+      with_stores_of values (stores_in now.hardware.registers moment.report.steps) (stores_of old.hardware moments) in
       let stored = sym (stores_of-push moment passes) in
-      let retired = sym (ap (count_by is_retirement) steps ∙ sum_by-append (λ (step : Step). cond (is_retirement step) 1 0) (steps_of (reports_of moments)) moment.report.steps) in
+      let retired =
+      sym (ap (count_by is_retirement) steps
+      ∙ sum_by-append (λ (step : Step). cond (is_retirement step) 1 0) so_far moment.report.steps) in
       let raised = sym (raised-push moment passes) in
       let places = sym (places_of-push moment passes) in
-      let dispatches = sym (ap (λ (all : List Step). dispatched_after all none_dispatched) steps ∙ dispatched_after-append (steps_of (reports_of moments)) moment.report.steps none_dispatched) in
+      let dispatches =
+      sym (ap (λ (all : List Step). dispatched_after all none_dispatched) steps
+      ∙ dispatched_after-append so_far moment.report.steps none_dispatched) in
       let stays = stays-push moment passes rows_are in
       let awaited = awaited-push moment passes rows_are values in
-      let work = work-left (filter has_left rows) left in
+      let work = work-left now_left left in
       let loads = loads-left (costs_of values) rows left in
-      let outcomes = outcomes-left values (costs_of values) (filter has_left rows) left in
-      let drains = sym (ap (drains_by values.cache.hit) (drains_of-push moment passes) ∙ drains_by-append values.cache.hit (drains_of arrivals old.hardware moments) (option_to_list (drain_in arrivals now.hardware))) in
+      let outcomes = outcomes-left values (costs_of values) now_left left in
+      let drains =
+      sym (ap (drains_by hit) (drains_of-push moment passes)
+      ∙ drains_by-append hit drained (option_to_list (drain_in arrivals now.hardware))) in
       let last_stores = stores ∙ (λ i. notes_of values (last_store_to (stored i))) in
       let heads = heads-push moment passes rows_are values in
       let idle = idle-push moment passes rows_are in
       let flusher = flusher-push moment passes rows_are in
       let waiting = waiting-push moment passes in
       let stores_drained = store_counts-push moment passes values (costs_of values) in
-      let branches = with_all_at values (word_in Branch) rows (count_at (word_in Branch) left) (count_at (word_in Branch) (filter has_left rows ++ left)) (branch_words-left rows left) in
-      let mispredicted = with_all_at values (word_in Mispredicted) rows (count_at (word_in Mispredicted) left) (count_at (word_in Mispredicted) (filter has_left rows ++ left)) (mispredicted_words-left rows left) in
+      let branches =
+      with_all_at values (word_in Branch) rows (old_at Branch) (new_at Branch) (branch_words-left rows left) in
+      let mispredicted =
+      with_all_at values (word_in Mispredicted) rows (old_at Mispredicted) (new_at Mispredicted)
+      (mispredicted_words-left rows left) in
       λ i. record {
         retired = retired i;
         exceptions = exceptions i;

@@ -33,7 +33,8 @@ use Rattle.rv_view.specs.Viewing.{IsNextCycle}
 use Rattle.rv_view.specs.declared.shown_cycle.ShownCycle.{ShownCycle}
 
 -- the heads of one cycle more
-heads_of-push : (moments : List Moment) (last : Moment) → heads_of (moments ++ last ∷ []) ≡ option_to_list (head_of last.after) ++ heads_of moments
+heads_of-push : (moments : List Moment) (last : Moment) →
+    heads_of (moments ++ last ∷ []) ≡ option_to_list (head_of last.after) ++ heads_of moments
 heads_of-push [] last = sym (append-nil (option_to_list (head_of last.after)))
 heads_of-push (moment ∷ moments) last =
     ap (λ heads. heads ++ option_to_list (head_of moment.after)) (heads_of-push moments last)
@@ -71,22 +72,28 @@ module _ {seen : Watched} {cycle : ShownCycle} (next : IsNextCycle seen cycle) {
       let after = cycle.hardware.now in
       let rows = cycle.rows.now in
       let moment : Moment = record { report = next.shown.report; after = after } in
+      let head_after = head_of after in
+      let with_it = with_head head_after profile.words in
+      let most = 577 * seen.now.hardware.cycle in
       let left = left_after seen.first.hardware seen.moments in
-      let left_now = filter has_left rows ++ left in
-      let words_now : profile'.words ≡ with_cycle costs rows (head_of after) profile.words = words ∙ (λ i. with_cycle (profiling.costs_are i) rows (head_is i) profile.words) in
-      let head_now = profile-head costs (head_of after) left (heads_of seen.moments) profile.words profiling.counted in
-      let all_now = profile-passages costs (filter has_left rows) left (option_to_list (head_of after) ++ heads_of seen.moments) (with_head (head_of after) profile.words) head_now in
-      let within_head = within-head (head_of after) (577 * seen.now.hardware.cycle) profile.words profiling.within in
-      let within_now = within-passages costs (filter has_left rows) (577 * seen.now.hardware.cycle + 1) (with_head (head_of after) profile.words) within_head in
-      let lefts : left_after seen.first.hardware (seen.moments ++ moment ∷ []) ≡ left_now = left-push next.shown.passes moment next.rows_are in
+      let now_left = filter has_left rows in
+      let words_now : profile'.words ≡ with_cycle costs rows head_after profile.words =
+      words ∙ (λ i. with_cycle (profiling.costs_are i) rows (head_is i) profile.words) in
+      let head_now = profile-head costs head_after left (heads_of seen.moments) profile.words profiling.counted in
+      let all_now =
+      profile-passages costs now_left left (option_to_list head_after ++ heads_of seen.moments) with_it head_now in
+      let within_now =
+      within-passages costs now_left (most + 1) with_it (within-head head_after most profile.words profiling.within) in
+      let lefts : left_after seen.first.hardware (seen.moments ++ moment ∷ []) ≡ now_left ++ left =
+      left-push next.shown.passes moment next.rows_are in
       record {
         costs_are = same ∙ profiling.costs_are;
         counted =
             subst (λ ws. IsProfileOf costs (left_after seen.first.hardware (seen.moments ++ moment ∷ []))
             (heads_of (with_shown seen next.shown).moments) ws) (sym words_now)
             (subst (λ l. IsProfileOf costs l (heads_of (with_shown seen next.shown).moments)
-            (with_cycle costs rows (head_of after) profile.words)) (sym lefts)
-            (subst (λ heads. IsProfileOf costs left_now heads (with_cycle costs rows (head_of after) profile.words))
+            (with_cycle costs rows head_after profile.words)) (sym lefts)
+            (subst (λ heads. IsProfileOf costs (now_left ++ left) heads (with_cycle costs rows head_after profile.words))
             (sym (heads_of-push seen.moments moment)) all_now));
         within = subst (λ ws. Each (IsWithin (577 * after.cycle)) ws) (sym words_now)
             (each-by _ (λ w is. within-more _ (577 * after.cycle) w
@@ -99,7 +106,8 @@ module _ {arrivals : List Arrival} {old new : GuidedHardware} {moments : List
     (profiling : IsProfiling costs profile (watched arrivals old moments new))
     (kept : HasOpen old.hardware moments new.hardware table) where
   -- those in flight can be counted
-  pub can_finish : (rows : List Passage) → rows ≡ (passages_of table).rows → new.hardware.cycle ≤ 2 ^ 40 → CanCountMore profile.words (length rows)
+  pub can_finish : (rows : List Passage) → rows ≡ (passages_of table).rows → new.hardware.cycle ≤ 2 ^ 40 →
+      CanCountMore profile.words (length rows)
   can_finish rows rows_are counted = record {
     most = 577 * new.hardware.cycle;
     counts = profiling.within;
@@ -111,14 +119,17 @@ module _ {arrivals : List Arrival} {old new : GuidedHardware} {moments : List
       IsEndedRun arrivals limit old moments new stop → rows ≡ (passages_of table).rows → costs ≡ costs_of values
       → words ≡ with_passages profile.costs rows profile.words → IsCounted arrivals limit values old new stop words
   counted_to_the_end values words rows run rows_are costs_is words_are =
-      let last : rows ≡ (passages_after still_open old.hardware moments).rows = rows_are ∙ ap (λ (t : Passages). t.rows) kept.followed.passages in
-      let words_now : words ≡ with_passages (costs_of values) (passages_after still_open old.hardware moments).rows profile.words =
+      let rows_kept = (passages_after still_open old.hardware moments).rows in
+      let last : rows ≡ rows_kept = rows_are ∙ ap (λ (t : Passages). t.rows) kept.followed.passages in
+      let words_now : words ≡ with_passages (costs_of values) rows_kept profile.words =
       words_are ∙ (λ i. with_passages ((profiling.costs_are ∙ costs_is) i) (last i) profile.words) in
       record {
         moments = moments;
         run = run;
-        counted = subst (λ ws. IsProfileOf (costs_of values) (passages_of_run old.hardware moments) (heads_of moments) ws) (sym words_now)
-            (profile-passages (costs_of values) (passages_after still_open old.hardware moments).rows
-            (left_after old.hardware moments) (heads_of moments) profile.words
-            (subst (λ c. IsProfileOf c (left_after old.hardware moments) (heads_of moments) profile.words) costs_is profiling.counted));
+        counted =
+            subst (λ ws. IsProfileOf (costs_of values) (passages_of_run old.hardware moments) (heads_of moments) ws)
+            (sym words_now)
+            (profile-passages (costs_of values) rows_kept (left_after old.hardware moments) (heads_of moments) profile.words
+            (subst (λ c. IsProfileOf c (left_after old.hardware moments) (heads_of moments) profile.words) costs_is
+            profiling.counted));
       }
