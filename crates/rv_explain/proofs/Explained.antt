@@ -1,5 +1,5 @@
 -- A run that is tallied is explained by its sentences.
-use Rattle.std.proofs.Common.{ℕ, ◌≤◌, List, Option, ap, arith, length-append}
+use Rattle.std.proofs.Common.{◌≡◌, ℕ, ◌^◌, ◌≤◌, ◌<◌, List, length, Option, refl, ap, arith, length-append}
 use Rattle.std.specs.Prelude.{sum}
 use Rattle.rv_isa.specs.declared.lines.Arrival.{Arrival}
 use Rattle.rv_isa.specs.declared.values.Values.{Values}
@@ -9,9 +9,11 @@ use Rattle.rv_passage.specs.Walk.{passages_after}
 use Rattle.rv_counts.specs.Left.{left_after}
 use Rattle.rv_causes.specs.Account.{Accounted}
 use Rattle.rv_source.specs.Listing.{Listed}
-use Rattle.rv_explain.specs.Explanation.{IsExplanation, IsTallied, explanation}
+use Rattle.rv_explain.specs.Explanation.{CanBeWritten, IsExplanation, IsTallied, explanation, tallied_of}
 use Rattle.rv_sentences.specs.Head.{accounts_of, itself}
 use Rattle.rv_sentences.specs.Stay.{awaited_of}
+use Rattle.rv_sentences.specs.WordCount.{count_at}
+use Rattle.rv_sentences.specs.WordNotes.{notes_of}
 use Rattle.rv_sentences.specs.Work.{word_in}
 use Rattle.rv_explain.specs.declared.{figures.Figures.Figures, running.Tallied.Tallied}
 use Rattle.rv_sentences.specs.declared.work.Class.TheVariants.{Branch, Mispredicted}
@@ -34,52 +36,30 @@ module _ {arrivals : List Arrival} {limit : ℕ} {values : Values} {old new : Gu
     stays_add_up = tallied.stays_add_up;
   }
 
-  -- no more cycles left the words of RAM at the head than there were
-  pub heads_counted : sum run.tally.heads.words ≤ run.progress.cycles
-  heads_counted =
-      let heads = counted_within itself values (accounts_of old.hardware tallied.moments) in
-      omega (
-        arith,
-        heads,
-        length-accounts old.hardware tallied.moments,
-        ap (λ (t : Tallied). sum t.tally.heads.words) tallied.kept,
-        ap (λ (t : Tallied). t.progress.cycles) tallied.kept,
-        length-reports_of tallied.moments,
-      )
+  -- no more is noted at the words of RAM than there was of what is noted
+  noted_few : {X : Type 0} (place : X → Option ℕ) (all : List X) (noted most : Tallied → ℕ) →
+      let ended = tallied_of values arrivals old.hardware tallied.moments run.stop in
+      noted ended ≡ sum (notes_of values (count_at place all)).words → length all ≤ most ended → noted run ≤ most run
+  noted_few place all noted most is few =
+      omega (arith, counted_within place values all, is, few, ap noted tallied.kept, ap most tallied.kept)
 
-  -- in no more cycles a word was awaited
-  pub awaited_counted : sum run.tally.awaited.words ≤ run.progress.cycles
-  awaited_counted =
-      let awaited = counted_within itself values (awaited_of old.hardware tallied.moments) in
-      omega (
-        arith,
-        awaited,
-        length-awaited old.hardware tallied.moments,
-        ap (λ (t : Tallied). sum t.tally.awaited.words) tallied.kept,
-        ap (λ (t : Tallied). t.progress.cycles) tallied.kept,
-        length-reports_of tallied.moments,
-      )
-
-  -- no more branches and jumps retired, and were mispredicted, than words were fetched
-  pub branches_counted : sum run.tally.branches.words ≤ run.fetched
-  branches_counted =
-      let few = counted_within (word_in Branch) values (left_after old.hardware tallied.moments) in
-      omega (
-        arith,
-        few,
-        ap (λ (t : Tallied). sum t.tally.branches.words) tallied.kept,
-        ap (λ (t : Tallied). t.fetched) tallied.kept,
-        length-append (passages_after still_open old.hardware tallied.moments).rows (left_after old.hardware tallied.moments),
-      )
-
-  -- and no more were mispredicted
-  pub mispredicted_counted : sum run.tally.mispredicted.words ≤ run.fetched
-  mispredicted_counted =
-      let few = counted_within (word_in Mispredicted) values (left_after old.hardware tallied.moments) in
-      omega (
-        arith,
-        few,
-        ap (λ (t : Tallied). sum t.tally.mispredicted.words) tallied.kept,
-        ap (λ (t : Tallied). t.fetched) tallied.kept,
-        length-append (passages_after still_open old.hardware tallied.moments).rows (left_after old.hardware tallied.moments),
-      )
+  -- so the sentences on it can be written
+  pub can_be_written : run.fetched < 2 ^ 64 → CanBeWritten new.hardware run
+  can_be_written countable =
+      let moments = tallied.moments in
+      let left = left_after old.hardware moments in
+      let fewer = length-append (passages_after still_open old.hardware moments).rows left in
+      let branches = noted_few (word_in Branch) left (λ t. sum t.tally.branches.words) (λ t. t.fetched) refl
+      (omega (arith, fewer)) in
+      let mispredicted = noted_few (word_in Mispredicted) left (λ t. sum t.tally.mispredicted.words) (λ t. t.fetched) refl
+      (omega (arith, fewer)) in
+      record {
+        heads = noted_few itself (accounts_of old.hardware moments) (λ t. sum t.tally.heads.words) (λ t. t.progress.cycles)
+            refl (omega (arith, length-accounts old.hardware moments, length-reports_of moments));
+        awaited = noted_few itself (awaited_of old.hardware moments) (λ t. sum t.tally.awaited.words)
+            (λ t. t.progress.cycles) refl (omega (arith, length-awaited old.hardware moments, length-reports_of moments));
+        branches = omega (arith, branches, countable);
+        mispredicted = omega (arith, mispredicted, countable);
+        stays = tallied.few_stays;
+        places = tallied.few;
+      }

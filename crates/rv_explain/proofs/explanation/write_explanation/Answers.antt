@@ -1,5 +1,5 @@
 use Rattle.std.proofs.Common.{arith}
-use Rattle.rv_explain.proofs.Explained.{awaited_counted, branches_counted, explained, heads_counted, mispredicted_counted}
+use Rattle.rv_explain.proofs.Explained.{can_be_written, explained}
 use Rattle.rv_explain.proofs.OneExplanation.{one_explanation}
 use Rattle.rv_explain.proofs.explanation.write_explanation.Goals as goal
 
@@ -7,16 +7,7 @@ pub run_tallied-tallied-requires-clause-of_no_cycle : goal.run_tallied-tallied-r
 run_tallied-tallied-requires-clause-of_no_cycle g c = c.in-Ok.ensures.of_no_cycle
 
 pub write_run_text-written-requires : goal.write_run_text-written-requires
-write_run_text-written-requires g c =
-    let tallied = c.run_tallied-tallied.ensures in
-    record {
-      heads = heads_counted tallied;
-      branches = omega (arith, branches_counted tallied);
-      mispredicted = omega (arith, mispredicted_counted tallied);
-      places = rw c.shown.ensures tallied.few;
-      stays = tallied.few_stays;
-      awaited = awaited_counted tallied;
-    }
+write_run_text-written-requires g c = rw c.shown.ensures (can_be_written c.run_tallied-tallied.ensures (omega arith))
 
 pub returns-in-Ok-written-clause-written : goal.returns-in-Ok-written-clause-written
 returns-in-Ok-written-clause-written g c =
