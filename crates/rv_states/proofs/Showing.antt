@@ -284,7 +284,8 @@ module _ {seen : Watched} {cycle : ℕ} {steps : List Step} {after : Hardware} {
         record {
           same = showing.same;
           known = known_on;
-          followed = following_on table' on.followed never on.fetched on.retired on.few on.quiet on.rows on.interrupts;
+          followed = following_on table' on.followed never on.fetched on.retired on.few on.quiet
+              (omega (arith, on.rows)) (omega (arith, on.interrupts));
           said = extends_same (sym (append-nil so_far) ∙ text_on [] nothing) showing.said;
         }
 

@@ -1,14 +1,14 @@
 -- What a table begins with, and a cycle of it, in terms of the hardware that has the buffers.
-use Rattle.std.proofs.Common.{◌≡◌, ℕ, ◌≤◌, List, length, vec_capacity, arith, refl}
+use Rattle.std.proofs.Common.{◌≡◌, ◌≤◌, List, length, vec_capacity, refl}
 use Rattle.std.specs.Prelude.{IfOk, Result, Ok, Err}
 use Rattle.rv_hardware.specs.Hardware.{Hardware}
 use Rattle.rv_hardware.specs.Run.{Reachable}
 use Rattle.rv_hardware.specs.declared.step.Step.{Step}
-use Rattle.rv_passage.specs.Followed.{CanFollow, HasFollowedCycle, HasFollowedNumbers}
+use Rattle.rv_passage.specs.Followed.{CanFollow}
 use Rattle.rv_passage.specs.Table.{HasRoom, passages_of, table_at}
 use Rattle.rv_passage.specs.declared.table.Table.{Table}
 use Rattle.rv_passage.proofs.InFlight.{short_buffers}
-use Rattle.rv_view.specs.Following.{BeginsAt, CanFollowCycle, IsFollowedOn, IsNumberedOn}
+use Rattle.rv_view.specs.Following.{BeginsAt, CanFollowCycle}
 
 module _ (h : Hardware) where
   -- where a table began with what is in the buffers, it begins with what is in flight in the hardware
@@ -24,29 +24,3 @@ module _ (h : Hardware) where
   pub can_follow_to : {steps : List Step} {table : Table} → Reachable h → CanFollowCycle steps table → CanFollow steps h.rob h.front table
   can_follow_to reached can =
       record { short = short_buffers reached refl refl; room = can.room; countable = can.countable; few = can.few }
-
-  module _ (cycle : ℕ) (steps : List Step) where
-    -- where a table has followed a cycle that led to the buffers and the pc, it has followed one that led to the hardware
-    pub followed_on : (old new : Table) → HasFollowedCycle cycle steps h.rob h.front h.pc old new →
-        IsFollowedOn cycle steps h old new
-    followed_on old new on = record {
-      followed = on.followed;
-      rows = omega (arith, on.rows);
-      interrupts = omega (arith, on.interrupts);
-      fetched = on.fetched;
-      retired = on.retired;
-      few = on.few;
-    }
-
-    -- the same by numbers
-    pub numbered_on : (old new : Table) → HasFollowedNumbers cycle steps h.rob h.front h.pc old new →
-        IsNumberedOn cycle steps h old new
-    numbered_on old new on = record {
-      followed = on.followed;
-      rows = omega (arith, on.rows);
-      interrupts = omega (arith, on.interrupts);
-      fetched = on.fetched;
-      retired = on.retired;
-      few = on.few;
-      quiet = on.quiet;
-    }

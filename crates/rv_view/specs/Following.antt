@@ -1,10 +1,9 @@
 -- What it takes to follow a run.
-use Rattle.std.specs.Prelude.{◌≡◌, ℕ, ◌+◌, ◌≤◌, List, length, vec_capacity}
+use Rattle.std.specs.Prelude.{◌≡◌, ℕ, ◌≤◌, List, length, vec_capacity}
 use Rattle.rv_hardware.specs.Hardware.{Hardware}
 use Rattle.rv_hardware.specs.declared.step.Step.{Step}
-use Rattle.rv_passage.specs.Followed.{IsRoomy}
-use Rattle.rv_passage.specs.Numbers.{numbers_of}
-use Rattle.rv_passage.specs.Table.{CanCount, HasRoom, after_cycle, passages_of, still_open, table_at}
+use Rattle.rv_passage.specs.Followed.{HasFollowedCycle, HasFollowedNumbers, IsRoomy}
+use Rattle.rv_passage.specs.Table.{CanCount, HasRoom, passages_of, table_at}
 use Rattle.rv_passage.specs.declared.table.Table.{Table}
 use Rattle.rv_view.specs.declared.following.Following.{Following}
 
@@ -25,23 +24,10 @@ pub record CanFollowCycle (steps : List Step) (table : Table) : Type 0 where
   pub countable : CanCount (passages_of table)
   pub few : length steps ≤ 8
 
--- a table after a cycle with these steps, which left the hardware; its room is no less, and at most so much is counted
-pub record IsFollowedOn (cycle : ℕ) (steps : List Step) (after : Hardware) (old new : Table) : Type 0 where
-  pub followed : passages_of new ≡ after_cycle cycle steps after (passages_of old)
-  pub rows : vec_capacity old.rows ≤ vec_capacity new.rows
-  pub interrupts : vec_capacity old.interrupts ≤ vec_capacity new.interrupts
-  pub fetched : new.fetched ≤ old.fetched + 288
-  pub retired : new.retired ≤ old.retired + 8
-  pub few : length (still_open (passages_of new)).rows ≤ 288
+-- a table after a cycle with these steps, which left the hardware
+abbrev pub IsFollowedOn : ℕ → List Step → Hardware → Table → Table → Type 0
+IsFollowedOn cycle steps after old new = HasFollowedCycle cycle steps after.rob after.front after.pc old new
 
--- A table that knows by their numbers which instructions are in flight after a cycle with these steps, which left the
--- hardware; its room is no less, and at most so much is counted.
-pub record IsNumberedOn (cycle : ℕ) (steps : List Step) (after : Hardware) (old new : Table) : Type 0 where
-  pub followed : numbers_of (passages_of new) ≡
-      numbers_of (still_open (after_cycle cycle steps after (passages_of old)))
-  pub rows : vec_capacity old.rows ≤ vec_capacity new.rows
-  pub interrupts : vec_capacity old.interrupts ≤ vec_capacity new.interrupts
-  pub fetched : new.fetched ≤ old.fetched + 288
-  pub retired : new.retired ≤ old.retired + 8
-  pub few : length (passages_of new).rows ≤ 288
-  pub quiet : length (passages_of new).interrupts ≡ 0
+-- one that knows by their numbers which instructions are in flight after it
+abbrev pub IsNumberedOn : ℕ → List Step → Hardware → Table → Table → Type 0
+IsNumberedOn cycle steps after old new = HasFollowedNumbers cycle steps after.rob after.front after.pc old new

@@ -4,7 +4,7 @@ use Rattle.rv_passage.specs.Shown.{AreStill}
 use Rattle.rv_passage.specs.Table.{passages_of, with_steps}
 use Rattle.rv_hardware.specs.Hardware.{Hardware}
 use Rattle.rv_view.specs.Following.{IsFollowedOn}
-use Rattle.rv_view.proofs.Begun.{can_follow_to, followed_on}
+use Rattle.rv_view.proofs.Begun.{can_follow_to}
 use Rattle.rv_watch.specs.Shown.{hardware_shown}
 use Rattle.rv_view.proofs.following.follow_on.Goals as goal
 
@@ -19,4 +19,4 @@ follow_on-requires-clause-still c =
 pub returns : goal.returns
 returns c =
     subst (λ h. IsFollowedOn c.args.cycle c.args.steps.now h c.args.table.now c.follow_on.new.self) c.hardware.view_is
-    (followed_on (hardware_shown c.hardware.inside) c.args.cycle c.args.steps.now c.args.table.now c.follow_on.new.self c.follow_on.ensures.followed)
+    c.follow_on.ensures.followed
