@@ -1,3 +1,4 @@
+-- The level of a line after some arrivals is that of the last one that sets it, or as it was before.
 use Rattle.std.proofs.Common.{◌≡◌, Bool, true, false, cond, List, [], ◌∷◌, filter, fold, refl, ◌∙◌, ap}
 use Rattle.rv_isa.specs.declared.lines.Line.{Line}
 use Rattle.rv_isa.specs.declared.lines.Lines.{Lines}

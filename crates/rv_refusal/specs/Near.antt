@@ -38,7 +38,7 @@ hint_line name known =
 abbrev pub aligns_to_power : List ℕ → Bool
 aligns_to_power name = bytes_eq name (codes ".align") || bytes_eq name (codes ".p2align")
 
--- the directive that does what one of other assemblers does
+-- the directive to write in place of one of other assemblers
 unfoldable pub counterpart : List ℕ → Option (List ℕ)
 counterpart name =
     if is_one_of (codes ".set" ∷ codes ".eqv" ∷ []) name then Some (codes ".equ")

@@ -70,7 +70,7 @@ fn aligns_to_power(name: &[u8]) -> bool
     name == b".align".as_slice() || name == b".p2align".as_slice()
 }
 
-// The directive that does what one of other assemblers does.
+// The directive to write in place of one of other assemblers.
 #[tactic(auto, unfolding(crate::specs::Near::counterpart))]
 fn counterpart(name: &[u8]) -> Option<&'static [u8]>
     ensures { option_copied result ≡ counterpart name.now }
